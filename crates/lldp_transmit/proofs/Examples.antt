@@ -72,7 +72,7 @@ rows =
     ∷ (settings 1 3 2 true, at 3 (Tick ∷ Neighbor ∷ replicate 6 Tick), O ∷ Q ∷ O ∷ O ∷ Q ∷ Q ∷ O ∷ Q ∷ [])
     -- burst of one
     ∷ (settings 5 1 2 true, at 3 (Tick ∷ Neighbor ∷ replicate 4 Tick), O ∷ O ∷ Q ∷ Q ∷ O ∷ Q ∷ [])
-    -- a new neighbor behind a burst opens another
+    -- a new neighbor after a burst opens another
     ∷ (settings 9 2 2 true, at 3 (Tick ∷ Neighbor ∷ Tick ∷ Neighbor ∷ Tick ∷ replicate 3 Tick), O ∷ O ∷ O ∷ O ∷ O ∷ Q ∷ Q ∷ O ∷ [])
     -- a start ends the burst before it
     ∷ (usual, at 2 (Tick ∷ Neighbor ∷ Down ∷ Up ∷ Tick ∷ Tick ∷ Tick ∷ []), O ∷ O ∷ Q ∷ Q ∷ O ∷ Q ∷ O ∷ [])

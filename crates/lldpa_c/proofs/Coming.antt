@@ -14,7 +14,7 @@ use Rattle.lldpa_c.specs.Filling.{View, begun, put_if, put_unless, come_at, come
 use Rattle.lldpa_c.specs.Answer.{is_over}
 use Rattle.lldpa_c.specs.Filled.{Fills, IsFull}
 
--- From what was written on, so many of these lines were written too: all, or the next does not fit.
+-- From what was written on, this many of these lines were written too: all, or the next does not fit.
 pub record Comes (size : ℕ) (v r : View) (lines : List (List ℕ)) : Type 0 where
   pub count : ℕ
   pub next : r.next ≡ v.next + count
@@ -111,7 +111,7 @@ further u k xs ys h e =
     let n : u + (k - u) ≡ k = omega arith in
     ap (λ (m : ℕ). drop m xs) (sym n) ∙ sym (drop-drop (k - u) u xs) ∙ ap (drop (k - u)) e ∙ drop-drop (k - u) u ys ∙ ap (λ (m : ℕ). drop m ys) n
 
--- lines write nothing behind what they use
+-- lines write nothing after what they use
 pub rest_left : (a b : Filling) (lines : List (List ℕ)) → Takes TakesLine a b lines → LeavesRest a b
 unfolding Takes
 rest_left a b [] h = record { grows = omega (arith, ap (λ (f : Filling). f.used) h); rest = ap (λ (f : Filling). drop b.used f.room.now) (sym h) }

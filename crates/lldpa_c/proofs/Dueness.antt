@@ -39,12 +39,12 @@ pub sooner_assoc : (a b c : Option ℕ) → sooner (sooner a b) c ≡ sooner a (
 sooner_assoc (Some a) (Some b) (Some c) = ap (λ (n : ℕ). Some n) (omega arith)
 sooner_assoc _ _ _ = refl
 
--- so many ticks fewer
+-- this many ticks fewer
 abbrev fewer_by : ℕ → Option ℕ → Option ℕ
 fewer_by k None = None
 fewer_by k (Some d) = Some (d - k)
 
--- it is due after more than so many ticks, if it is; 0 is at the next tick, as 1 is
+-- it is due after more than this many ticks, if it is; 0 is at the next tick, as 1 is
 abbrev IsAfter : ℕ → Option ℕ → Type 0
 IsAfter k None = Unit {0}
 IsAfter k (Some d) = k < max d 1
@@ -213,12 +213,12 @@ after_less : (k : ℕ) (o : Option ℕ) → IsAfter (suc k) o → IsAfter k o ×
 after_less k None h = (tt, tt)
 after_less k (Some d) h = (omega arith, omega arith)
 
--- after so many ticks, before anything is due: so many fewer are left, and only clocks have changed
+-- after this many ticks, before anything is due: this many fewer are left, and only clocks have changed
 record Waited (k : ℕ) (agent : AgentState) : Type 0 where
   due : due_in (ticked k agent) ≡ fewer_by k (due_in agent)
   same : timeless (ticked k agent) ≡ timeless agent
 
--- the tick behind so many is quiet, if nothing is due at it
+-- the tick after this many is quiet, if nothing is due at it
 quiet_behind : (k : ℕ) (agent : AgentState) → IsAfter (suc k) (due_in agent) → Waited k agent → AreQuiet (ticked k agent).configuration.interval 0 (ticked k agent).ports
 quiet_behind k agent h before = are_quiet _ 0 (ticked k agent).ports (subst (IsAfter 1) (sym before.due) (after_less k (due_in agent) h).1)
 

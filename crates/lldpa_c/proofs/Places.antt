@@ -20,7 +20,7 @@ has_fourteen : (frame : List ℕ) → is_lldp_frame frame ≡ true → 14 ≤ le
 unfolding is_lldp_frame
 has_fourteen frame h = grind (arith, common_steps, leb-true)
 
--- the LLDPDU stands behind 14 octets
+-- the LLDPDU stands after 14 octets
 pub header_off : (frame pdu : List ℕ) → Some pdu ≡ lldpdu_of frame → (pdu ≡ drop 14 frame) × (14 + length pdu ≡ length frame)
 header_off frame pdu h = at (is_lldp_frame frame) refl h
   where
@@ -34,7 +34,7 @@ abbrev body_of : Option (TlvUnit × List ℕ) → List ℕ
 body_of None = []
 body_of (Some x) = x.0.body
 
--- the body of the first TLV stands behind two octets
+-- the body of the first TLV stands after two octets
 pub body_at : (octets : List ℕ) (u : TlvUnit) (others : List ℕ) → first_tlv octets ≡ Some (u, others)
     → (take (length u.body) (drop 2 octets) ≡ u.body) × (2 + length u.body ≤ length octets)
 body_at [] u others h = absurd cc
@@ -63,7 +63,7 @@ faulty false false h = absurd cc
 one_is_fault : (octets : List ℕ) (u : TlvUnit) → (cut octets).tlvs ≡ u ∷ [] → fault_of octets ≡ None → ⊥
 one_is_fault octets u e h = faulty _ _ (sym (fault_from octets (u ∷ []) (ttl_of octets) e refl) ∙ h)
 
--- The first two TLVs, and the octets behind each.
+-- The first two TLVs, and the octets after each.
 record Begins (octets : List ℕ) : Type 0 where
   chassis : TlvUnit
   behind : List ℕ

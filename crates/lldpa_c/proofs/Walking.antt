@@ -35,7 +35,7 @@ front_body octets left u h = elim (cases_Option (first_tlv octets)) [
       subst (λ (v : TlvUnit). (take (length v.body) (drop 2 octets) ≡ v.body) × (2 + length v.body ≤ length octets)) same (body_at octets x.0 x.1 e)
 ]
 
--- what is left behind the first TLV is an end of the octets too
+-- what is left after the first TLV is an end of the octets too
 pub still_ends : (octets a left : List ℕ) (u : TlvUnit) → EndsWith octets a → cut a ≡ in_front u left → left ≡ drop (2 + length u.body) a → EndsWith octets left
 still_ends octets a left u ends h is =
     let b = front_body a left u h in

@@ -38,7 +38,7 @@ pub record Takes (before : LldpaAgent) (event : Event) (after : LldpaAgent) (tol
   pub told_are : marks_told told ≡ map numbered sent
   pub steps : Steps before.held.agent event after.held.agent sent
 
--- An event that is allowed is taken. Else nothing is told, the handle holds what it held, and the answer says why.
+-- An event that is allowed is taken. Otherwise nothing is told, the handle holds what it held, and the answer says why.
 pub record Answers (before : LldpaAgent) (event : Event) (told_before : LldpaMarks) (answer : ℕ) (after : LldpaAgent) (told : LldpaMarks) : Type 0 where
   pub taken : answer ≡ 0 → Takes before event after told
   pub closed : before.is_open ≡ false → (answer ≡ 102) × (after.is_open ≡ false) × (told ≡ told_before)

@@ -8,7 +8,7 @@ abbrev pub answer_of : List (Check ℕ) → ℕ
 answer_of [] = OK
 answer_of (c ∷ cs) = if c.fails then c.fault else answer_of cs
 
--- there are octets, and a room of so many does not hold them
+-- there are octets, and a room of this many does not hold them
 abbrev pub is_over : ℕ → Option (List ℕ) → Bool
 is_over room None = false
 is_over room (Some octets) = nat_lt room (length octets)

@@ -46,7 +46,7 @@ Obeys (Ok (command.show what)) agent show told answer after show_after told_afte
 Obeys (Ok (command.set setting)) agent show told answer after show_after told_after =
     (answer ≡ 0) × (show_after ≡ 0) × CarriesOut setting agent after told_after
 
--- A line is obeyed if the handle is open. Else nothing is told.
+-- A line is obeyed if the handle is open. Otherwise nothing is told.
 pub record Obeyed (before : LldpaAgent) (line : List ℕ) (show : ℕ) (told : LldpaMarks) (answer : ℕ) (after : LldpaAgent) (show_after : ℕ) (told_after : LldpaMarks) : Type 0 where
   pub obeyed : before.is_open ≡ true →
       (after.is_open ≡ true)

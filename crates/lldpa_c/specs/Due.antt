@@ -61,7 +61,7 @@ timeless_port p = record {
 abbrev pub timeless : AgentState → AgentState
 timeless agent = record { configuration = agent.configuration; ports = map timeless_port agent.ports }
 
--- So many ticks are due: at none before the last of them a port sends or a neighbor ages out, and at that one, if the
+-- This many ticks are due: at none before the last of them a port sends or a neighbor ages out, and at that one, if the
 -- agent stands for a past, something of it is. NEVER is for no tick. The ticks before it change nothing but clocks.
 pub record IsDue (agent : AgentState) (seconds : ℕ) : Type 0 where
   pub first : 1 ≤ seconds

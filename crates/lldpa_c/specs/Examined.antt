@@ -41,7 +41,7 @@ pub record Tells (octets : List ℕ) (told : LldpaExamined) : Type 0 where
   pub life : 0 < ttl_of octets → TellsLife octets told
   pub gone : ttl_of octets ≡ 0 → TellsNothing told
 
--- ---- where the code says that identifiers lie: the first two TLVs, each behind a header of two octets
+-- ---- where the code says that identifiers lie: the first two TLVs, each after a header of two octets
 
 abbrev pub chassis_place : MsapId → LldpaPlace
 chassis_place msap = record { start = 2; length = length msap.chassis }

@@ -18,14 +18,14 @@ pub record Fills (lines : List (List ℕ)) (from next : ℕ) (octets : List ℕ)
   pub order : from ≤ next
   pub are : octets ≡ flat_map ended (take (next - from) (drop from lines))
 
--- there is a line to go on with, which does not fit into so many octets behind those that are used
+-- there is a line to go on with, which does not fit into this many octets after those that are used
 pub record IsFull (lines : List (List ℕ)) (next room used : ℕ) : Type 0 where
   pub line : List ℕ
   pub is : slice_get lines next ≡ Some line
   pub over : room < used + length line + 1
 
 -- What was written of a show by its number, to the front of a room: the lines from one on up to another. If it is said
--- that no line is left, the next is behind the last line, or the one that was wanted if that is farther; else at least
+-- that no line is left, the next is after the last line, or the one that was wanted if that is farther; else at least
 -- one was written, and the next does not fit.
 pub record Filled (agent : AgentState) (number from : ℕ) (told : LldpaLines) (room : List ℕ) : Type 0 where
   pub show : Show
@@ -39,8 +39,8 @@ pub record Filled (agent : AgentState) (number from : ℕ) (told : LldpaLines) (
 abbrev pub line_numbered : AgentState → ℕ → ℕ → Option (List ℕ)
 line_numbered agent number line = option_and_then (λ show. slice_get (lines_of show agent) line) (show_numbered number)
 
--- Why no lines are written: the number of the show is none, the handle is not open, or the show has the first line that
--- is wanted and it does not fit into so many octets with its line feed.
+-- Why no lines are written: no show has that number, the handle is not open, or the show has the first line that
+-- is wanted and it does not fit into this many octets with its line feed.
 abbrev pub lines_checks : LldpaAgent → ℕ → ℕ → ℕ → List (Check ℕ)
 lines_checks handle number from room =
     record { fails = is_none (show_numbered number); fault = OUT_OF_RANGE }

@@ -12,7 +12,7 @@ pub record View : Type 0 where
   pub text : List ℕ
   pub is_full : Bool
 
--- nothing is written, and so many lines are not wanted
+-- nothing is written, and this many lines are not wanted
 abbrev pub begun : ℕ → View
 begun from = record { skip = from; used = 0; next = from; text = []; is_full = false }
 
@@ -51,7 +51,7 @@ with_waiting false f = settled f
 abbrev pub view : Filling → View
 view f = with_waiting f.is_wanted f
 
--- no octet behind those that are used is another
+-- no octet after those that are used is another
 pub record LeavesRest (old new : Filling) : Type 0 where
   pub grows : old.used ≤ new.used
   pub rest : drop new.used new.room.now ≡ drop new.used old.room.now

@@ -31,8 +31,8 @@ frame_numbered agent port mark = option_map (frame_of agent.configuration (name_
 abbrev pub has_no_port : AgentState → ℕ → Bool
 has_no_port agent port = not (nat_lt port (length agent.ports))
 
--- Why a frame is not written: the number of the mark is none, the handle is not open, there is no such port, or the
--- frame does not fit into so many octets.
+-- Why a frame is not written: no mark has that number, the handle is not open, there is no such port, or the
+-- frame does not fit into this many octets.
 abbrev pub frame_checks : LldpaAgent → ℕ → ℕ → ℕ → List (Check ℕ)
 frame_checks handle port mark room =
     record { fails = is_none (mark_numbered mark); fault = OUT_OF_RANGE }

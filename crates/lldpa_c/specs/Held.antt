@@ -11,7 +11,7 @@ use Rattle.lldpa_c.specs.Answer.{is_over}
 use Rattle.lldpa_c.specs.Frame.{has_no_port}
 use Rattle.lldpa_c.specs.Examined.{Tells}
 
--- the neighbors of a port, in the order of its table; none of a port that there is not
+-- the neighbors of a port, in the order of its table; none if there is no such port
 abbrev pub neighbors_on : Option PortState → List Neighbor
 neighbors_on None = []
 neighbors_on (Some port) = port.table.neighbors
@@ -31,7 +31,7 @@ count_checks handle port =
     ∷ []
 
 -- Why a neighbor is not told: the handle is not open, there is no such port, the port has no neighbor at that place, or
--- its LLDPDU does not fit into so many octets.
+-- its LLDPDU does not fit into this many octets.
 abbrev pub neighbor_checks : LldpaAgent → ℕ → ℕ → ℕ → List (Check ℕ)
 neighbor_checks handle port index room =
     let found = slice_get (neighbors_at handle.held.agent port) index in

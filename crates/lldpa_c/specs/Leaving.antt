@@ -18,7 +18,7 @@ use Rattle.lldpa_c.specs.Marks.{numbered, marks_told}
 abbrev pub disables : ℕ → Event
 disables port = set (status port Disabled)
 
--- an agent after its first ports were disabled, so many, and what was sent as they were
+-- an agent after its first ports were disabled, this many, and what was sent as they were
 abbrev pub left : ℕ → AgentState → AgentState
 left zero agent = agent
 left (suc n) agent = agent_after (disables n) (left n agent)
@@ -51,7 +51,7 @@ pub record Leaves (before after : AgentState) (sent : List (ℕ × Mark)) : Type
   pub disabled : AllByRecursion (λ port. port.status ≡ Disabled) after.ports
   pub stands : (past : Past) → Stands past before → Stands (with_leaving (length before.ports) past) after
 
--- They are disabled if the handle is open. Else nothing is told.
+-- They are disabled if the handle is open. Otherwise nothing is told.
 pub record Left (before : LldpaAgent) (marks_before : LldpaMarks) (answer : ℕ) (after : LldpaAgent) (marks : LldpaMarks) : Type 0 where
   pub left : before.is_open ≡ true → (answer ≡ 0) × (after.is_open ≡ true)
       × ((sent : List (ℕ × Mark)) × (marks_told marks ≡ map numbered sent) × Leaves before.held.agent after.held.agent sent)

@@ -29,7 +29,7 @@ status_number RxOnly = 1
 status_number TxOnly = 2
 status_number Disabled = 3
 
--- What is in force is told: each number, and the status of each port in the order of opening, behind which all is 0.
+-- What is in force is told: each number, and the status of each port in the order of opening, after which all is 0.
 pub record TellsConfiguration (agent : AgentState) (told : LldpaConfiguration) : Type 0 where
   pub interval : told.interval ≡ agent.configuration.interval
   pub hold : told.hold ≡ agent.configuration.hold

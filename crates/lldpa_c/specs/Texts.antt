@@ -40,7 +40,7 @@ words_of n =
     else if n == 105 then Some (codes "a pointer is NULL")
     else None
 
--- Why these words are not written: no fault has that number, or they do not fit into so many octets.
+-- Why these words are not written: no fault has that number, or they do not fit into this many octets.
 abbrev pub words_checks : ℕ → ℕ → List (Check ℕ)
 words_checks number room =
     record { fails = is_none (words_of number); fault = OUT_OF_RANGE }

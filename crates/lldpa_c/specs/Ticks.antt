@@ -21,16 +21,16 @@ held_by (port ∷ ports) = length port.table.neighbors + held_by ports
 abbrev pub neighbors_held : AgentState → ℕ
 neighbors_held agent = held_by agent.ports
 
--- so many neighbors aged out: the agent holds fewer by that number
+-- this many neighbors aged out: the agent holds fewer by that number
 abbrev pub AgesOut : AgentState → AgentState → ℕ → Type 0
 AgesOut before after gone = gone + neighbors_held after ≡ neighbors_held before
 
--- an agent after so many ticks
+-- an agent after this many ticks
 abbrev pub ticked : ℕ → AgentState → AgentState
 ticked zero agent = agent
 ticked (suc n) agent = agent_after tick (ticked n agent)
 
--- the same past with so many ticks more
+-- the same past with this many ticks more
 abbrev pub with_ticks : ℕ → Past → Past
 with_ticks zero past = past
 with_ticks (suc n) past = with_event (with_ticks n past) tick
@@ -40,18 +40,18 @@ pub record IsQuiet (agent : AgentState) : Type 0 where
   pub sends : agent_marks tick agent ≡ []
   pub ages : neighbors_held (agent_after tick agent) ≡ neighbors_held agent
 
--- What the last of so many ticks did: these ports sent, and so many neighbors aged out; without ticks nothing.
+-- What the last of this many ticks did: these ports sent, and this many neighbors aged out; without ticks nothing.
 abbrev pub LastDid : ℕ → AgentState → List (ℕ × Mark) → ℕ → Type 0
 LastDid zero agent sent gone = (sent ≡ []) × (gone ≡ 0)
 LastDid (suc n) agent sent gone = (sent ≡ agent_marks tick (ticked n agent)) × AgesOut (ticked n agent) (ticked (suc n) agent) gone
 
--- What is promised of the last of so many ticks, for each past that the agent stood for before them.
+-- What is promised of the last of this many ticks, for each past that the agent stood for before them.
 abbrev pub LastPromised : ℕ → Past → List (ℕ × Mark) → AgentState → Type 0
 LastPromised zero past sent after = Unit {0}
 LastPromised (suc n) past sent after = (sent ≡ marks_of (with_ticks (suc n) past)) × PromisedStep (with_ticks n past) tick sent after
 
--- So many ticks were taken of those that were asked for. At each of them but the last nothing was sent and nobody aged
--- out; if fewer were taken, something was at the last.
+-- This many of the ticks that were asked for were taken. Before the last of them nothing was sent and nobody aged out;
+-- if fewer were taken, something was sent or aged out at the last.
 pub record Takes (asked taken : ℕ) (before after : AgentState) (sent : List (ℕ × Mark)) (gone : ℕ) : Type 0 where
   pub few : taken ≤ asked
   pub is : after ≡ ticked taken before
@@ -61,7 +61,7 @@ pub record Takes (asked taken : ℕ) (before after : AgentState) (sent : List (�
   pub stands : (past : Past) → Stands past before → Stands (with_ticks taken past) after
   pub promised : (past : Past) → Stands past before → LastPromised taken past sent after
 
--- They are taken if the handle is open. Else nothing is told.
+-- They are taken if the handle is open. Otherwise nothing is told.
 pub record TicksTaken (before : LldpaAgent) (asked : ℕ) (marks_before : LldpaMarks) (told_before : LldpaTicks) (answer : ℕ)
     (after : LldpaAgent) (marks : LldpaMarks) (told : LldpaTicks) : Type 0 where
   pub taken : before.is_open ≡ true → (answer ≡ 0) × (after.is_open ≡ true)

@@ -15,7 +15,7 @@ abbrev pub may_write : ℕ → List ℕ → Bool
 may_write kind body =
     is_between 1 kind 127 && not (kind == 3) && nat_le (length body) 511 && is_well_formed (record { kind = kind; body = body })
 
--- what is written of it behind `lldp.PORT.N.`
+-- what is written of it after `lldp.PORT.N.`
 abbrev pub value_of : ℕ → List ℕ → List ℕ
 value_of kind body =
     if kind == 1 then codes "chassis." ++ chassis_text body
@@ -26,14 +26,14 @@ value_of kind body =
 abbrev pub tlv_value : ℕ → List ℕ → Option (List ℕ)
 tlv_value kind body = if may_write kind body then Some (value_of kind body) else None
 
--- Why it is not written: there is nothing to write, or it does not fit into so many octets.
+-- Why it is not written: there is nothing to write, or it does not fit into this many octets.
 abbrev pub value_checks : ℕ → List ℕ → ℕ → List (Check ℕ)
 value_checks kind body room =
     record { fails = is_none (tlv_value kind body); fault = OUT_OF_RANGE }
     ∷ record { fails = is_over room (tlv_value kind body); fault = NO_ROOM }
     ∷ []
 
--- Why a text is not escaped: it has more octets than a TLV has, or what is written does not fit into so many octets.
+-- Why a text is not escaped: it has more octets than a TLV has, or what is written does not fit into this many octets.
 abbrev pub escape_checks : List ℕ → ℕ → List (Check ℕ)
 escape_checks text room =
     record { fails = nat_lt 511 (length text); fault = OUT_OF_RANGE }

@@ -13,7 +13,7 @@ pub record IsExtent (octets : List ℕ) : Type 0 where
   pub lives : 0 < ttl_of octets
   pub whole : extent octets ≡ octets
 
--- the TLVs from a place on; from 0 on, those behind the first three
+-- the TLVs from a place on; from 0 on, those after the first three
 abbrev pub tlvs_from : List ℕ → ℕ → List TlvUnit
 tlvs_from octets next = if next == 0 then drop 3 (cut octets).tlvs else (cut (drop next octets)).tlvs
 
@@ -21,7 +21,7 @@ tlvs_from octets next = if next == 0 then drop 3 (cut octets).tlvs else (cut (dr
 abbrev pub left_of : List ℕ → LldpaKept → List TlvUnit
 left_of octets walk = kept_seen walk.met (tlvs_from octets walk.next)
 
--- The octets end with a TLV's body, of which a header stands in front, and these others behind it.
+-- The octets end with a TLV's body, of which a header stands in front, and these others after it.
 pub record GivesKept (octets body others : List ℕ) : Type 0 where
   pub within : 2 + length body + length others ≤ length octets
   pub held : take (length body) (drop (length octets - length others - length body) octets) ≡ body

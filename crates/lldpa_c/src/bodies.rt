@@ -46,8 +46,8 @@ pub extern "C" fn lldpa_caps(body: &[u8], told: &mut LldpaCapabilities) -> bool
     }
 }
 
-/// Returns where the fields of a Management Address lie in its body: the address behind two octets,
-/// and the object identifier behind six more.
+/// Returns where the fields of a Management Address lie in its body: the address after two octets,
+/// and the object identifier after six more.
 fn management(fields: &Mgmt<'_>) -> LldpaManagement
     ensures { result ≡ management_of (address_view fields.now) }
 {

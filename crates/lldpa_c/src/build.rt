@@ -35,7 +35,7 @@ fn put_one(builder: &mut Builder, tlv: &LldpaTlv<'_>) -> u8
     }
 }
 
-/// Puts each TLV that can be put behind those before it, and writes for each TLV its fault or 0.
+/// Puts each TLV that can be put after those before it, and writes for each TLV its fault or 0.
 fn put_each(builder: &mut Builder, tlvs: &[LldpaTlv<'_>], faults: &mut [u8])
     requires { length tlvs.now ≤ length faults.old }
     ensures put { builder.new ≡ put_all builder.old (map tlv_of tlvs.now) }

@@ -14,7 +14,7 @@ use lldp_pdu::{Seen, Tlv, Tlvs};
 #[repr(C)]
 #[derive(Clone, Copy)]
 pub struct LldpaKept {
-    /// Where it continues. 0: at the first TLV behind the mandatory ones.
+    /// Where it continues. 0: at the first TLV after the mandatory ones.
     pub next: usize,
     /// The body of the last TLV.
     pub body: LldpaPlace,
@@ -24,7 +24,7 @@ pub struct LldpaKept {
     pub kind: u8,
 }
 
-/// A kept TLV, what was met up to it, and the octets behind it.
+/// A kept TLV, what was met up to it, and the octets after it.
 #[derive(Drop)]
 struct Found<'a> {
     tlv: Tlv<'a>,
@@ -32,7 +32,7 @@ struct Found<'a> {
     rest: &'a [u8],
 }
 
-/// Returns the octets behind the first TLV.
+/// Returns the octets after the first TLV.
 fn behind_first(octets: &[u8]) -> &[u8]
     ensures tlvs { (cut result.now).tlvs ≡ drop 1 (cut octets.now).tlvs }
     ensures place { EndsWith octets.now result.now }

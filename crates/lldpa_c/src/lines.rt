@@ -37,7 +37,7 @@ fn show_numbered(number: u32) -> Option<Show>
     }
 }
 
-/// Writes a text behind the used octets of the room, if it fits. Returns how many are then used.
+/// Writes a text after the used octets of the room, if it fits. Returns how many are then used.
 fn append(room: &mut [u8], used: usize, text: &[u8]) -> Option<usize>
     ensures end { IfSome result (λ end. end ≡ used + length text.now) }
     ensures within { IfSome result (λ end. end ≤ length room.new) }
@@ -69,7 +69,7 @@ struct Filling<'a> {
 }
 
 impl<'a> Filling<'a> {
-    /// Begins with nothing written. So many lines are not wanted.
+    /// Begins with nothing written. This many lines are not wanted.
     fn new(room: &'a mut [u8], from: u32) -> Filling<'a>
         ensures room { result.room.now ≡ room.old }
         ensures same { result.room.ghost_name ≡ room.entry.ghost_name }

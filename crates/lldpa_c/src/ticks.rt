@@ -56,7 +56,7 @@ fn take_ticks(agent: &mut Agent, count: u32) -> (Marks, LldpaTicks)
     (sent, LldpaTicks { taken, aged_out })
 }
 
-/// Takes so many ticks, or fewer: it ends at the first at which a port sends or a neighbor ages
+/// Takes this many ticks, or fewer: it ends at the first at which a port sends or a neighbor ages
 /// out.
 #[unsafe(no_mangle)]
 pub extern "C" fn lldpa_ticks(

@@ -23,7 +23,7 @@ use Rattle.lldpa_c.specs.Held.{TellsNeighbor}
 use Rattle.lldpa_c.specs.Settings.{statistics_of, TellsConfiguration}
 use Rattle.lldpa_c.specs.Values.{tlv_value}
 
--- each number behind the key of its line
+-- each number after the key of its line
 abbrev pub counters_told : LldpaStatistics → List (List ℕ × ℕ)
 counters_told told =
     (codes "sent=", told.sent)
@@ -58,7 +58,7 @@ pub record AreShown : Type 0 where
       slice_get (neighbor_lines name number neighbor) 3 ≡ Some (neighbor_key name number ++ (codes "expires=" ++ decimal told.left))
   pub ports : (agent : AgentState) (port : ℕ) → (has_no_port agent port ≡ false) ↔ IsPort agent port
 
--- What is written of TLVs are the lines of `show neighbors` behind `lldp.PORT.N.`: the first of a neighbor of its
+-- What is written of TLVs are the lines of `show neighbors` after `lldp.PORT.N.`: the first of a neighbor of its
 -- Chassis ID, the second of its Port ID, and those of its kept TLVs.
 pub record AreLines : Type 0 where
   pub chassis : (name : List ℕ) (number : ℕ) (neighbor : Neighbor) → IsIdentifier neighbor.msap.chassis →
@@ -67,8 +67,8 @@ pub record AreLines : Type 0 where
       option_map (λ text. neighbor_key name number ++ text) (tlv_value 2 neighbor.msap.port) ≡ slice_get (neighbor_lines name number neighbor) 1
   pub kept : (key : List ℕ) (tlv : TlvUnit) → IsKeptTlv tlv → option_map (λ text. key ++ text) (tlv_value tlv.kind tlv.body) ≡ Some (kept_line key tlv)
 
--- The fields of the two bodies are the octets at these places: two pairs of octets; the octets behind the first one, and
--- behind the address.
+-- The fields of the two bodies are the octets at these places: two pairs of octets; the octets after the first one, and
+-- after the address.
 pub record AreRead : Type 0 where
   pub capabilities : (body : List ℕ) (told : LldpaCapabilities) → caps_of body ≡ Some (caps_told told) →
       (told.available ≡ 256 * slice_index body 0 + slice_index body 1)

@@ -48,7 +48,7 @@ misuse_words =
     ∷ codes "the agent is open already"
     ∷ codes "a pointer is NULL" ∷ []
 
--- so many numbers without words
+-- this many numbers without words
 abbrev pub no_words : ℕ → List (Option (List ℕ))
 no_words count = replicate count None
 

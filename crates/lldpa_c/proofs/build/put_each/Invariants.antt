@@ -3,7 +3,7 @@ use Rattle.lldpa_c.specs.Building.{tlv_of, put_all, put_faults}
 use Rattle.lldpa_c.proofs.build.put_each.Given as goal
 
 -- What is left to put makes of the draft so far what all makes of the first, and its faults are the rest of all; those
--- before stand there, and what is behind all stays.
+-- before stand there, and what is after all stays.
 abbrev pub invariant-loop-i : goal.invariant-loop-i
 invariant-loop-i l =
     (put_all l.builder (drop l.i (map tlv_of l.tlvs)) ≡ put_all l.initial.builder (map tlv_of l.tlvs))
