@@ -9,7 +9,6 @@
     ...         print(neighbor.port, neighbor.id, neighbor.expires)
     eth0 mac=00:11:22:33:44:55 ifname=eth0 100
 """
-from importlib import import_module
 from typing import TYPE_CHECKING
 
 from .agent.show import Counters, Neighbor, Port, Show, ShowFault, lines_of, read_show, unescaped
@@ -18,7 +17,8 @@ from .faults import LldpaFault
 __version__ = "1.0.0"
 
 if TYPE_CHECKING:
-    from .agent.synchronous import Agent, Closed, Ended, Refused
+    from .agent.framing import Closed, Ended, Refused
+    from .agent.synchronous import Agent
     from .capture.packets import BadCapture, Packet, packets_of
     from .capture.trace import Source, Told, ports_of, trace_of
 
@@ -29,7 +29,8 @@ __all__ = ["Agent", "BadCapture", "Closed", "Counters", "Ended", "LldpaFault", "
 
 
 # what is loaded when it is first used
-LATER = {".agent.synchronous": ("Agent", "Closed", "Ended", "Refused"),
+LATER = {".agent.framing": ("Closed", "Ended", "Refused"),
+         ".agent.synchronous": ("Agent",),
          ".capture.packets": ("BadCapture", "Packet", "packets_of"),
          ".capture.trace": ("Source", "Told", "ports_of", "trace_of")}
 
@@ -38,5 +39,6 @@ def __getattr__(name: str) -> object:
     """Loads the module of a name that is used for the first time."""
     for module, names in LATER.items():
         if name in names:
+            from importlib import import_module  # which lldpa-ctl does not need for its table
             return getattr(import_module(module, __name__), name)
     raise AttributeError(f"module {__name__!r} has no attribute {name!r}")

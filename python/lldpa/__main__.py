@@ -16,10 +16,5 @@ Each prints help with --help. In Python, `from lldpa import Agent` runs an agent
 """
 
 
-def main() -> None:
-    """Prints it."""
-    print(TEXT, end="")
-
-
 if __name__ == "__main__":
-    main()
+    print(TEXT, end="")

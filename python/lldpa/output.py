@@ -96,8 +96,8 @@ def missing_streams() -> set[int]:
 
 
 def complain(name: str, text: str) -> None:
-    """Writes a line on standard error, without control characters, and cut to what can be written
-    at once. It is lost if nobody reads it."""
+    """Writes a line on standard error, without control characters and cut to what can be written
+    at once. If nobody reads it, the line is lost."""
     printable = "".join(letter if letter.isprintable() else "?" for letter in text)
     line = f"{name}: {printable}" if name else printable
     octets = line.encode(errors="backslashreplace")[:select.PIPE_BUF - 1]

@@ -5,9 +5,8 @@ A neighbor's text is octets, mostly UTF-8. Shows have them escaped; `shown_octet
 # no `annotations` of __future__: see agent/shown.py
 import unicodedata
 from functools import lru_cache
-from typing import Any, Dict, NamedTuple, Optional
+from typing import Any, Dict, Iterator, Optional, Tuple
 
-from .agent.escapes import shown_text
 from .agent.show import unescaped
 
 CUT = "…"
@@ -19,19 +18,26 @@ HIDDEN = ((0x034F, 0x034F), (0x115F, 0x1160), (0x17B4, 0x17B5), (0x180B, 0x180F)
           (0x3164, 0x3164), (0xFE00, 0xFE0F), (0xFFA0, 0xFFA0), (0xE0100, 0xE01EF))
 
 
-class Text(NamedTuple):
-    """A text as Unicode. If its octets are not UTF-8, `octets` has them in hexadecimal, and the
-    text is escaped as the agent shows it; otherwise `octets` is None."""
-    text: str
-    octets: Optional[str]
+def shown_text(octets: bytes) -> str:
+    """Returns octets as the agent shows them: printable ASCII as it is, a backslash as two, and any
+    other octet as `\\x` and two digits."""
+    return "".join(map(shown_octet, octets))
 
 
-def text_of(octets: bytes) -> Text:
-    """Returns the text of octets."""
+def shown_octet(octet: int) -> str:
+    """Returns an octet as the agent shows it."""
+    if octet == 0x5C:
+        return "\\\\"
+    return chr(octet) if 0x20 <= octet <= 0x7E else f"\\x{octet:02x}"
+
+
+def text_of(octets: bytes) -> Tuple[str, Optional[str]]:
+    """Returns octets as Unicode, and None. If they are not UTF-8, returns them as the agent shows
+    them, and in hexadecimal."""
     try:
-        return Text(octets.decode("utf-8"), None)
+        return octets.decode("utf-8"), None
     except UnicodeDecodeError:
-        return Text(shown_text(octets), octets.hex())
+        return shown_text(octets), octets.hex()
 
 
 def with_text(key: str, octets: bytes, told: Dict[str, Any]) -> Dict[str, Any]:
@@ -103,15 +109,21 @@ def columns_of(letter: str) -> int:
     return 2 if unicodedata.east_asian_width(letter) in "WF" else 1
 
 
+def end_of(text: str, begin: int, width: int) -> int:
+    """Returns the end of what has at most this width of a text from a place on."""
+    if text.isascii():
+        return min(begin + width, len(text))
+    end = begin
+    while end < len(text) and (width := width - columns_of(text[end])) >= 0:
+        end += 1
+    return end
+
+
 def cut(text: str, width: int) -> str:
     """Returns the text. If it is wider than this, it is cut and ends with a mark."""
     if width_of(text) <= width:
         return text
-    room = max(width - 1, 0)
-    end = 0
-    while end < len(text) and (room := room - columns_of(text[end])) >= 0:
-        end += 1
-    return text[:end] + CUT
+    return text[:end_of(text, 0, max(width - 1, 0))] + CUT
 
 
 def padded(text: str, width: int) -> str:
@@ -119,24 +131,12 @@ def padded(text: str, width: int) -> str:
     return text + " " * (width - width_of(text))
 
 
-def wrapped(text: str, width: int) -> list[str]:
+def wrapped(text: str, width: int) -> Iterator[str]:
     """Returns the text in lines of at most this width, broken between words if possible."""
-    lines = [""]
-    for word in text.split(" "):
-        joined = f"{lines[-1]} {word}" if lines[-1] else word
-        if width_of(joined) <= width:
-            lines[-1] = joined
-            continue
-        *whole, word = pieces(word, width)
-        lines += [*whole, word]
-    return [line for line in lines if line] or [""]
-
-
-def pieces(word: str, width: int) -> list[str]:
-    """Returns a word in pieces of at most this width, or of one letter."""
-    found = [""]
-    for letter in word:
-        if found[-1] and width_of(found[-1]) + columns_of(letter) > width:
-            found.append("")
-        found[-1] += letter
-    return found
+    begin = 0
+    while begin < len(text):
+        end = after = max(end_of(text, begin, width), begin + 1)
+        if end < len(text) and (space := text.rfind(" ", begin + 1, end + 1)) >= 0:
+            end, after = space, space + 1
+        yield text[begin:end]
+        begin = after

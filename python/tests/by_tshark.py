@@ -46,15 +46,31 @@ def is_left_out(key: str) -> bool:
 
 
 def expected(front: str, values: Dict[str, Any]) -> Pairs:
-    """Returns keys behind a front, and values as tshark writes them."""
-    return [(front + key, str(int(value)) if isinstance(value, (bool, int)) else value)
-            for key, value in values.items()]
+    """Returns keys after a front, and values as tshark writes them."""
+    return [(front + key, as_shown(value)) for key, value in values.items()]
+
+
+def as_shown(value: Any) -> str:
+    """Returns a value as tshark writes it."""
+    if isinstance(value, bytes):
+        return value.decode()
+    return value if isinstance(value, str) else str(int(value))
+
+
+# by class, the front of tshark's keys, and the rest of each with the field that it shows
+FIELDS: Dict[type, Tuple[str, Dict[str, str]]] = {}
 
 
 @singledispatch
 def by_tshark(tlv: Any) -> Pairs:
     """Returns what tshark shows of a TLV."""
-    raise TypeError(tlv)
+    return by_fields(tlv)
+
+
+def by_fields(tlv: Any) -> Pairs:
+    """Returns what tshark shows of the fields of a TLV or a part of one."""
+    front, keys = FIELDS[type(tlv)]
+    return expected(front, {key: getattr(tlv, field) for key, field in keys.items()})
 
 
 def enumerated(values: Tuple[int, ...]) -> Dict[str, int]:

@@ -29,8 +29,14 @@ class Sample:
 
 @singledispatch
 def encoded(tlv: Any) -> bytes:
-    """Returns the octets behind the subtype; reserved bits are 0."""
-    raise TypeError(tlv)
+    """Returns the octets after the subtype; reserved bits are 0."""
+    return by_layout(tlv)
+
+
+def by_layout(tlv: Any) -> bytes:
+    """Returns the fields of a layout. The samples and tshark show whether the layout is right."""
+    fields = [field.rstrip("sv").split(":") for field in tlv.layout.split()]
+    return bits(*((getattr(tlv, name, 0), int(width)) for name, width in fields))
 
 
 def bits(*pairs: tuple[int, int]) -> bytes:

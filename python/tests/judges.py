@@ -36,7 +36,7 @@ class Judged(NamedTuple):
 
 
 def flat(told: Any, path: str = "") -> Iterator[Pair]:
-    """Returns the keys and values of an object as JSON has it, each key behind those around it."""
+    """Returns the keys and values of an object as JSON has it, each key after those around it."""
     if isinstance(told, dict):
         for key, value in told.items():
             yield from flat(value, f"{path}.{key}".lstrip("."))

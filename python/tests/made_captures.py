@@ -88,8 +88,7 @@ def packet(frame: Frame, order: str = "<", place: int = 0, units: int = 10**6) -
 
 def pcapng(frames: Sequence[Frame], order: str = "<", resolution: Optional[int] = None,
            link_type: int = ETHERNET, name: str = "") -> bytes:
-    """Returns a section of a pcapng file of one interface, with a block of no meaning to a
-    reader."""
+    """Returns a section of pcapng with one interface, and with a block that readers skip."""
     head = section(order) + interface(order, name, resolution, link_type)
     units = units_of(resolution)
     packets = (packet(frame, order, 0, units) for frame in frames)

@@ -30,8 +30,7 @@ def mostly(seconds: Sequence[float]) -> float:
 
 
 def stolen() -> float:
-    """Returns how long processors of this machine had work and were kept from it, since it
-    began."""
+    """Returns the seconds for which this machine's processors were kept from their work."""
     ticks = Path("/proc/stat").read_text().split("\n", 1)[0].split()[8]
     return int(ticks) / os.sysconf("SC_CLK_TCK")
 

@@ -6,7 +6,6 @@ import os
 import signal
 import socket
 import subprocess
-import tempfile
 import tracemalloc
 import unittest
 from pathlib import Path
@@ -14,27 +13,18 @@ from typing import List, Optional, Tuple
 from unittest import mock
 
 import lldpa
-from lldpa.agent.synchronous import Agent, Closed, Ended, Refused
-from lldpa.agent.framing import NO_ANSWER
+from lldpa.agent.framing import Closed, Ended, Refused, command, ticks
+from lldpa.agent.synchronous import NO_ANSWER, Agent
 from lldpa.agent.shown import Counters
 from lldpa.limits import LONGEST_LINE
 from made_captures import LLDP, OTHER
 from patience import eventually
 from served import PROGRAM
-from support import DEFAULT_FRAME, kill
+from support import DEFAULT_FRAME, FilesCase, kill
 
 def started(*ports: str, **options: lldpa.agent.synchronous.Option) -> Agent:
     """Starts an agent with these ports, or with eth0 if there are none."""
     return Agent.start(ports or ["eth0"], PROGRAM, **options)
-
-
-def give_up_in_a_minute(test: unittest.TestCase) -> None:
-    """Lets a test fail that waits for an answer without end."""
-    def give_up(number: int, _: object) -> None:
-        raise TimeoutError(f"signal {number}: no answer comes")
-    test.addCleanup(signal.signal, signal.SIGALRM, signal.signal(signal.SIGALRM, give_up))
-    test.addCleanup(signal.alarm, 0)
-    signal.alarm(60)
 
 
 class Asked(unittest.TestCase):
@@ -100,11 +90,17 @@ class Asked(unittest.TestCase):
                              {"eth0": "rx-and-tx"})
 
     def test_much_is_told_and_answered_at_once(self) -> None:
-        give_up_in_a_minute(self)
         lines = 20_000
         with started() as agent:
             told = agent.tell(["show chassis"] * lines)
         self.assertEqual(len(told), lines * 4)
+
+    def test_words_and_seconds_as_lines(self) -> None:
+        self.assertEqual(command("x", "", "sw 1", "#y"), 'x "" "sw 1" "#y"')
+        self.assertEqual([ticks(0), ticks(1)], [[], ["tick"]])
+        self.assertEqual(ticks(131072), ["tick 65535", "tick 65535", "tick 2"])
+        with self.assertRaises(ValueError):
+            ticks(-1)
 
     def test_options(self) -> None:
         with started(max_neighbors=3, hostname="-x y", receive_only=False, mac=None) as agent:
@@ -112,7 +108,7 @@ class Asked(unittest.TestCase):
             self.assertEqual(agent.show("chassis").chassis.name, "-x y")
 
 
-class EndedAgents(unittest.TestCase):
+class EndedAgents(FilesCase):
     """Agents that have ended, or do not exist."""
 
     def test_bad_words(self) -> None:
@@ -148,7 +144,6 @@ class EndedAgents(unittest.TestCase):
         self.assertEqual((ended.exception.status, ended.exception.text), (None, NO_ANSWER))
 
     def test_an_agent_that_stops_is_waited_for_no_longer_than_its_timeout(self) -> None:
-        give_up_in_a_minute(self)
         with started() as agent:
             agent.timeout = 0.5
             assert agent.pid is not None
@@ -163,35 +158,24 @@ class EndedAgents(unittest.TestCase):
         tracemalloc.start()
         for stream, seconds, text in ((1, 60, "an answer of the agent has more than 64 MB"),
                                       (2, 1, NO_ANSWER)):
+            program = self.file(f"#!/bin/sh\nyes >&{stream}\n".encode())
+            os.chmod(program, 0o755)
             with self.assertRaises(Ended) as ended:
-                Agent.start(["y"], self.program(f"yes >&{stream}"), timeout=seconds)
+                Agent.start(["y"], program, timeout=seconds)
             self.assertEqual(ended.exception.text, text)
         _, most = tracemalloc.get_traced_memory()
         self.assertLess(most, 200_000_000)
 
-    def program(self, text: str) -> str:
-        """Writes a program in the shell's language, and returns its path."""
-        folder = tempfile.TemporaryDirectory()
-        self.addCleanup(folder.cleanup)
-        path = Path(folder.name) / "program"
-        path.write_text(f"#!/bin/sh\n{text}\n")
-        path.chmod(0o755)
-        return str(path)
-
     def test_an_agent_that_was_closed(self) -> None:
-        agent = started()
-        agent.close()
-        for call in (lambda: agent.ask("tick"), agent.neighbors, agent.update):
-            with self.assertRaisesRegex(Closed, "the agent was closed"):
-                call()
-        agent.close()
-
-    def test_close_ends_the_child(self) -> None:
         agent = started()
         number = agent.pid
         agent.close()
         with self.assertRaises(ProcessLookupError):
             kill(number)
+        for call in (lambda: agent.ask("tick"), agent.neighbors, agent.update):
+            with self.assertRaisesRegex(Closed, "the agent was closed"):
+                call()
+        agent.close()
 
     def test_an_answer_that_was_broken_off(self) -> None:
         def broken(port: str, octets: bytes) -> None:

@@ -58,12 +58,13 @@ class Read(unittest.TestCase):
                     got = [(frame[0], *one[1:]) for one, frame in zip(got, rounded)]
                 self.assertEqual(got, rounded)
 
-    def test_however_few_octets_a_read_gives(self) -> None:
+    def test_compressed_or_not_however_few_octets_a_read_gives(self) -> None:
         for name, form in FORMS.items():
-            want = packets(form(FRAMES))
-            for most in (1, 3, 17, 1000):
-                with self.subTest(name, most=most):
-                    self.assertEqual(list(packets_of(Dripping(form(FRAMES), most))), want)
+            file, want = form(FRAMES), packets(form(FRAMES))
+            for octets in (file, gzip.compress(file)):
+                for most in (1, 3, 17, 1000, 100_000):
+                    with self.subTest(name, most=most):
+                        self.assertEqual(list(packets_of(Dripping(octets, most))), want)
 
     def test_interfaces(self) -> None:
         file = section() + interface(name="swp1") + interface(name="swp2", resolution=9, offset=5)
@@ -89,16 +90,9 @@ class Read(unittest.TestCase):
 
 
 class Compressed(unittest.TestCase):
-    """Captures that gzip compressed are read unchanged."""
+    """Captures that gzip compressed."""
 
-    def test_each_form(self) -> None:
-        for name, form in FORMS.items():
-            for most in (1, 100_000):
-                with self.subTest(name, most=most):
-                    packed = Dripping(gzip.compress(form(FRAMES)), most)
-                    self.assertEqual(list(packets_of(packed)), packets(form(FRAMES)))
-
-    def test_parts_and_zeros_behind(self) -> None:
+    def test_parts_and_zeros_after_them(self) -> None:
         file = pcap(FRAMES)
         packed = gzip.compress(file[:100]) + gzip.compress(file[100:]) + bytes(512)
         self.assertEqual(packets(packed), packets(file))

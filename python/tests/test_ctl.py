@@ -18,8 +18,8 @@ from typing import Sequence
 
 from asked import HOSTILE, Program
 from lldpa.client import Client
+from lldpa.client.people import port_vlan_of
 from lldpa.organizational import organizational_object, said_by
-from lldpa.vlan import port_vlan_of
 from served import LIVE_LINES, CTL, REPOSITORY, frame, numbered, tlv
 
 
@@ -53,8 +53,8 @@ class Answers(Program):
         *table, modules = told.splitlines()
         self.assertIn("120", table[1])
         self.assertEqual({*modules.split()} & {
-            "argparse", "ast", "asyncio", "calendar", "dataclasses", "datetime", "dis", "inspect",
-            "ipaddress", "json", "locale", "subprocess", "tempfile", "textwrap",
+            "argparse", "ast", "asyncio", "calendar", "dataclasses", "datetime", "dis", "importlib",
+            "inspect", "ipaddress", "json", "locale", "subprocess", "tempfile", "textwrap",
             "lldpa.client.details", "lldpa.client.metrics", "lldpa.organizational"}, set())
 
     def test_the_vlan_of_the_table_is_the_one_of_the_details(self) -> None:
@@ -62,26 +62,6 @@ class Answers(Program):
                      ["0078", "007800"], ["0078", "zz"], ["00"]):
             org = [("0080c2.1", digits) for digits in tlvs]
             self.assertEqual(port_vlan_of(org), said_by(org).pvid, tlvs)
-
-    def test_a_port_alone(self) -> None:
-        self.served.frame("eth1", numbered(1))
-        lines = self.run_ctl("show", "neighbors").splitlines()
-        self.assertEqual(self.run_ctl("show", "neighbors", "eth1").splitlines(), lines[3:])
-        self.assertEqual(self.run_ctl("show", "neighbors", "eth0").splitlines(), lines[:3])
-        counters = self.run_ctl("show", "statistics").splitlines()
-        eth0 = [line for line in counters if line.startswith("lldp.eth0.")]
-        self.assertEqual(len(eth0), len(counters) // 2)
-        self.assertEqual(self.run_ctl("show", "statistics", "eth0").splitlines(), eth0)
-        self.run_ctl("show", "neighbors", "eth", status=1,
-                     said="no such port: eth (eth0, eth1)")
-
-    def test_what_changes_the_agent(self) -> None:
-        self.assertEqual(self.run_ctl("configure", "system", "description", "a  b#"), "")
-        self.assertIn("descr=a  b#\n", self.run_ctl("show", "chassis"))
-        self.assertEqual(self.run_ctl("update"), "")
-        self.run_ctl("configure", "lldp", "tx-hold", "0", status=1,
-                     said="out of range: 0 (intervals that peers keep a frame, 1 to 100)")
-        self.run_ctl("tick", status=1, said="for lldpa-live alone")
 
     def test_json_tells_the_same(self) -> None:
         self.served.frame("eth0", numbered(1, 120, tlv(5, HOSTILE), tlv(7, b"\0\x14\0\4"),
@@ -124,6 +104,7 @@ class Answers(Program):
 
     def test_on_a_terminal_it_is_as_wide_and_nothing_is_raw(self) -> None:
         texts = [tlv(kind, HOSTILE) for kind in (4, 5, 6)]
+        texts += [tlv(8, b"\x0a\x63" + HOSTILE[:9] + b"\2\0\0\0\1\0")]
         for kind in range(8):
             identifier = bytes([kind]) + HOSTILE
             self.served.frame("eth0", frame(identifier, identifier, 120, *texts))
@@ -164,21 +145,6 @@ class Answers(Program):
 class Faults(Program):
     """What goes wrong."""
 
-    def test_nobody_answers(self) -> None:
-        self.served.path += "-none"
-        self.run_ctl(status=1, said=f"nobody answers at {self.served.path}: is lldpa-live running?")
-        with socket.socket(socket.AF_UNIX, socket.SOCK_STREAM) as left_behind:
-            left_behind.bind(self.served.path)
-        self.run_ctl(status=1, said=f"nobody answers at {self.served.path}: is lldpa-live running?")
-
-    def test_a_silent_lldpa_live_is_not_waited_for_without_end(self) -> None:
-        path = self.served.path + "-silent"
-        with socket.socket(socket.AF_UNIX, socket.SOCK_STREAM) as silent:
-            silent.bind(path)
-            silent.listen()
-            with Client(path, seconds=0.2) as client, self.assertRaises(TimeoutError):
-                client.ask("show chassis")
-
     def test_a_client_for_whom_there_is_no_room_waits_for_it(self) -> None:
         path = self.served.path + "-full"
         with socket.socket(socket.AF_UNIX, socket.SOCK_STREAM) as full, ExitStack() as stack:
@@ -195,17 +161,12 @@ class Faults(Program):
     def test_bad_words(self) -> None:
         self.run_ctl("configure", 'a"b', status=2, said='a word contains a double quote: a"b')
         self.run_ctl("a\nb", status=2, said="a line contains a line feed")
-        for words in (["metrics", "x"], ["--json", "metrics"], ["--jso"]):
+        for words in (["metrics", "x"], ["--json", "metrics"], ["--jso"],
+                      ["--output", "x", "show", "neighbors"], ["--output", "x"],
+                      ["metrics", "--output"], ["--output", "x", "--json", "metrics"]):
             told = subprocess.run([CTL, *words], check=False, capture_output=True, text=True)
             self.assertEqual((told.returncode, told.stdout), (2, ""))
             self.assertRegex(told.stderr, r"(?s)^usage: lldpa-ctl .*lldpa-ctl: error: [^\n]*\n$")
-
-    def test_a_reader_that_goes_is_no_fault_to_tell(self) -> None:
-        for number in range(32):
-            self.served.frame("eth0", numbered(number, 120, *[tlv(126, bytes(500))] * 2))
-        words = f"{CTL} --control {self.served.path} show neighbors | head -n 1"
-        told = subprocess.run(["bash", "-c", words], check=False, capture_output=True, text=True)
-        self.assertEqual((told.stdout, told.stderr), ("lldp.eth0.neighbors=32\n", ""))
 
     def test_words_may_be_shortened(self) -> None:
         for words, full in (("d", "details"), ("n eth0", "neighbors eth0"),

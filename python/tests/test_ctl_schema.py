@@ -2,8 +2,6 @@
 from __future__ import annotations
 
 import json
-import subprocess
-import sys
 import unittest
 from pathlib import Path
 from typing import Any, Set
@@ -13,9 +11,10 @@ try:
 except ImportError:  # Debian: python3-jsonschema
     jsonschema = None
 
+from asked import Program
 from lldpa import Agent
 from lldpa.client import neighbor_object
-from served import CTL, PROGRAM, REPOSITORY, Served, frame, numbered, tlv
+from served import PROGRAM, REPOSITORY, frame, numbered, tlv
 
 SCHEMA = json.loads((REPOSITORY / "docs" / "lldpa-ctl.schema.json").read_text())
 JUDGED = json.loads((Path(__file__).parent / "judged.json").read_text())
@@ -24,32 +23,28 @@ COMMANDS = (["show", "neighbors"], ["details"], ["show", "statistics"], ["statis
 
 
 @unittest.skipIf(jsonschema is None, "there is no jsonschema")
-class Schema(unittest.TestCase):
+class Schema(Program):
     """Each answer, and neighbors of real senders and made ones."""
 
-    def told(self, path: str, *words: str) -> Any:
+    def told(self, *words: str) -> Any:
         """Returns what a command prints."""
-        ran = subprocess.run([sys.executable, CTL, "--control", path, "--json", *words],
-                             capture_output=True, text=True, check=True)
-        return json.loads(ran.stdout)
+        return json.loads(self.run_ctl("--json", *words))
 
     def test_answers(self) -> None:
         odd = frame(b"\x04\x02\0\0\0\0\xff", b"\x05p\xff", 120, tlv(5, b"caf\xe9"), tlv(9, b"x"))
-        with Served(max_neighbors=128) as served:
-            for octets in (numbered(1), odd):
-                served.frame("eth0", octets)
-            for words in COMMANDS:
-                with self.subTest(words=words):
-                    told = self.told(served.path, *words)
-                    jsonschema.validate(told, SCHEMA)
-            neighbors = self.told(served.path, "show", "neighbors")["ports"][0]["neighbors"]
-            self.assertEqual(len(neighbors), 2)
-            for name in ("chassis", "ttl", "organizational"):
-                cut = {key: value for key, value in neighbors[0].items() if key != name}
-                port = {"name": "eth0", "neighbors_held": 1, "octets": 1, "too_many": False,
-                        "neighbors": [cut]}
-                with self.assertRaises(jsonschema.ValidationError):
-                    jsonschema.validate({"ports": [port]}, SCHEMA)
+        for octets in (numbered(1), odd):
+            self.served.frame("eth0", octets)
+        for words in COMMANDS:
+            with self.subTest(words=words):
+                jsonschema.validate(self.told(*words), SCHEMA)
+        neighbors = self.told("show", "neighbors")["ports"][0]["neighbors"]
+        self.assertEqual(len(neighbors), 2)
+        for name in ("chassis", "ttl", "organizational"):
+            cut = {key: value for key, value in neighbors[0].items() if key != name}
+            port = {"name": "eth0", "neighbors_held": 1, "octets": 1, "too_many": False,
+                    "neighbors": [cut]}
+            with self.assertRaises(jsonschema.ValidationError):
+                jsonschema.validate({"ports": [port]}, SCHEMA)
 
     def test_neighbors_of_real_senders(self) -> None:
         whole = {**SCHEMA["definitions"]["neighbor"], "definitions": SCHEMA["definitions"]}

@@ -50,11 +50,6 @@ class ForPeople(unittest.TestCase):
             "  Frame size    1522",
             "  Other TLVs    001122.5 68656c, unknown.9 00, age 7"])
 
-    def test_since_when(self) -> None:
-        line = details([port(SWITCH)], SINCE, 80)[1]
-        self.assertRegex(line, "^  Heard         since 2026-11-2[234] [0-9]{2}:[0-9]{2}:02, "
-                         "98 s of 120 s left$")
-
     def setUp(self) -> None:
         self.told = neighbor_object(SWITCH._replace(said=EACH), SINCE)
 

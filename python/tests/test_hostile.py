@@ -15,6 +15,7 @@ from lldpa.client.connection import Client, Gone
 from patience import SECONDS, by_the_clock, eventually
 from served import CTL, REPOSITORY
 from support import FilesCase
+from test_publishing import DOWN
 
 LLDPCTL = str(REPOSITORY / "bin" / "lldpctl")
 
@@ -56,7 +57,8 @@ class Hostile(FilesCase):
 
     @by_the_clock
     def test_one_deadline_holds_for_the_whole_answer(self) -> None:
-        for octets in ([b"=1\n", *[b"a"] * 600], [b"=99999999999\n", *[b"a\n"] * 600]):
+        for octets in ([b""] * 600, [b"=1\n", *[b"a"] * 600],
+                       [b"=99999999999\n", *[b"a\n"] * 600]):
             with Client(self.answers(*octets, pause=0.1), seconds=1) as client:
                 begin = time.monotonic()
                 with self.assertRaisesRegex(TimeoutError, "^no complete answer within 1 seconds$"):
@@ -73,6 +75,20 @@ class Hostile(FilesCase):
         self.assertEqual((ran.stderr, ran.returncode), (
             f"lldpa-ctl: {path}: no complete answer within 10 seconds\n", 1))
         self.assertEqual(ran.stdout.splitlines()[-1], "lldpa_up 0")
+
+    def test_lldpa_live_that_ends_or_answers_nonsense_is_down(self) -> None:
+        file = self.folder / "lldpa.prom"
+        for answer, said in ((b"", "lldpa-live has ended the connection"),
+                             (b"=1\n", "lldpa-live has ended the connection"),
+                             (b"hello\n", "not an answer of lldpa-live: 'hello'"),
+                             (b"=1\nlive.began=now\n=0\n=0\n", "not an answer of lldpa-live: not "
+                              "a time as lldpa-live writes it: 'now'"),
+                             (b"=0\n=1\nx\n=0\n", "line 1")):
+            told = subprocess.run([CTL, "--control", self.answers(answer), "metrics", "--output",
+                                   str(file)], check=False, capture_output=True, text=True)
+            self.assertEqual((told.returncode, file.read_text()), (1, DOWN), answer)
+            self.assertIn(said, told.stderr)
+            file.unlink()
 
     def test_neither_a_line_nor_an_answer_is_without_end(self) -> None:
         for octets, text in ((b"=1\n" + b"a" * 70_000, "a line of more than 64 kB"),

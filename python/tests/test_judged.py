@@ -25,13 +25,6 @@ class BesideOthers(unittest.TestCase):
         self.assertEqual(differences, [])
         self.assertGreater(equal, 13_000)
 
-    def test_values_of_real_senders_are_equal(self) -> None:
-        for sender, least in (("real-", 600), ("lldpd-", 300)):
-            some = [one for one in self.judged if one.name.startswith(sender)]
-            equal, differences = compare(some)
-            self.assertEqual(differences, [])
-            self.assertGreater(equal, least)
-
     def test_a_difference_is_seen(self) -> None:
         one = next(one for one in self.judged if one.name == "lldpd-custom")
         for key in ("vlan.vlan-id", "port.mfs.value", "lldp-med.inventory.software.value"):

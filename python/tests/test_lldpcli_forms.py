@@ -1,5 +1,4 @@
-"""lldpcli's forms, compared with what lldpcli printed of the same frames, and of texts with each
-octet."""
+"""lldpcli's forms, compared with what lldpcli printed of the same frames."""
 
 from __future__ import annotations
 
@@ -61,10 +60,6 @@ class BesideLldpcli(unittest.TestCase):
         tree = tree_of(heard)
         self.compare(tree, "clean", ("json", "json0"))
         self.assertEqual(len(tree.nodes), 13)
-
-    def test_clean_ones_without_a_carriage_return(self) -> None:
-        tree = tree_of([("swp1", one) for one in lldpd_heard.CLEAN]
-                       + [("swp2", lldpd_heard.CLEAN[0])])
         for form in ("plain", "keyvalue"):
             theirs = AGE.sub("", lldpd_heard.sample("clean", form).decode()).replace("\r", "\\x0d")
             if form == "plain":

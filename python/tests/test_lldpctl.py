@@ -55,7 +55,7 @@ class Answers(Program):
             "lldp.eth1.vlan.vlan-id=120", "lldp.eth1.vlan.pvid=yes"])
 
     def test_under_the_name_of_lldpcli(self) -> None:
-        words = ("show", "neigh", "sum", "-f", "json")  # options may stand behind
+        words = ("show", "neigh", "sum", "-f", "json")  # options may follow
         self.assertEqual(json.loads(self.run_it(LLDPCLI, *words)), {"lldp": {"interface": {"eth1": {
             "via": "LLDP", "chassis": {"there": {"id": {"type": "mac",
                                                         "value": "02:00:00:00:00:07"}}},
@@ -122,18 +122,6 @@ class Handed(Program):
                 while "port.ttl=120" not in watch.stdout.readline():
                     pass
             self.assertEqual(watch.wait(), 0)
-
-    def test_watch_goes_on_after_a_silence(self) -> None:
-        words = [LLDPCTL, "-u", self.served.path, "-f", "keyvalue", "watch", "limit", "1"]
-        with subprocess.Popen(words, stdout=subprocess.PIPE, text=True) as watch:
-            self.assertTrue(eventually(lambda: b"live" in self.served.asked))
-            self.served.waits = True
-            self.served.asked.clear()
-            self.assertTrue(eventually(lambda: self.served.asked.count(b"show neighbors") > 1))
-            self.served.waits = False
-            self.served.frame("eth1", numbered(8, 120, tlv(5, b"new")))
-            self.assertIn(".chassis.name=new\n", watch.communicate(timeout=SECONDS)[0])
-            self.assertEqual(watch.returncode, 0)
 
     def test_output_of_the_console_that_fails(self) -> None:
         with open("/dev/full", "w", encoding="ascii") as full:
@@ -205,11 +193,8 @@ class Refusals(Program):
 
     def test_nobody_answers(self) -> None:
         self.served.path += ".none"
-        told = subprocess.run([LLDPCTL, "-u", self.served.path], check=False, capture_output=True,
-                              text=True)
-        self.assertEqual((told.returncode, told.stdout, told.stderr), (
-            1, "", f"lldpctl: nobody answers at {self.served.path}: is lldpa-live running?\n"))
-        self.served.path = self.served.path[:-len(".none")]
+        said = f"nobody answers at {self.served.path}: is lldpa-live running?"
+        self.assertEqual(self.run_it(LLDPCTL, status=1, said=said), "")
 
     def test_a_configuration_that_is_not_told(self) -> None:
         self.served.hidden = {b"show configuration", b"show chassis"}
@@ -217,8 +202,3 @@ class Refusals(Program):
         for word, what in (("interfaces", of_host), ("chassis", of_host),
                            ("configuration", numbers)):
             self.run_it(LLDPCTL, "show", word, status=1, said=f"lldpa-live did not report {what}")
-
-    def test_help(self) -> None:
-        for program in (LLDPCTL, LLDPCLI):
-            told = self.run_it(program, "-h")
-            self.assertTrue(told.startswith(f"usage: {program.rpartition('/')[2]} "))

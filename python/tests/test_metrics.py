@@ -1,4 +1,4 @@
-"""Prometheus' text format."""
+"""Prometheus' text format, and the alerts of share/prometheus."""
 
 from __future__ import annotations
 
@@ -8,11 +8,14 @@ import subprocess
 import unittest
 
 from lldpa import read_show
-from lldpa.client.exposition import escaped
-from lldpa.client.metrics import metrics
+from lldpa.client.metrics import escaped, metrics
 from lldpa.agent.show import Counters
-from served import LIVE_LINES, CTL, Served, frame, numbered, tlv
+from served import LIVE_LINES, CTL, REPOSITORY, Served, frame, numbered, tlv
 
+FOLDER = REPOSITORY / "share" / "prometheus"
+RULES, TESTS = FOLDER / "lldpa.rules.yml", FOLDER / "lldpa.rules.test.yml"
+has_promtool = unittest.skipUnless(shutil.which("promtool"),
+                                   "there is no promtool (Debian: prometheus)")
 SAMPLE = re.compile(r'([a-z_]+)(?:\{((?:[a-z_]+="(?:[^"\\\n]|\\["\\n])*",?)+)\})? ([0-9]+)')
 LABEL = re.compile(r'([a-z_]+)="((?:[^"\\\n]|\\["\\n])*)"')
 Series = dict[tuple[str, tuple[tuple[str, str], ...]], int]
@@ -151,7 +154,7 @@ class Metrics(unittest.TestCase):
             self.assertEqual(read(escaped(value)), value)
             self.assertNotRegex(escaped(value), r'(^|[^\\])(\\\\)*"|\n')
 
-    @unittest.skipUnless(shutil.which("promtool"), "there is no promtool (Debian: prometheus)")
+    @has_promtool
     def test_promtool_says_nothing(self) -> None:
         for _ in range(2):
             words = f"{CTL} --control {self.served.path} metrics | promtool check metrics"
@@ -162,3 +165,29 @@ class Metrics(unittest.TestCase):
                 text = b'"\\\n\r\x1b\xff' + bytes(range(60, 200))
                 self.served.frame("eth0", frame(bytes([kind]) + text, b"\x07" + text, 90,
                                                 tlv(5, text), tlv(4, text)))
+
+
+class Rules(unittest.TestCase):
+    """The rules, and the tests of them that promtool runs."""
+
+    def test_each_metric_is_one_that_is_told(self) -> None:
+        with Served() as served:
+            told = subprocess.run([CTL, "--control", served.path, "metrics"], check=True,
+                                  capture_output=True, text=True).stdout
+        names = set(re.findall(r"^# TYPE (\S+)", told, re.M))
+        expressions = "\n".join(re.findall(r"^ +expr: (.*)$", RULES.read_text(), re.M))
+        asked = set(re.findall(r"\blldpa_[a-z_]+", expressions))
+        self.assertGreater(len(asked), 8)
+        self.assertEqual(asked - names, set())
+
+    def test_each_alert_is_seen_to_fire(self) -> None:
+        alerts = re.findall(r"^ +- alert: (\S+)$", RULES.read_text(), re.M)
+        fires = r"^ +- alertname: (\S+)\n +eval_time: \S+\n +exp_alerts:"
+        self.assertEqual(sorted(alerts), sorted(set(re.findall(fires, TESTS.read_text(), re.M))))
+
+    @has_promtool
+    def test_promtool_takes_them(self) -> None:
+        for words in (["check", "rules", str(RULES)], ["test", "rules", str(TESTS)]):
+            told = subprocess.run(["promtool", *words], check=False, capture_output=True, text=True)
+            self.assertEqual(told.returncode, 0, told.stdout + told.stderr)
+            self.assertIn("SUCCESS", told.stdout)

@@ -1,5 +1,4 @@
-"""Standard output that is closed, full or no longer read: it is reported, and the status says
-so."""
+"""Standard output that is closed, full or not read is reported, and the status says so."""
 from __future__ import annotations
 
 import os
@@ -8,10 +7,9 @@ import sys
 from typing import Sequence, Tuple
 
 from made_captures import LLDP, pcap, whole
-from served import REPOSITORY, Served
+from served import CTL, Served
 from support import CAPTURE, FilesCase
 
-CTL = str(REPOSITORY / "bin" / "lldpa-ctl")
 CLOSED = "standard output: it is closed\n"
 FULL = "standard output: No space left on device\n"
 
@@ -55,6 +53,7 @@ class Output(FilesCase):
                 for output, told in ((">&-", CLOSED), (">/dev/full", FULL)):
                     said = run_with(output, [CTL, "--control", served.path, *words])
                     self.assertEqual(said, (1, f"lldpa-ctl: {told}"), (words, output))
+                self.assertEqual(unread([CTL, "--control", served.path, *words])[0], 1)
 
     def test_who_reads_it_has_gone(self) -> None:
         self.assertEqual(unread([CAPTURE, self.capture])[0], 1)

@@ -12,8 +12,12 @@ import unittest
 from pathlib import Path
 
 import lldpa
+from running_live import LIVE
 from served import PROGRAM, REPOSITORY
 
+SECTIONS = {"lldpa-audit": 1, "lldpa-capture": 1, "lldpa-ctl": 8, "lldpctl": 1}
+if os.access(LIVE, os.X_OK):
+    SECTIONS["lldpa-live"] = 8
 WHEEL = str(REPOSITORY / "tools" / "release" / "wheel.sh")
 PROGRAMS = ("lldpa-audit", "lldpa-capture", "lldpa-ctl")
 TYPED = """\
@@ -156,3 +160,29 @@ class Modules(unittest.TestCase):
     def test_its_version_is_the_program_s(self) -> None:
         told = subprocess.run([PROGRAM, "--version"], capture_output=True, text=True, check=True)
         self.assertEqual(told.stdout, f"lldpa {lldpa.__version__}\n")
+
+
+class Programs(unittest.TestCase):
+    """The version and the help of each."""
+
+    def said(self, name: str, word: str) -> str:
+        """Returns what a program writes for a word."""
+        program = LIVE if name == "lldpa-live" else str(REPOSITORY / "bin" / name)
+        return subprocess.run([program, word], capture_output=True, text=True, check=True).stdout
+
+    def test_version_is_that_of_the_changes(self) -> None:
+        changes = (REPOSITORY / "CHANGELOG.md").read_text()
+        found = re.search(r"^## ([0-9.]+)$", changes, re.M)
+        assert found is not None
+        self.assertEqual(lldpa.__version__, found[1])
+        for name in SECTIONS:
+            for word in ("--version", "-v" if name == "lldpctl" else "-V"):
+                self.assertEqual(self.said(name, word), f"{name} {found[1]}\n")
+
+    def test_help_has_an_example_and_the_page(self) -> None:
+        for name, section in SECTIONS.items():
+            text = self.said(name, "--help")
+            self.assertRegex(text, rf"(?m)^examples?:\s+{name} ")
+            self.assertIn(f"{name}({section})", text)
+            folder = "audit" if name == "lldpa-audit" else "man"
+            self.assertTrue((REPOSITORY / folder / f"{name}.{section}").is_file())

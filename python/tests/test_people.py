@@ -2,16 +2,12 @@
 
 from __future__ import annotations
 
-import re
 import unittest
 
-from lldpa import Neighbor, Port, read_show
+from lldpa import Neighbor, Port
 from lldpa.client.people import summary, table
 from lldpa.agent.shown import Identifier
 from lldpa.texts import cut
-from served import Served, frame, numbered, tlv
-
-HOSTILE = bytes([0x1B]) + b"[31m\r\n\x9b2J\x07\x00\xc2\x9b\xff\x7f\\"
 
 
 def neighbor(port: str, name: str, its_port: str, *said: tuple[str, str]) -> Neighbor:
@@ -39,10 +35,7 @@ class Table(unittest.TestCase):
             "p2    b         swp12                 98 s",
             "2 neighbors on 3 ports."])
 
-    def test_without_neighbors_it_is_the_count(self) -> None:
-        self.assertEqual(table([port("eth0")], 80), ["no neighbors on 1 port."])
-
-    def test_what_stands_where_a_neighbor_says_little(self) -> None:
+    def test_a_neighbor_that_says_little(self) -> None:
         said = (("port.descr", "to the roof"),)
         bare = Neighbor("eth0", 1, Identifier("mac", "02:00:00:00:00:01"),
                         Identifier("unhandled", "ff01"), 120, 5, said)
@@ -78,7 +71,7 @@ class Table(unittest.TestCase):
         no_vlan = [port("eth0", *ports[0].neighbors[1:])]
         self.assertNotIn("VLAN", table(no_vlan, 80)[0])
 
-    def test_a_description_stands_for_an_address(self) -> None:
+    def test_a_description_is_shown_for_an_address(self) -> None:
         for kind, text, shown in (("mac", "02:00:00:00:00:02", "uplink"), ("local", "7", "7"),
                                   ("unhandled", "ff01", "uplink"), ("ip", "192.0.2.1", "192.0.2.1"),
                                   ("ip", "2001:0db8:0000:0000:0000:0000:0000:0001", "2001:db8::1")):
@@ -111,39 +104,9 @@ class Table(unittest.TestCase):
         for line in table([port("eth0", too_many=True)] * 5, 40):
             self.assertLessEqual(len(line), 40)
 
-
-class Escapes(unittest.TestCase):
-    """Nothing of a peer reaches a terminal unchanged."""
-
-    def test_texts_of_a_neighbor_are_printable(self) -> None:
-        management = bytes([10, 99]) + HOSTILE[:9] + bytes([2, 0, 0, 0, 1, 0])
-        texts = [tlv(kind, HOSTILE) for kind in (4, 5, 6)] + [tlv(8, management)]
-        with Served() as served:
-            for kind in range(256):
-                sent = frame(bytes([kind]) + HOSTILE, bytes([kind]) + HOSTILE, 120,
-                             *texts[kind % 2:])
-                served.frame("eth0", sent)
-            served.frame("eth1", frame(b"\x07" + HOSTILE, b"\x07" + HOSTILE, 120, tlv(5, b"")))
-            with served.client() as client:
-                shown = read_show(client.ask("show neighbors"))
-        self.assertEqual([one.neighbors_held for one in shown.ports], [32, 1])
-        for line in [*table(shown.ports, 10_000), *map(summary, shown.neighbors)]:
-            self.assertRegex(line, "^[ -~]*$")
-        self.assertIn(r"\x1b[31m\x0d\x0a\x9b2J", table(shown.ports, 10_000)[1])
-
     def test_what_no_agent_shows_is_escaped_too(self) -> None:
         for text in ("\x1b[31m", "\r", "\n", "\x9b", "\x85", "\u202e", "\x7f"):
             hostile = neighbor(text, text, text, ("chassis.mgmt", text))
             lines = table([port(text, hostile, too_many=True)], 200)
             self.assertRegex("".join(lines), "^[ -~]*$")
             self.assertRegex(summary(hostile), "^[ -~]*$")
-
-    def test_a_number_of_neighbors_is_laid_out(self) -> None:
-        with Served() as served:
-            for number in range(20):
-                served.frame("eth0", numbered(number, 120, tlv(5, b"n" * number)))
-            with served.client() as client:
-                lines = table(read_show(client.ask("show neighbors")).ports, 60)
-        self.assertEqual(len(lines), 22)
-        self.assertEqual({len(line) for line in lines[:21]}, {len(lines[0])})
-        self.assertTrue(all(re.search(r"120 s$", line) for line in lines[1:21]))

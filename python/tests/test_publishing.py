@@ -4,7 +4,6 @@ from __future__ import annotations
 
 import os
 import resource
-import signal
 import socket
 import stat
 import subprocess
@@ -82,27 +81,6 @@ class Publishing(unittest.TestCase):
         self.assertIn('\nlldpa_agent_state{state="waiting"} 1\n', printed)
         self.assertIn('\nlldpa_link_up{port="eth0"} 1\n', printed)
 
-    def test_lldpa_live_that_ends_or_answers_nonsense_is_down(self) -> None:
-        answers = {b"": "lldpa-live has ended the connection",
-                   b"=1\n": "lldpa-live has ended the connection",
-                   b"hello\n": "not an answer of lldpa-live: 'hello'",
-                   b"=1\nlive.began=now\n=0\n=0\n": "not an answer of lldpa-live: not a time as "
-                   "lldpa-live writes it: 'now'",
-                   b"=0\n=1\nx\n=0\n": "line 1"}
-        for answer, said in answers.items():
-            path = os.path.join(self.served.folder, f"other-{len(answer)}")
-            with socket.socket(socket.AF_UNIX, socket.SOCK_STREAM) as other:
-                other.bind(path)
-                other.listen()
-                thread = threading.Thread(target=answer_once, args=[other, answer])
-                thread.start()
-                told = subprocess.run([CTL, "--control", path, "metrics", "--output",
-                                       str(self.file)], check=False, capture_output=True, text=True)
-                thread.join()
-            self.assertEqual((told.returncode, self.file.read_text()), (1, DOWN), answer)
-            self.assertIn(said, told.stderr)
-            self.file.unlink()
-
     def test_a_file_that_cannot_be_written_stays_as_it_was(self) -> None:
         missing = self.folder / "none" / "lldpa.prom"
         self.ctl("--output", str(missing), said=f"{missing}: No such file or directory", status=1)
@@ -112,7 +90,7 @@ class Publishing(unittest.TestCase):
                  preexec_fn=is_full)
         self.assertEqual((self.names(), self.file.read_text()), (["lldpa.prom"], "before\n"))
 
-    def test_who_reads_meanwhile_sees_a_whole_file(self) -> None:
+    def test_readers_see_a_whole_file(self) -> None:
         self.ctl("--output", str(self.file))
         whole, seen, is_over = self.file.read_text(), set(), threading.Event()
 
@@ -127,36 +105,3 @@ class Publishing(unittest.TestCase):
         is_over.set()
         thread.join()
         self.assertEqual(seen, {whole})
-
-    def test_who_is_killed_while_asking_leaves_the_file_as_it_was(self) -> None:
-        self.file.write_text("before\n")
-        path = os.path.join(self.served.folder, "silent")
-        with socket.socket(socket.AF_UNIX, socket.SOCK_STREAM) as silent:
-            silent.bind(path)
-            silent.listen()
-            asking = subprocess.Popen([CTL, "--control", path, "metrics", "--output",
-                                       str(self.file)])
-            with silent.accept()[0] as connection:
-                self.assertEqual(connection.recv(4096), b"live\n")
-                asking.kill()
-                self.assertEqual(asking.wait(SECONDS), -signal.SIGKILL)
-        self.assertEqual((self.names(), self.file.read_text()), (["lldpa.prom"], "before\n"))
-
-    def test_words(self) -> None:
-        for words in (["--output", "x", "show", "neighbors"], ["--output", "x"],
-                      ["metrics", "--output"], ["--output", "x", "--json", "metrics"]):
-            told = subprocess.run([CTL, *words], check=False, capture_output=True, text=True)
-            self.assertEqual((told.returncode, told.stdout), (2, ""), words)
-            self.assertIn("lldpa-ctl: error: ", told.stderr)
-
-
-def answer_once(listener: socket.socket, answer: bytes) -> None:
-    """Answers one client, whatever it asks, and ends the connection."""
-    connection, _ = listener.accept()
-    with connection:
-        connection.settimeout(SECONDS)
-        connection.recv(4096)
-        connection.sendall(answer)
-        connection.shutdown(socket.SHUT_WR)
-        while connection.recv(4096):
-            pass

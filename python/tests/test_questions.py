@@ -3,57 +3,45 @@
 from __future__ import annotations
 
 import json
-import subprocess
-import unittest
+from typing import Any
 
-from lldpa.client.questions import COMMANDS, explanation, listed, question
+from asked import Program
+from lldpa.client.questions import explanation, listed
 from lldpa.agent.shown import Counters
-from served import CTL, Served, numbered, tlv
+from served import numbered, tlv
 
 LIVE = [b"live.began=2026-11-23T19:40:00Z", b"live.eth0.interface=present",
           b"live.eth0.link=up", b"live.eth1.interface=awaited", b"live.eth1.link=down",
           b"live.eth0.since.1=2026-11-23T19:45:02Z mac=02:00:00:00:00:01 ifname=p1"]
 
 
-class Words(unittest.TestCase):
-    """With lldpa-live's socket: what is printed."""
+class Words(Program):
+    """What is printed."""
 
     def setUp(self) -> None:
-        self.served = Served()
+        super().setUp()
         self.served.live_lines = LIVE
-        self.addCleanup(self.served.close)
         self.served.frame("eth0", numbered(1, 120, tlv(5, b"sw"), tlv(127, b"\0\x80\xc2\1\0\x78")))
         self.served.frame("eth1", numbered(2, 60))
 
-    def ctl(self, *words: str, status: int = 0) -> list[str]:
-        """Returns what lldpa-ctl prints, or what it says if its status is another."""
-        told = subprocess.run([CTL, "--control", self.served.path, *words], check=False,
-                              capture_output=True, text=True)
-        self.assertEqual(told.returncode, status, told.stderr)
-        self.assertEqual(told.stderr if not status else told.stdout, "")
-        return (told.stderr if status else told.stdout).splitlines()
-
     def told(self, line: str) -> list[str]:
-        """Returns what a line prints."""
-        return self.ctl(*line.split())
+        """Returns the lines that a command prints."""
+        return self.run_ctl(*line.split()).splitlines()
 
-    def refused(self, line: str) -> str:
-        """Returns what is said of a line that is refused."""
-        said, = self.ctl(*line.split(), status=1)
-        return said[len("lldpa-ctl: "):]
+    def object(self, line: str) -> Any:
+        """Returns what a command prints as JSON."""
+        return json.loads(self.run_ctl("--json", *line.split()))
 
     def test_tables(self) -> None:
         rows = ["PORT  NEIGHBOR           ITS PORT  VLAN  MANAGEMENT   LEFT",
                 "eth0  sw                 p1        120               120 s",
                 "eth1  02:00:00:00:00:02  p2                           60 s"]
         self.assertEqual(self.told("neighbors"), [*rows, "2 neighbors on 2 ports."])
-        self.assertEqual(self.ctl(), self.ctl("neighbors"))
-        self.assertEqual(self.told("show neighbors summary"), self.ctl("neighbors"))
-        self.assertEqual(self.told("show neighbors summary ports eth1"),
-                         self.ctl("neighbors", "eth1"))
-        self.assertEqual(self.told("neighbors eth1,eth0"), self.told("neighbors"))
+        for line in ("", "show neighbors summary", "neighbors eth1,eth0", "neighbors eth1 eth0"):
+            self.assertEqual(self.told(line), [*rows, "2 neighbors on 2 ports."])
         self.assertEqual(len(self.told("neighbors eth1")), 3)
-        self.assertEqual(self.told("neighbors eth1 eth0"), self.told("neighbors"))
+        self.assertEqual(self.told("show neighbors summary ports eth1"),
+                         self.told("neighbors eth1"))
 
     def test_details(self) -> None:
         lines = self.told("details")
@@ -71,8 +59,7 @@ class Words(unittest.TestCase):
         self.assertEqual(self.told("interfaces"), rows)
         self.assertEqual(self.told("show interfaces"), rows)
         self.assertEqual(self.told("interfaces eth1"), [rows[0], rows[2]])
-        told = json.loads("\n".join(self.ctl("--json", "interfaces", "eth1")))
-        self.assertEqual(told, {"interfaces": [{
+        self.assertEqual(self.object("interfaces eth1"), {"interfaces": [{
             "name": "eth1", "interface": "awaited", "link": "down", "status": "rx-only",
             "neighbors": 1}]})
 
@@ -88,8 +75,8 @@ class Words(unittest.TestCase):
         self.assertEqual(self.told("statistics eth1")[1].split(), lines[2])
         self.assertEqual([line.split() for line in self.told("statistics summary")],
                          [lines[0], lines[3]])
-        told = json.loads("\n".join(self.ctl("--json", "statistics", "summary")))
-        self.assertEqual((told["summary"]["received"], told["summary"]["discarded"]), (3, 1))
+        told = self.object("statistics summary")["summary"]
+        self.assertEqual((told["received"], told["discarded"]), (3, 1))
 
     def test_lists_of_ports(self) -> None:
         for show in ("neighbors", "statistics"):
@@ -107,12 +94,10 @@ class Words(unittest.TestCase):
         self.assertEqual(listed(["ports", "a,b", "c"]), ["a", "b", "c"])
 
     def test_json_has_since_when(self) -> None:
-        for words in ((), ("details",), ("neighbors",), ("show", "neighbors"),
-                      ("show", "neighbors", "eth0")):
-            told = json.loads("\n".join(self.ctl("--json", *words)))
-            self.assertEqual(told["ports"][0]["neighbors"][0]["since"], "2026-11-23T19:45:02Z")
-        told = json.loads("\n".join(self.ctl("--json", "details", "eth1")))
-        self.assertIsNone(told["ports"][0]["neighbors"][0]["since"])
+        for line in ("", "details", "neighbors", "show neighbors", "show neighbors eth0"):
+            neighbor = self.object(line)["ports"][0]["neighbors"][0]
+            self.assertEqual(neighbor["since"], "2026-11-23T19:45:02Z")
+        self.assertIsNone(self.object("details eth1")["ports"][0]["neighbors"][0]["since"])
 
     def test_what_is_refused_is_named(self) -> None:
         for line, said in (
@@ -136,23 +121,12 @@ class Words(unittest.TestCase):
                 ("configure lldp tx-interval 3601",
                  "out of range: 3601 (seconds between frames, 1 to 3600)"),
                 ("configure ports eth0,eth1 lldp status off",
-                 "unknown command: off (rx-and-tx, rx-only, tx-only, disabled)")):
-            self.assertEqual(self.refused(line), said)
-        said, = self.ctl("configure", "ports", "eth9", "lldp", "status", "disabled", status=1)
-        self.assertEqual(said, "lldpa-ctl: no such port: eth9 (eth0, eth1)")
-        said, = self.ctl("neighbours", status=1)
-        self.assertEqual(said, "lldpa-ctl: unknown command: neighbours (neighbors, details, "
-                         "interfaces, statistics, live, show, configure, update, watch, metrics, "
-                         "help)")
-        self.assertEqual(self.ctl("tick", status=1), ["lldpa-ctl: for lldpa-live alone"])
-
-
-class WhatIsKnown(unittest.TestCase):
-    """The commands that are known here, and the agent's."""
-
-    def test_each_first_word_asks_something(self) -> None:
-        for word in COMMANDS:
-            self.assertTrue(question([word]).lines)
+                 "unknown command: off (rx-and-tx, rx-only, tx-only, disabled)"),
+                ("configure ports eth9 lldp status disabled", "no such port: eth9 (eth0, eth1)"),
+                ("neighbours", "unknown command: neighbours (neighbors, details, interfaces, "
+                 "statistics, live, show, configure, update, watch, metrics, help)"),
+                ("tick", "for lldpa-live alone")):
+            self.run_ctl(*line.split(), status=1, said=said)
 
     def test_refusals_of_whole_lines_stay(self) -> None:
         for text in ("no permission", "waiting for an interface", "too many held"):

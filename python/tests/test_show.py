@@ -6,7 +6,7 @@ import sys
 import unittest
 from typing import Iterator, List, Tuple
 
-from lldpa.agent.synchronous import MARK, MARK_ANSWER
+from lldpa.agent.framing import MARK, MARK_ANSWER
 from lldpa.agent.show import (Configuration, Counters, Identifier, Neighbor, Show, ShowFault,
                               lines_of, read_show, unescaped)
 from served import PROGRAM, REPOSITORY
@@ -67,7 +67,7 @@ ALL = NEIGHBORS + STATISTICS + CHASSIS + CONFIGURATION
 
 
 def shows_of_transcript(name: str) -> Iterator[List[str]]:
-    """Returns what each show of a transcript writes, and all shows behind its lines."""
+    """Returns what each show of a transcript writes, and all shows after its lines."""
     (_, words, _, trace, steps), = transcripts([name])
     assert not isinstance(steps, str), steps
     lines = [line for line, _ in steps] + [b"show " + show.encode() for show in SHOWS]
@@ -121,9 +121,8 @@ class ThereAndBack(unittest.TestCase):
     def test_all_shows_together_and_each_alone(self) -> None:
         for lines in (ALL, NEIGHBORS, STATISTICS, CHASSIS, CHASSIS[:4], CONFIGURATION, []):
             self.assertEqual(lines_of(read_show(lines)), lines)
+            self.assertEqual(lines_of(read_show(line + "\n" for line in lines)), lines)
 
-    def test_lines_with_line_feeds(self) -> None:
-        self.assertEqual(lines_of(read_show(line + "\n" for line in ALL)), ALL)
 
 
 class WhatIsRead(unittest.TestCase):
@@ -184,7 +183,7 @@ class WhatIsRead(unittest.TestCase):
         self.assertEqual(len({id_of(*pair) for pair in pairs}), len(pairs))
         self.assertEqual({id_of(*pair).count(" ") for pair in pairs}, {1})
 
-    def test_octets_behind_a_text(self) -> None:
+    def test_octets_of_a_text(self) -> None:
         self.assertEqual(unescaped("caf\\xc3\\xa9 \\\\x41"), "café \\x41".encode())
         self.assertEqual(unescaped("\\\\\\x00"), b"\\\0")
 

@@ -5,10 +5,11 @@ from __future__ import annotations
 import json
 import unicodedata
 import unittest
+from unittest import mock
 
-from lldpa.agent.escapes import shown_text
 from lldpa.agent.show import unescaped
-from lldpa.texts import is_shown, printable, readable, shown_octets, text_of, width_of, wrapped
+from lldpa.texts import (columns_of, is_shown, printable, readable, shown_octets, shown_text,
+                         text_of, width_of, wrapped)
 
 SHOWN = ("a", "é", "ß", "Ω", "ж", "א", "ع", "京", "한", "€", "→", "😀", "½", "\\", "~", "¡")
 # controls, breaks, blanks, what turns the direction of writing, joins, fills or selects, private
@@ -62,11 +63,18 @@ class ForPeople(unittest.TestCase):
             self.assertEqual(width_of(text), width, text)
 
     def test_wrapping(self) -> None:
-        self.assertEqual(wrapped("one two three", 7), ["one two", "three"])
-        self.assertEqual(wrapped("abcdefgh ij", 3), ["abc", "def", "gh", "ij"])
-        self.assertEqual(wrapped("京都京都", 3), ["京", "都", "京", "都"])
-        self.assertEqual(wrapped("", 3), [""])
-        self.assertEqual(wrapped("京", 1), ["京"])
+        for text, width, lines in (("one two three", 7, ["one two", "three"]), ("", 3, []),
+                                   ("abcdefgh ij", 3, ["abc", "def", "gh", "ij"]),
+                                   ("a bcde", 3, ["a", "bcd", "e"]), ("ab cd", 2, ["ab", "cd"]),
+                                   ("京都京都", 3, ["京", "都", "京", "都"]), ("京", 1, ["京"])):
+            self.assertEqual(list(wrapped(text, width)), lines)
+
+    def test_wrapping_looks_at_each_letter_a_few_times(self) -> None:
+        text = "caf\u00e9 " * 1000 + "\u00e9" * 5000
+        for width in (7, 80, 1_000_000):
+            with mock.patch("lldpa.texts.columns_of", wraps=columns_of) as looked:
+                self.assertEqual("".join(wrapped(text, width)).count("\u00e9"), 6000)
+            self.assertLess(looked.call_count, 3 * len(text))
 
 
 class ForPrograms(unittest.TestCase):

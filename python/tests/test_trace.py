@@ -6,13 +6,12 @@ import random
 import select
 import subprocess
 import sys
-from typing import Dict, List, Sequence
+from typing import List, Sequence
 
 from lldpa import Source, Told, ports_of, trace_of
 from lldpa.capture.trace import TooManyPorts
 from made_captures import (FORMS, LLDP, OTHER, SECOND, START, TAGGED, Frame, block, interface,
                            lldp_frame, packet, pcap, pcapng, section, whole)
-from served import PROGRAM
 from support import CAPTURE, FilesCase
 
 RX = f"rx eth0 {LLDP.hex()}\n"
@@ -184,16 +183,6 @@ class Program(FilesCase):
             self.assertEqual(running.stdout.readline(), RX.encode())
             running.stdin.close()
 
-    def test_a_reader_that_is_gone(self) -> None:
-        path = self.file(pcap([whole(LLDP)] * 5000))
-        with subprocess.Popen([sys.executable, CAPTURE, path], stdout=subprocess.PIPE,
-                              stderr=subprocess.PIPE) as running:
-            assert running.stdout is not None and running.stderr is not None
-            running.stdout.readline()
-            running.stdout.close()
-            self.assertEqual(running.stderr.read(), b"")
-        self.assertEqual(running.returncode, 1)
-
     def test_words_that_are_wrong(self) -> None:
         self.file(pcap([whole(LLDP)]), "a")
         for words, text in ((["--port", "eth0.10", "a"], "eth0.10: a port's name has 1 to 15"),
@@ -221,21 +210,7 @@ class Program(FilesCase):
 
     def test_files_that_are_no_captures(self) -> None:
         self.file(b"", "empty")
-        self.file(b"#!/bin/sh", "script")
         self.assertEqual(self.ran("empty"), ("", "lldpa-capture: empty: it is empty\n", 1))
-        self.assertIn("script: it is not a capture: it begins with 23", self.ran("script")[1])
         gone = "lldpa-capture: gone: No such file or directory\n"
         self.assertEqual(self.ran("gone"), ("", gone, 1))
         self.assertEqual(self.ran(str(self.folder))[2], 1)
-
-    def test_the_ports_of_two_interfaces_in_an_agent(self) -> None:
-        near, far = bytes.fromhex("020000000001"), bytes.fromhex("020000000002")
-        file = section() + interface(name="swp1") + interface(name="swp2")
-        file += packet(whole(lldp_frame(near, b"a")))
-        file += packet(whole(lldp_frame(far, b"b")), place=1)
-        trace, _, _ = self.ran("--show", self.file(file))
-        shown = subprocess.run([PROGRAM, "--receive-only", "swp1", "swp2"], input=trace, text=True,
-                               capture_output=True, check=True).stdout
-        keys: Dict[str, str] = dict(line.split("=", 1) for line in shown.splitlines())
-        self.assertEqual(keys["lldp.swp1.1.port.ifname"], "a")
-        self.assertEqual(keys["lldp.swp2.1.port.ifname"], "b")

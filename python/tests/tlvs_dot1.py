@@ -3,9 +3,7 @@
 from __future__ import annotations
 
 import struct
-from typing import Any
-
-from by_tshark import Pairs, by_tshark, enumerated, expected
+from by_tshark import FIELDS, Pairs, by_tshark, enumerated, expected
 from encoding import Sample, bits, encoded
 from lldpa.organizational import (ApplicationPriorities, ApplicationPriority, Ets,
                                   EtsRecommendation, EtsTables, ManagementVlan, Pfc, PortVlan,
@@ -19,30 +17,16 @@ TABLES_HEX = "01234567 0a141e2800000000 02020202000001ff"
 Sample(("0080c2", 1), "0078", PortVlan(120), 15 + 255)
 
 
-@encoded.register
-def _(tlv: PortVlan) -> bytes:
-    return struct.pack(">H", tlv.pvid)
-
-
-@by_tshark.register
-def _(tlv: PortVlan) -> Pairs:
-    return expected("lldp.ieee.802_1.", {"port_vlan.id": tlv.pvid})
+FIELDS[PortVlan] = "lldp.ieee.802_1.", {"port_vlan.id": "pvid"}
 
 
 Sample(("0080c2", 2), "06 0078", ProtocolVlan(True, True, 120), 255 + 15 + 255,
        ignored="f9 0000")
 
 
-@encoded.register
-def _(tlv: ProtocolVlan) -> bytes:
-    return struct.pack(">BH", 2 * tlv.is_supported + 4 * tlv.is_enabled, tlv.ppvid)
-
-
-@by_tshark.register
-def _(tlv: ProtocolVlan) -> Pairs:
-    return expected("lldp.ieee.802_1.port_", {
-        "and_vlan_id_flag.supported": tlv.is_supported, "and_vlan_id_flag.enabled": tlv.is_enabled,
-        "proto_vlan.id": tlv.ppvid})
+FIELDS[ProtocolVlan] = "lldp.ieee.802_1.port_", {
+    "and_vlan_id_flag.supported": "is_supported", "and_vlan_id_flag.enabled": "is_enabled",
+    "proto_vlan.id": "ppvid"}
 
 
 Sample(("0080c2", 3), "0078 06 6f6666696365", VlanName(120, b"office"), 15 + 255 + 6 * 255)
@@ -76,23 +60,10 @@ def _(tlv: ProtocolIdentity) -> Pairs:
 Sample(("0080c2", 5), "01020304", VidUsageDigest(0x01020304), 4 * 255)
 
 
-@encoded.register
-def _(tlv: VidUsageDigest) -> bytes:
-    return struct.pack(">I", tlv.digest)
-
-
 Sample(("0080c2", 6), "0001", ManagementVlan(1), 15 + 255)
 
 
-@encoded.register
-def _(tlv: ManagementVlan) -> bytes:
-    return struct.pack(">H", tlv.vid)
-
-
-@by_tshark.register(VidUsageDigest)
-@by_tshark.register(ManagementVlan)
-def _(tlv: Any) -> Pairs:
-    return []  # tshark names them and shows nothing of them
+FIELDS[VidUsageDigest] = FIELDS[ManagementVlan] = "", {}  # tshark shows only their names
 
 
 @encoded.register

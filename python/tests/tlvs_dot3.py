@@ -2,10 +2,8 @@
 
 from __future__ import annotations
 
-import struct
-
-from by_tshark import Pairs, by_tshark, expected
-from encoding import Sample, bits, encoded
+from by_tshark import FIELDS, Pairs, by_fields, by_tshark, expected
+from encoding import Sample, by_layout, encoded
 from lldpa.organizational import (Eee, LinkAggregation, MacPhy, MaxFrameSize, Power, PowerOfPairs,
                                   PowerRequest)
 
@@ -20,14 +18,7 @@ ADVERTISED = ("other", "10base_t", "10base_tfd", "100base_t4", "100base_tx", "10
 Sample(("00120f", 4), "05f2", MaxFrameSize(1522), 2 * 255)
 
 
-@encoded.register
-def _(tlv: MaxFrameSize) -> bytes:
-    return struct.pack(">H", tlv.octets)
-
-
-@by_tshark.register
-def _(tlv: MaxFrameSize) -> Pairs:
-    return expected("lldp.ieee.802_3.", {"max_frame_size": tlv.octets})
+FIELDS[MaxFrameSize] = "lldp.ieee.802_3.", {"max_frame_size": "octets"}
 
 
 Sample(("0080c2", 7), "03 00000007", LinkAggregation(True, True, 7), 5 * 255,
@@ -38,26 +29,13 @@ Sample(("00120f", 3), "01 00010002", LinkAggregation(True, False, 65538), 5 * 25
        ignored="fc 00000000")
 
 
-@encoded.register
-def _(tlv: LinkAggregation) -> bytes:
-    return struct.pack(">BI", tlv.is_capable + 2 * tlv.is_aggregated, tlv.port)
-
-
-@by_tshark.register
-def _(tlv: LinkAggregation) -> Pairs:
-    return expected("", {"aggregation_status.cap": tlv.is_capable,
-                         "aggregation_status.enabled": tlv.is_aggregated,
-                         "aggregated_port_id": tlv.port})
+FIELDS[LinkAggregation] = "", {
+    "aggregation_status.cap": "is_capable", "aggregation_status.enabled": "is_aggregated",
+    "aggregated_port_id": "port"}
 
 
 Sample(("00120f", 1), "03 6c01 001e", MacPhy(True, True, 0x6c01, 30), 5 * 255,
        ignored="fc 0000 0000")
-
-
-@encoded.register
-def _(tlv: MacPhy) -> bytes:
-    status = tlv.supports_autonegotiation + 2 * tlv.autonegotiates
-    return struct.pack(">BHH", status, tlv.advertised, tlv.mau_type)
 
 
 @by_tshark.register
@@ -86,71 +64,37 @@ Sample(("00120f", 2), "06 02 04 52 00ff 00c8 0064 0065 0066 0067 9e56 07 03e7 05
 
 @encoded.register
 def _(tlv: Power) -> bytes:
-    support = bits((0, 4), (tlv.can_control_pairs, 1), (tlv.is_enabled, 1), (tlv.is_supported, 1),
-                   (tlv.is_pse, 1))
-    further = [encoded(one) for one in (tlv.request, tlv.of_pairs) if one is not None]
-    return support + bytes([tlv.pairs, tlv.class_number]) + b"".join(further)
+    return b"".join(by_layout(part) for part in (tlv, tlv.request, tlv.of_pairs) if part)
+
+
+FIELDS[Power] = "lldp.ieee.802_3.mdi_", {
+    "power_support.port_class": "is_pse", "power_support.supported": "is_supported",
+    "power_support.enabled": "is_enabled", "power_support.pse_pairs": "can_control_pairs",
+    "pse_pair": "pairs", "power_class": "class_number"}
+FIELDS[PowerRequest] = "lldp.ieee.802_3.mdi_", {
+    "power_type": "type", "power_source": "source", "power_priority": "priority",
+    "pde_requested": "requested", "pse_allocated": "allocated"}
+FIELDS[PowerOfPairs] = "lldp.ieee.802_3.bt_", {
+    "ds_pd_requested_power_value_mode_a": "requested_a",
+    "ds_pd_requested_power_value_mode_b": "requested_b",
+    "ds_pse_allocated_power_value_alt_a": "allocated_a",
+    "ds_pse_allocated_power_value_alt_b": "allocated_b",
+    "pse_powering_status": "pse_status", "pd_powered_status": "pd_status",
+    "pse_power_pairs_ext": "pse_pairs", "ds_pwr_class_ext_a": "class_a",
+    "ds_pwr_class_ext_b": "class_b", "pwr_class_ext_": "power_class", "power_type_ext": "type",
+    "pse_maximum_available_power_value": "most_available",
+    "pse_autoclass_support": "can_autoclass", "autoclass_completed": "has_autoclass",
+    "autoclass_request": "requests_autoclass", "power_down_request": "down_request",
+    "power_down_time": "down_seconds"}
 
 
 @by_tshark.register
 def _(tlv: Power) -> Pairs:
-    pairs = expected("lldp.ieee.802_3.mdi_", {
-        "power_support.port_class": tlv.is_pse, "power_support.supported": tlv.is_supported,
-        "power_support.enabled": tlv.is_enabled, "power_support.pse_pairs": tlv.can_control_pairs,
-        "pse_pair": tlv.pairs, "power_class": tlv.class_number})
-    if tlv.request is not None:
-        asked = tlv.request
-        pairs += expected("lldp.ieee.802_3.mdi_", {
-            "power_type": asked.type, "power_source": asked.source,
-            "power_priority": asked.priority, "pde_requested": asked.requested,
-            "pse_allocated": asked.allocated})
-    return pairs + (of_pairs(tlv.of_pairs) if tlv.of_pairs else [])
-
-
-@encoded.register
-def _(part: PowerRequest) -> bytes:
-    head = bits((part.type, 2), (part.source, 2), (0, 2), (part.priority, 2))
-    return head + struct.pack(">HH", part.requested, part.allocated)
-
-
-@encoded.register
-def _(part: PowerOfPairs) -> bytes:
-    powers = struct.pack(">4H", part.requested_a, part.requested_b, part.allocated_a,
-                         part.allocated_b)
-    status = bits((part.pse_status, 2), (part.pd_status, 2), (part.pse_pairs, 2),
-                  (part.class_a, 3), (part.class_b, 3), (part.power_class, 4))
-    setup = bits((0, 4), (part.type, 3), (part.is_isolated, 1))
-    autoclass = bits((0, 5), (part.can_autoclass, 1), (part.has_autoclass, 1),
-                     (part.requests_autoclass, 1))
-    down = bits((part.down_request, 6), (part.down_seconds, 18))
-    return powers + status + setup + struct.pack(">H", part.most_available) + autoclass + down
-
-
-def of_pairs(more: PowerOfPairs) -> Pairs:
-    """Returns what IEEE 802.3bt added."""
-    return expected("lldp.ieee.802_3.bt_", {
-        "ds_pd_requested_power_value_mode_a": more.requested_a,
-        "ds_pd_requested_power_value_mode_b": more.requested_b,
-        "ds_pse_allocated_power_value_alt_a": more.allocated_a,
-        "ds_pse_allocated_power_value_alt_b": more.allocated_b,
-        "pse_powering_status": more.pse_status, "pd_powered_status": more.pd_status,
-        "pse_power_pairs_ext": more.pse_pairs, "ds_pwr_class_ext_a": more.class_a,
-        "ds_pwr_class_ext_b": more.class_b, "pwr_class_ext_": more.power_class,
-        "power_type_ext": more.type, "pse_maximum_available_power_value": more.most_available,
-        "pse_autoclass_support": more.can_autoclass, "autoclass_completed": more.has_autoclass,
-        "autoclass_request": more.requests_autoclass, "power_down_request": more.down_request,
-        "power_down_time": more.down_seconds})
+    parts = (tlv.request, tlv.of_pairs)
+    return [*by_fields(tlv), *(pair for part in parts if part for pair in by_fields(part))]
 
 
 Sample(("00120f", 5), "0011 0012 0013 0014 0015", Eee(17, 18, 19, 20, 21), 10 * 255)
 
 
-@encoded.register
-def _(tlv: Eee) -> bytes:
-    return struct.pack(">5H", tlv.transmit, tlv.receive, tlv.fallback_receive, tlv.echo_transmit,
-                       tlv.echo_receive)
-
-
-@by_tshark.register
-def _(tlv: Eee) -> Pairs:
-    return expected("lldp.ieee.802_3.eee.", dict(vars(tlv)))
+FIELDS[Eee] = "lldp.ieee.802_3.eee.", {field: field for field in Eee.__annotations__}

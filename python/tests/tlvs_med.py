@@ -2,10 +2,8 @@
 
 from __future__ import annotations
 
-import struct
-
-from by_tshark import Pairs, by_tshark, expected
-from encoding import Sample, bits, encoded
+from by_tshark import FIELDS, Pairs, by_tshark, expected
+from encoding import Sample, by_layout, encoded
 from lldpa.organizational import (CivicAddress, Coordinates, Elin, Inventory, MedCapabilities,
                                   MedPower, MudUrl, NetworkPolicy)
 
@@ -15,11 +13,6 @@ MED_CAPABILITIES = ("llpd", "network_policy", "location_id", "mdi_pse", "mid_pd"
 
 
 Sample(("0012bb", 1), "003f 03", MedCapabilities(63, 3), 3 * 255)
-
-
-@encoded.register
-def _(tlv: MedCapabilities) -> bytes:
-    return struct.pack(">HB", tlv.capabilities, tlv.device_class)
 
 
 @by_tshark.register
@@ -34,17 +27,9 @@ Sample(("0012bb", 2), "01 43e96e", NetworkPolicy(1, False, True, 500, 5, 46), 4 
        ignored="00 200000")
 
 
-@encoded.register
-def _(tlv: NetworkPolicy) -> bytes:
-    return bits((tlv.application, 8), (tlv.is_unknown, 1), (tlv.is_tagged, 1), (0, 1),
-                (tlv.vid, 12), (tlv.priority, 3), (tlv.dscp, 6))
-
-
-@by_tshark.register
-def _(tlv: NetworkPolicy) -> Pairs:
-    return expected("lldp.media.", {
-        "app_type": tlv.application, "policy_flag": tlv.is_unknown, "tag_flag": tlv.is_tagged,
-        "vlan_id": tlv.vid, "l2_prio": tlv.priority, "dscp": tlv.dscp})
+FIELDS[NetworkPolicy] = "lldp.media.", {
+    "app_type": "application", "policy_flag": "is_unknown", "tag_flag": "is_tagged",
+    "vlan_id": "vid", "l2_prio": "priority", "dscp": "dscp"}
 
 
 # changed, its resolutions are up to 34 and 30, and no place is beyond a pole or half the globe
@@ -55,9 +40,7 @@ Sample(("0012bb", 3), "01 48 61000000 48 04800000 12 40 00 2380 01",
 
 @encoded.register
 def _(tlv: Coordinates) -> bytes:
-    return b"\1" + bits((tlv.latitude_resolution, 6), (tlv.latitude, 34),
-                        (tlv.longitude_resolution, 6), (tlv.longitude, 34), (tlv.altitude_type, 4),
-                        (tlv.altitude_resolution, 6), (tlv.altitude, 30), (tlv.datum, 8))
+    return b"\1" + by_layout(tlv)
 
 
 @by_tshark.register
@@ -110,15 +93,8 @@ def _(tlv: Elin) -> Pairs:
 Sample(("0012bb", 4), "52 0032", MedPower(1, 1, 2, 50), 3 * 255)
 
 
-@encoded.register
-def _(tlv: MedPower) -> bytes:
-    return bits((tlv.device, 2), (tlv.source, 2), (tlv.priority, 4), (tlv.power, 16))
-
-
-@by_tshark.register
-def _(tlv: MedPower) -> Pairs:
-    return expected("lldp.media.power.", {
-        "type": tlv.device, "source": tlv.source, "prio": tlv.priority, "value": tlv.power})
+FIELDS[MedPower] = "lldp.media.power.", {
+    "type": "device", "source": "source", "prio": "priority", "value": "power"}
 
 
 for subtype, kind in enumerate(INVENTORY, 5):
@@ -132,7 +108,7 @@ def _(tlv: Inventory) -> bytes:
 
 @by_tshark.register
 def _(tlv: Inventory) -> Pairs:
-    return expected("lldp.media.", {INVENTORY[tlv.kind]: tlv.text.decode()})
+    return expected("lldp.media.", {INVENTORY[tlv.kind]: tlv.text})
 
 
 Sample(("00005e", 1), b"https://x".hex(), MudUrl(b"https://x"), 9 * 255, tuple(range(1, 9)))
@@ -143,6 +119,4 @@ def _(tlv: MudUrl) -> bytes:
     return tlv.url
 
 
-@by_tshark.register
-def _(tlv: MudUrl) -> Pairs:
-    return expected("lldp.iana.", {"mudurl": tlv.url.decode()})
+FIELDS[MudUrl] = "lldp.iana.", {"mudurl": "url"}

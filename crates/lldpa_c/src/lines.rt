@@ -69,7 +69,7 @@ struct Filling<'a> {
 }
 
 impl<'a> Filling<'a> {
-    /// Begins with nothing written. This many lines are not wanted.
+    /// Begins with nothing written, at the wanted line.
     fn new(room: &'a mut [u8], from: u32) -> Filling<'a>
         ensures room { result.room.now ≡ room.old }
         ensures same { result.room.ghost_name ≡ room.entry.ghost_name }

@@ -3,21 +3,21 @@ from __future__ import annotations
 
 import errno
 import os
-import select
+import shutil
 import signal
 import socket
 import subprocess
 import sys
-import time
+from contextlib import suppress
 from typing import List, Mapping, Optional, Sequence, Union
 
-from .framing import Closed as Closed, Ended as Ended
+from .framing import Ended as Ended
 
 Option = Union[bool, int, str, None]
 
 PROGRAM = "lldpa"
 PATIENCE = 10.0
-MOST_SAID = 64 * 1024  # octets of standard error that are kept
+MOST_SAID = 64 * 1024  # octets of standard error that are read
 
 
 def words_of(ports: Sequence[str], program: str, options: Mapping[str, Option]) -> List[str]:
@@ -42,18 +42,16 @@ def path_of(program: str) -> str:
 
     Raises FileNotFoundError if there is neither.
     """
-    if program != PROGRAM or any(os.access(os.path.join(folder, program), os.X_OK)
-                                 for folder in os.get_exec_path()):
+    if program != PROGRAM or shutil.which(program):
         return program
-    beside = os.path.join(os.path.dirname(sys.executable), program)
-    if not os.access(beside, os.X_OK):
+    beside = shutil.which(program, path=os.path.dirname(sys.executable))
+    if beside is None:
         raise FileNotFoundError(errno.ENOENT, "not found on the path", program)
     return beside
 
 
 class Child:
-    """A process that was started with these words. Ctrl-C does not reach it: it ends with its
-    input."""
+    """A child process. Ctrl-C does not reach it: it ends when its input ends."""
 
     def __init__(self, words: List[str]) -> None:
         """Starts it. Raises OSError if there is no such program."""
@@ -76,32 +74,25 @@ class Child:
     def end(self, patience: float = PATIENCE) -> Ended:
         """Waits for its end, kills it if that does not come in time, and returns how it ended."""
         if self._end is None:
-            last = time.monotonic() + patience
-            said = self._read_errors(last)
             try:
-                status = self._process.wait(max(last - time.monotonic(), 0))
+                status = self._process.wait(patience)
             except subprocess.TimeoutExpired:
                 self._process.kill()
                 status = self._process.wait()
-            self._end = told_end(status, said.decode("utf-8", "replace").strip())
+            self._end = end_of(status, self._errors())
         return self._end
 
-    def _read_errors(self, last: float) -> bytes:
-        """Reads standard error to its end, or until that time, and keeps the beginning."""
+    def _errors(self) -> str:
+        """Returns the beginning of what it wrote on standard error."""
         assert self._process.stderr is not None
         said = b""
-        with self._process.stderr as errors:
-            poller = select.poll()
-            poller.register(errors, select.POLLIN)
-            while poller.poll(max(1000 * (last - time.monotonic()), 0)):
-                octets = os.read(errors.fileno(), MOST_SAID)
-                said = (said + octets)[:MOST_SAID]
-                if not octets or time.monotonic() >= last:
-                    break
-        return said
+        with self._process.stderr as errors, suppress(BlockingIOError):
+            os.set_blocking(errors.fileno(), False)
+            said = os.read(errors.fileno(), MOST_SAID)
+        return said.decode("utf-8", "replace").strip()
 
 
-def told_end(status: int, said: str) -> Ended:
+def end_of(status: int, said: str) -> Ended:
     """Returns how a process ended, by its status and what it wrote on standard error."""
     if status < 0:
         names = {one.value: one.name for one in signal.Signals}

@@ -5,25 +5,25 @@ Each line is `KEY=VALUE`; the manual page lldpa(1) lists every key.
 from __future__ import annotations
 
 import re
+from functools import lru_cache
 from typing import Iterable, Iterator, List, Tuple
 
 from ..faults import LldpaFault
+from ..limits import is_port_name
 from .shown import (NUMBERED_KEY, SAID_KEY, SAID_KEYS, Configuration, Counters, Identifier,
                     LocalChassis, Neighbor, Port, Show)
 
 __all__ = ["Configuration", "Counters", "Identifier", "LocalChassis", "Neighbor", "Port", "Show",
            "ShowFault", "lines_of", "read_show", "unescaped"]
 
+# for patterns of lines: a number, and the name of a port
 DIGITS = "(?:0|[1-9][0-9]{0,18})"
-NUMBER = re.compile(DIGITS)
 NAME = r"[A-Za-z0-9_/:-]{1,15}"
-PORT_BEGIN = re.compile(rf"lldp\.({NAME})\.neighbors=({DIGITS})")
-COUNTERS_BEGIN = re.compile(rf"lldp\.({NAME})\.sent={DIGITS}")
-STATUS_LINE = re.compile(rf"configuration\.({NAME})\.status=(rx-and-tx|rx-only|tx-only|disabled)")
+
+STATUSES = ("rx-and-tx", "rx-only", "tx-only", "disabled")
 CHASSIS_KINDS = {"component", "ifalias", "portcomp", "mac", "ip", "ifname", "local", "unhandled"}
 PORT_KINDS = {"ifalias", "component", "mac", "ip", "ifname", "circuit", "local", "unhandled"}
-NUMBERED = re.compile(NUMBERED_KEY)
-ESCAPE = re.compile(r"\\(\\|x[0-9a-f]{2})".encode())
+ESCAPE = rb"\\(\\|x[0-9a-f]{2})"
 
 
 class ShowFault(LldpaFault, ValueError):
@@ -34,7 +34,8 @@ def unescaped(text: str) -> bytes:
     """Returns the octets of an escaped text."""
     def octet(found: re.Match[bytes]) -> bytes:
         return b"\\" if found[1] == b"\\" else bytes.fromhex(found[1][1:].decode())
-    return ESCAPE.sub(octet, text.encode("ascii"))
+    octets = text.encode("ascii")
+    return re.sub(ESCAPE, octet, octets) if b"\\" in octets else octets
 
 
 def read_show(lines: Iterable[str]) -> Show:
@@ -51,6 +52,7 @@ class Reader:
 
     def __init__(self, lines: Iterable[str]) -> None:
         self.lines = [line[:-1] if line.endswith("\n") else line for line in lines]
+        self.lines.append("")  # the end
         self.at = 0
         everything = "".join(self.lines)
         if not (everything.isascii() and everything.isprintable()):
@@ -60,15 +62,12 @@ class Reader:
 
     def fault(self, expected: str) -> ShowFault:
         """Returns the fault that something else was expected in place of the next line."""
-        found = repr(self.lines[self.at]) if self.at < len(self.lines) else "the end"
+        found = "the end" if self.at == len(self.lines) - 1 else repr(self.next())
         return ShowFault(f"line {self.at + 1}: {found} where {expected} was expected")
 
-    def next(self, further: int = 0) -> str:
-        """Returns the next line, or a later one; an empty text after the end."""
-        try:
-            return self.lines[self.at + further]
-        except IndexError:
-            return ""
+    def next(self) -> str:
+        """Returns the next line, an empty text at the end."""
+        return self.lines[self.at]
 
     def text(self, key: str) -> str:
         """Reads the line of that key, and returns its value."""
@@ -81,10 +80,22 @@ class Reader:
     def number(self, key: str) -> int:
         """Reads the line of that key, and returns its number."""
         text = self.text(key)
-        if not NUMBER.fullmatch(text):
-            self.at -= 1
-            raise self.fault(f"{key}= and a number")
+        is_number = text.isdigit() and len(text) < 20 and (text[0] != "0" or text == "0")
+        self.check(is_number, f"{key}= and a number")
         return int(text)
+
+    def check(self, is_right: bool, expected: str) -> None:
+        """Raises ShowFault if the line that was read last is wrong."""
+        if not is_right:
+            self.at -= 1
+            raise self.fault(expected)
+
+    def port_of(self, front: str, key: str) -> str:
+        """Returns the port of the next line, if that is `FRONT.PORT.KEY=`; else an empty text."""
+        words = self.next().split(".", 2)
+        if words[0] == front and words[-1].startswith(f"{key}=") and is_port_name(words[1]):
+            return words[1]
+        return ""
 
     def show(self) -> Show:
         """Reads all lines."""
@@ -93,24 +104,20 @@ class Reader:
         chassis = self.chassis() if self.next().startswith("local-chassis.") else None
         is_configured = self.next().startswith("configuration.")
         configuration = self.configuration() if is_configured else None
-        if self.at < len(self.lines):
+        if self.at < len(self.lines) - 1:
             raise self.fault("the end, or a line of a further show,")
         return Show(ports, counters, chassis, configuration)
 
     def ports(self) -> Iterator[Port]:
         """Reads the ports of `show neighbors`."""
-        names = set()
-        while found := PORT_BEGIN.fullmatch(self.next()):
-            name, count = found[1], int(found[2])
-            if name in names:
-                raise self.fault("another port's name")
+        names: set[str] = set()
+        while name := self.port_of("lldp", "neighbors"):
+            count = self.number(f"lldp.{name}.neighbors")
+            self.check(name not in names, "another port's name")
             names.add(name)
-            self.at += 1
             octets = self.number(f"lldp.{name}.octets")
             too_many = self.text(f"lldp.{name}.too-many")
-            if too_many not in ("yes", "no"):
-                self.at -= 1
-                raise self.fault(f"lldp.{name}.too-many=, with yes or no,")
+            self.check(too_many in ("yes", "no"), f"lldp.{name}.too-many=, with yes or no,")
             neighbors = tuple(self.neighbor(name, place) for place in range(1, count + 1))
             yield Port(name, count, octets, too_many == "yes", neighbors)
 
@@ -134,46 +141,46 @@ class Reader:
     def identifier(self, front: str, kinds: set[str]) -> Identifier:
         """Reads a chassis ID or port ID."""
         line = self.next()
-        kind, mark, text = line[len(front):].partition("=")
-        if not line.startswith(front) or not mark or kind not in kinds:
-            raise self.fault(front + "KIND=")
         self.at += 1
+        kind, mark, text = line[len(front):].partition("=")
+        self.check(line.startswith(front) and mark != "" and kind in kinds, front + "KIND=")
         return Identifier(kind, text)
 
     def counters(self) -> Iterator[Tuple[str, Counters]]:
         """Reads the ports of `show statistics`."""
-        names = set()
-        while found := COUNTERS_BEGIN.fullmatch(self.next()):
-            if found[1] in names:
+        names: set[str] = set()
+        while name := self.port_of("lldp", "sent"):
+            if name in names:
                 raise self.fault("another port's name")
-            names.add(found[1])
-            keys = [f"lldp.{found[1]}.{shown_key(name)}" for name in Counters._fields]
-            yield found[1], Counters(*(self.number(key) for key in keys))
+            names.add(name)
+            keys = [f"lldp.{name}.{shown_key(field)}" for field in Counters._fields]
+            yield name, Counters(*map(self.number, keys))
 
     def chassis(self) -> LocalChassis:
         """Reads the lines of `show chassis`."""
-        keys = list(LocalChassis._fields)
-        if not self.next(4).startswith("local-chassis.mgmt="):
-            keys.remove("mgmt")
-        return LocalChassis(**{key: self.text(f"local-chassis.{key}") for key in keys})
+        keys = LocalChassis._fields[:-1]
+        told = LocalChassis(**{key: self.text(f"local-chassis.{key}") for key in keys})
+        if self.next().startswith("local-chassis.mgmt="):
+            told = told._replace(mgmt=self.text("local-chassis.mgmt"))
+        return told
 
     def configuration(self) -> Configuration:
         """Reads the lines of `show configuration`."""
         names = [name for name in Configuration._fields if name != "statuses"]
         numbers = {name: self.number(f"configuration.{shown_key(name)}") for name in names}
         begin, count, statuses = self.at, self.number("configuration.ports"), {}
-        while found := STATUS_LINE.fullmatch(self.next()):
-            statuses[found[1]] = found[2]
-            self.at += 1
+        while name := self.port_of("configuration", "status"):
+            statuses[name] = self.text(f"configuration.{name}.status")
+            self.check(statuses[name] in STATUSES, f"one of {', '.join(STATUSES)}")
         if self.at != begin + 1 + count or len(statuses) != count:
             raise self.fault(f"the status of {count} ports")
         return Configuration(**numbers, statuses=statuses)
 
 
+@lru_cache(1024)
 def is_said(key: str) -> bool:
-    """Returns whether a neighbor's later lines may have this key. The pattern of all keys takes
-    long to compile, and few neighbors need it."""
-    return bool(key in SAID_KEYS or NUMBERED.fullmatch(key) or re.fullmatch(SAID_KEY, key))
+    """Returns whether it is a key of a later line. Few neighbors need the slow pattern of all."""
+    return bool(key in SAID_KEYS or re.fullmatch(NUMBERED_KEY, key) or re.fullmatch(SAID_KEY, key))
 
 
 def shown_key(name: str) -> str:

@@ -5,7 +5,7 @@ as they are. `show.unescaped` returns the octets of one.
 """
 # Without `annotations` of __future__, which would be texts: typing compiles each text of a field.
 import re
-from typing import List, Mapping, NamedTuple, Optional, Tuple
+from typing import Dict, List, Mapping, NamedTuple, Optional, Tuple
 
 # the keys of a neighbor's lines, except those with the number of a TLV
 SAID_KEYS = ("port.descr", "chassis.name", "chassis.descr", "chassis.caps", "chassis.mgmt")
@@ -28,6 +28,12 @@ class Identifier(NamedTuple):
 
     def __str__(self) -> str:
         return f"{self.kind}={self.text}"
+
+
+def capabilities_in(text: str) -> Dict[str, bool]:
+    """Returns whether each capability is on, from `Bridge:on,Router:off`."""
+    parts = (part.rpartition(":") for part in text.split(",") if part)
+    return {name: state == "on" for name, _, state in parts}
 
 
 class Neighbor(NamedTuple):
@@ -68,13 +74,9 @@ class Neighbor(NamedTuple):
 
     @property
     def capabilities(self) -> Optional[Mapping[str, bool]]:
-        """Returns its capabilities, such as `Bridge`, and whether each is on; None if it sent
-        none."""
+        """Returns whether each capability, such as `Bridge`, is on; None if it sent none."""
         text = self._first("chassis.caps")
-        if text is None:
-            return None
-        parts = [part.rpartition(":") for part in text.split(",") if part]
-        return {capability: state == "on" for capability, _, state in parts}
+        return None if text is None else capabilities_in(text)
 
     @property
     def management(self) -> Tuple[str, ...]:
@@ -83,8 +85,7 @@ class Neighbor(NamedTuple):
 
     @property
     def org(self) -> Tuple[Tuple[str, str], ...]:
-        """Returns organizationally specific TLVs: OUI and subtype, such as `00120f.1`, and
-        hexadecimal."""
+        """Returns organizationally specific TLVs: kinds such as `00120f.1`, and hexadecimal."""
         return tuple((key[4:], text) for key, text in self.said if key.startswith("org."))
 
     @property
@@ -111,8 +112,7 @@ class Port(NamedTuple):
 
 
 class Counters(NamedTuple):
-    """A port's counters; `COUNTED` says what each counts. Each starts again at 0 after
-    4,294,967,295."""
+    """A port's counters; see `COUNTED`. After 4,294,967,295 each begins again at 0."""
     sent: int
     shutdowns: int
     received: int

@@ -5,18 +5,23 @@ import select
 import socket
 import time
 from contextlib import suppress
-from functools import partial
 from typing import Callable, Iterable, List, Mapping, Optional, Sequence
 
-from .child import PATIENCE, PROGRAM, Child, Closed, Ended, Option, words_of
-from .framing import (AT_ONCE, HOST, MARK, MARK_ANSWER, NO_ANSWER, NO_CONNECTION, SILENCE, Answers,
-                      FrameCallback, Line, Refused, accepted, checked, command, hand_over, rx,
-                      ticks, with_mark)
+from .child import PATIENCE, PROGRAM, Child, Option, words_of
+from .framing import MARK, MARK_ANSWER, Closed, Ended, Line, Refused, checked, command, rx, ticks
 from .show import Counters, Neighbor, Show, read_show
-from ..limits import LONGEST_LINE
+from ..limits import REFUSAL
 
-__all__ = ["LONGEST_LINE", "MARK", "MARK_ANSWER", "Agent", "Answers", "Closed",
-           "Ended", "Refused", "checked"]
+END = b"\n" + MARK_ANSWER + b"\n"
+MOST_OCTETS = 64 * 1024 * 1024  # of one answer
+HOST = "127.0.0.1"
+AT_ONCE = 65536
+NO_ANSWER = "the agent does not answer: another client may be connected to it"
+SILENCE = "the agent does not answer"
+NO_CONNECTION = "the agent ended the connection"
+NOT_READ = "an answer was not read to its end, so nothing more can be asked"
+
+FrameCallback = Callable[[str, bytes], object]
 
 
 class Agent:
@@ -34,12 +39,10 @@ class Agent:
         self._socket = connection
         self._child = child
         self._on_frame = on_frame
-        self._answers = Answers()
-        self._is_whole = True
-        self._over: Optional[Callable[[], Ended]] = None
+        self._over: Optional[Ended] = None  # what each further call raises
         connection.setblocking(False)
         try:
-            self._exchange(with_mark([]), PATIENCE if timeout is None else timeout, NO_ANSWER)
+            self._exchange([], PATIENCE if timeout is None else timeout, NO_ANSWER)
         except BaseException:
             self.close(patience=0)
             raise
@@ -70,17 +73,25 @@ class Agent:
         return None if self._child is None else self._child.pid
 
     def ask(self, line: Line) -> List[str]:
-        """Sends a line and returns its answer. Raises Refused, Ended, or ValueError if it is not a
-        line."""
-        return accepted(self.tell([line]))
+        """Sends a line and returns its answer. Raises Refused, Ended or ValueError."""
+        answer = self.tell([line])
+        if answer and answer[0].startswith(REFUSAL):
+            raise Refused(answer[0][len(REFUSAL):])
+        return answer
 
     def tell(self, lines: Iterable[Line]) -> List[str]:
         """Sends lines and returns their answers together, those of refused lines among them."""
-        return hand_over(self._exchange(with_mark(lines), self.timeout), self._on_frame)
+        told = []
+        for line in self._exchange(lines, self.timeout):
+            if not line.startswith("tx "):
+                told.append(line)
+            elif self._on_frame is not None:
+                _, port, digits = line.split(" ")
+                self._on_frame(port, bytes.fromhex(digits))
+        return told
 
     def frame(self, port: str, octets: bytes) -> None:
-        """Reports a frame that a port received. A frame that is not an LLDP frame changes
-        nothing."""
+        """Reports a received frame. A frame that is not an LLDP frame changes nothing."""
         self.ask(rx(port, octets))
 
     def tick(self, seconds: int = 1) -> None:
@@ -118,7 +129,7 @@ class Agent:
         To have a port withdraw from its peers, disable it before: `configure("ports", "eth0",
         "lldp", "status", "disabled")`.
         """
-        self._over = Closed
+        self._over = Closed()
         last = time.monotonic() + patience
         with self._socket, suppress(OSError):
             self._socket.shutdown(socket.SHUT_WR)
@@ -135,35 +146,36 @@ class Agent:
     def __exit__(self, *_: object) -> None:
         self.close()
 
-    def _exchange(self, octets: bytes, seconds: Optional[float],
-                  silence: str = SILENCE) -> List[bytes]:
-        """Writes, and returns the answer. Reads at the same time, so that neither side blocks the
-        other."""
+    def _exchange(self, lines: Iterable[Line], seconds: Optional[float],
+                  silence: str = SILENCE) -> List[str]:
+        """Writes lines while it reads, so that no side blocks the other. Returns the answer."""
+        unsent = memoryview(b"".join(checked(line) + b"\n" for line in lines) + MARK + b"\n")
         if self._over is not None:
-            raise self._over()
-        if not self._is_whole:
-            raise Ended(None, "an answer was not read to its end, so nothing more can be asked")
-        self._is_whole = False
-        unsent = memoryview(octets)
+            raise self._over
+        self._over = Ended(None, NOT_READ)
         last = None if seconds is None else time.monotonic() + seconds
+        answer = bytearray(b"\n")  # so that its end, even if nothing precedes it, follows an LF
         try:
-            while True:
+            while not answer.endswith(END):
                 event = self._wait(bool(unsent), last, silence)
                 if event & select.POLLOUT:
                     unsent = unsent[self._socket.send(unsent):]
                 if event & ~select.POLLOUT:
                     received = self._socket.recv(AT_ONCE)
                     if not received:
-                        raise self._ended()
-                    for answer in self._answers.feed(received):
-                        self._is_whole = True
-                        return answer
+                        raise ConnectionError
+                    answer += received
+                if len(answer) > MOST_OCTETS:
+                    raise Ended(None, "an answer of the agent has more than 64 MB")
         except ConnectionError:
-            raise self._ended() from None
+            no_connection = Ended(None, NO_CONNECTION)
+            self._over = no_connection if self._child is None else self._child.end()
+            raise self._over from None
+        self._over = None
+        return answer[:-len(END)].decode("ascii").split("\n")[1:]
 
     def _wait(self, wants_to_write: bool, last: Optional[float], silence: str) -> int:
-        """Returns what the socket is ready for. Raises Ended if it is ready for nothing until a
-        time."""
+        """Returns what the socket is ready for. Raises Ended if it is not ready in time."""
         poller = select.poll()
         poller.register(self._socket, select.POLLIN | (select.POLLOUT if wants_to_write else 0))
         left = None if last is None else 1000 * (last - time.monotonic())
@@ -171,9 +183,3 @@ class Agent:
         if not ready:
             raise Ended(None, silence)
         return ready[0][1]
-
-    def _ended(self) -> Ended:
-        """Returns why the agent has ended, which each later call raises too."""
-        end = Ended(None, NO_CONNECTION) if self._child is None else self._child.end()
-        self._over = partial(Ended, end.status, end.text)
-        return end

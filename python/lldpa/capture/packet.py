@@ -36,8 +36,3 @@ class Packet(NamedTuple):
 
 # The interface of a packet, its time, where its octets begin and end, and its whole length.
 Look = Tuple[CaptureInterface, Optional[int], int, int, int]
-
-
-def link_type_text(number: int) -> str:
-    """Returns the name and the number of a link type."""
-    return f"{LINK_TYPES.get(number, 'unknown')} ({number})"

@@ -8,15 +8,15 @@ from __future__ import annotations
 from contextlib import suppress
 from typing import BinaryIO, Iterator, List, Optional
 
-from .packet import ETHERNET, SECOND, CaptureInterface, Look, Packet, link_type_text
+from .packet import ETHERNET, CaptureInterface, Packet
 from .pcap import PcapReader, form_of
 from .pcapng import SECTION_HEADER, PcapngReader
 from .reader import Reader
 from .unzip import MAGIC, Unzipped
 from .window import BadCapture, Window
 
-__all__ = ["ETHERNET", "SECOND", "BadCapture", "CaptureInterface", "Look", "Packet", "Reader",
-           "interfaces_of", "link_type_text", "packets_of", "reader_of"]
+__all__ = ["ETHERNET", "BadCapture", "CaptureInterface", "Packet", "Reader", "interfaces_of",
+           "packets_of", "reader_of"]
 
 COMPRESSED = {b"\xfd7": "xz", b"\x28\xb5": "zstd", b"BZ": "bzip2"}
 NO_PACKET = b"\0" * 1024
@@ -54,8 +54,7 @@ def packets_of(file: BinaryIO) -> Iterator[Packet]:
 
 def interfaces_of(file: BinaryIO, most_unpacked: Optional[int] = None
                   ) -> List[CaptureInterface]:
-    """Returns the interfaces that a pcapng file describes, as far as it can be read; pcap has
-    none."""
+    """Returns the interfaces that a pcapng file describes, as far as it is read; pcap has none."""
     described: List[CaptureInterface] = []
     with suppress(BadCapture):
         reader = reader_of(file, most_unpacked)

@@ -16,8 +16,7 @@ FILE_HEAD_SIZE = 24
 
 
 def form_of(magic: bytes) -> Optional[Tuple[str, int]]:
-    """Returns the byte order of such a file and the units of its time stamps in a second, or
-    None."""
+    """Returns the byte order of a pcap file and its units in a second; None for another file."""
     for order in "<>":
         units = UNITS.get(struct.unpack(order + "I", magic)[0])
         if units is not None:
@@ -26,8 +25,7 @@ def form_of(magic: bytes) -> Optional[Tuple[str, int]]:
 
 
 class PcapReader(Reader):
-    """The packets of such a file. All were captured on one interface, whose name it does not
-    have."""
+    """The packets of a pcap file, all of one interface, whose name the file does not have."""
     HEAD_SIZE = OCTETS_AT = 16
 
     def __init__(self, window: Window, order: str, units: int) -> None:

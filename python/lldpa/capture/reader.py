@@ -71,8 +71,7 @@ class Reader:
         return self._found - self.window.begin if self._found >= 0 else -1
 
     def _reach_record(self) -> int:
-        """Reads until the whole next record is in the window. Returns its size, 0 at the end of the
-        file."""
+        """Reads until the next record is in the window. Returns its size, 0 at the file's end."""
         end = len(self.window.octets)
         if self.at + self.HEAD_SIZE <= end:
             size = self.record_size()

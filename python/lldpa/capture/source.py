@@ -8,8 +8,6 @@ import tempfile
 from typing import IO, BinaryIO, Dict, Mapping, NamedTuple, Optional
 
 from .packets import CaptureInterface
-from .unzip import MAGIC, Unzipped
-from ..limits import PORT_NAME
 
 PORT_NAME_RULE = "a port's name has 1 to 15 letters, digits, -, _, / and :"
 UNNAMED = "eth0"
@@ -35,11 +33,6 @@ def port_of(source: Source, interface: CaptureInterface) -> str:
     return source.names.get(interface.name, interface.name)
 
 
-def is_port_name(text: str) -> bool:
-    """Returns whether a port can have that name."""
-    return PORT_NAME.fullmatch(text) is not None
-
-
 # copies of files that can be read only once, by name
 HELD: Dict[str, IO[bytes]] = {}
 
@@ -63,16 +56,5 @@ def hold(file: str) -> None:
 
 
 def is_stream(mode: int) -> bool:
-    """Returns whether what has this mode can be read once: a FIFO, the pipe of `<(..)`, a
-    terminal."""
+    """Returns whether this can be read only once: a FIFO, the pipe of `<(..)`, a terminal."""
     return stat.S_ISFIFO(mode) or stat.S_ISSOCK(mode) or stat.S_ISCHR(mode)
-
-
-def whole(file: str) -> bytes:
-    """Reads all octets of a file, which gzip may have compressed. Raises OSError and BadCapture."""
-    with opened(file) as octets:
-        text = octets.read()
-        if not text.startswith(MAGIC):
-            return text
-        unzipped = Unzipped(octets, text)
-        return b"".join(iter(lambda: unzipped.read(1 << 20), b""))

@@ -3,22 +3,26 @@ seconds between them."""
 from __future__ import annotations
 
 import os
+from collections import Counter
 from contextlib import suppress
 from heapq import merge
 from typing import Callable, Dict, Iterator, List, NamedTuple, Optional, Sequence
 
 from ..faults import LldpaFault
-from .packets import (ETHERNET, SECOND, BadCapture, CaptureInterface, Reader, interfaces_of,
-                      link_type_text, reader_of)
+from .packet import ETHERNET, LINK_TYPES, SECOND, CaptureInterface
+from .packets import BadCapture, Reader, interfaces_of, reader_of
 from ..agent.framing import rx, ticks
-from .notes import Notes, Tell
-from .source import PORT_NAME_RULE, UNNAMED, Source, is_port_name, opened, port_of
-from ..limits import LONGEST_FRAME, MOST_PORTS, MOST_TICKS, NEAREST_BRIDGE, SHORTEST_FRAME
+from .source import PORT_NAME_RULE, UNNAMED, Source, opened, port_of
+from ..limits import (LONGEST_FRAME, MOST_PORTS, MOST_TICKS, NEAREST_BRIDGE, SHORTEST_FRAME,
+                      is_port_name)
 
 __all__ = ["Source", "Told", "TooManyPorts", "frames_of", "ports_of", "trace_of"]
 
 ETHERTYPE = bytes.fromhex("88cc")
 TAGS = (b"\x81\x00", b"\x88\xa8", b"\x91\x00")
+MOST_OF_A_KIND = 5  # notes
+
+Tell = Callable[[str], None]
 
 
 class TooManyPorts(LldpaFault):
@@ -32,6 +36,28 @@ class Told(NamedTuple):
     note: Tell
     fault: Tell
     end: Callable[[float], None] = lambda _: None
+
+
+class Notes:
+    """Writes notes on a file: the first of each kind, and how many others there are."""
+
+    def __init__(self, tell: Tell, file: str) -> None:
+        self._tell = tell
+        self._file = file
+        self._counts: Counter[str] = Counter()
+
+    def tell(self, kind: str, text: str) -> None:
+        """Writes a note, if it is one of the first of its kind."""
+        self._counts[kind] += 1
+        if self._counts[kind] <= MOST_OF_A_KIND:
+            self._tell(f"{self._file}: {text}")
+
+    def end(self) -> None:
+        """Writes how many notes were left out."""
+        more = sum(max(0, count - MOST_OF_A_KIND) for count in self._counts.values())
+        if more:
+            self._tell(f"{self._file}: {more} more such {'note' if more == 1 else 'notes'}")
+        self._counts.clear()
 
 
 class Moment(NamedTuple):
@@ -52,7 +78,8 @@ def ports_of(sources: Sequence[Source]) -> List[str]:
     for source in sources:
         ports.update((name, None) for name in names_of(source) if is_port_name(name))
     if len(ports) > MOST_PORTS:
-        heard = {line.split(" ")[1] for line in frames_of(sources, Told(ignored, ignored), False)}
+        ignored = Told(lambda _: None, lambda _: None)
+        heard = {line.split(" ")[1] for line in frames_of(sources, ignored, False)}
         ports = {name: None for name in ports if name in heard}
     if len(ports) > MOST_PORTS:
         raise TooManyPorts(f"{len(ports)} ports; the limit is {MOST_PORTS}")
@@ -69,10 +96,6 @@ def names_of(source: Source) -> Sequence[str]:
     return [port_of(source, one) for one in ethernet] or [source.port or UNNAMED]
 
 
-def ignored(_: str) -> None:
-    """Ignores a line."""
-
-
 def trace_of(sources: Sequence[Source], told: Told, seconds: bool = True) -> Iterator[str]:
     """Returns the lines of the trace, with its seconds or without.
 
@@ -84,42 +107,22 @@ def trace_of(sources: Sequence[Source], told: Told, seconds: bool = True) -> Ite
 
 
 def frames_of(sources: Sequence[Source], told: Told, seconds: bool) -> Iterator[str]:
-    """Returns the lines of a trace of any number of ports."""
-    moments = merge(*(Recording(source, told).moments() for source in sources), key=order)
-    clock = Clock()
-    for time, line, notes in moments:
+    """Returns the lines of a trace. Captures without time stamps come first."""
+    start: Optional[int] = None
+    passed = 0  # whole seconds since the start
+    moments = (Recording(source, told).moments() for source in sources)
+    for time, line, notes in merge(*moments, key=lambda moment: moment.time or 0):
         if seconds and time is not None:
-            missing = clock.seconds_to(time)
+            start = time if start is None else start
+            missing = (time - start) // SECOND - passed
+            passed += missing
             if missing > MOST_TICKS:
                 notes.tell("jump", f"no packet for {missing} s (was the clock set?): only "
                            f"{MOST_TICKS} are counted, after which no neighbor is left")
                 missing = MOST_TICKS
-            if missing:
-                yield from ticks(missing)
+            yield from ticks(missing)
         if line:
             yield line
-
-
-def order(moment: Moment) -> int:
-    """Returns the key by which moments are sorted: those of captures without time stamps come
-    first."""
-    return moment.time or 0
-
-
-class Clock:
-    """Counts the whole seconds since the first time that it is given."""
-
-    def __init__(self) -> None:
-        self._start: Optional[int] = None
-        self._told = 0
-
-    def seconds_to(self, time: int) -> int:
-        """Returns the seconds up to a time, without those that were returned before."""
-        if self._start is None:
-            self._start = time
-        seconds = (time - self._start) // SECOND - self._told
-        self._told += seconds
-        return seconds
 
 
 class Recording:
@@ -194,7 +197,8 @@ class Recording:
         if interface.link_type != ETHERNET and interface not in self._ports:
             self._ports[interface] = ""
             name = f" of its interface {interface.name!r}" if interface.name else ""
-            self._fault(f"the link type{name} is {link_type_text(interface.link_type)}; only "
+            kind = LINK_TYPES.get(interface.link_type, "unknown")
+            self._fault(f"the link type{name} is {kind} ({interface.link_type}); only "
                         "ETHERNET (1) is read: capture on an Ethernet interface")
 
     def _fault(self, why: str) -> None:
@@ -211,8 +215,7 @@ class Recording:
 
 
 def is_lldp(octets: bytes, length: int) -> bool:
-    """Returns whether a packet is for LLDP at the nearest bridge, with tags or without, as far as
-    the captured octets show: at least its address."""
+    """Returns whether the captured octets may be LLDP's to the nearest bridge, tagged or not."""
     if octets[12:14] == ETHERTYPE:
         return octets.startswith(NEAREST_BRIDGE)
     if len(octets) == length < SHORTEST_FRAME:
@@ -225,8 +228,7 @@ def is_lldp(octets: bytes, length: int) -> bool:
 
 
 def fault_of(octets: bytes, length: int) -> str:
-    """Returns why an LLDP frame is not given to the agent, or nothing. Numbers are put into the
-    text."""
+    """Returns why an LLDP frame is skipped, with places for numbers, or nothing."""
     if len(octets) < length:
         return "truncated to {} of {} octets"
     if octets[12:14] in TAGS:

@@ -13,8 +13,7 @@ FIRST = 256
 
 
 class Unzipped:
-    """Reads a compressed file whose first octets were already read, up to `most` octets of what is
-    in it."""
+    """Reads up to `most` octets of a compressed file, whose first octets were already read."""
 
     def __init__(self, file: Readable, begun: bytes, most: Optional[int] = None) -> None:
         self._file = file
@@ -22,35 +21,10 @@ class Unzipped:
         self._at = 0
         self._left = most
         self._handed = FIRST
-        self._fault: Optional[BadCapture] = None
         self._inflate = zlib.decompressobj(GZIP)
 
     def read(self, size: int) -> bytes:
-        """Returns at most this many octets; none at the end. Raises BadCapture after the last
-        octets that are undamaged."""
-        parts: list[bytes] = []
-        missing = size
-        while missing and not (parts and self._at == len(self._packed)):
-            octets = self._some_or_fault(missing)
-            if not octets:
-                break
-            parts.append(octets)
-            missing -= len(octets)
-        if self._fault is not None and not parts:
-            raise self._fault
-        return b"".join(parts)
-
-    def _some_or_fault(self, size: int) -> bytes:
-        """Returns some octets; none at the end, and after a fault, which is remembered."""
-        if self._fault is None:
-            try:
-                return self._some(size)
-            except BadCapture as fault:
-                self._fault = fault
-        return b""
-
-    def _some(self, size: int) -> bytes:
-        """Returns some octets; none at the end. Raises BadCapture if no more can be read."""
+        """Returns at most this many octets, none at the end. Raises BadCapture after the last."""
         octets = self._unpacked(size)
         if self._left is not None:
             self._left -= len(octets)
@@ -59,8 +33,7 @@ class Unzipped:
         return octets
 
     def _unpacked(self, size: int) -> bytes:
-        """Returns some octets; none at the end. Raises BadCapture if the file is damaged or cut
-        short."""
+        """Returns some octets, none at the end. Raises BadCapture if no more can be unpacked."""
         while True:
             if self._at == len(self._packed):
                 self._packed, self._at = self._file.read(AT_ONCE), 0

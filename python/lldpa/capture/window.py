@@ -36,12 +36,12 @@ class Window:
         if not 0 <= count <= MOST_OCTETS:
             raise self.damage(at, "the length there is far too large")
         self.begin += at
-        self.octets = self.octets[at:]
-        while len(self.octets) < count:
-            more = self._file.read(max(AT_ONCE, count - len(self.octets)))
-            if not more:
-                break
-            self.octets += more
+        parts = [self.octets[at:]]
+        missing = count - len(parts[0])
+        while missing > 0 and (more := self._file.read(max(AT_ONCE, missing))):
+            parts.append(more)
+            missing -= len(more)
+        self.octets = b"".join(parts)
         if 0 < len(self.octets) < count:
             end = self.begin + len(self.octets)
             raise BadCapture(f"it ends at octet {end}, inside the record at octet {self.begin}")

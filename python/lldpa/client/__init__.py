@@ -3,7 +3,6 @@
 `Client` asks a running lldpa-live; `neighbor_object` makes JSON's object of a neighbor that was
 shown; `since_of` reads since when each neighbor has been there.
 """
-from importlib import import_module
 from typing import TYPE_CHECKING
 
 if TYPE_CHECKING:
@@ -21,5 +20,6 @@ LATER = {"Client": ".connection", "neighbor_object": ".as_json", "since_of": ".l
 def __getattr__(name: str) -> object:
     """Loads the module of a name that is used for the first time."""
     if name in LATER:
+        from importlib import import_module  # as in lldpa
         return getattr(import_module(LATER[name], __name__), name)
     raise AttributeError(f"module {__name__!r} has no attribute {name!r}")

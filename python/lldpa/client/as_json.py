@@ -10,31 +10,25 @@ from typing import Any, Mapping, Optional
 
 from .live_lines import Since
 from ..organizational import organizational_object, said_by
-from ..agent.show import Identifier, LocalChassis, Neighbor, Port, Show
+from ..agent.show import Identifier, Neighbor, Port, Show
 from ..texts import shown_octets, with_text
 
 NOBODY: Since = {}
 
 
 def show_object(show: Show, since: Since = NOBODY) -> dict[str, Any]:
-    """Returns what a show says, under `ports`, `counters`, `chassis` and `configuration` if it has
-    them."""
+    """Returns `ports`, `counters`, `chassis` and `configuration`, as far as a show has them."""
     told: dict[str, Any] = {}
     if show.ports:
         told["ports"] = [port_object(port, since) for port in show.ports]
     if show.counters:
         told["counters"] = {port: counters._asdict() for port, counters in show.counters.items()}
     if show.chassis is not None:
-        told["chassis"] = chassis_object(show.chassis)
+        texts = {"name": show.chassis.name, "descr": show.chassis.descr}
+        told["chassis"] = with_texts(show.chassis._asdict(), texts)
     if show.configuration is not None:
         told["configuration"] = show.configuration._asdict()
     return told
-
-
-def chassis_object(chassis: LocalChassis) -> dict[str, Any]:
-    """Returns what the agent says of itself."""
-    told: dict[str, Any] = chassis._asdict()
-    return with_texts(told, {"name": chassis.name, "descr": chassis.descr})
 
 
 def port_object(port: Port, since: Since = NOBODY) -> dict[str, Any]:

@@ -3,6 +3,7 @@
 from __future__ import annotations
 
 import time
+from itertools import islice
 from typing import Iterator, List, Mapping, Optional, Sequence, Tuple
 
 from .live_lines import Since
@@ -14,7 +15,6 @@ from ..agent.shown import SAID_KEYS
 from ..texts import cut, padded, printable, readable, wrapped
 
 MOST_LINES = 29
-MOST_WIDTH = 1_000_000
 Pair = Tuple[str, str]
 
 
@@ -31,8 +31,7 @@ def details(ports: Sequence[Port], since: Since, width: int) -> list[str]:
 
 
 def discarded(counters: Mapping[str, Counters]) -> list[str]:
-    """Returns a line for each port that discarded parts of frames, which are shown with no
-    neighbor."""
+    """Returns a line for each port that discarded TLVs, which no neighbor shows."""
     return [f"{readable(port)}: {counted(of.tlvs_discarded, 'TLV')} discarded since the start"
             for port, of in counters.items() if of.tlvs_discarded]
 
@@ -45,10 +44,9 @@ def detail_lines(neighbor: Neighbor, since: Optional[str], width: int) -> list[s
     spare = MOST_LINES - 1 - len(pairs)
     lines = [cut(head, width)]
     for heading, text in pairs:
-        wanted = wrapped(text, max(min(width, MOST_WIDTH) - indent, 1))
-        given = wanted[:1 + spare]
-        if len(given) < len(wanted):
-            given[-1] = f"{given[-1]} {wanted[len(given)]}"
+        wanted = wrapped(text, max(width - indent, 1))
+        given = list(islice(wanted, 1 + spare))
+        given[-1] = " ".join([given[-1], *islice(wanted, 1)])  # which is cut below
         spare -= len(given) - 1
         fronts = [padded(f"  {heading}", indent), *[" " * indent] * (len(given) - 1)]
         lines += [cut(front + part, width) for front, part in zip(fronts, given)]

@@ -2,10 +2,7 @@
 
 from __future__ import annotations
 
-import re
-from typing import Dict, Iterable, Mapping, Tuple
-
-LINE = re.compile(r"live\.(?:([^.=]+)\.)?([a-z-]+)(?:\.([0-9]+))?=(.*)")
+from typing import Dict, Iterable, Mapping, Sequence, Tuple
 
 # when a neighbor came, by its port and its MSAP identifier
 Since = Mapping[Tuple[str, str], str]
@@ -20,16 +17,24 @@ class LiveLines:
         self.ports: Dict[str, Dict[str, str]] = {}
         self.since: Dict[Tuple[str, str], str] = {}
         self.numbers: Dict[str, int] = {}
-        for found in filter(None, map(LINE.fullmatch, lines)):
-            port, key, number, value = found.groups()
-            if key == "since" and number and port:
-                when, _, sender = value.partition(" ")
-                self.since[port, sender] = when
-            elif key == "chassis" and number:
-                self.numbers[value] = int(number)
-            elif number is None:
-                of = self.own if port is None else self.ports.setdefault(port, {})
-                of[key] = value
+        for line in lines:
+            front, mark, value = line.partition("=")
+            first, *keys = front.split(".")
+            if first == "live" and mark:
+                self.add(keys, value)
+
+    def add(self, keys: Sequence[str], value: str) -> None:
+        """Adds the value of a line."""
+        last = keys[-1] if keys else ""
+        if len(keys) == 2 and keys[0] == "chassis" and last.isdecimal():
+            self.numbers[value] = int(last)
+        elif len(keys) == 3 and keys[1] == "since":
+            when, _, sender = value.partition(" ")
+            self.since[keys[0], sender] = when
+        elif len(keys) == 2:
+            self.ports.setdefault(keys[0], {})[last] = value
+        elif len(keys) == 1:
+            self.own[last] = value
 
     @property
     def is_up(self) -> bool:

@@ -1,17 +1,49 @@
-"""Writes the ports and neighbors of lldpa-live in Prometheus' text format."""
+"""Writes the state, ports and neighbors of lldpa-live in Prometheus' text format."""
 
 from __future__ import annotations
 
-from typing import Iterable, Iterator, Mapping
+from typing import Iterable, Iterator, Mapping, Tuple
 
 from .live_lines import LiveLines
-from .live_metrics import live_lines
-from .exposition import metric_lines
+from .times import seconds_of
 from ..organizational import said_by
 from ..agent.show import Counters, Neighbor, Show
 from ..agent.shown import COUNTED
 
+Labels = Mapping[str, str]
 SAID = ("0080c2.1", "00120f.4")  # Port VLAN ID and Maximum Frame Size, which are labels
+
+# key of a line of `live`, name, description, and states: the sample of the current one is 1
+STATES = (
+    ("agent", "lldpa_agent_state", "State of the agent: 1 for the current one, or 0.",
+     ("running", "waiting")),
+    ("log", "lldpa_log_state", "State of the log: 1 for the current one, or 0.",
+     ("full", "off", "on", "stalled")),
+)
+NUMBERS = (
+    ("settings-refused", "lldpa_settings_refused", "gauge",
+     "Settings that were refused when they were last read."),
+    ("ports-refused", "lldpa_ports_refused", "gauge",
+     "Interfaces that a pattern names and that are not used, because 64 ports are in use."),
+    ("log-lines-lost", "lldpa_log_lines_lost_total", "counter",
+     "Lines of the agent that are in no file of the log."),
+)
+# the same of a port; with a word, its sample is 1 if the value is this word
+OF_PORTS = (
+    ("interface", "lldpa_interface_present", "gauge",
+     "Whether the interface of the port exists, 1 or 0.", "present"),
+    ("link", "lldpa_link_up", "gauge", "Whether the port has a carrier, 1 or 0.", "up"),
+    ("kernel-drops", "lldpa_kernel_drops_total", "counter",
+     "Frames that the kernel dropped because lldpa-live did not read them in time.", ""),
+    ("limit-drops", "lldpa_limit_drops_total", "counter",
+     "Frames over the limit of a port, dropped before the agent.", ""),
+    ("unsent", "lldpa_unsent_total", "counter",
+     "Frames of the agent that the interface did not accept.", ""),
+    ("left-out", "lldpa_left_out_total", "counter",
+     "Frames of the agent left out after a stop: only the last of each port was sent.", ""),
+    ("other-frames", "lldpa_other_frames_total", "counter",
+     "LLDP frames that are tagged, to another address or too long, which are not read.", ""),
+)
 
 
 def metrics(show: Show, live: Iterable[str]) -> list[str]:
@@ -29,6 +61,33 @@ def metrics(show: Show, live: Iterable[str]) -> list[str]:
                       [(identified(neighbor), neighbor.expires) for neighbor in show.neighbors]),
         *counter_lines(show.counters),
     ]
+
+
+def up_lines(is_up: bool) -> Iterator[str]:
+    """Returns the metric that says whether lldpa-live is up, the only one if it does not answer."""
+    text = "Whether lldpa-live answers and its agent runs, 1 or 0."
+    return metric_lines("lldpa_up", "gauge", text, [({}, int(is_up))])
+
+
+def live_lines(told: LiveLines) -> Iterator[str]:
+    """Returns the metrics of the values that lldpa-live reports."""
+    yield from up_lines(told.is_up)
+    if "began" in told.own:
+        start = seconds_of(told.own["began"])
+        yield from metric_lines("lldpa_start_time_seconds", "gauge",
+                                "When lldpa-live started, in seconds since 1970.", [({}, start)])
+    for key, name, text, states in STATES:
+        if key in told.own:
+            samples = [({"state": one}, int(told.own[key] == one)) for one in states]
+            yield from metric_lines(name, "gauge", text, samples)
+    for key, name, kind, text in NUMBERS:
+        if key in told.own:
+            yield from metric_lines(name, kind, text, [({}, int(told.own[key]))])
+    for key, name, kind, text, word in OF_PORTS:
+        values = {port: of[key] for port, of in told.ports.items() if key in of}
+        yield from metric_lines(name, kind, text, [
+            ({"port": port}, int(value == word if word else value))
+            for port, value in values.items()])
 
 
 def identified(neighbor: Neighbor) -> dict[str, str]:
@@ -60,3 +119,24 @@ def counter_lines(counters: Mapping[str, Counters]) -> Iterator[str]:
     for name, counted in COUNTED.items():
         samples = [({"port": port}, getattr(of, name)) for port, of in counters.items()]
         yield from metric_lines(f"lldpa_{name}_total", "counter", counted, samples)
+
+
+def metric_lines(name: str, kind: str, text: str,
+                 samples: Iterable[Tuple[Labels, int]]) -> Iterator[str]:
+    """Returns the lines of one metric, none if it has no samples."""
+    lines = [f"{name}{label_list(labels)} {value}" for labels, value in samples]
+    if lines:
+        yield f"# HELP {name} {text}"
+        yield f"# TYPE {name} {kind}"
+        yield from lines
+
+
+def label_list(labels: Labels) -> str:
+    """Returns labels as they are written after a name, or nothing if there are none."""
+    listed = ",".join(f'{name}="{escaped(value)}"' for name, value in labels.items())
+    return f"{{{listed}}}" if listed else ""
+
+
+def escaped(value: str) -> str:
+    """Returns a label's value as the format wants it between double quotes."""
+    return value.replace("\\", "\\\\").replace('"', '\\"').replace("\n", "\\n")

@@ -1,19 +1,23 @@
-"""The table for people: a line for each neighbor, as wide as the terminal, and a count."""
+"""The tables for people, as wide as the terminal: neighbors, the state of ports, and counters."""
 
 from __future__ import annotations
 
 import os
 import socket
 import sys
-from typing import Dict, List, Mapping, Sequence
+from typing import Any, Dict, Iterable, List, Mapping, Optional, Sequence, Tuple
 
-from ..agent.show import Identifier, Neighbor, Port, Show, counted
+from .live_lines import LiveLines
+from ..agent.show import Counters, Identifier, Neighbor, Port, Show, counted
 from ..texts import cut, padded, printable, readable, width_of, wrapped
-from ..limits import MOST_NEIGHBORS
-from ..vlan import port_vlan_of
+from ..limits import GREATEST_VID, MOST_NEIGHBORS
 
 VLAN, MANAGEMENT = "VLAN", "MANAGEMENT"
 HEADINGS = ("PORT", "NEIGHBOR", "ITS PORT", VLAN, MANAGEMENT, "LEFT")
+INTERFACES = ("PORT", "INTERFACE", "LINK", "STATUS", "NEIGHBORS")
+UNKNOWN = "?"
+ALL = "all"
+PORT_VLAN = "0080c2.1"  # OUI and subtype of the only such TLV that the table shows
 BETWEEN = "  "
 NOT_CUT = 1_000_000  # a width at which nothing is cut
 LEAST_WIDTH_OF_TEXT = 20
@@ -40,21 +44,35 @@ def table(ports: Sequence[Port], width: int) -> list[str]:
     is left out first.
     """
     rows = [row_of(neighbor) for port in ports for neighbor in port.neighbors]
-    headings = [heading for heading in HEADINGS
-                if heading != VLAN or any(row[VLAN] for row in rows)]
-    if natural_width(headings, rows) > width:
-        headings.remove(MANAGEMENT)
-    lines = laid_out(headings, rows, width) if rows else []
-    return lines + count_of(ports, width)
+    if not rows:
+        return count_of(ports, width)
+    shown = [column for column in zip(HEADINGS, *rows) if column[0] != VLAN or any(column[1:])]
+    needed = sum(max(map(width_of, column)) for column in shown) + len(BETWEEN) * (len(shown) - 1)
+    if needed > width:
+        shown = [column for column in shown if column[0] != MANAGEMENT]
+    return columns(list(zip(*shown)), width) + count_of(ports, width)
 
 
-def row_of(neighbor: Neighbor) -> Dict[str, str]:
-    """Returns what the table says of a neighbor, by its headings."""
+def row_of(neighbor: Neighbor) -> Tuple[str, ...]:
+    """Returns what the table says of a neighbor, below its headings."""
     pvid = port_vlan_of(neighbor.org)
-    management = neighbor.management[0] if neighbor.management else ""
-    return dict(zip(HEADINGS, (
-        readable(neighbor.port), name_of(neighbor), port_of(neighbor),
-        str(pvid) if pvid else "", address_text(management), f"{neighbor.expires} s")))
+    return (readable(neighbor.port), name_of(neighbor), port_of(neighbor),
+            str(pvid) if pvid else "", management_of(neighbor), f"{neighbor.expires} s")
+
+
+def port_vlan_of(org: Iterable[Tuple[str, str]]) -> Optional[int]:
+    """Returns a neighbor's Port VLAN ID, 0 for none; None if none was sent, or several differ."""
+    vids = {vid_of(digits) for kind, digits in org if kind == PORT_VLAN} - {None}
+    return vids.pop() if len(vids) == 1 else None
+
+
+def vid_of(digits: str) -> Optional[int]:
+    """Returns a VLAN identifier in hexadecimal, 0 for none; None if it is not one."""
+    try:
+        vid = int.from_bytes(bytes.fromhex(digits), "big")
+    except ValueError:  # not hexadecimal, so no agent has shown them
+        return None
+    return vid if len(digits) == 4 and vid <= GREATEST_VID else None
 
 
 def name_of(neighbor: Neighbor) -> str:
@@ -67,6 +85,11 @@ def port_of(neighbor: Neighbor) -> str:
     if neighbor.port_id.kind in ("mac", "unhandled") and neighbor.port_descr:
         return readable(neighbor.port_descr)
     return identifier_text(neighbor.port_id)
+
+
+def management_of(neighbor: Neighbor) -> str:
+    """Returns its first management address, or an empty text if it has none."""
+    return address_text(neighbor.management[0]) if neighbor.management else ""
 
 
 def identifier_text(identifier: Identifier) -> str:
@@ -84,20 +107,8 @@ def address_text(address: str) -> str:
 
 def summary(neighbor: Neighbor) -> str:
     """Returns the neighbor, its port and its management address in one line."""
-    row = row_of(neighbor)
-    return f"{row['NEIGHBOR']} {row['ITS PORT']} {row[MANAGEMENT]}".rstrip()
-
-
-def natural_width(headings: Sequence[str], rows: Sequence[Dict[str, str]]) -> int:
-    """Returns the width of the lines if nothing is cut."""
-    widths = [max([len(heading), *(width_of(row[heading]) for row in rows)])
-              for heading in headings]
-    return sum(widths) + len(BETWEEN) * (len(headings) - 1)
-
-
-def laid_out(headings: Sequence[str], rows: Sequence[Dict[str, str]], width: int) -> list[str]:
-    """Returns rows as lines below their headings."""
-    return columns([headings, *([row[heading] for heading in headings] for row in rows)], width)
+    parts = (name_of(neighbor), port_of(neighbor), management_of(neighbor))
+    return " ".join(parts).rstrip()
 
 
 def columns(rows: Sequence[Sequence[str]], width: int, numbers: int = 1) -> list[str]:
@@ -125,18 +136,18 @@ def line_of(row: Sequence[str], widths: Sequence[int], numbers: int) -> str:
 
 
 def count_of(ports: Sequence[Port], width: int) -> list[str]:
-    """Returns how many neighbors there are, and which ports had no room for all, with what to
-    raise."""
+    """Returns how many neighbors there are, and what to raise for ports without enough room."""
     held = sum(port.neighbors_held for port in ports)
     said = f"{counted(held, 'neighbor')} on {counted(len(ports), 'port')}."
     for port in (port for port in ports if port.too_many):
-        said += f" {printable(port.name)} had no room for all: {remedy(port)}."
-    return wrapped(said, max(min(width, NOT_CUT), LEAST_WIDTH_OF_TEXT))
+        is_full = port.neighbors_held >= MOST_NEIGHBORS
+        remedy = f"a port holds at most {MOST_NEIGHBORS}" if is_full else "raise --max-neighbors"
+        said += f" {printable(port.name)} had no room for all: {remedy}."
+    return list(wrapped(said, max(width, LEAST_WIDTH_OF_TEXT)))
 
 
 def reasons(show: Show, live: Mapping[str, Mapping[str, str]], width: int) -> list[str]:
-    """Returns why ports have no neighbor, and which have no link; `live` has what lldpa-live
-    reports of each port."""
+    """Returns why ports have no neighbor; `live` has what lldpa-live reports of each port."""
     statuses = show.configuration.statuses if show.configuration else {}
     found: Dict[str, List[str]] = {}
     for port in show.ports:
@@ -145,7 +156,7 @@ def reasons(show: Show, live: Mapping[str, Mapping[str, str]], width: int) -> li
             found.setdefault(why, []).append(readable(port.name))
     said = (f"{', '.join(names)}{REASONS[why][len(names) > 1]}" for why, names in found.items())
     return [line for text in said
-            for line in wrapped(text, max(min(width, NOT_CUT), LEAST_WIDTH_OF_TEXT))]
+            for line in wrapped(text, max(width, LEAST_WIDTH_OF_TEXT))]
 
 
 def reason(live: Mapping[str, str], status: str) -> str:
@@ -157,8 +168,35 @@ def reason(live: Mapping[str, str], status: str) -> str:
     return NO_LINK if live.get("link") == NO_LINK else ""
 
 
-def remedy(port: Port) -> str:
-    """Returns what to raise for a port that has dropped neighbors."""
-    if port.neighbors_held >= MOST_NEIGHBORS:
-        return f"a port holds at most {MOST_NEIGHBORS}"
-    return "raise --max-neighbors"
+def interfaces(show: Show, live: Iterable[str]) -> list[Dict[str, Any]]:
+    """Returns each port of a configuration: whether its interface exists and its link is up, its
+    status, and how many neighbors it has. What is not known is None."""
+    states = LiveLines(live).ports
+    held = {port.name: port.neighbors_held for port in show.ports}
+    statuses: Mapping[str, str] = show.configuration.statuses if show.configuration else {}
+    return [{"name": name, **{key: states.get(name, {}).get(key) for key in ("interface", "link")},
+             "status": status, "neighbors": held.get(name)} for name, status in statuses.items()]
+
+
+def interface_lines(ports: Sequence[Mapping[str, Any]], width: int) -> list[str]:
+    """Returns the table of `interfaces`."""
+    rows: List[Sequence[str]] = [INTERFACES]
+    for port in ports:
+        rows.append([UNKNOWN if value is None else readable(str(value)) for value in port.values()])
+    return columns(rows, width)
+
+
+def summed(counters: Iterable[Counters]) -> Counters:
+    """Returns the sums of counters of several ports."""
+    some = list(counters)
+    return Counters(*(sum(getattr(one, name) for one in some) for name in Counters._fields))
+
+
+def counter_lines(counters: Mapping[str, Counters], width: int) -> list[str]:
+    """Returns a line for each port, and one for all of them if there are several."""
+    told = {readable(port): of for port, of in counters.items()}
+    if len(told) > 1:
+        told[ALL] = summed(counters.values())
+    rows = [["PORT", *(name.replace("_", "-").upper() for name in Counters._fields)]]
+    rows += [[port, *map(str, of)] for port, of in told.items()]
+    return columns(rows, width, len(Counters._fields))

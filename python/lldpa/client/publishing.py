@@ -8,14 +8,13 @@ from __future__ import annotations
 
 import os
 from contextlib import suppress
-from typing import Optional, Sequence
+from typing import Iterable, Optional
 
 from ..faults import LldpaFault
 from ..agent.framing import Refused
 from .live_lines import LiveLines
-from .live_metrics import down_lines
 from .connection import Client, Gone, give_up_root
-from .metrics import metrics
+from .metrics import metrics, up_lines
 from ..agent.show import Show, ShowFault, read_show
 from ..organizational.kinds import load
 
@@ -35,10 +34,10 @@ def publish(path: str, file: Optional[str]) -> None:
     try:
         told, lines = asked(path, file is None)
     except (Refused, Gone, ShowFault, OSError):
-        write(down_lines(), file)
+        write(up_lines(False), file)
         raise
     except ValueError as fault:  # what answers is not lldpa-live
-        write(down_lines(), file)
+        write(up_lines(False), file)
         raise Gone(f"not an answer of lldpa-live: {fault}") from None
     write(lines, file)
     if not told.is_up:
@@ -64,7 +63,7 @@ def asked(path: str, is_printed: bool) -> tuple[LiveLines, list[str]]:
         return LiveLines(live), metrics(shown, live)
 
 
-def write(lines: Sequence[str], file: Optional[str]) -> None:
+def write(lines: Iterable[str], file: Optional[str]) -> None:
     """Writes lines to a file, which they replace, or to standard output."""
     text = "".join(line + "\n" for line in lines)
     if file is None:

@@ -6,7 +6,8 @@ from typing import Any, Callable, Dict, List, NamedTuple, Sequence, Tuple
 
 from .live_lines import LiveLines, since_of
 from ..agent.framing import Refused, command
-from .people import count_of, reasons, table
+from .people import (count_of, counter_lines, interface_lines, interfaces, reasons, summed,
+                     table)
 from ..agent.show import Show, read_show
 
 Lines = Sequence[str]
@@ -26,8 +27,7 @@ OF_A_WORD = ("unknown command", "no such port", "not a number", "out of range", 
 
 
 class Question(NamedTuple):
-    """The lines to ask, what their answers say as lines of a width and as JSON, and the `further`
-    lines that JSON needs."""
+    """Lines to ask, their answers as text and as JSON, and `further` lines that JSON needs."""
 
     lines: Sequence[str]
     text: Callable[[Answers, int], List[str]]
@@ -36,15 +36,14 @@ class Question(NamedTuple):
 
 
 def question(words: Sequence[str]) -> Question:
-    """Returns what a command asks. Words may be shortened if no other begins so. Raises Refused if
-    a word has no meaning here."""
+    """Returns what a command asks, whose words may be shortened. Raises Refused for others."""
     words = in_full(words, COMMANDS)
     for front, short in OF_LLDPCLI.items():
         if tuple(words[:len(front)]) == front:
             words = [*short, *words[len(front):]]
     if words[0] in OWN:
         return OWN[words[0]](words[1:])
-    if words[0] == "show" and len(words) > 2 and words[1] in OF_PORTS:
+    if words[0] == "show" and len(words) > 1 and words[1] in OF_PORTS:
         return ask_show_of(words[1], listed(words[2:]))
     if tuple(words[:2]) == SET_PORTS and len(words) > 2 and "," in words[2]:
         return ask_lines([command(*words[:2], port, *words[3:]) for port in listed(words[2:3])])
@@ -59,7 +58,7 @@ def ask_neighbors(rest: Sequence[str]) -> Question:
         show = only(read_show([*answers[0], *answers[2]]), ports)
         return table(show.ports, width) + reasons(show, LiveLines(answers[1]).ports, width)
     return Question(["show neighbors", "live", "show configuration"], text,
-                    lambda answers: neighbors_object(answers, ports))
+                    lambda answers: shown_object(answers[:2], ports))
 
 
 def ask_details(rest: Sequence[str]) -> Question:
@@ -74,24 +73,18 @@ def ask_details(rest: Sequence[str]) -> Question:
         lines = details(found.ports, since_of(answers[1]), width)
         return (lines or count_of(found.ports, width)) + discarded(found.counters)
     return Question(["show neighbors", "live", "show statistics"], text,
-                    lambda answers: neighbors_object(answers, ports))
+                    lambda answers: shown_object(answers[:2], ports))
 
 
-def neighbors_object(answers: Answers, ports: Sequence[str]) -> Any:
-    """Returns the neighbors, and since when each has been there."""
+def shown_object(answers: Answers, ports: Sequence[str] = ()) -> Any:
+    """Returns what a show says of ports; a second answer is `live`, for since when."""
     from .as_json import show_object
-    return show_object(only(read_show(answers[0]), ports), since_of(answers[1]))
-
-
-def shown_object(show: Show) -> Any:
-    """Returns what a show says."""
-    from .as_json import show_object
-    return show_object(show)
+    since = since_of(answers[1]) if len(answers) > 1 else {}
+    return show_object(only(read_show(answers[0]), ports), since)
 
 
 def ask_interfaces(rest: Sequence[str]) -> Question:
     """Asks for the state of the ports."""
-    from .tallies import interface_lines, interfaces
     ports = listed(rest)
 
     def found(answers: Answers) -> List[Dict[str, Any]]:
@@ -106,7 +99,6 @@ def ask_interfaces(rest: Sequence[str]) -> Question:
 
 def ask_statistics(rest: Sequence[str]) -> Question:
     """Asks for the counters of ports, or for the sums of all."""
-    from .tallies import counter_lines, summed
     is_summary = list(rest) == ["summary"]
     ports = [] if is_summary else listed(rest)
 
@@ -116,9 +108,9 @@ def ask_statistics(rest: Sequence[str]) -> Question:
         return counter_lines(told, width)
 
     def as_object(answers: Answers) -> Any:
-        show = only(read_show(answers[0]), ports)
-        return {"summary": summed(show.counters.values())._asdict()} if is_summary else (
-            shown_object(show))
+        if not is_summary:
+            return shown_object(answers, ports)
+        return {"summary": summed(read_show(answers[0]).counters.values())._asdict()}
     return Question(["show statistics"], text, as_object)
 
 
@@ -131,25 +123,22 @@ def ask_live(rest: Sequence[str]) -> Question:
 
 
 def ask_show_of(name: str, ports: Sequence[str]) -> Question:
-    """Asks for the lines of some ports of a show."""
+    """Asks for the lines of a show, of all ports or of some."""
     def text(answers: Answers, width: int) -> List[str]:
+        if not ports:
+            return list(answers[0])
         check(ports, ports_of(read_show(answers[0])))
         fronts = tuple(f"lldp.{port}." for port in ports)
         return [line for line in answers[0] if line.startswith(fronts)]
-    if name == "neighbors":
-        return Question(["show neighbors"], text, lambda answers: neighbors_object(answers, ports),
-                        ["live"])
-    return Question([f"show {name}"], text,
-                    lambda answers: shown_object(only(read_show(answers[0]), ports)))
+    return Question([f"show {name}"], text, lambda answers: shown_object(answers, ports),
+                    ["live"] if name == "neighbors" else [])
 
 
 def ask_lines(lines: Sequence[str]) -> Question:
     """Asks lines of the agent, and shows their answers as they are."""
     def text(answers: Answers, width: int) -> List[str]:
         return [line for answer in answers for line in answer]
-    if lines == ["show neighbors"]:
-        return Question(lines, text, lambda answers: neighbors_object(answers, ()), ["live"])
-    return Question(lines, text, lambda answers: shown_object(read_show(answers[0])))
+    return Question(lines, text, lambda answers: shown_object(answers[:1]))
 
 
 OWN: Dict[str, Callable[[Sequence[str]], Question]] = {
@@ -177,8 +166,7 @@ def completed(word: str, able: Sequence[str]) -> str:
 
 
 def listed(words: Sequence[str]) -> List[str]:
-    """Returns names of ports, from words with commas between them. The word `ports` may precede
-    them."""
+    """Returns names of ports from words with commas. The word `ports` may precede them."""
     some = words[1:] if list(words[:1]) == ["ports"] and len(words) > 1 else words
     return [name for word in some for name in word.split(",")]
 
@@ -189,8 +177,7 @@ def ports_of(show: Show) -> List[str]:
 
 
 def only(show: Show, ports: Sequence[str]) -> Show:
-    """Returns what a show says of some ports, or of all if none is named. Raises Refused for
-    another."""
+    """Returns what a show says of ports, of all if none is named. Raises Refused for another."""
     if not ports:
         return show
     check(ports, ports_of(show))

@@ -61,8 +61,7 @@ def explained(line: str, text: str, program: str = "lldpa") -> str:
 
 
 def said_of(word: str, said: str) -> str:
-    """Returns what is allowed in the place of a form's word; `said` is the description of the
-    form."""
+    """Returns what is allowed for a form's word; `said` is the description of the form."""
     return A_PORT if word == PORT else said if word.isupper() else word
 
 

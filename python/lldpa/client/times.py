@@ -1,4 +1,4 @@
-"""Reads the times that lldpa-live writes. (`datetime` takes 0.4 MB, so few load it.)"""
+"""Reads the times that lldpa-live writes. (`datetime` needs 0.4 MB, so few questions load it.)"""
 
 from __future__ import annotations
 
@@ -9,8 +9,7 @@ WRITTEN = re.compile("[0-9]{4}-[0-9]{2}-[0-9]{2}T[0-9]{2}:[0-9]{2}:[0-9]{2}Z")
 
 
 def seconds_of(text: str) -> int:
-    """Returns the seconds since 1970 of a time such as `2026-11-23T19:40:00Z`. Raises ValueError
-    for any other text."""
+    """Returns the seconds since 1970 of `2026-11-23T19:40:00Z`. Raises ValueError for others."""
     if not WRITTEN.fullmatch(text):
         raise ValueError(f"not a time as lldpa-live writes it: {text!r}")
     return int(datetime.fromisoformat(f"{text[:-1]}+00:00").timestamp())

@@ -23,8 +23,7 @@ CAME, CHANGED, GONE = "came", "changed", "gone"
 
 
 class NeighborNews(NamedTuple):
-    """What happened to a neighbor: `came`, `changed` or `gone`; `changes` are texts such as
-    `chassis.name: a -> b` or `pvid: 120 -> 121`."""
+    """A neighbor that `came`, `changed` or is `gone`, and changes such as `pvid: 120 -> 121`."""
 
     what: str
     neighbor: Neighbor
@@ -62,8 +61,7 @@ def by_name(ports: Iterable[Port]) -> dict[Name, Neighbor]:
 
 
 def changes(old: Neighbor, new: Neighbor) -> Iterator[str]:
-    """Returns what a neighbor says now and did not before, and the other way round. The seconds
-    left do not count as a change."""
+    """Returns what differs between two states of a neighbor, except the seconds left."""
     if old.ttl != new.ttl:
         yield f"ttl: {old.ttl} -> {new.ttl}"
     if old.said == new.said:
@@ -79,16 +77,14 @@ def content_of(neighbor: Neighbor) -> Dict[str, str]:
     said = said_by(neighbor.org)
     plain = [(key, value) for key, value in neighbor.said if not key.startswith("org.")]
     rest = [(f"org.{kind}", octets) for kind, octets in said.rest]
-    words: Dict[str, str] = {}
+    words: Dict[str, List[str]] = {}
     for key, value in [*plain, *((row.key, row.text) for row in rows_of(said)), *rest]:
-        text = readable(value) if value else "empty"
-        words[key] = f"{words[key]} {text}" if key in words else text
-    return words
+        words.setdefault(key, []).append(readable(value) if value else "empty")
+    return {key: " ".join(texts) for key, texts in words.items()}
 
 
 def looks(client: Client) -> Iterator[List[str]]:
-    """Asks for the neighbors again and again, and returns the lines of each answer. There is none
-    while the agent waits for an interface."""
+    """Asks for the neighbors again and again. Skips answers while the agent waits."""
     while True:
         time.sleep(SECONDS_BETWEEN_LOOKS)
         try:

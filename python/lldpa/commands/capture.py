@@ -9,8 +9,9 @@ from typing import Dict, List, Mapping, Optional, Sequence, Tuple
 from .. import output
 from ..output import complain
 from ..capture.packets import BadCapture, reader_of
-from ..capture.source import PORT_NAME_RULE, STANDARD_INPUT, Source, is_port_name, is_stream, opened
+from ..capture.source import PORT_NAME_RULE, STANDARD_INPUT, Source, is_stream, opened
 from ..capture.trace import Told, TooManyPorts, ports_of, trace_of
+from ..limits import is_port_name
 from ..version import add_version
 
 NAME = "lldpa-capture"
@@ -92,14 +93,13 @@ def run(given: argparse.Namespace) -> int:
     sources = [source_of(word, names) for word in given.files]
     if [source.file for source in sources].count(STANDARD_INPUT) > 1:
         raise ValueError("standard input can be read only once")
-    if given.ports:
-        print("\n".join(ports_for_words(sources)), flush=True)
-        return report_unread(sources)
-    return write_trace(sources, not given.no_seconds, given.show)
-
-
-def report_unread(sources: Sequence[Source]) -> int:
-    """Reports the captures that cannot be read. Returns 1 if there are any, else 0."""
+    if not given.ports:
+        return write_trace(sources, not given.no_seconds, given.show)
+    ports = ports_of(sources)
+    for port in ports:
+        if port.startswith("-"):  # which another program could take for an option
+            raise ValueError(f"a port is named {port!r}: write --port='{port}=NAME'")
+    print("\n".join(ports), flush=True)
     faults = [f"{source.file}: {why}" for source in sources if (why := fault_of(source.file))]
     for fault in faults:
         note(fault)
@@ -118,17 +118,6 @@ def fault_of(file: str) -> str:
     except OSError as error:
         return error.strerror or str(error)
     return ""
-
-
-def ports_for_words(sources: Sequence[Source]) -> List[str]:
-    """Returns the ports of captures. Raises ValueError if another program could take one for an
-    option.
-    """
-    ports = ports_of(sources)
-    for port in ports:
-        if port.startswith("-"):
-            raise ValueError(f"a port is named {port!r}: write --port='{port}=NAME'")
-    return ports
 
 
 def main(words: Optional[Sequence[str]] = None) -> int:

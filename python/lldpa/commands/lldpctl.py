@@ -82,8 +82,7 @@ def read_words(words: Sequence[str]) -> Given:
 
 
 def show(client: Client, given: Given, question: Question) -> None:
-    """Prints a show. Raises Refused for a port that does not exist, after the others are
-    printed."""
+    """Prints a show. Then raises Refused for a port that does not exist."""
     live = client.ask("live")
     told = told_by([client.ask(line) for line in LINES], live, time.time())
     given.write(question.tree(told))
@@ -155,8 +154,7 @@ def console(given: Given) -> int:
 
 
 def obey_in_child(given: Given, words: Sequence[str]) -> int:
-    """Obeys a command in a process of its own, which may give up root. Returns 1 if its output
-    failed, which is reported, else 0."""
+    """Obeys a command in a child, which may give up root. Returns 1 if its output failed."""
     child = os.fork()
     if child == 0:
         status = 1
@@ -191,9 +189,7 @@ def told_status(name: str, body: Callable[[], int]) -> int:
         return body()
     except KeyboardInterrupt:
         return 130
-    except Refused as refused:
-        output.complain(name, printable(refused.text))
-    except ValueError as fault:
+    except (Refused, ValueError) as fault:
         output.complain(name, printable(str(fault)))
     return 1
 

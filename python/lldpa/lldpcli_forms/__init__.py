@@ -1,8 +1,2 @@
-"""What lldpcli prints, of what a running lldpa-live tells: a tree of nodes, and the forms of it.
-
-    neighbors, interfaces, statistics    the trees of the shows
-    plain, keyvalue, as_json             the forms
-    words                                the commands
-
-Keys, values and layout are those of lldpcli 1.0.16; docs/LLDPD.md lists what differs.
-"""
+"""Prints what lldpcli 1.0.16 prints, from what a running lldpa-live answers: `words` reads the
+commands, `shows` makes trees of nodes, `writing` prints them. docs/LLDPD.md lists what differs."""

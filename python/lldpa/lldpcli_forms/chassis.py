@@ -1,11 +1,11 @@
 """The nodes of a chassis, a port, the identifiers and unknown TLVs."""
 from __future__ import annotations
 
-import ipaddress
-import socket
 from typing import Iterable, Iterator, Mapping, Optional, Tuple
 
 from ..agent.show import Identifier, LocalChassis, Neighbor, unescaped
+from ..agent.shown import capabilities_in
+from ..client.people import address_text
 from ..node import Node, said_text, lldpcli_text
 
 CAPABILITIES = ("Other", "Repeater", "Bridge", "Router", "Wlan", "Tel", "Docsis", "Station")
@@ -24,12 +24,10 @@ def chassis_of(neighbor: Neighbor, is_brief: bool) -> Node:
 
 def local_chassis(chassis: LocalChassis, is_brief: bool) -> Node:
     """Returns what this host says of itself."""
-    parts = [part.rpartition(":") for part in chassis.caps.split(",") if part]
     said = [("chassis.name", chassis.name), ("chassis.descr", chassis.descr)]
     said += [("chassis.mgmt", chassis.mgmt)] if chassis.mgmt else []
     identifier = identifier_node("ChassisID", Identifier("mac", chassis.mac), {})
-    return chassis_node(identifier, said, {name: state == "on" for name, _, state in parts},
-                        is_brief)
+    return chassis_node(identifier, said, capabilities_in(chassis.caps), is_brief)
 
 
 def chassis_node(identifier: Node, said: Iterable[Tuple[str, str]],
@@ -57,7 +55,7 @@ def identifier_node(label: str, identifier: Identifier, known: Mapping[int, str]
     agent shows as unhandled."""
     kind, text = identifier
     if kind == "ip":
-        text = shortest(text)
+        text = address_text(text)
     elif kind in ("component", "portcomp", "circuit"):
         kind, text = "unhandled", unescaped(text).hex(" ")
     elif kind == "unhandled":
@@ -80,14 +78,7 @@ def managements(said: Iterable[Tuple[str, str]]) -> Iterator[Tuple[str, Optional
         if key == "chassis.mgmt" and not text.startswith("af"):
             address, numbering, number, *_ = text.split(",")
             is_numbered = numbering == str(BY_INTERFACE) and number != "0"
-            yield shortest(address), number if is_numbered else None
-
-
-def shortest(address: str) -> str:
-    """Returns an IP address as lldpd writes it."""
-    found = ipaddress.ip_address(address)
-    family = socket.AF_INET if found.version == 4 else socket.AF_INET6
-    return socket.inet_ntop(family, found.packed)
+            yield address_text(address), number if is_numbered else None
 
 
 def port_of(neighbor: Neighbor) -> Node:

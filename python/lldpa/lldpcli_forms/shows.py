@@ -2,14 +2,14 @@
 from __future__ import annotations
 
 from enum import Enum
-from typing import Iterable, Iterator, List, Mapping, NamedTuple, Optional, Sequence
+from typing import (Callable, Dict, Iterable, Iterator, List, Mapping, NamedTuple, Optional,
+                    Sequence, TypeVar)
 
 from ..client.live_lines import LiveLines, Since
-from ..agent.framing import Refused
-from ..agent.show import (Configuration, Counters, Identifier, LocalChassis, Neighbor, Show,
-                          read_show)
-from ..client.tallies import summed
 from ..client.times import seconds_of
+from ..agent.framing import Refused
+from ..agent.show import Counters, Identifier, Neighbor, Show, read_show
+from ..client.people import summed
 from ..node import Node, yes
 from ..organizational import known_to_lldpd
 from ..organizational.kinds import nodes_in
@@ -17,6 +17,9 @@ from .chassis import chassis_of, identifier_node, local_chassis, port_of, unknow
 
 STATUSES = {"rx-and-tx": "RX and TX", "rx-only": "RX only", "tx-only": "TX only",
             "disabled": "disabled"}
+OF_HOST, OF_NUMBERS = "what this host announces", "the configuration"
+Part = TypeVar("Part")
+Ports = Optional[Sequence[str]]
 LINES = ("show neighbors", "show statistics", "show chassis", "show configuration")
 
 
@@ -43,10 +46,9 @@ def told_by(answers: Sequence[Sequence[str]], live: Iterable[str], now: float) -
     return Told(show, told.since, told.numbers, now)
 
 
-def neighbors(told: Told, ports: Optional[Sequence[str]], depth: Depth) -> Node:
+def neighbors(told: Told, ports: Ports, depth: Depth) -> Node:
     """Returns `show neighbors`, of all ports or of some."""
-    found = [neighbor for neighbor in told.show.neighbors if ports is None
-             or neighbor.port in ports]
+    found = [one for one in told.show.neighbors if ports is None or one.port in ports]
     return Node("lldp", "LLDP neighbors",
                 nodes=[neighbor_node(told, one, depth) for one in found])
 
@@ -67,8 +69,7 @@ def neighbor_node(told: Told, neighbor: Neighbor, depth: Depth) -> Node:
 
 
 def presence(told: Told, neighbor: Neighbor) -> Iterator["tuple[str, str, str]"]:
-    """Returns the number of its chassis, and how long it has been there, as far as lldpa-live
-    knows."""
+    """Returns a chassis' number and how long it has been there, if lldpa-live knows them."""
     chassis, _, _ = neighbor.id.partition(" ")
     number, came = told.numbers.get(chassis), told.since.get((neighbor.port, neighbor.id))
     if number is not None:
@@ -85,10 +86,11 @@ def age(seconds: int) -> str:
     return f"{days} day{plural}, {rest // 3600:02}:{rest // 60 % 60:02}:{rest % 60:02}"
 
 
-def interfaces(told: Told, ports: Optional[Sequence[str]], depth: Depth) -> Node:
+def interfaces(told: Told, ports: Ports, depth: Depth) -> Node:
     """Returns `show interfaces`: what this host says at its ports."""
     root = Node("lldp", "LLDP interfaces")
-    of_host, numbers = chassis_told(told), configuration_told(told)
+    of_host = reported(told.show.chassis, OF_HOST)
+    numbers = reported(told.show.configuration, OF_NUMBERS)
     for name, status in numbers.statuses.items():
         if ports is not None and name not in ports:
             continue
@@ -103,29 +105,23 @@ def interfaces(told: Told, ports: Optional[Sequence[str]], depth: Depth) -> Node
     return root
 
 
-def chassis(told: Told, depth: Depth) -> Node:
+def chassis(told: Told, _: Ports, depth: Depth) -> Node:
     """Returns `show chassis`."""
     return Node("local-chassis", "Local chassis",
-                nodes=[local_chassis(chassis_told(told), depth is Depth.SUMMARY)])
+                nodes=[local_chassis(reported(told.show.chassis, OF_HOST),
+                                     depth is Depth.SUMMARY)])
 
 
-def chassis_told(told: Told) -> LocalChassis:
-    """Returns what this host says of itself. Raises Refused if lldpa-live does not say it."""
-    if told.show.chassis is None:
-        raise Refused("lldpa-live did not report what this host announces")
-    return told.show.chassis
+def reported(part: Optional[Part], what: str) -> Part:
+    """Returns a part of the answers. Raises Refused if lldpa-live did not report it."""
+    if part is None:
+        raise Refused(f"lldpa-live did not report {what}")
+    return part
 
 
-def configuration_told(told: Told) -> Configuration:
-    """Returns the numbers in force. Raises Refused if lldpa-live does not say them."""
-    if told.show.configuration is None:
-        raise Refused("lldpa-live did not report the configuration")
-    return told.show.configuration
-
-
-def configuration(told: Told) -> Node:
+def configuration(told: Told, *_: object) -> Node:
     """Returns `show configuration`, as far as lldpd has the same."""
-    numbers = configuration_told(told)
+    numbers = reported(told.show.configuration, OF_NUMBERS)
     only_receives = all(status == "rx-only" for status in numbers.statuses.values())
     node = Node("config", "Configuration")
     node.add("tx-delay", "Transmit delay", numbers.tx_interval)
@@ -136,11 +132,11 @@ def configuration(told: Told) -> Node:
     return Node("configuration", "Global configuration", nodes=[node])
 
 
-def statistics(told: Told, ports: Optional[Sequence[str]], is_summary: bool) -> Node:
+def statistics(told: Told, ports: Ports, depth: Depth) -> Node:
     """Returns `show statistics`, of ports or their sums."""
     found = {name: counters for name, counters in told.show.counters.items()
              if ports is None or name in ports}
-    if is_summary:
+    if depth is Depth.SUMMARY:
         return Node("lldp", "LLDP Global statistics", nodes=[
             Node("summary", "Summary of stats", nodes=counter_nodes(summed(found.values())))])
     return Node("lldp", "LLDP statistics", nodes=[
@@ -156,3 +152,8 @@ def counter_nodes(counters: Counters) -> List[Node]:
               ("rx_unrecognized_cnt", "Unrecognized", counters.unrecognized),
               ("ageout_cnt", "Ageout", counters.ageouts))
     return [Node(key, label, [(key, "", str(value))]) for key, label, value in values]
+
+
+TREES: Dict[str, Callable[[Told, Ports, Depth], Node]] = {
+    "neighbors": neighbors, "interfaces": interfaces, "chassis": chassis, "statistics": statistics,
+    "configuration": configuration}

@@ -1,12 +1,12 @@
 """Reads the commands: the words of lldpcli, and the ports after lldpctl."""
 from __future__ import annotations
 
-from typing import Callable, List, NamedTuple, Optional, Sequence, Union
+from typing import List, NamedTuple, Optional, Sequence, Union
 
 from ..agent.framing import Refused
 from ..client.questions import question
 from ..client.refused import forms_of, in_full
-from .shows import Depth, Told, chassis, configuration, interfaces, neighbors, statistics
+from .shows import TREES, Depth, Told
 from ..node import Node
 
 # what may follow each show, except its ports
@@ -29,14 +29,7 @@ class Question(NamedTuple):
 
     def tree(self, told: Told) -> Node:
         """Returns the tree, from what lldpa-live answers."""
-        if self.show == "chassis":
-            return chassis(told, self.depth)
-        if self.show == "configuration":
-            return configuration(told)
-        if self.show == "statistics":
-            return statistics(told, self.ports, self.depth is Depth.SUMMARY)
-        of_ports: Callable[..., Node] = neighbors if self.show == "neighbors" else interfaces
-        return of_ports(told, self.ports, self.depth)
+        return TREES[self.show](told, self.ports, self.depth)
 
     def missing(self, told: Told) -> List[str]:
         """Returns the ports that are asked for and do not exist."""
@@ -46,8 +39,7 @@ class Question(NamedTuple):
 
 
 class Watching(NamedTuple):
-    """The changes of neighbors to watch, of which ports, how much of them, and how often at
-    most."""
+    """A watch: how much it shows, of which ports, and after how many changes it ends."""
     depth: Depth
     ports: Optional[List[str]]
     limit: Optional[int]
@@ -62,16 +54,14 @@ Command = Union[Question, Watching, Lines]
 
 
 def of_lldpctl(words: Sequence[str]) -> Command:
-    """Returns what is asked by the words of lldpctl: ports, or a command whose first word is
-    written in full."""
+    """Reads the words of lldpctl: ports, or a command whose first word is written in full."""
     if words and words[0] in COMMANDS:
         return of_lldpcli(words)
     return Question("neighbors", Depth.DETAILS, listed(words) if words else None)
 
 
 def of_lldpcli(words: Sequence[str]) -> Command:
-    """Returns what is asked by a command of lldpcli, whose words may be shortened. Raises Refused
-    if there is no such command here."""
+    """Reads a command of lldpcli, whose words may be shortened. Raises Refused for others."""
     first, rest = meant(words[0], COMMANDS), list(words[1:])
     if first == "configure":
         return Lines(question(in_full([first, *rest], forms_of("lldpa"))).lines)
@@ -115,8 +105,7 @@ def number_of(word: str) -> int:
 
 
 def meant(word: str, able: Sequence[str]) -> str:
-    """Returns the word that this one is or shortens. Raises Refused if there is none, or
-    several."""
+    """Returns the one word that this word shortens. Raises Refused for none or several."""
     found = [one for one in able if one.startswith(word)] if word else []
     if len(found) != 1:
         instead = ", ".join(able) if able else "nothing follows"

@@ -16,8 +16,7 @@ ENDS = ("Zl", "Zp")  # separators of lines and of paragraphs
 
 
 def plain(root: Node) -> str:
-    """Returns the form for people. A text of several lines is indented, and no other octet controls
-    a terminal."""
+    """Returns the form for people. Lines of a text are indented, and control characters escaped."""
     lines = [LINE, f"{root.label}:", LINE]
     for node in root.nodes:
         lines += [*plain_lines(node, 0), LINE]
@@ -47,8 +46,7 @@ def keyvalue(root: Node) -> str:
 
 def on_a_terminal(root: Node) -> str:
     """Writes keys and values, with all escaped that a terminal does not show as it is."""
-    return "\n".join(f"{printable(key)}={printable(one_line(value))}"
-                     for key, value in pairs(root, ""))
+    return "\n".join(map(printable, keyvalue(root).split("\n")))
 
 
 def pairs(node: Node, front: str) -> Iterator[Tuple[str, str]]:
@@ -74,8 +72,7 @@ def one_line(text: str) -> str:
 
 
 def is_control(letter: str) -> bool:
-    """Returns whether it is a control character other than a tab, ends a line, or stands for an
-    octet."""
+    """Returns whether it is a control character except a tab, ends a line, or is an octet."""
     kind = unicodedata.category(letter)
     return kind in ENDS or kind[0] == "C" and kind not in ("Cf", "Co", "Cn") and letter != "\t"
 
@@ -86,14 +83,12 @@ def json0(root: Node) -> str:
 
 
 def json_short(root: Node) -> str:
-    """Returns JSON in which a list of one is replaced by its item, and what has a name is under
-    it."""
+    """Returns JSON in which a list of one is its item, and nodes with a name are under it."""
     return json.dumps({root.key: shortened([whole(root)])}, indent=2)
 
 
 def whole(node: Node) -> Dict[str, Any]:
-    """Returns a node as an object: its attributes, lists of the nodes in it by their keys, its
-    text."""
+    """Returns a node as an object: attributes, lists of nodes by their keys, and its text."""
     told: Dict[str, Any] = {}
     for key, _, value in node.attributes:
         is_flag = value in FLAGS and key not in NAMING

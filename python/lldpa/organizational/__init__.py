@@ -13,34 +13,26 @@ hexadecimal. Texts stay octets, as they were sent.
 from importlib import import_module
 from typing import TYPE_CHECKING
 
-from .kinds import MODULES, Row, Tlv
-from .said import (Organizational, known_to_lldpd, organizational_object, read_tlv, rows_of,
-                   said_by)
+from .kinds import MODULES, Row, Said, Tlv
+from .said import known_to_lldpd, organizational_object, read_tlv, rows_of, said_by
 
 if TYPE_CHECKING:
-    from .dcb import (ApplicationPriorities, ApplicationPriority, Ets, EtsRecommendation, EtsTables,
-                      Pfc)
-    from .dot1 import (ManagementVlan, PortVlan, ProtocolIdentity, ProtocolVlan, VidUsageDigest,
-                       VlanName)
-    from .dot3 import LinkAggregation, MacPhy, MaxFrameSize
-    from .inventory import Inventory, MedPower, MudUrl
-    from .location import CivicAddress, Coordinates, Elin, Location
-    from .mau import Mau, mau_of
-    from .med import MedCapabilities, NetworkPolicy
-    from .power import Eee, Power, PowerOfPairs, PowerRequest
+    from .dcb import *
+    from .dot1 import *
+    from .dot3 import *
+    from .inventory import *
+    from .location import *
+    from .mau import *
+    from .med import *
+    from .power import *
 
-__all__ = ["ApplicationPriorities", "ApplicationPriority", "CivicAddress", "Coordinates", "Eee",
-           "Elin", "Ets", "EtsRecommendation", "EtsTables", "Inventory", "LinkAggregation",
-           "Location", "MacPhy", "ManagementVlan", "Mau", "MaxFrameSize", "MedCapabilities",
-           "MedPower", "MudUrl", "NetworkPolicy", "Organizational", "Pfc", "PortVlan", "Power",
-           "PowerOfPairs", "PowerRequest", "ProtocolIdentity", "ProtocolVlan", "Row", "Tlv",
-           "VidUsageDigest", "VlanName", "known_to_lldpd", "mau_of", "organizational_object",
+__all__ = ["MODULES", "Row", "Said", "Tlv", "known_to_lldpd", "organizational_object",
            "read_tlv", "rows_of", "said_by"]
 
 
 def __getattr__(name: str) -> object:
-    """Loads the module of a name that is used for the first time."""
-    for module in MODULES if name in __all__ else ():
+    """Loads the module of a class that is used for the first time."""
+    for module in () if name.startswith("_") else MODULES:
         found = getattr(import_module(f"{__name__}.{module}"), name, None)
         if found is not None:
             return found

@@ -6,7 +6,7 @@ from typing import Any, Optional, Tuple
 
 from .kinds import DOT1, Object, Tlv, number, of
 
-CLASSES = 8  # priorities, and traffic classes
+CLASS_COUNT = 8  # priorities, and traffic classes
 ALGORITHMS = {0: "strict priority", 1: "credit-based shaper", 2: "enhanced transmission selection",
               255: "vendor specific"}
 SHORT = {0: "strict", 1: "CBS", 2: "ETS", 255: "vendor"}
@@ -29,7 +29,7 @@ class EtsTables:
     @classmethod
     def read(cls, octets: bytes) -> Optional[EtsTables]:
         """Reads eight half octets, eight octets, and eight octets."""
-        if len(octets) != 4 + 2 * CLASSES:
+        if len(octets) != 4 + 2 * CLASS_COUNT:
             return None
         classes = tuple(half for octet in octets[:4] for half in (octet >> 4, octet & 0x0f))
         return cls(classes, tuple(octets[4:12]), tuple(octets[12:]))
@@ -62,7 +62,7 @@ class Ets(Tlv):
         tables = EtsTables.read(octets[1:])
         if tables is None:
             return None
-        return cls(bool(octets[0] & 0x80), bool(octets[0] & 0x40), octets[0] & 0x07 or CLASSES,
+        return cls(bool(octets[0] & 0x80), bool(octets[0] & 0x40), octets[0] & 0x07 or CLASS_COUNT,
                    tables)
 
     def words(self) -> str:
@@ -109,7 +109,7 @@ class Pfc(Tlv):
         """Reads flags with the number of classes, and a bit for each priority."""
         if len(octets) != 2:
             return None
-        enabled = tuple(priority for priority in range(CLASSES) if octets[1] >> priority & 1)
+        enabled = tuple(priority for priority in range(CLASS_COUNT) if octets[1] >> priority & 1)
         return cls(bool(octets[0] & 0x80), bool(octets[0] & 0x40), octets[0] & 0x0f, enabled)
 
     def words(self) -> str:

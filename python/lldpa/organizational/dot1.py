@@ -4,9 +4,9 @@ from __future__ import annotations
 from dataclasses import dataclass
 from typing import Any, List, Optional
 
+from ..limits import GREATEST_VID
 from ..node import Node, lldpcli_text, yes
 from ..texts import readable_octets, with_text
-from ..vlan import vid_of
 from .kinds import DOT1, Said, Tlv, ability, number, of
 
 LONGEST_NAME = 32  # octets of a VLAN's name
@@ -22,19 +22,11 @@ def vid_text(vid: int) -> str:
 class PortVlan(Tlv):
     """Port VLAN ID, subtype 1: the VLAN of untagged frames, 0 if the port has none."""
     key, heading, path, parent = "pvid", "VLAN", "vlan.pvid", "interface"
+    layout = "pvid:16v"
     pvid: int
-
-    @classmethod
-    def read(cls, octets: bytes) -> Optional[PortVlan]:
-        """Reads two octets."""
-        vid = vid_of(octets)
-        return None if vid is None else cls(vid)
 
     def words(self) -> str:
         return vid_text(self.pvid)
-
-    def value(self) -> int:
-        return self.pvid
 
     @classmethod
     def nodes(cls, said: Said) -> List[Node]:
@@ -65,12 +57,10 @@ class VlanName(Tlv):
     @classmethod
     def read(cls, octets: bytes) -> Optional[VlanName]:
         """Reads a VLAN in two octets, the length of the name, and the name."""
-        vid = vid_of(octets[:2])
-        if vid is None or len(octets) < 3:
+        vid, name = number(octets[:2]), octets[3:]
+        if vid > GREATEST_VID or octets[2:3] != bytes([len(name)]) or len(name) > LONGEST_NAME:
             return None
-        if octets[2] != len(octets) - 3 or octets[2] > LONGEST_NAME:
-            return None
-        return cls(vid, octets[3:])
+        return cls(vid, name)
 
     def words(self) -> str:
         return f"{self.vid} {readable_octets(self.name)}".rstrip()
@@ -85,23 +75,13 @@ class ProtocolVlan(Tlv):
     """Port and Protocol VLAN ID, subtype 2; `ppvid` is 0 if there is none."""
     is_repeated, group, parent = True, "Other VLANs", "interface"
     key, heading, path = "protocol-vlans", "Protocol VLANs", "vlan.protocol_vlans"
+    layout = "_:5 is_enabled:1 is_supported:1 _:1 ppvid:16v"
     is_supported: bool
     is_enabled: bool
     ppvid: int
 
-    @classmethod
-    def read(cls, octets: bytes) -> Optional[ProtocolVlan]:
-        """Reads flags, and two octets."""
-        ppvid = vid_of(octets[1:])
-        if ppvid is None:
-            return None
-        return cls(bool(octets[0] & 0x02), bool(octets[0] & 0x04), ppvid)
-
     def words(self) -> str:
         return f"{vid_text(self.ppvid)} {ability(self.is_supported, self.is_enabled)}"
-
-    def value(self) -> Any:
-        return {"ppvid": self.ppvid, "supported": self.is_supported, "enabled": self.is_enabled}
 
     def node(self) -> Node:
         return Node("ppvid", "PPVID", [("value", "", str(self.ppvid)),
@@ -139,20 +119,11 @@ class ProtocolIdentity(Tlv):
 class ManagementVlan(Tlv):
     """Management VID, subtype 6, 0 if there is none."""
     key, heading, path = "management-vlan", "Management VLAN", "vlan.management"
-    group = "Other VLANs"
+    group, layout = "Other VLANs", "vid:16v"
     vid: int
-
-    @classmethod
-    def read(cls, octets: bytes) -> Optional[ManagementVlan]:
-        """Reads two octets."""
-        vid = vid_of(octets)
-        return None if vid is None else cls(vid)
 
     def words(self) -> str:
         return vid_text(self.vid)
-
-    def value(self) -> int:
-        return self.vid
 
 
 @of(DOT1, 5, is_of_lldpd=False)
@@ -160,16 +131,8 @@ class ManagementVlan(Tlv):
 class VidUsageDigest(Tlv):
     """VID Usage Digest, subtype 5."""
     key, heading, path = "vid-usage-digest", "VID digest", "vlan.usage_digest"
-    group = "Other VLANs"
+    group, layout = "Other VLANs", "digest:32"
     digest: int
-
-    @classmethod
-    def read(cls, octets: bytes) -> Optional[VidUsageDigest]:
-        """Reads four octets."""
-        return cls(number(octets)) if len(octets) == 4 else None
 
     def words(self) -> str:
         return f"{self.digest:08x}"
-
-    def value(self) -> int:
-        return self.digest

@@ -5,9 +5,8 @@ from dataclasses import dataclass
 from typing import Any, List, Optional, Tuple
 
 from ..node import Node, yes
-from .kinds import DOT1, DOT3, Row, Said, Tlv, ability, number, of
-from .mau import Mau, advertised_names, mau_of
-from .mau_texts import MAU_TEXTS
+from .kinds import DOT1, DOT3, Row, Said, Tlv, ability, of
+from .mau import MAU_TEXTS, Mau, advertised_names, mau_of
 
 # lldpcli's names of the advertised modes, with the bits of half and full duplex
 ADVERTISED = (("10Base-T", 0x4000, 0x2000), ("100Base-T4", 0x1000, 0x1000),
@@ -20,18 +19,8 @@ ADVERTISED = (("10Base-T", 0x4000, 0x2000), ("100Base-T4", 0x1000, 0x1000),
 class MaxFrameSize(Tlv):
     """Maximum Frame Size, subtype 4, in octets."""
     key, heading, path, parent = "max-frame-size", "Frame size", "max_frame_size", "port"
+    layout = "octets:16"
     octets: int
-
-    @classmethod
-    def read(cls, octets: bytes) -> Optional[MaxFrameSize]:
-        """Reads two octets."""
-        return cls(number(octets)) if len(octets) == 2 else None
-
-    def words(self) -> str:
-        return str(self.octets)
-
-    def value(self) -> int:
-        return self.octets
 
     def node(self) -> Optional[Node]:
         return Node("mfs", "MFS", text=str(self.octets)) if self.octets else None
@@ -43,25 +32,15 @@ class MaxFrameSize(Tlv):
 class LinkAggregation(Tlv):
     """Link Aggregation, subtype 3, or 7 of IEEE 802.1; `port` is the aggregated port's number."""
     key, heading, path = "link-aggregation", "Aggregation", "link_aggregation"
-    parent = "port"
+    parent, layout = "port", "_:6 is_aggregated:1 is_capable:1 port:32"
     is_capable: bool
     is_aggregated: bool
     port: int
-
-    @classmethod
-    def read(cls, octets: bytes) -> Optional[LinkAggregation]:
-        """Reads a status, and the port in four octets."""
-        if len(octets) != 5:
-            return None
-        return cls(bool(octets[0] & 0x01), bool(octets[0] & 0x02), number(octets[1:]))
 
     def words(self) -> str:
         if self.is_aggregated:
             return f"yes, port {self.port}"
         return "no, but capable" if self.is_capable else "no"
-
-    def value(self) -> Any:
-        return {"capable": self.is_capable, "aggregated": self.is_aggregated, "port": self.port}
 
     def node(self) -> Optional[Node]:
         if not self.port:
@@ -74,18 +53,11 @@ class LinkAggregation(Tlv):
 class MacPhy(Tlv):
     """MAC/PHY Configuration/Status, subtype 1: 16 bits that are advertised, and a MAU type."""
     key, heading, path, parent = "mac-phy", "Link", "mac_phy", "port"
+    layout = "_:6 autonegotiates:1 supports_autonegotiation:1 advertised:16 mau_type:16"
     supports_autonegotiation: bool
     autonegotiates: bool
     advertised: int
     mau_type: int
-
-    @classmethod
-    def read(cls, octets: bytes) -> Optional[MacPhy]:
-        """Reads a status, and twice two octets."""
-        if len(octets) != 5:
-            return None
-        return cls(bool(octets[0] & 0x01), bool(octets[0] & 0x02), number(octets[1:3]),
-                   number(octets[3:]))
 
     @property
     def mau(self) -> Optional[Mau]:

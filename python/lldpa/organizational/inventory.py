@@ -7,7 +7,7 @@ from typing import Any, List, Optional
 
 from ..node import Node, said_text
 from ..texts import readable_octets, with_text
-from .kinds import IANA, MED, Object, Said, Tlv, name_in, number, of, register, watts
+from .kinds import IANA, MED, Object, Said, Tlv, of, register, watts
 from .power import LLDPCLI_PD_SOURCES, PD_SOURCES, PRIORITIES, PSE_SOURCES
 
 DEVICES = {0: "PSE", 1: "PD"}
@@ -26,17 +26,11 @@ LABELS = (("hardware", "Hardware Revision"), ("software", "Software Revision"),
 class MedPower(Tlv):
     """Extended Power via MDI, subtype 4; `power` is in tenths of a watt."""
     key, heading, path, parent = "med-power", "MED power", "med.power", "lldp-med"
+    layout = "device:2 source:2 priority:4 power:16"
     device: int
     source: int
     priority: int
     power: int
-
-    @classmethod
-    def read(cls, octets: bytes) -> Optional[MedPower]:
-        """Reads a type (2 bits), a source (2), a priority (4), and the power in two octets."""
-        if len(octets) != 3:
-            return None
-        return cls(octets[0] >> 6, octets[0] >> 4 & 3, octets[0] & 15, number(octets[1:]))
 
     @property
     def device_name(self) -> Optional[str]:
@@ -69,7 +63,7 @@ class MedPower(Tlv):
         node = Node("poe", "Extended Power-over-Ethernet")
         sources = {0: LLDPCLI_PSE_SOURCES, 1: LLDPCLI_PD_SOURCES}.get(self.device, ())
         node.add("device-type", "Power Type & Source", self.device_name or "unknown")
-        node.add("source", "Power Source", name_in(sources, self.source, "unknown"))
+        node.add("source", "Power Source", sources[self.source] if sources else "unknown")
         node.add("priority", "Power priority", self.priority_name or "unknown")
         node.add("power", "Power Value", self.power * 100)
         return node
@@ -108,7 +102,7 @@ class Inventory(Tlv):
 
 
 for place, name in enumerate(INVENTORY):
-    register(Inventory, MED, 5 + place, partial(Inventory, name), is_of_lldpd=True)
+    register(Inventory, MED, 5 + place, reader=partial(Inventory, name))
 
 
 @of(IANA, 1, is_of_lldpd=False)

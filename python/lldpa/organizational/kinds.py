@@ -7,10 +7,12 @@ its organization.
 from __future__ import annotations
 
 from dataclasses import dataclass
+from functools import lru_cache
 from importlib import import_module
-from typing import (Any, Callable, ClassVar, Dict, List, NamedTuple, Optional, Sequence, Tuple,
-                    Type, TypeVar)
+from typing import (Any, Callable, ClassVar, Dict, List, NamedTuple, Optional, Set, Tuple, Type,
+                    TypeVar)
 
+from ..limits import GREATEST_VID
 from ..node import Node
 
 DOT1, DOT3, MED, IANA = "0080c2", "00120f", "0012bb", "00005e"
@@ -21,19 +23,59 @@ MODULES = {"dot1": (DOT1,), "dot3": (DOT1, DOT3), "power": (DOT3,), "dcb": (DOT1
 Object = Dict[str, Any]
 Kind = TypeVar("Kind", bound="Type[Tlv]")
 One = TypeVar("One")
+Some = TypeVar("Some", bound="Fields")
 Reader = Callable[[bytes], Optional["Tlv"]]
 
 
 class Row(NamedTuple):
-    """What a neighbor says, for people: a key, a heading and words. Rows of one group are shown
-    together under its name."""
+    """What a neighbor says, for people. Rows of one group are shown together under its name."""
     key: str
     heading: str
     text: str
     group: str = ""
 
 
-class Tlv:
+class Fields:
+    """Values that follow one another in octets.
+
+    The `layout` has the name of each (`_` for bits that mean nothing), its bits, and `s` if it is
+    signed or `v` if it is a VLAN: `is_on:1 _:3 vid:12v height:16s`. One bit is read as a bool.
+    """
+    layout: ClassVar[str] = ""
+
+    @classmethod
+    def read(cls: Type[Some], octets: bytes) -> Optional[Some]:
+        """Returns what octets mean, None if they do not have this form. Ignores reserved bits."""
+        values = values_of(octets, cls.layout)
+        return None if values is None else cls(**values)
+
+
+@lru_cache(maxsize=None)
+def fields_of(layout: str) -> List[Tuple[str, int, str]]:
+    """Returns the fields of a layout, the last one first: name, bits, and `s`, `v` or nothing."""
+    fields = [field.split(":") for field in reversed(layout.split())]
+    return [(name, int(bits.rstrip("sv")), bits.lstrip("0123456789")) for name, bits in fields]
+
+
+def values_of(octets: bytes, layout: str) -> Optional[Object]:
+    """Returns the values of fields by their names, or None if the octets do not fit."""
+    fields, rest = fields_of(layout), number(octets)
+    if 8 * len(octets) != sum(bits for _, bits, _ in fields):
+        return None
+    values: Object = {}
+    for name, bits, sort in fields:
+        value = rest % (1 << bits)
+        rest >>= bits
+        if sort == "v" and value > GREATEST_VID:
+            return None
+        if sort == "s" and value >> (bits - 1):
+            value -= 1 << bits
+        values[name] = bool(value) if bits == 1 else value
+    values.pop("_", None)
+    return values
+
+
+class Tlv(Fields):
     """What a TLV of an organization says. A neighbor may send several if it `is_repeated`."""
     is_repeated: ClassVar[bool] = False
     key: ClassVar[str] = ""
@@ -43,12 +85,6 @@ class Tlv:
     path: ClassVar[str] = ""  # the key of its value in JSON, with dots
     parent: ClassVar[str] = ""  # the key of the node that holds its nodes
 
-    @classmethod
-    def read(cls, octets: bytes) -> Optional[Tlv]:
-        """Returns what the octets after the subtype mean, None if they do not have this form.
-        Reserved bits are ignored, as the standards say."""
-        raise NotImplementedError
-
     @property
     def part(self) -> str:
         """Returns what distinguishes the TLVs of this class that may be sent once each."""
@@ -56,11 +92,13 @@ class Tlv:
 
     def words(self) -> str:
         """Returns it in words."""
-        raise NotImplementedError
+        return str(self.value())
 
     def value(self) -> Any:
-        """Returns its value in JSON."""
-        raise NotImplementedError
+        """Returns its value in JSON: its field, or all of them by their names without `is_`."""
+        values = {name[3:] if name.startswith("is_") else name: value
+                  for name, value in vars(self).items()}
+        return values if len(values) > 1 else values.popitem()[1]
 
     def node(self) -> Optional[Node]:
         """Returns its node, None if lldpcli shows nothing of it."""
@@ -87,8 +125,28 @@ class Tlv:
 
 @dataclass(frozen=True)
 class Said:
-    """The TLVs of a neighbor that are read, in the order in which they were sent."""
+    """The organizationally specific TLVs of a neighbor, in the order in which they were sent.
+
+    `rest` has OUI and subtype, and the octets in hexadecimal, of all TLVs that are not in `tlvs`:
+    those of other kinds, those without the form of their kind, and those that should be sent once
+    but were sent several times and differ.
+    """
     tlvs: Tuple[Tlv, ...] = ()
+    rest: Tuple[Tuple[str, str], ...] = ()
+
+    @property
+    def pvid(self) -> Optional[int]:
+        """Returns the Port VLAN ID, 0 if the port has none, or None if none was sent."""
+        return self._number("vlan.pvid")
+
+    @property
+    def max_frame_size(self) -> Optional[int]:
+        """Returns the maximum frame size in octets."""
+        return self._number("max_frame_size")
+
+    def _number(self, path: str) -> Optional[int]:
+        """Returns the value of the TLV with this path in JSON, whose class may not be loaded."""
+        return next((tlv.value() for tlv in self.tlvs if tlv.path == path), None)
 
     def one(self, kind: Type[One]) -> Optional[One]:
         """Returns the TLV of a class, None if there is none: `one(PortVlan)`."""
@@ -101,37 +159,38 @@ class Said:
 
 READERS: Dict[Tuple[str, int], Reader] = {}
 KINDS: List[Type[Tlv]] = []
-OF_LLDPD: List[str] = []  # OUI and subtype of the kinds that lldpd knows
+OF_LLDPD: Set[str] = set()  # OUI and subtype of the kinds that lldpd knows
 
 
 def of(oui: str, subtype: int, is_of_lldpd: bool = True) -> Callable[[Kind], Kind]:
     """Registers the class below for an OUI and a subtype."""
     def registered(kind: Kind) -> Kind:
-        register(kind, oui, subtype, kind.read, is_of_lldpd)
+        register(kind, oui, subtype, is_of_lldpd)
         return kind
     return registered
 
 
-def register(kind: Type[Tlv], oui: str, subtype: int, reader: Reader, is_of_lldpd: bool) -> None:
-    """Registers a class and its reader for an OUI and a subtype."""
-    READERS[oui, subtype] = reader
+def register(kind: Type[Tlv], oui: str, subtype: int, is_of_lldpd: bool = True,
+             reader: Optional[Reader] = None) -> None:
+    """Registers a class for an OUI and a subtype, which it reads itself if no reader is given."""
+    READERS[oui, subtype] = reader or kind.read
     if is_of_lldpd:
-        OF_LLDPD.append(f"{oui}.{subtype}")
+        OF_LLDPD.add(f"{oui}.{subtype}")
     if kind not in KINDS:
         KINDS.append(kind)
 
 
-def load() -> None:
-    """Loads all modules."""
-    for name in MODULES:
-        import_module(f"{__package__}.{name}")
+@lru_cache
+def load(oui: str = "") -> None:
+    """Loads the modules that read the TLVs of an organization, or all modules."""
+    for name, organizations in MODULES.items():
+        if oui in ("", *organizations):
+            import_module(f"{__package__}.{name}")
 
 
 def reader_of(oui: str, subtype: int) -> Optional[Reader]:
-    """Returns the reader of a kind, for which its module is loaded; None if it is not known."""
-    for name, organizations in MODULES.items():
-        if (oui, subtype) not in READERS and oui in organizations:
-            import_module(f"{__package__}.{name}")
+    """Returns the reader of a kind, for which its modules are loaded; None if it is not known."""
+    load(oui)
     return READERS.get((oui, subtype))
 
 
@@ -149,11 +208,6 @@ def nodes_in(parent: str, said: Said) -> List[Node]:
 def number(octets: bytes) -> int:
     """Returns a number, most significant octet first."""
     return int.from_bytes(octets, "big")
-
-
-def name_in(names: Sequence[str], place: int, other: str) -> str:
-    """Returns the name at a place, or another text if there are fewer names."""
-    return names[place] if place < len(names) else other
 
 
 def ability(is_supported: bool, is_enabled: bool) -> str:

@@ -3,11 +3,11 @@ from __future__ import annotations
 
 from dataclasses import dataclass
 from math import log10
-from typing import Any, List, Optional, Tuple
+from typing import Any, Dict, List, Optional, Tuple, Type
 
 from ..node import Node, capital, lldpcli_text
 from ..texts import readable_octets, with_text
-from .kinds import MED, Said, Tlv, number, of
+from .kinds import MED, Said, Tlv, register
 
 LONGEST_ELIN = 25
 ALTITUDES = {1: "meters", 2: "floors"}
@@ -26,18 +26,10 @@ LLDPCLI_UNITS = {1: "m", 2: "floor"}
 DEGREES, ALTITUDE = (9, 25), (22, 8)
 
 
-@of(MED, 3)
 class Location(Tlv):
     """A location, subtype 3: coordinates, a civic address or an ELIN."""
     is_repeated, between, parent = True, "; ", "lldp-med"
     key, heading, path = "med-locations", "Location", "med.locations"
-
-    @classmethod
-    def read(cls, octets: bytes) -> Optional[Location]:
-        """Reads the number of a form, 1 to 3, and a location of that form."""
-        forms = {1: Coordinates.read, 2: CivicAddress.read, 3: Elin.read}
-        form = forms.get(octets[0]) if octets else None
-        return None if form is None else form(octets[1:])
 
     @classmethod
     def nodes(cls, said: Said) -> List[Node]:
@@ -58,6 +50,8 @@ def location_node(kind: str) -> Node:
 class Coordinates(Location):
     """Coordinates of RFC 6225. Latitude and longitude are in 2^-25 of a degree, north and east
     positive, altitude in 2^-8 of its unit; a resolution is the count of valid bits."""
+    layout = ("latitude_resolution:6 latitude:34s longitude_resolution:6 longitude:34s "
+              "altitude_type:4 altitude_resolution:6 altitude:30s datum:8")
     latitude_resolution: int
     latitude: int
     longitude_resolution: int
@@ -69,17 +63,12 @@ class Coordinates(Location):
 
     @classmethod
     def read(cls, octets: bytes) -> Optional[Coordinates]:
-        """Reads bits: resolution (6) and latitude (34), resolution (6) and longitude (34), type
-        (4), resolution (6) and altitude (30), datum (8). Returns None for places beyond a pole or
-        half the globe."""
-        if len(octets) != 16:
-            return None
-        bits = number(octets)
-        found = cls(bits >> 122, signed(bits >> 88, 34), bits >> 82 & 63, signed(bits >> 48, 34),
-                    bits >> 44 & 15, bits >> 38 & 63, signed(bits >> 8, 30), bits & 255)
-        is_place = (found.latitude_resolution <= 34 and abs(found.latitude) <= 90 << 25
-                    and found.longitude_resolution <= 34 and abs(found.longitude) <= 180 << 25
-                    and found.altitude_resolution <= 30)
+        """Reads its fields. Returns None for places beyond a pole or half the globe."""
+        found = super().read(octets)
+        is_place = found is not None and (
+            found.latitude_resolution <= 34 and abs(found.latitude) <= 90 << 25
+            and found.longitude_resolution <= 34 and abs(found.longitude) <= 180 << 25
+            and found.altitude_resolution <= 30)
         return found if is_place else None
 
     def words(self) -> str:
@@ -115,12 +104,6 @@ class Coordinates(Location):
         sign = "-" if self.altitude < 0 else ""
         node.nodes.append(Node("altitude", "Altitude", [("unit", "", unit)], sign + altitude))
         return node
-
-
-def signed(value: int, bits: int) -> int:
-    """Returns the number in two's complement in the last bits of a value."""
-    value &= (1 << bits) - 1
-    return value - (1 << bits) if value >> (bits - 1) else value
 
 
 def fixed(value: int, places: int, resolution: int, whole: int) -> str:
@@ -202,3 +185,13 @@ class Elin(Location):
         node = location_node("ELIN")
         node.add("ecs", "ECS ELIN", self.digits)
         return node
+
+
+def read_location(octets: bytes) -> Optional[Location]:
+    """Reads the number of a form, 1 to 3, and a location of that form."""
+    forms: Dict[bytes, Type[Location]] = {b"\1": Coordinates, b"\2": CivicAddress, b"\3": Elin}
+    form = forms.get(octets[:1])
+    return None if form is None else form.read(octets[1:])
+
+
+register(Location, MED, 3, reader=read_location)

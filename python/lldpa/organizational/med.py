@@ -5,8 +5,7 @@ from dataclasses import dataclass
 from typing import Any, List, Optional, Tuple
 
 from ..node import Node, capital, yes
-from ..vlan import GREATEST_VID
-from .kinds import MED, Object, Said, Tlv, nodes_in, number, of
+from .kinds import MED, Object, Said, Tlv, nodes_in, of
 
 CAPABILITIES = ("capabilities", "policy", "location", "MDI/PSE", "MDI/PD", "inventory")
 CLASSES = {1: "endpoint class I", 2: "endpoint class II", 3: "endpoint class III",
@@ -26,27 +25,18 @@ QUALITIES = ("Best effort", "Background", "Excellent effort", "Critical applicat
 class MedCapabilities(Tlv):
     """LLDP-MED Capabilities, subtype 1: 16 bits, the least significant first, and a class."""
     key, heading, path, parent = "med", "MED", "med.capabilities", "interface"
+    layout = "capabilities:16 device_class:8"
     capabilities: int
     device_class: int
-
-    @classmethod
-    def read(cls, octets: bytes) -> Optional[MedCapabilities]:
-        """Reads two octets, and the class."""
-        return cls(number(octets[:2]), octets[2]) if len(octets) == 3 else None
 
     @property
     def names(self) -> Tuple[str, ...]:
         """Returns the capabilities that are known."""
         return tuple(name for bit, name in enumerate(CAPABILITIES) if self.capabilities >> bit & 1)
 
-    @property
-    def class_name(self) -> Optional[str]:
-        """Returns the class, or None if its number is not known."""
-        return CLASSES.get(self.device_class)
-
     def words(self) -> str:
-        return (f"{self.class_name or f'class {self.device_class}'}: "
-                f"{', '.join(self.names) or 'nothing'}")
+        kind = CLASSES.get(self.device_class, f"class {self.device_class}")
+        return f"{kind}: {', '.join(self.names) or 'nothing'}"
 
     @classmethod
     def values(cls, said: Said) -> Object:
@@ -76,24 +66,13 @@ class NetworkPolicy(Tlv):
     """Network Policy, subtype 2. If it `is_unknown`, the device does not know what follows."""
     is_repeated, between, parent = True, "; ", "lldp-med"
     key, heading, path = "med-policies", "Policies", "med.policies"
+    layout = "application:8 is_unknown:1 is_tagged:1 _:1 vid:12v priority:3 dscp:6"
     application: int
     is_unknown: bool
     is_tagged: bool
     vid: int
     priority: int
     dscp: int
-
-    @classmethod
-    def read(cls, octets: bytes) -> Optional[NetworkPolicy]:
-        """Reads an application; unknown (1 bit), tagged (1), reserved (1), VLAN (12), priority (3)
-        and DSCP (6)."""
-        if len(octets) != 4:
-            return None
-        bits = number(octets[1:])
-        vid = bits >> 9 & 0xfff
-        if vid > GREATEST_VID:
-            return None
-        return cls(octets[0], bool(bits >> 23), bool(bits >> 22 & 1), vid, bits >> 6 & 7, bits & 63)
 
     @property
     def application_name(self) -> Optional[str]:
@@ -110,9 +89,8 @@ class NetworkPolicy(Tlv):
         return f"{application}: {vlan}, priority {self.priority}, DSCP {self.dscp}"
 
     def value(self) -> Any:
-        return {"application": self.application, "name": self.application_name,
-                "unknown": self.is_unknown, "tagged": self.is_tagged, "vid": self.vid,
-                "priority": self.priority, "dscp": self.dscp}
+        values = super().value()
+        return {"application": values.pop("application"), "name": self.application_name, **values}
 
     def node(self) -> Node:
         node = Node("policy", "LLDP-MED Network Policy for", [

@@ -1,11 +1,11 @@
 """TLVs of IEEE 802.3 (OUI 00-12-0F) about power, and Energy-Efficient Ethernet."""
 from __future__ import annotations
 
-from dataclasses import asdict, dataclass
+from dataclasses import dataclass, replace
 from typing import Any, Iterator, Optional, Tuple
 
 from ..node import Node, yes
-from .kinds import DOT3, Object, Tlv, ability, number, of, watts
+from .kinds import DOT3, Fields, Object, Tlv, ability, of, watts
 
 PAIRS = {1: "signal", 2: "spare"}
 POWER_TYPES = ("type 2 PSE", "type 2 PD", "type 1 PSE", "type 1 PD")
@@ -22,45 +22,38 @@ PD_STATUSES = ("Unknown", "2-pair powered PD", "4-pair powered dual-signature PD
 ALTERNATIVES = ("Unknown", "Alternative A", "Alternative B", "Both alternatives")
 TYPES = ("Type 3 PSE", "Type 4 PSE", "Type 3 single-signature PD", "Type 3 dual-signature PD",
          "Type 4 single-signature PD", "Type 4 dual-signature PD", "Unknown", "Unknown")
+MODE_CLASSES = ("Unknown", "Class 1", "Class 2", "Class 3", "Class 4", "Class 5", "Unknown",
+                "Single-signature PD or 2-pair only PSE")
+POWER_CLASSES = (*MODE_CLASSES[:6], "Class 6", "Class 7", "Class 8", *["Unknown"] * 6,
+                 "Dual-signature PD")
 LOADS = ("PD is single- or dual-signature and power is not electrically isolated",
          "PD is dual-signature and power is electrically isolated")
+NO_REQUEST = dict.fromkeys(("type", "source", "priority", "requested", "allocated"))
 Leaf = Tuple[str, str, str]
 
 
 @dataclass(frozen=True)
-class PowerRequest:
+class PowerRequest(Fields):
     """What IEEE 802.3at adds. `requested` and `allocated` are in tenths of a watt."""
+    layout = "type:2 source:2 _:2 priority:2 requested:16 allocated:16"
     type: int
     source: int
     priority: int
     requested: int
     allocated: int
 
-    @classmethod
-    def read(cls, octets: bytes) -> PowerRequest:
-        """Reads an octet of type, source and priority, and two powers."""
-        return cls(octets[0] >> 6, octets[0] >> 4 & 3, octets[0] & 3, number(octets[1:3]),
-                   number(octets[3:]))
-
-    @property
-    def type_name(self) -> str:
-        """Returns the type of the sender."""
-        return POWER_TYPES[self.type]
-
-    @property
-    def source_name(self) -> str:
-        """Returns where the power of a PSE or a PD comes from."""
-        return (PD_SOURCES if self.type & 1 else PSE_SOURCES)[self.source]
-
-    @property
-    def priority_name(self) -> str:
-        """Returns the priority of the PD."""
-        return PRIORITIES[self.priority]
-
     def words(self) -> str:
         """Returns it in words."""
-        return (f"{self.type_name}, source {self.source_name}, priority {self.priority_name}, "
+        told = self.value()
+        return (f"{told['type']}, source {told['source']}, priority {told['priority']}, "
                 f"requested {watts(self.requested)}, allocated {watts(self.allocated)}")
+
+    def value(self) -> Object:
+        """Returns its value in JSON, with the powers in watts."""
+        sources = PD_SOURCES if self.type & 1 else PSE_SOURCES
+        return {"type": POWER_TYPES[self.type], "source": sources[self.source],
+                "priority": PRIORITIES[self.priority], "requested": self.requested / 10,
+                "allocated": self.allocated / 10}
 
     def leaves(self) -> Iterator[Leaf]:
         """Returns what lldpcli shows of it, in milliwatts."""
@@ -73,9 +66,14 @@ class PowerRequest:
 
 
 @dataclass(frozen=True)
-class PowerOfPairs:
+class PowerOfPairs(Fields):
     """What IEEE 802.3bt adds. Powers are in tenths of a watt; A and B are the modes of a
     dual-signature PD, and the alternatives of its PSE. `down_seconds` is 0 for no end."""
+    layout = ("requested_a:16 requested_b:16 allocated_a:16 allocated_b:16 "
+              "pse_status:2 pd_status:2 pse_pairs:2 class_a:3 class_b:3 power_class:4 "
+              "_:4 type:3 is_isolated:1 most_available:16 "
+              "_:5 can_autoclass:1 has_autoclass:1 requests_autoclass:1 "
+              "down_request:6 down_seconds:18")
     requested_a: int
     requested_b: int
     allocated_a: int
@@ -95,19 +93,6 @@ class PowerOfPairs:
     down_request: int
     down_seconds: int
 
-    @classmethod
-    def read(cls, octets: bytes) -> PowerOfPairs:
-        """Reads four powers, two octets of status, one of setup, a power, autoclass, and power
-        down."""
-        status, setup, autoclass, down = (number(octets[8:10]), octets[10], octets[13],
-                                          number(octets[14:]))
-        return cls(
-            number(octets[:2]), number(octets[2:4]), number(octets[4:6]), number(octets[6:8]),
-            status >> 14, status >> 12 & 3, status >> 10 & 3, status >> 7 & 7, status >> 4 & 7,
-            status & 15, setup >> 1 & 7, bool(setup & 1), number(octets[11:13]),
-            bool(autoclass & 4), bool(autoclass & 2), bool(autoclass & 1), down >> 18,
-            down & 0x3ffff)
-
     def words(self) -> str:
         """Returns it in words."""
         return (f"at most {watts(self.most_available)}, A {watts(self.requested_a)} requested and "
@@ -117,7 +102,7 @@ class PowerOfPairs:
     def value(self) -> Object:
         """Returns its powers in watts, and the rest as the numbers that were sent."""
         powers = ("requested_a", "requested_b", "allocated_a", "allocated_b", "most_available")
-        return {key: value / 10 if key in powers else value for key, value in asdict(self).items()}
+        return {key: value / 10 if key in powers else value for key, value in vars(self).items()}
 
     def leaves(self) -> Iterator[Leaf]:
         """Returns what lldpcli shows of it, in milliwatts."""
@@ -128,26 +113,12 @@ class PowerOfPairs:
         yield "pse-powering-status", "PSE powering status", PSE_STATUSES[self.pse_status]
         yield "pd-powering-status", "PD powering status", PD_STATUSES[self.pd_status]
         yield "power-pairs-ext", "Power pairs extra", ALTERNATIVES[self.pse_pairs]
-        yield "power-class-ext-a", "Class extra A", class_of_mode(self.class_a)
-        yield "power-class-ext-b", "Class extra B", class_of_mode(self.class_b)
-        yield "power-class-ext", "Class extra", class_of_all(self.power_class)
+        yield "power-class-ext-a", "Class extra A", MODE_CLASSES[self.class_a]
+        yield "power-class-ext-b", "Class extra B", MODE_CLASSES[self.class_b]
+        yield "power-class-ext", "Class extra", POWER_CLASSES[self.power_class]
         yield "power-type-ext", "Power type extra", TYPES[self.type]
         yield "pd-load", "PD load", LOADS[self.is_isolated]
         yield "max-power", "PSE maximum available power", str(self.most_available * 100)
-
-
-def class_of_mode(number_sent: int) -> str:
-    """Returns lldpcli's name of the class of one mode or alternative."""
-    if number_sent == 7:
-        return "Single-signature PD or 2-pair only PSE"
-    return f"Class {number_sent}" if 1 <= number_sent <= 5 else "Unknown"
-
-
-def class_of_all(number_sent: int) -> str:
-    """Returns lldpcli's name of the class of a single-signature PD."""
-    if number_sent == 15:
-        return "Dual-signature PD"
-    return f"Class {number_sent}" if 1 <= number_sent <= 8 else "Unknown"
 
 
 @of(DOT3, 2)
@@ -155,6 +126,7 @@ def class_of_all(number_sent: int) -> str:
 class Power(Tlv):
     """Power via MDI, subtype 2. `class_number` is the power class plus 1."""
     key, heading, path, parent = "power", "Power", "power", "port"
+    layout = "_:4 can_control_pairs:1 is_enabled:1 is_supported:1 is_pse:1 pairs:8 class_number:8"
     is_pse: bool
     is_supported: bool
     is_enabled: bool
@@ -167,12 +139,9 @@ class Power(Tlv):
     @classmethod
     def read(cls, octets: bytes) -> Optional[Power]:
         """Reads three octets; eight with what IEEE 802.3at adds, and 25 with what 802.3bt adds."""
-        if len(octets) not in (3, 8, 25):
-            return None
-        support, pairs, class_number = octets[:3]
-        return cls(bool(support & 1), bool(support & 2), bool(support & 4), bool(support & 8),
-                   pairs, class_number, PowerRequest.read(octets[3:8]) if octets[3:] else None,
-                   PowerOfPairs.read(octets[8:]) if octets[8:] else None)
+        power = super().read(octets[:3]) if len(octets) in (3, 8, 25) else None
+        return power and replace(power, request=PowerRequest.read(octets[3:8]),
+                                 of_pairs=PowerOfPairs.read(octets[8:]))
 
     @property
     def power_class(self) -> Optional[int]:
@@ -181,8 +150,7 @@ class Power(Tlv):
 
     @property
     def pairs_name(self) -> Optional[str]:
-        """Returns the pairs that carry power, `signal` or `spare`, or None if the number is of
-        neither."""
+        """Returns the pairs that carry power, `signal` or `spare`; None for another number."""
         return PAIRS.get(self.pairs)
 
     @property
@@ -198,15 +166,10 @@ class Power(Tlv):
         return "; ".join([first, *(one.words() for one in (self.request, self.of_pairs) if one)])
 
     def value(self) -> Any:
-        asked = self.request
-        keys = ("type", "source", "priority", "requested", "allocated")
-        values = (None,) * 5 if asked is None else (
-            asked.type_name, asked.source_name, asked.priority_name, asked.requested / 10,
-            asked.allocated / 10)
+        asked = NO_REQUEST if self.request is None else self.request.value()
         return {"device": self.device, "supported": self.is_supported, "enabled": self.is_enabled,
                 "pair_control": self.can_control_pairs, "pairs": self.pairs_name,
-                "class": self.power_class, **dict(zip(keys, values)),
-                "bt": None if self.of_pairs is None else self.of_pairs.value()}
+                "class": self.power_class, **asked, "bt": self.of_pairs and self.of_pairs.value()}
 
     def node(self) -> Node:
         node = Node("power", "MDI Power", [
@@ -228,23 +191,14 @@ class Power(Tlv):
 class Eee(Tlv):
     """Energy-Efficient Ethernet, subtype 5: times to wake in microseconds, and their echoes."""
     key, heading, path = "eee", "EEE", "eee"
+    layout = "transmit:16 receive:16 fallback_receive:16 echo_transmit:16 echo_receive:16"
     transmit: int
     receive: int
     fallback_receive: int
     echo_transmit: int
     echo_receive: int
 
-    @classmethod
-    def read(cls, octets: bytes) -> Optional[Eee]:
-        """Reads five times two octets."""
-        if len(octets) != 10:
-            return None
-        return cls(*(number(octets[at:at + 2]) for at in range(0, 10, 2)))
-
     def words(self) -> str:
         return (f"wakes in {self.transmit} us, wants {self.receive} us or "
                 f"{self.fallback_receive} us, echoes {self.echo_transmit} us and "
                 f"{self.echo_receive} us")
-
-    def value(self) -> Any:
-        return asdict(self)

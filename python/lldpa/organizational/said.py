@@ -1,45 +1,12 @@
 """What a neighbor sends in TLVs of organizations: as objects, as rows for people, as JSON."""
 from __future__ import annotations
 
-from dataclasses import dataclass
-from typing import Dict, Iterable, List, Mapping, Optional, Tuple
+from typing import Dict, Iterable, List, Optional, Tuple
 
 from . import kinds
 from .kinds import OF_LLDPD, Object, Row, Said, Tlv
 
 Org = Iterable[Tuple[str, str]]
-
-
-@dataclass(frozen=True)
-class Organizational(Said):
-    """The content of the organizationally specific TLVs of a neighbor.
-
-    `rest` has OUI and subtype, and the octets in hexadecimal, of all TLVs that are not in `tlvs`:
-    those of other kinds, those without the form of their kind, and those that should be sent once
-    but were sent several times and differ.
-    """
-    rest: Tuple[Tuple[str, str], ...] = ()
-
-    @property
-    def pvid(self) -> Optional[int]:
-        """Returns the Port VLAN ID, 0 if the port has none, or None if none was sent."""
-        return self._number("vlan.pvid")
-
-    @property
-    def max_frame_size(self) -> Optional[int]:
-        """Returns the maximum frame size in octets."""
-        return self._number("max_frame_size")
-
-    @property
-    def inventory(self) -> Mapping[str, bytes]:
-        """Returns the texts of the inventory by their kinds, of those of `inventory.INVENTORY` that
-        are said."""
-        from .inventory import Inventory
-        return {tlv.kind: tlv.text for tlv in self.all(Inventory)}
-
-    def _number(self, path: str) -> Optional[int]:
-        """Returns the value of the TLV with this path in JSON, whose class may not be loaded."""
-        return next((tlv.value() for tlv in self.tlvs if tlv.path == path), None)
 
 
 def read_tlv(oui: str, subtype: int, octets: bytes) -> Optional[Tlv]:
@@ -51,18 +18,20 @@ def read_tlv(oui: str, subtype: int, octets: bytes) -> Optional[Tlv]:
     return None if reader is None else reader(octets)
 
 
-def said_by(org: Org) -> Organizational:
+def said_by(org: Org) -> Said:
     """Returns what the TLVs of a neighbor say together: `said_by(neighbor.org)`."""
-    kept = [(shown, read_shown(*shown)) for shown in org]
-    unclear = differing(tlv for _, tlv in kept if tlv is not None)
+    read = [(shown, read_shown(*shown)) for shown in org]
+    first: Dict[Tuple[type, str], Tlv] = {}
+    once = [((type(tlv), tlv.part), tlv) for _, tlv in read if tlv and not tlv.is_repeated]
+    unclear = {place for place, tlv in once if first.setdefault(place, tlv) != tlv}
     tlvs: List[Tlv] = []
     rest: List[Tuple[str, str]] = []
-    for shown, tlv in kept:
+    for shown, tlv in read:
         if tlv is None or (type(tlv), tlv.part) in unclear:
             rest.append(shown)
-        elif tlv.is_repeated or tlv not in tlvs:
+        elif tlv.is_repeated or tlv is first[type(tlv), tlv.part]:
             tlvs.append(tlv)
-    return Organizational(tuple(tlvs), tuple(rest))
+    return Said(tuple(tlvs), tuple(rest))
 
 
 def read_shown(kind: str, digits: str) -> Optional[Tlv]:
@@ -74,29 +43,22 @@ def read_shown(kind: str, digits: str) -> Optional[Tlv]:
         return None
 
 
-def differing(tlvs: Iterable[Tlv]) -> List[Tuple[type, str]]:
-    """Returns which TLVs should be sent once, but were sent several times and differ."""
-    first: Dict[Tuple[type, str], Tlv] = {}
-    some = (tlv for tlv in tlvs if not tlv.is_repeated)
-    places = (((type(tlv), tlv.part), tlv) for tlv in some)
-    return [place for place, tlv in places if first.setdefault(place, tlv) != tlv]
-
-
-def known_to_lldpd(org: Org) -> Tuple[Organizational, List[Tuple[str, str]]]:
+def known_to_lldpd(org: Org) -> Tuple[Said, List[Tuple[str, str]]]:
     """Returns what the TLVs say that lldpd knows, and the others in their order, among them those
     whose octets do not have the form of their kind."""
     kinds.load()
     shown = list(org)
     said = said_by(one for one in shown if one[0] in OF_LLDPD)
-    return said, [one for one in shown if one[0] not in OF_LLDPD or one in said.rest]
+    rest = {*said.rest}
+    return said, [one for one in shown if one[0] not in OF_LLDPD or one in rest]
 
 
-def rows_of(said: Organizational) -> List[Row]:
+def rows_of(said: Said) -> List[Row]:
     """Returns the content, one row for each thing."""
     return [row for kind in kinds.kinds() for row in kind.rows(said) if row.text]
 
 
-def organizational_object(said: Organizational) -> Object:
+def organizational_object(said: Said) -> Object:
     """Returns the content as an object for JSON; what was not sent is null or empty."""
     kinds.load()
     told: Object = {}
