@@ -33,9 +33,9 @@ def limited(file: str, seconds: float = SECONDS) -> Iterator[None]:
     """Ends what is done with a file if it needs too much time or memory. Raises LimitFault."""
     before = signal.signal(signal.SIGPROF, stop)
     signal.setitimer(signal.ITIMER_PROF, seconds)
-    why = ""
     try:
         yield
+        return
     except MemoryError:
         why = f"it needs more than {MEGABYTES} MB of memory"
     except TooLong:
@@ -43,8 +43,7 @@ def limited(file: str, seconds: float = SECONDS) -> Iterator[None]:
     finally:
         signal.setitimer(signal.ITIMER_PROF, 0)
         signal.signal(signal.SIGPROF, before)
-    if why:
-        raise LimitFault(f"{file}: {why}")
+    raise LimitFault(f"{file}: {why}")
 
 
 def stop(*_: object) -> None:

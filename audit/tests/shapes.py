@@ -67,11 +67,6 @@ def audit(folder: Path, plan: str, seen: str, *words: str) -> List[str]:
     return ["--host", "leaf1", *words, str(folder / "plan"), str(folder / "leaf1")]
 
 
-def page(folder: Path) -> Sequence[str]:
-    """Returns the words for a page."""
-    return ("--html", str(folder / "page.html"))
-
-
 def with_aliases(folder: Path, rows: Iterator[str]) -> List[str]:
     """Returns the words of an audit with aliases."""
     with (folder / "aliases").open("w") as file:
@@ -91,7 +86,7 @@ def with_blocks(folder: Path) -> List[str]:
 SMALL: Mapping[str, Callable[[Path], List[str]]] = {
     "a label of 32,000 letters": lambda folder: audit(
         folder, f"{HEADER},label\nleaf1,swp1,host01,eth0,{'a' * 32_000}\n",
-        napalm(("swp1", "x", "eth0")), *page(folder)),
+        napalm(("swp1", "x", "eth0")), "--html", f"{folder}/page"),
     "names of 500 colons": lambda folder: audit(
         folder, PLAN, napalm(*((f"swp{at}", ":" * 500 + f"x{at}", "1" + ":" * 500 + f"x{at}")
                                for at in range(15_000))), "--vendor-names"),
@@ -106,5 +101,5 @@ LARGE: Mapping[str, Callable[[Path], List[str]]] = {
     "6,000,000 interface blocks": with_blocks,
     "370,000 unplanned ports": lambda folder: audit(
         folder, PLAN, napalm(*((f"p{at}", f"h{at}", f"e{at}") for at in range(370_000))),
-        *page(folder)),
+        "--html", f"{folder}/page"),
 }

@@ -1,29 +1,33 @@
 """What lists once did to an audit: each was right for the wrong reason, or refused as a whole.
-
-A row is the files of an audit, its words, the status, the verdicts of ends, and what it must say.
 """
 from __future__ import annotations
 
+import gzip
 import json
+import os
+import tempfile
 import unittest
-from typing import Any, Dict, Mapping, NamedTuple, Sequence
+from concurrent.futures import ThreadPoolExecutor
+from pathlib import Path
+from typing import Any, Mapping, NamedTuple, Sequence, Tuple
 
+import rack
 import vendors
-from auditing import InAFolder, run
-from test_vendors import ODD_TEXTS, WRAPPED
+from auditing import neighbor, run
 
 PLAN = """host,port,peer,peer_port
 leaf1,swp1,host01,eth0
 leaf1,swp2,host02,eth0
-leaf2,swp1,host04,eth0
+leaf2.lab,swp1,host04,eth0
 """
 RIGHT = {"swp1": [("host01", "eth0")], "swp2": [("host02", "eth0")]}
-LEAF1, LEAF2 = vendors.napalm(RIGHT), vendors.napalm({"swp1": [("host04", "eth0")]})
-OF_LEAF1 = {"leaf1 swp1": "right", "leaf1 swp2": "right"}
-ALL_RIGHT = {**OF_LEAF1, "leaf2 swp1": "right"}
-LEAF2_RIGHT = {"leaf1 swp1": "no data", "leaf1 swp2": "no data", "leaf2 swp1": "right"}
-LEAF2_FAILED = {**OF_LEAF1, "leaf2 swp1": "no data"}
-BOTH = "lists/leaf1.json lists/leaf2.json"
+OF_LEAF2 = {"swp1": [("host04", "eth0")]}
+LEAF1, LEAF2 = vendors.napalm(RIGHT), vendors.napalm(OF_LEAF2)
+HEARS_HOST01, HEARS_HOST02 = (rack.pcap([rack.lldp_frame(host, "eth0")])
+                              for host in ("host01", "host02"))
+ALL_RIGHT = ["3 cables: 3 right, 0 wrong"]
+NOT_LOOKED_AT = "3 cables: 0 right, 0 wrong, 3 not looked at (host01, host02, host04, 1 more)"
+USE_JSON = "use `lldpcli -f json show neighbors details`"
 IOS = """
 Local Intf: Gi1/0/1
 Chassis id: 0200.5e00.5301
@@ -31,125 +35,149 @@ Port id: eth0
 System Name: host01
 """
 TRACEBACK = "Traceback (most recent call last):\n  File \"x.py\"\nTimeoutError: timed\x1b[2J out\n"
-SALT = {"leaf1": {"comment": "", "result": True, "out": LEAF1},
-        "leaf2": {"comment": "no route to leaf2", "result": False, "out": {}}}
+NO_ROUTE = {"comment": "no route to leaf2", "result": False, "out": {}}
+TWICE = """{"swp1": [{"hostname": "x", "port": "y"}],
+"swp2": [{"hostname": "host02", "port": "eth0"}],
+"swp1": [{"hostname": "host01", "port": "eth0"}]}"""
+# lists of leaf1 that are refused, and the cause
+REFUSED: Sequence[Tuple[str, Any, str]] = (
+    ("5: a port twice", TWICE, "the name 'swp1' is in it twice: lines 1 and 3"),
+    ("5: a host twice in a file of many", TWICE.replace("swp", "leaf"),
+     "the name 'leaf1' is in it twice: lines 1 and 3"),
+    ("5: a port twice in OpenConfig", {"openconfig-lldp:interface": [
+        one for ports in (RIGHT, {"swp1": [("x", "y")]})
+        for one in vendors.openconfig(ports)["openconfig-lldp:interface"]]},
+     "the port 'swp1' is in it twice: in places 1 and 3"),
+    ("14: EOS' short list", {"lldpNeighbors": [
+        {"port": "swp1", "neighborDevice": "host01", "neighborPort": "eth0", "ttl": 120}]},
+     "it is EOS' short list, without chassis IDs: use `show lldp neighbors detail | json`"),
+    ("16: text", IOS, "it looks like text of a switch: give its JSON, or rows of ntc-templates"),
+    ("16: keyvalue", "lldp.swp1.via=LLDP\n", f"it is lldpcli's keyvalue: {USE_JSON}"),
+    ("16: XML", '<?xml version="1.0"?>\n<lldp/>', f"it is lldpcli's XML: {USE_JSON}"),
+    ("16: a page", "<!DOCTYPE html><p>Log in", "it is a web page, such as that of a login"),
+    ("16: a shell", "sh: lldpcli: command not found\n",
+     "the command that wrote it failed: sh: lldpcli: command not found"),
+    ("16: NX-OS' short list", {"TABLE_nbor": {"ROW_nbor": []}},
+     "it is NX-OS' short list, without chassis IDs: use `show lldp neighbors detail | json`"),
+    ("16: nothing", [], "it is an empty list: ntc-templates returns one if nobody is heard, and if "
+     "it does not know the text"),
+    ("16: a chassis", {"local-chassis": {}},
+     f"it is what lldpcli says of its own host: {USE_JSON}"))
+# what a file of many hosts has in place of leaf2's list, and what is said of it
+FAILED: Sequence[Tuple[str, Any, str]] = (
+    ("7: salt's host that failed", NO_ROUTE, "the command failed: no route to leaf2"),
+    ("10: a traceback", TRACEBACK, "it has no list, but TimeoutError: timed\\x1b[2J out"),
+    ("10: null", None, "it has no list, but nothing"),
+    ("10: an error", {"error": "x"},
+     "it is an error message, and no list of neighbors: see lldpa-audit(1)"))
 
 
 class Row(NamedTuple):
-    """An audit: files by their names, words, the status, verdicts, and parts of what it says."""
+    """An audit: files by their names, words, the status, and the lines that it prints, first those
+    of standard error."""
 
     point: str
     files: Mapping[str, Any]
     words: str
     status: int
-    verdicts: Mapping[str, str]
-    says: Sequence[str] = ()
+    lines: Sequence[str]
 
 
 ROWS = [
-    Row("5: a port twice in a list", {"l": '{"swp1": [{"hostname": "x", "port": "y"}],\n "swp2": '
-                                           '[{"hostname": "host02", "port": "eth0"}],\n "swp1": '
-                                           '[{"hostname": "host01", "port": "eth0"}]}'},
-        "leaf1:l", 1, {"leaf1 swp1": "no data", "leaf1 swp2": "no data"},
-        ["l: the name 'swp1' is in it twice: lines 1 and 3"]),
-    Row("5: a host twice in a file of many", {
-        "l": f'{{"leaf1": {{}},\n"leaf2": {json.dumps(LEAF2)},\n"leaf1": {json.dumps(LEAF1)}}}'},
-        "leaf1:l", 1, {"leaf1 swp1": "no data", "leaf1 swp2": "no data"},
-        ["l: the name 'leaf1' is in it twice: lines 1 and 3"]),
-    Row("5: a port twice in OpenConfig", {"l": {"openconfig-lldp:interface": [
-        *vendors.openconfig(RIGHT)["openconfig-lldp:interface"],
-        *vendors.openconfig({"swp1": [("x", "y")]})["openconfig-lldp:interface"]]}},
-        "leaf1:l", 1, {"leaf1 swp1": "no data", "leaf1 swp2": "no data"},
-        ["the port 'swp1' is in it twice: in places 1 and 3"]),
-    Row("7: salt's host that failed", {"l": SALT}, "l", 1, LEAF2_FAILED,
-        ["l: leaf2: the command failed: no route to leaf2"]),
-    Row("7: a list of a command that failed", {"l": SALT["leaf2"]}, "leaf2:l", 1,
-        {"leaf2 swp1": "no data"}, ["l: the command failed: no route to leaf2"]),
-    Row("10: a traceback among many hosts", {"l": {"leaf1": LEAF1, "leaf2": TRACEBACK}}, "l", 1,
-        LEAF2_FAILED, ["l: leaf2: it has no list, but TimeoutError: timed\\x1b[2J out"]),
-    Row("10: null among many hosts", {"l": {"leaf1": LEAF1, "leaf2": None}}, "l", 1, LEAF2_FAILED,
-        ["l: leaf2: it has no list, but nothing"]),
-    Row("10: an error among many hosts", {"l": {"leaf1": LEAF1, "leaf2": {"error": "x"}}}, "l", 1,
-        LEAF2_FAILED, ["l: leaf2: it is an error message"]),
-    Row("10: two lists of a host", {"a": LEAF1, "b": {}, "c": LEAF2}, "leaf1:a leaf1:b leaf2:c", 2,
-        LEAF2_RIGHT, ["leaf1 has two lists: a and b"]),
-    Row("12: a list of words", {"lists/leaf1.json": LEAF1, "lists/leaf2.json": LEAF2}, BOTH, 0,
-        ALL_RIGHT),
+    *(Row(point, {"l": tree}, "leaf1:l", 1, [
+        f"l: {cause}", f"leaf1  no data at 2 of 2 ports (l: {cause})", NOT_LOOKED_AT])
+      for point, tree, cause in REFUSED),
+    *(Row(point, {"l": {"leaf1": LEAF1, "leaf2.lab": tree}}, "l", 1, [
+        f"l: leaf2.lab: {cause}",
+        f"leaf2.lab swp1  no data: wants host04 eth0 (l: leaf2.lab: {cause})",
+        "3 cables: 2 right, 0 wrong, 1 not looked at (host04)"]) for point, tree, cause in FAILED),
+    *(Row(point, {"l": tree}, "leaf1:l", 1, [
+        "swp2  extra: host03 eth0 besides host02 eth0",
+        "3 cables: 1 right, 1 wrong, 1 not looked at (host04, leaf2.lab)"])
+      for point, tree in vendors.LISTS.items()),
+    Row("7: a list of a command that failed", {"l": NO_ROUTE}, "leaf2.lab:l", 1, [
+        "l: the command failed: no route to leaf2",
+        "swp1  no data: wants host04 eth0 (l: the command failed: no route to leaf2)",
+        "3 cables: 0 right, 0 wrong, 3 not looked at (leaf1, host01, host02, 1 more)"]),
+    Row("10: two lists of a host", {"a": LEAF1, "b": {}, "c": LEAF2},
+        "leaf1:a leaf1:b leaf2.lab:c", 2,
+        ["leaf1 has two lists: a and b",
+         "leaf1  no data at 2 of 2 ports (leaf1 has two lists: a and b)",
+         "3 cables: 1 right, 0 wrong, 2 not looked at (host01, host02)"]),
+    Row("12: a list of words", {"lists/leaf1.json": LEAF1, "lists/leaf2.lab.json": LEAF2},
+        "lists/leaf1.json lists/leaf2.lab.json", 0, ALL_RIGHT),
     Row("12: a file of no planned host", {"lists/leaf1.json": LEAF1, "lists/x.json": {}},
-        "lists/leaf1.json lists/x.json", 0, OF_LEAF1,
+        "lists/leaf1.json lists/x.json", 0,
         ["plan.csv has no cable of the host x: if the file is of another host, write HOST:FILE, "
-         "such as leaf1:lists/x.json"]),
-    *(Row(f"13: rows, {name}", {"l": tree}, "leaf1:l", 0, OF_LEAF1) for name, tree in (
-        ("as netmiko returns them", vendors.textfsm(RIGHT)),
-        ("in capital letters", [{key.upper(): text for key, text in row.items()}
-                                for row in vendors.textfsm(RIGHT)]),
-        ("of brief lists", [{"local_interface": port, "neighbor": host, "neighbor_interface": at}
-                            for port, some in RIGHT.items() for host, at in some]),
-        ("as Ansible parses them", {"changed": False, "parsed": vendors.textfsm(RIGHT)}))),
-    Row("13: rows as nornir has them", {"l": {"leaf1": vendors.textfsm(RIGHT), "leaf2":
-                                              vendors.textfsm({"swp1": [("host04", "eth0")]})}},
-        "l", 0, ALL_RIGHT),
-    *(Row(f"14: {name}", {"l": {**WRAPPED, **ODD_TEXTS}[name]}, "leaf1:l", 1,
-          {"leaf1 swp1": "right", "leaf1 swp2": "extra"}) for name in (
-        "NX-API", "NX-API by JSON-RPC", "the routing engines of Junos", "a prompt", "UTF-16",
-        "the routing engines of Junos in XML", "OpenConfig", "gnmic")),
-    Row("14: EOS' short list", {"l": {"lldpNeighbors": [
-        {"port": "swp1", "neighborDevice": "host01", "neighborPort": "eth0", "ttl": 120}]}},
-        "leaf1:l", 1, {"leaf1 swp1": "no data", "leaf1 swp2": "no data"},
-        ["EOS' short list, without chassis IDs: use `show lldp neighbors detail | json`"]),
-    Row("14: OpenConfig below its module", {"l": vendors.openconfig(RIGHT)}, "leaf1:l", 0, OF_LEAF1),
-    Row("15: LLDP-MIB by snmpwalk", {"l": vendors.walk(RIGHT)}, "leaf1:l", 0, OF_LEAF1),
-    *(Row(f"16: {cause}", {"l": text}, "leaf1:l", 1,
-          {"leaf1 swp1": "no data", "leaf1 swp2": "no data"}, [cause]) for text, cause in (
-        (IOS, "it looks like text of a switch: give its JSON, or rows of ntc-templates"),
-        ("lldp.swp1.via=LLDP\n", "it is lldpcli's keyvalue: use `lldpcli -f json"),
-        ('<?xml version="1.0"?>\n<lldp/>', "it is lldpcli's XML: use `lldpcli -f json"),
-        ("<!DOCTYPE html><p>Log in", "it is a web page, such as that of a login"),
-        ("sh: lldpcli: command not found\n", "the command that wrote it failed: sh: lldpcli: command"),
-        ({"TABLE_nbor": {"ROW_nbor": []}}, "NX-OS' short list, without chassis IDs: use"),
-        ([], "it is an empty list: ntc-templates returns one if nobody is heard"),
-        ({"local-chassis": {}}, "what lldpcli says of its own host: use"))),
-    Row("a saved answer of Prometheus", {"l": {"status": "success", "data": {
-        "resultType": "vector", "result": [{"metric": {
-            "instance": "leaf1:9100", "port": port, "chassis": "02:00:00:00:00:01", "name": host,
-            "port_id_kind": "ifname", "port_id": "eth0"}, "value": [1, "1"]}
-            for port, host in (("swp1", "host01"), ("swp2", "host02"))]}}}, "l", 0, OF_LEAF1),
+         "such as leaf1:lists/x.json",
+         "3 cables: 2 right, 0 wrong, 1 not looked at (host04, leaf2.lab)"]),
+    Row("13: rows as nornir has them", {
+        "l": {"leaf1": vendors.textfsm(RIGHT), "leaf2.lab": vendors.textfsm(OF_LEAF2)}}, "l", 0,
+        ALL_RIGHT),
+    Row("12: files named by host", {
+        "seen/leaf1.JSON.gz": gzip.compress(json.dumps(LEAF1).encode()), "seen/leaf2.lab.txt": {},
+        "seen/.hidden": "x"}, "seen", 1,
+        ["leaf2.lab swp1  silent: wants host04 eth0", "3 cables: 2 right, 1 wrong"]),
+    *(Row("12: folders named by host", {
+        "seen/leaf1/swp1.pcap": HEARS_HOST01,
+        "seen/leaf1/swp2.pcap.gz": gzip.compress(HEARS_HOST02),
+        "seen/leaf2.lab/lldp/neighbors.json": LEAF2}, words, 0, ALL_RIGHT)
+      for words in ("seen", "leaf1:seen/leaf1 leaf2.lab:seen/leaf2.lab")),
+    Row("12: a folder without files", {"seen/.hidden": "x"}, "seen", 2,
+        ["seen: it is a folder without files"]),
+    Row("12: what is passed over in a folder", {
+        "seen/fifo": os.mkfifo, "seen/gone.json": lambda path: path.symlink_to("nowhere"),
+        "seen/leaf1.json~": "{", "seen/leaf1": LEAF1}, "seen", 0, [
+            "seen/fifo: it is no file, and is passed over",
+            "seen/gone.json: it is a link that leads nowhere, and is passed over",
+            "seen/leaf1.json~: it is a copy that an editor left, and is passed over",
+            "3 cables: 2 right, 0 wrong, 1 not looked at (host04, leaf2.lab)"]),
+    Row("12: one of two files of a host is damaged", {
+        "a": vendors.napalm({"swp1": RIGHT["swp1"]}), "b": "{"}, "leaf1:a leaf1:b", 1, [
+            "b: it begins like JSON, and is none",
+            "swp2  no data: wants host02 eth0 (b: it begins like JSON, and is none)",
+            "3 cables: 1 right, 0 wrong, 2 not looked at (host02, host04, leaf2.lab)"]),
+    Row("an empty Port ID", {"l": neighbor("swp1", "h", "", kind="local")}, "leaf1:l", 1, [
+        'swp1  wrong: wants host01 eth0, has h ""', "swp2  no data: wants host02 eth0",
+        "3 cables: 0 right, 1 wrong, 2 not looked at (host02, host04, leaf2.lab)"]),
+    Row("a saved answer of Prometheus", {"l": vendors.PROMETHEUS.read_bytes()}, "l", 1, [
+        "swp3  unplanned: has host01 eth1", "swp5  unplanned: has host99 eth0",
+        "swp6  unplanned: has host03 eth1 and rogue p1",
+        "3 cables: 2 right, 0 wrong, 1 not looked at (host04, leaf2.lab); 3 unplanned"]),
 ]
 
 
-class Points(InAFolder):
+def write(path: Path, content: Any) -> None:
+    """Writes a file of octets, text or JSON, or lets a call make it."""
+    path.parent.mkdir(parents=True, exist_ok=True)
+    if callable(content):
+        content(path)
+    elif isinstance(content, bytes):
+        path.write_bytes(content)
+    else:
+        path.write_text(content if isinstance(content, str) else json.dumps(content))
+
+
+def audited(row: Row) -> Tuple[int, Sequence[str]]:
+    """Returns the status and the lines of an audit."""
+    with tempfile.TemporaryDirectory() as folder:
+        for name, content in {"plan.csv": PLAN, **row.files}.items():
+            write(Path(folder, name), content)
+        words = [f"{front}{mark}{folder}/{file}" for front, mark, file in (
+            word.rpartition(":") for word in row.words.split())]
+        ran = run(f"{folder}/plan.csv", *words)
+    text = ran.stderr.replace("lldpa-audit: ", "") + ran.stdout
+    return ran.returncode, text.replace(f"{folder}/", "").splitlines()
+
+
+class Points(unittest.TestCase):
     """Each row of the table."""
 
     def test_rows(self) -> None:
-        for row in ROWS:
-            with self.subTest(point=row.point):
-                self.check(row)
-
-    def check(self, row: Row) -> None:
-        """Checks an audit."""
-        names = self.written(row.files)
-        names["plan.csv"] = self.file("plan.csv", PLAN)
-        words = [f"{front}{colon}{names[file]}" for front, colon, file in (
-            word.rpartition(":") for word in row.words.split())]
-        ran = run(names["plan.csv"], "--json", *words)
-        said = ran.stderr.replace(f"{self.folder}/", "")
-        self.assertEqual(ran.returncode, row.status, said)
-        told = json.loads(ran.stdout)
-        self.assertEqual({f"{one['host']} {one['port']}": one["verdict"] for one in told["ends"]
-                          if one["verdict"] != "not looked at"},
-                         row.verdicts, said)
-        for part in row.says:
-            self.assertIn(part, said)
-        self.assertTrue(row.says or not said, said)
-
-    def written(self, files: Mapping[str, Any]) -> Dict[str, str]:
-        """Writes files, and returns their paths by their names."""
-        (self.folder / "lists").mkdir(exist_ok=True)
-        for name, content in files.items():
-            octets = content if isinstance(content, bytes) else (
-                content if isinstance(content, str) else json.dumps(content)).encode()
-            (self.folder / name).write_bytes(octets)
-        return {name: str(self.folder / name) for name in files}
+        with ThreadPoolExecutor() as pool:
+            for row, found in zip(ROWS, pool.map(audited, ROWS)):
+                with self.subTest(point=row.point):
+                    self.assertEqual(found, (row.status, row.lines))
 
 
 if __name__ == "__main__":

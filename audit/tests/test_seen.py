@@ -4,7 +4,6 @@ from __future__ import annotations
 import random
 import unittest
 
-import rack
 from lldpa.agent.show import Counters, Neighbor, ShowFault, read_show
 from lldpa_audit.names import NAMELESS, Seen
 from lldpa_audit.seen.shows import SAID, read_ports, seen_neighbor
@@ -41,7 +40,7 @@ lldp.c.1.ttl=120
 lldp.c.1.expires=7
 lldp.c.1.port.descr=uplink = 7
 """
-
+LAST_PORT = SHOW[SHOW.index("lldp.c."):]
 COUNTERS = "".join(f"lldp.b.{name.replace('_', '-')}=0\n" for name in Counters._fields)
 
 # what damages a show: lines of other places, digits and marks that are gone or twice
@@ -64,33 +63,25 @@ class Neighbors(unittest.TestCase):
         self.assertEqual((nameless.hosts, nameless.ports), ((), ()))
         self.assertEqual(list(ports["b"]), [])
         self.assertEqual(ports["c"][0].ports, ("eth1", "uplink = 7"))
+        self.assertEqual(read_ports(SHOW + COUNTERS), ports)
 
     def test_faults(self) -> None:
-        """Checks what is said of each, and that the line is named."""
-        lines, usual = SHOW.splitlines(keepends=True), SHOW[SHOW.index("lldp.c."):]
+        """Checks that the line is named, with what was expected in its place."""
         for text, said in (
                 (SHOW[:-1], "its last line has no end: it was cut short"),
-                ("".join(lines[:24]), "line 23: 'lldp.c.neighbors=1' where a whole port or neighbor was expected"),
-                ("lldp\n", "line 1: 'lldp' where"), (usual + usual, "line 9: the port c is in it "
-                                                     "twice, first in line 1"),
-                (SHOW + usual, "line 31: the port c is in it twice, first in line 23"),
-                (SHOW.replace(".octets=200", ".octets=x"), "line 1: "),
-                (SHOW.replace("2.ttl=120", "2.ttl=x"), "line 14: "),
-                (SHOW.replace("1.unknown", "1.Unknown"), "line 13: 'lldp.ge-0/0/1.1.Unknown.9=00'"),
-                (SHOW.replace(usual, COUNTERS + usual), "line 23: 'lldp.b.sent=0' where")):
-            with self.assertRaises(ShowFault, msg=said) as raised:
+                (LAST_PORT * 2, "line 9: the port c is in it twice, first in line 1"),
+                (SHOW + LAST_PORT, "line 31: the port c is in it twice, first in line 23"),
+                (SHOW[:SHOW.index("lldp.c.too-many")],
+                 "line 25: the end where lldp.c.too-many= was expected"),
+                (SHOW.replace("2.ttl=120", "2.ttl=x"), "line 16: 'lldp.ge-0/0/1.2.ttl=x' where "
+                 "lldp.ge-0/0/1.2.ttl= and a number was expected"),
+                (SHOW.replace("neighbors=2", "neighbors=3"), "line 20: 'lldp.b.neighbors=0' where "
+                 "lldp.ge-0/0/1.3.chassis.KIND= was expected"),
+                (SHOW.replace(LAST_PORT, COUNTERS + LAST_PORT), "'lldp.c.neighbors=1' where the "
+                 "end, or a line of a further show, was expected")):
+            with self.subTest(said), self.assertRaises(ShowFault) as raised:
                 read_ports(text)
             self.assertIn(said, str(raised.exception))
-
-    def test_other_shows_behind(self) -> None:
-        self.assertEqual(read_ports(SHOW + COUNTERS), read_ports(SHOW))
-
-
-    def test_the_show_of_an_agent(self) -> None:
-        lines = rack.show(rack.PORTS)
-        self.assertEqual(read_ports("\n".join([*lines, ""])),
-                         {port.name: tuple(neighbor(one) for one in port.neighbors)
-                          for port in read_show(lines).ports})
 
     def test_damaged_shows(self) -> None:
         """Checks that a damaged show is refused, or has what the package's reader finds in it."""
@@ -113,9 +104,8 @@ class Neighbors(unittest.TestCase):
 
 def neighbor(one: Neighbor) -> Seen:
     """Returns a neighbor that the package has read."""
-    return seen_neighbor(one.chassis.text, one.port_id.kind, one.port_id.text, "", "", "",
-                         SAID.findall("".join(f"\nlldp.{one.port}.1.{key}={value}"
-                                              for key, value in one.said)))
+    said = "".join(f"\nlldp.{one.port}.1.{key}={value}" for key, value in one.said)
+    return seen_neighbor(one.chassis.text, one.port_id.kind, one.port_id.text, SAID.findall(said))
 
 
 def damaged(text: str, rng: random.Random) -> str:

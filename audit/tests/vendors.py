@@ -1,13 +1,17 @@
-"""For tests: lists of neighbors in each form. Those of vendors are made from their documents; no real
-switch printed them. The walk has the lines that snmpwalk printed of a real lldpd (samples).
+"""For tests: lists of neighbors in each form. Those of vendors are made from their documents; no
+real switch printed them. The walk has the lines that snmpwalk printed of a real lldpd (samples).
 
 Each writer takes a host's ports with their neighbors, as pairs of host and port.
 """
 from __future__ import annotations
 
 import json
+import re
+from pathlib import Path
 from typing import Any, Callable, Mapping, Sequence, Tuple
 
+SAMPLES = Path(__file__).parent / "samples"
+WALK, PROMETHEUS = SAMPLES / "lldpd.walk", SAMPLES / "prometheus.json"
 Ports = Mapping[str, Sequence[Tuple[str, str]]]
 TO = "to the fabric"
 
@@ -122,23 +126,73 @@ def openconfig(ports: Ports) -> Any:
 
 def walk(ports: Ports) -> str:
     """Writes LLDP-MIB as snmpwalk prints it."""
-    local = [(column, f"{number}", f'{kind}: {value}' if kind == "INTEGER" else f'{kind}: "{value}"')
-             for column, kind, text in (("3.7.1.2", "INTEGER", "5"), ("3.7.1.3", "STRING", ""))
-             for number, port in enumerate(ports, 1) for value in [text or port]]
-    seen = [(number, host, at) for number, (_, some) in enumerate(ports.items(), 1)
-            for host, at in some]
-    remote = [(f"4.1.1.{column}", f"0.{number}.{place}", write(host, at))
-              for column, write in enumerate((
-                  lambda host, at: "INTEGER: 4",
-                  lambda host, at: f"Hex-STRING: {chassis_of(host).replace(':', ' ').upper()} ",
-                  lambda host, at: "INTEGER: 5", lambda host, at: f'STRING: "{at}"',
-                  lambda host, at: f'STRING: "{TO}"', lambda host, at: f'STRING: "{host}"'), 4)
-              for place, (number, host, at) in enumerate(seen, 1)]
+    local = list(enumerate(ports, 1))
+    seen = [(f"0.{number}.{place}", host, at) for number, port in local
+            for place, (host, at) in enumerate(ports[port], 1)]
+    columns = {
+        "3.7.1.2": [(number, "INTEGER: 5") for number, _ in local],
+        "3.7.1.3": [(number, f'STRING: "{port}"') for number, port in local],
+        "4.1.1.4": [(index, "INTEGER: 4") for index, _, _ in seen],
+        "4.1.1.5": [(index, f"Hex-STRING: {chassis_of(host).upper().replace(':', ' ')} ")
+                    for index, host, _ in seen],
+        "4.1.1.6": [(index, "INTEGER: 5") for index, _, _ in seen],
+        "4.1.1.7": [(index, f'STRING: "{at}"') for index, _, at in seen],
+        "4.1.1.8": [(index, f'STRING: "{TO}"') for index, _, _ in seen],
+        "4.1.1.9": [(index, f'STRING: "{host}"') for index, host, _ in seen]}
     return "".join(f"iso.0.8802.1.1.2.1.{column}.{index} = {value}\n"
-                   for column, index, value in [*local, *remote])
+                   for column, rows in columns.items() for index, value in rows)
 
 
 OF_JSON = (eos, nxos, junos, nvue, networkctl, napalm, textfsm, openconfig)
 FORMS: Mapping[str, Callable[[Ports], str]] = {
     **{write.__name__: lambda ports, write=write: json.dumps(write(ports)) for write in OF_JSON},
     "junos_xml": junos_xml, "walk": walk}
+
+PORTS = {"swp1": [("host01", "eth0")], "swp2": [("host02", "eth0"), ("host03", "eth0")]}
+EOS, NXOS, JUNOS, NAPALM, ROWS = (write(PORTS) for write in (eos, nxos, junos, napalm, textfsm))
+OPENCONFIG = openconfig(PORTS)
+XML = junos_xml(PORTS)
+ENGINE = """<multi-routing-engine-results xmlns='http://xml.juniper.net/'>
+<multi-routing-engine-item>
+<re-name>fpc0</re-name>
+"""
+ENGINE_END = "</multi-routing-engine-item>\n</multi-routing-engine-results>\n"
+PROMPT = "Last login: Mon Nov 23\n{master:0}\nadmin@leaf1> show lldp neighbors detail | json\n"
+# the same neighbors in what programs put around a list, and as other octets
+LISTS: Mapping[str, Any] = {
+    "5, 10: salt": {"comment": "", "result": True, "out": NAPALM},
+    "13: rows as netmiko returns them": ROWS,
+    "13: rows of TextFSM itself": [{name.upper(): text for name, text in row.items()}
+                                   for row in ROWS],
+    "13: rows of brief lists": each(PORTS, lambda port, host, at: {
+        "local_interface": port, "neighbor": host, "neighbor_interface": at}),
+    "13: rows as Ansible's cli_parse returns them": {"changed": False, "parsed": ROWS},
+    "14: Ansible's NAPALM": {"ansible_facts": {"napalm_lldp_neighbors_detail": NAPALM}},
+    "14: nornir": {"get_lldp_neighbors_detail": NAPALM},
+    "14: eAPI": {"jsonrpc": "2.0", "id": "1", "result": [{}, EOS]},
+    "14: Ansible's eos_command": {"changed": False, "failed": False, "stdout": [EOS]},
+    "14: NX-API": {"ins_api": {"type": "cli_show", "version": "1.0", "sid": "eoc", "outputs": {
+        "output": {"input": "show lldp neighbors detail", "msg": "Success", "code": "200",
+                   "body": NXOS}}}},
+    "14: NX-API by JSON-RPC": {"jsonrpc": "2.0", "result": {"body": NXOS}, "id": 1},
+    "14: the routing engines of Junos": {"multi-routing-engine-results": [
+        {"multi-routing-engine-item": [{"re-name": [{"data": "fpc0"}], **JUNOS}]}]},
+    "14: the routing engines of Junos in XML": XML.replace(
+        "<lldp-neighbors-information", f"{ENGINE}<lldp-neighbors-information").replace(
+        "</rpc-reply>", f"{ENGINE_END}</rpc-reply>"),
+    "14: OpenConfig": OPENCONFIG,
+    "14: OpenConfig below its module": {"openconfig-lldp:lldp": {"interfaces": {
+        "interface": OPENCONFIG["openconfig-lldp:interface"]}}},
+    "14: gnmic": [{"source": "leaf1:57400", "timestamp": 1, "updates": [{
+        "Path": "openconfig-lldp:lldp/interfaces",
+        "values": {"openconfig-lldp:lldp/interfaces": OPENCONFIG}}]}],
+    "14: a prompt": f"{PROMPT}{json.dumps(EOS, indent=1)}\n\n{{master:0}}\nadmin@leaf1> ",
+    "14: UTF-16": json.dumps(EOS).encode("utf-16"),
+    "14: a mark of UTF-8": b"\xef\xbb\xbf" + json.dumps(EOS).encode(),
+    "14: lines of Windows": f'<?xml version="1.0"?>\n{XML}'.replace("\n", "\r\n"),
+    "15: LLDP-MIB by snmpwalk": walk(PORTS),
+    "15: a walk with names": re.sub(
+        r"iso\.0\.8802\.1\.1\.2\.1\.([0-9.]+?)\.(?=[0-9.]+ =)(.*?)INTEGER: 5",
+        r"iso.0.8802.1.1.2.1.\1.\2INTEGER: interfaceName(5)", walk(PORTS)),
+    "15: a walk with numbers": walk(PORTS).replace("iso.", ".1."),
+}

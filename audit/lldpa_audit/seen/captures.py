@@ -1,129 +1,99 @@
 """The neighbors of ports at the end of captures: those of an agent that hears what was taken."""
 from __future__ import annotations
 
-from contextlib import ExitStack
+import os
+from contextlib import suppress
 from itertools import islice
-from typing import Collection, Iterator, NamedTuple, Sequence
+from typing import Iterator, Sequence
 
 from lldpa.agent.synchronous import Agent
 from lldpa.capture.packets import ETHERNET, BadCapture, interfaces_of, reader_of
 from lldpa.capture.pcap import PcapReader
 from lldpa.capture.source import Source, opened
-from lldpa.capture.trace import Told, frames_of
+from lldpa.capture.trace import Told, frames_of, ignored
 from lldpa.faults import LldpaFault
 from lldpa.limits import MOST_NEIGHBORS, MOST_PORTS
 
-from .listing import Ports
+from ..limits import SECONDS, LimitFault, limited
+from .listing import Listing, Ports
 from .shows import read_ports
 
 LINES_AT_ONCE = 1000
-MOST_HEARD = 512
 # what gzip makes small may be endless
 MOST_UNPACKED = 1 << 27
-PASSED_OVER = "is skipped"
 
 
 class NoPortNamed(LldpaFault, ValueError):
     """A capture that does not tell from which port its frames are."""
 
 
-class Recorded(NamedTuple):
-    """Ports and their neighbors, what makes captures incomplete, and what is passed over.
+def read_captures(files: Sequence[str], port: str, program: str) -> Listing:
+    """Returns the neighbors of a port by its captures or, if no port is named, of the interfaces
+    that the only capture names. Captures without time stamps are as old as the first file.
 
-    `times` has the last time stamp of each capture that has one, in seconds since 1970.
+    A large capture may take long. Raises NoPortNamed, OSError, and Ended if the agent ends.
     """
-
-    ports: Ports
-    faults: Sequence[str]
-    notes: Sequence[str]
-    times: Sequence[float] = ()
-
-    @property
-    def passed_over(self) -> str:
-        """Returns the first note of an LLDP frame that could not be read, or an empty text."""
-        return next((note for note in self.notes if PASSED_OVER in note), "")
-
-
-def read_port(files: Sequence[str], port: str, program: str) -> Recorded:
-    """Captures of one port. Raises OSError, and Ended if the agent does."""
-    return recorded([Source(file, "p0", {}, MOST_UNPACKED) for file in files], [port], program)
-
-
-def read_interfaces(file: str, program: str) -> Recorded:
-    """Reads a capture that names its interfaces. Raises NoPortNamed for another, OSError and
-    Ended."""
+    stats = [stat_of(file) for file in files]
+    seconds = max(SECONDS, sum(one.st_size for one in stats) >> 21)
     try:
-        names = interface_names(file)
-    except BadCapture as fault:
-        return Recorded({}, [f"{file}: {fault}"], [])
+        with limited(files[0], seconds):
+            found = recorded(files, port, program)
+    except LimitFault as fault:
+        return Listing({}, False, faults=[str(fault)])
+    return found if found.time else found._replace(time=stats[0].st_mtime)
+
+
+def stat_of(file: str) -> os.stat_result:
+    """Returns the size of a file, and when it was written."""
+    with opened(file) as octets:
+        return os.fstat(octets.fileno())
+
+
+def recorded(files: Sequence[str], port: str, program: str) -> Listing:
+    """Returns what agents hold at the end of captures. Their ports are p0 .."""
+    names = [port] if port else interface_names(files[0])
     ports = {name: f"p{number}" for number, name in enumerate(names)}
-    return recorded([Source(file, None, ports, MOST_UNPACKED)], names, program)
+    sources = [Source(file, "p0" if port else None, ports, MOST_UNPACKED) for file in files]
+    heard = list(ports.values()) or ["p0"]  # an agent has a port
+    if len(heard) > MOST_PORTS:  # those without LLDP frames have no neighbor
+        lines = frames_of(sources, Told(ignored, ignored), False)
+        heard = list(dict.fromkeys(line.split(" ", 2)[1] for line in lines)) or ["p0"]
+    faults: list[str] = []
+    notes: list[str] = []
+    times: list[float] = []
+    told = Told(notes.append, faults.append, times.append)
+    seen: Ports = {}
+    for first in range(0, len(heard), MOST_PORTS):
+        some = heard[first:first + MOST_PORTS]
+        seen.update(at_the_end(frames_of(sources, told, True), some, program))
+        told = Told(ignored, ignored)  # the next ports are of the same captures
+    return Listing({name: seen.get(at, ()) for name, at in ports.items()}, False,
+                   faults=faults, notes=notes, time=max(times, default=0.0))
 
 
 def interface_names(file: str) -> Sequence[str]:
     """Returns the names of the Ethernet interfaces of a capture, each once, in their order."""
     with opened(file) as octets:
-        is_pcap = isinstance(reader_of(octets, MOST_UNPACKED), PcapReader)
-    with opened(file) as octets:
         interfaces = [one for one in interfaces_of(octets, MOST_UNPACKED)
                       if one.link_type == ETHERNET]
     names = [one.name for one in interfaces if one.name]
-    if is_pcap or len(names) < len(interfaces):
+    if is_of_one_port(file) or len(names) < len(interfaces):
         raise NoPortNamed(f"{file}: it does not name the port of its frames: write PORT={file}")
     return list(dict.fromkeys(names))
 
 
-def recorded(sources: Sequence[Source], names: Sequence[str], program: str) -> Recorded:
-    """Returns what agents hold at the end of captures, each of some of the names. Their ports are
-    p0 .."""
-    faults: list[str] = []
-    notes: list[str] = []
-    times: list[float] = []
-    ports = {f"p{number}": name for number, name in enumerate(names)} or {"p0": ""}
-    heard = list(ports) if len(ports) <= MOST_PORTS else ports_heard(sources, ports)
-    if len(heard) > MOST_HEARD:
-        return Recorded({}, [f"{sources[0].file}: it has LLDP frames of {len(heard)} interfaces, "
-                             f"and {MOST_HEARD} are the most"], [])
-    lines = frames_of(sources, Told(notes.append, faults.append, times.append), True)
-    seen = {port: neighbors for some in asked(lines, heard, program)
-            for port, neighbors in some.items()}
-    return Recorded({name: seen.get(port, ()) for port, name in ports.items() if name}, faults,
-                    notes, times)
+def is_of_one_port(path: str) -> bool:
+    """Returns whether a file is a capture in the format of pcap, which names no interface. What is
+    wrong with a file is reported when it is read."""
+    with suppress(OSError, BadCapture), opened(path) as file:
+        return isinstance(reader_of(file), PcapReader)
+    return False
 
 
-def ports_heard(sources: Sequence[Source], ports: Collection[str]) -> list[str]:
-    """Returns those ports of which captures have LLDP frames: others have no neighbor."""
-    lines = frames_of(sources, Told(ignored, ignored), False)
-    heard = {line.split(" ", 2)[1] for line in lines}
-    return [port for port in ports if port in heard]
-
-
-def ignored(_: str) -> None:
-    """Takes a line, and does nothing."""
-
-
-def asked(lines: Iterator[str], ports: Sequence[str], program: str) -> Iterator[Ports]:
-    """Yields what each of some agents answers, which hear the frames of their ports."""
-    with ExitStack() as stack:
-        agents = [stack.enter_context(Agent.start(
-            some, program, receive_only=True, max_neighbors=MOST_NEIGHBORS))
-            for some in parts(iter(ports), MOST_PORTS)]
-        place = {port: number // MOST_PORTS for number, port in enumerate(ports)}
-        for some_lines in parts(lines, LINES_AT_ONCE):
-            told: list[list[str]] = [[] for _ in agents]
-            for line in some_lines:
-                if not line.startswith("rx "):
-                    for one in told:
-                        one.append(line)
-                elif (at := place.get(line.split(" ", 2)[1])) is not None:
-                    told[at].append(line)
-            for agent, its_lines in zip(agents, told):
-                agent.tell(its_lines)
-        for agent in agents:
-            yield read_ports("\n".join([*agent.ask("show neighbors"), ""]))
-
-
-def parts(texts: Iterator[str], size: int) -> Iterator[list[str]]:
-    """Texts in lists of this size."""
-    while some := list(islice(texts, size)):
-        yield some
+def at_the_end(lines: Iterator[str], ports: Sequence[str], program: str) -> Ports:
+    """Returns the neighbors of some ports after the lines of a trace. The agent refuses those of
+    other ports."""
+    with Agent.start(ports, program, receive_only=True, max_neighbors=MOST_NEIGHBORS) as agent:
+        while some := list(islice(lines, LINES_AT_ONCE)):
+            agent.tell(some)
+        return read_ports("\n".join([*agent.ask("show neighbors"), ""]))

@@ -1,18 +1,20 @@
 """The forms of JSON that list neighbors: where each has ports, neighbors, and their fields.
 
 A way is names that lead from object to object; a list on the way is each of its elements, and `*`
-is each name of an object. Of ways between commas the first that leads to a text counts.
+is each name of an object. `?NAME` passes only an object in which NAME is true, and `@` leads to the
+name that the last `*` stands for. Of ways between commas the first that leads to a text counts.
 """
 from __future__ import annotations
 
 import re
+from itertools import product
 from typing import Any, Iterator, NamedTuple, Optional
 
 from ..link_settings import Settings, settings_of
 from ..names import NAMELESS, Seen
-from .listing import Listing, Ports, SeenFault
+from .listing import Listing, SeenFault
 from .neighbor import neighbor
-from .tlvs import IS_SETTING, settings_of_tlvs
+from .shows import SETTING, settings_of_tlvs
 
 
 class Form(NamedTuple):
@@ -22,7 +24,7 @@ class Form(NamedTuple):
     port. After `?` come neighbors that a port may lack. Without `kind` the look of a port ID tells
     whether an interface has that name. `settings` are the ways to the frame size, the PVID, the MAU
     type and the aggregate. A neighbor has a chassis ID and a port ID; one `of_names` has only some
-    name of its host and of its port.
+    name of its host and of its port. `protocol` leads to the protocol by which it was heard.
     """
 
     sign: str
@@ -37,19 +39,27 @@ class Form(NamedTuple):
     addresses: str = ""
     settings: tuple[str, ...] = ()
     of_names: bool = False
+    protocol: str = ""
 
 
 INFO = "neighborInterfaceInfo"
 NAPALM = Form("", "*", "", "", "remote_chassis_id", "", "remote_port, port",
               "remote_system_name, hostname", "remote_port_description", of_names=True)
-LLDPCLI = Form("", "", "interface", "", "chassis id", "port id type", "port id", "chassis name",
-               "port descr", "chassis mgmt-ip",
-               ("port mfs", "pvid vlan-id", "port auto-negotiation current", "port aggregation"))
+# lldpcli's `json`, in which a name leads to an interface, and to a chassis with a System Name
+LLDPCLI = Form("lldp interface * via, lldp interface * chassis", "lldp interface *", "", "",
+               "chassis id, chassis * id", "port id type", "port id",
+               "chassis name, chassis * id @", "port descr", "chassis mgmt-ip, chassis * mgmt-ip",
+               ("port mfs", "vlan ?pvid vlan-id", "port auto-negotiation current",
+                "port aggregation"), protocol="via")
 # lldpa-ctl --json
 OURS = Form("ports neighbors_held", "ports", "name", "neighbors", "chassis text", "port_id kind",
             "port_id text", "name", "port_descr", "management")
 FORMS = (
     OURS,
+    LLDPCLI,
+    # `json0`, in which each name leads to a list
+    LLDPCLI._replace(sign="lldp interface via, lldp interface chassis", ports="lldp interface",
+                     port="name"),
     # Arista's EOS, which once put a port ID in quotes
     Form("lldpNeighbors", "lldpNeighbors *", "", "lldpNeighborInfo", "chassisId",
          f"{INFO} interfaceIdType", f"{INFO} interfaceId_v2, {INFO} interfaceId", "systemName",
@@ -85,6 +95,7 @@ FORMS = (
          "mgmt_address, management_ip, mgmt_address_v6", ("", "vlan_id, vlan", "", ""), True),
 )
 
+LLDP = "LLDP"
 # what stands for a field that a neighbor does not send
 ABSENT = ("", "N/A", "null", "not advertised", "- not advertised")
 # the kinds of a port ID that are an interface's name or alias, as vendors word them
@@ -99,12 +110,17 @@ def walk(node: Any, way: str, name: str = "") -> Iterator[tuple[str, Any]]:
     step, _, rest = way.partition(" ")
     if not way:
         yield name, node
+    elif step == "@":
+        yield name, name
     elif isinstance(node, list):
         for one in node:
             yield from walk(one, way, name)
     elif isinstance(node, dict) and step == "*":
         for key, inner in node.items():
             yield from walk(inner, rest, key)
+    elif isinstance(node, dict) and step.startswith("?"):
+        if node.get(step[1:]) is True:
+            yield from walk(node, rest, name)
     elif isinstance(node, dict) and node.get(step) is not None:
         yield from walk(node[step], rest, name)
 
@@ -147,6 +163,22 @@ def listed(node: Any, of: str) -> list[Any]:
 def read_form(tree: Any, form: Form) -> Listing:
     """Returns the neighbors in JSON of a form. Raises SeenFault."""
     ports: dict[str, list[Seen]] = {}
+    others: dict[str, list[Seen]] = {}  # those heard by other protocols
+    for port, node in ports_of(tree, form):
+        ports.setdefault(port, [])
+        for one in neighbors_of(node, form, port):
+            heard = ports if is_by_lldp(one, form, port) else others
+            heard.setdefault(port, []).append(seen(one, form, port))
+        if form is OURS and node.get("too_many") is True:
+            ports[port].append(NAMELESS)
+    for port, some in others.items():
+        by_lldp = {pair for one in ports[port] for pair in product(one.hosts, one.ports)}
+        ports[port] += [one for one in some if by_lldp.isdisjoint(product(one.hosts, one.ports))]
+    return Listing(dict(ports), form is not OURS)
+
+
+def ports_of(tree: Any, form: Form) -> Iterator[tuple[str, Any]]:
+    """Yields the name of each port, and what has its neighbors. Raises SeenFault."""
     places: dict[str, int] = {}
     for name, found in ways_of(tree, form.ports):
         for place, node in enumerate(listed(found, form.ports) if form.port else [found], 1):
@@ -156,11 +188,16 @@ def read_form(tree: Any, form: Form) -> Listing:
             if form.neighbors and places.setdefault(port, place) != place:
                 raise SeenFault(f"the port {port!r} is in it twice: in places {places[port]} and "
                                 f"{place}")
-            some = [seen(one, form, port) for one in neighbors_of(node, form, port)]
-            ports.setdefault(port, []).extend(some)
-            if form is OURS and node.get("too_many") is True:
-                ports[port].append(NAMELESS)
-    return Listing(dict(ports), form is not OURS)
+            yield port, node
+
+
+def is_by_lldp(node: Any, form: Form, port: str) -> bool:
+    """Returns whether a neighbor was heard by LLDP. One that is heard by another protocol as well
+    counts once: a name of its host and a name of its port are the same."""
+    protocol = text(node, form.protocol) if form.protocol else LLDP
+    if not protocol:
+        raise SeenFault(f"{port} has no protocol: it is not of show neighbors")
+    return protocol == LLDP
 
 
 def neighbors_of(node: Any, form: Form, port: str) -> Iterator[Any]:
@@ -181,7 +218,7 @@ def seen(node: Any, form: Form, port: str) -> Seen:
         if not (chassis or name) or not (port_id or descr):
             raise SeenFault(f"{port!r} has a neighbor without a name of its host or of its port")
     elif not chassis or not port_id:
-        lacks = form.port_id if chassis else form.chassis
+        lacks = (form.port_id if chassis else form.chassis).partition(",")[0]
         raise SeenFault(f"{port!r} has a neighbor without {lacks}: is the list of `detail`?")
     kind = kind_of(text(node, form.kind)) if form.kind else guessed_kind(port_id)
     if form.chassis == "chassisId":
@@ -195,7 +232,7 @@ def settings(node: Any, form: Form) -> Optional[Settings]:
     if form is OURS:
         tlvs = [(f"org.{text(one, 'kind')}", text(one, "octets")) for _, org in walk(node, "org")
                 for one in listed(org, "org")]
-        return settings_of_tlvs(tuple(one for one in tlvs if IS_SETTING.fullmatch(one[0])))
+        return settings_of_tlvs(tuple(one for one in tlvs if re.fullmatch(SETTING, one[0])))
     if not form.settings:
         return None
     size, pvid, mau, aggregate = (text(node, way) for way in form.settings)

@@ -3,16 +3,17 @@ from __future__ import annotations
 
 import os
 from concurrent.futures import ProcessPoolExecutor
-from typing import Callable, Iterator, NamedTuple, Optional, Sequence
+from typing import BinaryIO, Iterator, Optional, Sequence
 
 from lldpa.agent.show import ShowFault
 from lldpa.capture.source import opened
 from lldpa.capture.unzip import MAGIC, Unzipped
-from lldpa.capture.window import BadCapture
+from lldpa.capture.window import BadCapture, Readable
 
 from ..limits import LimitFault, limited
+from ..names import shown
 from ..what import What
-from .forms import UTF_16, is_text, read_list
+from .forms import is_text, read_list
 from .listing import Listing, SeenFault
 
 # one process reads fewer files sooner than several have begun
@@ -22,60 +23,60 @@ FILES_AT_A_TIME = 100
 FRONT = 512
 MOST_OCTETS = 32 << 20
 
-Take = Callable[[int], bytes]
+# None if the file is not text, and may be a capture
+SeenFile = Optional[Listing]
 
 
-class SeenFile(NamedTuple):
-    """The neighbors of ports in a file, or what is wrong with it; neither if it is not text, and
-    may be a capture. `time` is when the file was written, since 1970."""
-
-    listing: Optional[Listing] = None
-    fault: str = ""
-    time: float = 0.0
-
-
-def read_file(path: str) -> SeenFile:
-    """Returns what is in a file. Raises OSError."""
+def read_file(what: What) -> SeenFile:
+    """Returns what is in a file. Raises OSError for one that was named, and not found in a
+    folder."""
     try:
-        with limited(path), opened(path) as file:
-            begin = file.read(len(MAGIC))
-            take: Take = file.read
-            if begin == MAGIC:
-                begin, take = b"", Unzipped(file, begin).read
-            front = begin + taken(take, FRONT)
-            if not is_text(front) and not front.startswith(UTF_16):
-                return SeenFile()
-            listing = read_list(front + taken(take, MOST_OCTETS - len(front)))
-            if take(1):
-                raise SeenFault(f"it has over {MOST_OCTETS >> 20} MB: no list has so much")
-            return SeenFile(listing, "", os.fstat(file.fileno()).st_mtime)
+        with limited(what.file), opened(what.file) as file:
+            octets = octets_of(file)
+            if octets is None:
+                return None
+            return placed(read_list(octets), what.file, os.fstat(file.fileno()).st_mtime)
     except LimitFault as fault:
-        return SeenFile(None, str(fault))
+        return Listing({}, False, faults=[str(fault)])
     except (BadCapture, ShowFault, SeenFault) as fault:
-        return SeenFile(None, f"{path}: {fault}")
+        return Listing({}, False, faults=[f"{what.file}: {fault}"])
+    except OSError as fault:
+        if not what.is_found:
+            raise
+        return Listing({}, False, faults=[f"{what.file}: {fault.strerror or fault}"])
 
 
-def taken(take: Take, size: int) -> bytes:
+def octets_of(file: BinaryIO) -> Optional[bytes]:
+    """Returns the octets of a file, which gzip may have compressed; None if they are not text.
+    Raises BadCapture and SeenFault."""
+    front = file.read(FRONT)
+    source: Readable = file
+    if front.startswith(MAGIC):
+        source = Unzipped(file, front)
+        front = taken(source, FRONT)
+    if not is_text(front):
+        return None
+    octets = front + taken(source, MOST_OCTETS + 1 - len(front))
+    if len(octets) > MOST_OCTETS:
+        raise SeenFault(f"it has over {MOST_OCTETS >> 20} MB: no list has so much")
+    return octets
+
+
+def taken(source: Readable, size: int) -> bytes:
     """Returns so many octets, or all that there are."""
     parts: list[bytes] = []
-    while size > 0:
-        part = take(size)
-        if not part:
-            break
+    while size > 0 and (part := source.read(size)):
         parts.append(part)
         size -= len(part)
     return b"".join(parts)
 
 
-def read_found(what: What) -> SeenFile:
-    """Returns what is in a file. Raises OSError for one that was named, and not found in a
-    folder."""
-    try:
-        return read_file(what.file)
-    except OSError as fault:
-        if not what.is_found:
-            raise
-        return SeenFile(None, f"{what.file}: {fault.strerror or fault}")
+def placed(listing: Listing, file: str, written: float) -> Listing:
+    """Returns a list of this file. It is as old as the file if nothing else says its time."""
+    hosts = {host: one._replace(time=one.time or written, faults=[
+        f"{file}: {shown(host)}: {fault}" for fault in one.faults])
+        for host, one in listing.hosts.items()}
+    return listing._replace(hosts=hosts, time=listing.time or written)
 
 
 def read_files(whats: Sequence[What]) -> Iterator[SeenFile]:
@@ -83,9 +84,9 @@ def read_files(whats: Sequence[What]) -> Iterator[SeenFile]:
     OSError."""
     processors = len(os.sched_getaffinity(0))
     if len(whats) < MANY or processors < 2:
-        return map(read_found, whats)
+        return map(read_file, whats)
     pool = ProcessPoolExecutor(processors)
     at_a_time = min(FILES_AT_A_TIME, len(whats) // (4 * processors) + 1)
-    read = pool.map(read_found, whats, chunksize=at_a_time)
+    read = pool.map(read_file, whats, chunksize=at_a_time)
     pool.shutdown(wait=False)
     return read

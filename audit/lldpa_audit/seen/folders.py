@@ -4,12 +4,8 @@ from __future__ import annotations
 import os
 from typing import Callable, Iterator, Sequence
 
-from lldpa.capture.pcap import form_of
-from lldpa.capture.source import opened
-from lldpa.capture.unzip import MAGIC, Unzipped
-from lldpa.capture.window import BadCapture
-
 from ..what import What, read_what, without_ending
+from .captures import is_of_one_port
 
 LEFT_BY_EDITORS = ("~", ".bak", ".orig", ".swp", ".tmp")
 
@@ -55,19 +51,17 @@ def of_host(host: str, folder: str, say: Say) -> Iterator[What]:
             say(f"{entry.path}: it is a link to a folder, and is passed over")
 
 
-def entries(folder: str, say: Say) -> Sequence["os.DirEntry[str]"]:
-    """Returns the files and folders in a folder that are not hidden, by their names."""
+def entries(folder: str, say: Say) -> Iterator["os.DirEntry[str]"]:
+    """Yields the files and folders in a folder that are not hidden, by their names."""
     with os.scandir(folder) as found:
         there = sorted((one for one in found if not one.name.startswith(".")),
                        key=lambda one: one.name)
-    taken = []
     for one in there:
         why = why_passed_over(one)
         if why:
             say(f"{one.path}: {why}, and is passed over")
         else:
-            taken.append(one)
-    return taken
+            yield one
 
 
 def why_passed_over(entry: "os.DirEntry[str]") -> str:
@@ -78,15 +72,3 @@ def why_passed_over(entry: "os.DirEntry[str]") -> str:
     if entry.is_dir() or entry.is_file():
         return ""
     return "it is a link that leads nowhere" if entry.is_symlink() else "it is no file"
-
-
-def is_of_one_port(path: str) -> bool:
-    """Returns whether a file is a capture in the format of pcap, which names no interface."""
-    try:
-        with opened(path) as file:
-            magic = file.read(4)
-            if magic.startswith(MAGIC):
-                magic = Unzipped(file, magic).read(4)
-    except (OSError, BadCapture):
-        return False  # which is reported when it is read
-    return len(magic) == 4 and form_of(magic) is not None

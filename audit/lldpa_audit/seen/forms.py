@@ -3,21 +3,24 @@ from __future__ import annotations
 
 import codecs
 import re
-from typing import Callable
+from typing import Any, Callable
+from xml.etree import ElementTree
 
-from .json_text import begin_of, read_json
-from .junos_xml import read_xml
+from .json_text import BEGIN, LONGEST_BANNER, tree_of
 from .listing import Listing, SeenFault
-from .shows import read_shows
+from .shows import read_ports
 from .snmp import IS_WALK, read_walk
-from .trees import last_line
+from .trees import last_line, listing_of
 
 TEXT = bytes([*b"\t\r\n\x1b\a\b", *range(0x20, 0x100)])
 UTF_16 = (codecs.BOM_UTF16_LE, codecs.BOM_UTF16_BE)
+# Junos' answer has no document type: no entity can be declared, and none expands
+XML = re.compile(r"\s*(?:<\?xml[^>]*>\s*)?<(?:rpc-reply|multi-routing|lldp-neighbors)")
 FORMS: tuple[tuple[re.Pattern[str], Callable[[str], Listing]], ...] = (
-    (re.compile(r"lldp\.[^=\n]+\.neighbors="), read_shows),
+    # a show has each port of its agent, or one
+    (re.compile(r"lldp\.[^=\n]+\.neighbors="), lambda text: Listing(read_ports(text), False)),
     (IS_WALK, read_walk),
-    (re.compile(r"\s*<(?:\?xml[^>]*>\s*)?(?:rpc-reply|multi-routing|lldp-neighbors)"), read_xml),
+    (XML, lambda text: listing_of(tree_of_xml(text))),
 )
 FAILED = "the command that wrote it failed"
 USE_JSON = "use `lldpcli -f json show neighbors details`"
@@ -42,13 +45,33 @@ OTHER_TEXT = "it looks like text of a switch: give its JSON, or rows of ntc-temp
 def read_list(octets: bytes) -> Listing:
     """Returns the neighbors of each port. Raises SeenFault and ShowFault."""
     text = text_of(octets)
-    read = next((read for begin, read in FORMS if begin.match(text)), None)
-    if read is None and begin_of(text) >= 0:
-        read = read_json
-    if read is None:
-        cause = next((cause for begin, cause in CAUSES if re.match(begin, text)), OTHER_TEXT)
-        raise SeenFault(f"{cause}: {last_line(text)}" if cause == FAILED else cause)
-    return read(text)
+    for begin, read in FORMS:
+        if begin.match(text):
+            return read(text)
+    found = BEGIN.search(text, 0, LONGEST_BANNER)
+    if found:
+        return listing_of(tree_of(text, found.end()))
+    cause = next((cause for begins, cause in CAUSES if re.match(begins, text)), OTHER_TEXT)
+    raise SeenFault(f"{cause}: {last_line(text)}" if cause == FAILED else cause)
+
+
+def tree_of_xml(text: str) -> Any:
+    """Returns what XML says, as the tree that Junos' JSON has. Raises SeenFault."""
+    root = ElementTree.Element("root")
+    try:
+        root.append(ElementTree.fromstring(text))
+        return node_of(root)
+    except (ElementTree.ParseError, RecursionError, ValueError) as fault:
+        raise SeenFault(f"it is no XML: {fault}") from None
+
+
+def node_of(element: ElementTree.Element) -> dict[str, Any]:
+    """Returns what is in an element, by the names of its parts."""
+    node: dict[str, Any] = {"data": (element.text or "").strip()}
+    for part in element:
+        name = part.tag.rpartition("}")[2]  # behind a namespace
+        node.setdefault(name, []).append(node_of(part))
+    return node
 
 
 def text_of(octets: bytes) -> str:
@@ -63,4 +86,4 @@ def text_of(octets: bytes) -> str:
 def is_text(front: bytes) -> bool:
     """Returns whether octets that begin like this are text: no capture has so few control
     characters."""
-    return not front.translate(None, TEXT)
+    return front.startswith(UTF_16) or not front.translate(None, TEXT)

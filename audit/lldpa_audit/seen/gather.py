@@ -1,7 +1,6 @@
 """What an audit is given, as tables: files of any form, captures, and lldpa-live that runs."""
 from __future__ import annotations
 
-import os
 import time
 from math import inf
 from typing import Callable, Iterator, Sequence
@@ -10,17 +9,17 @@ from lldpa.capture.source import opened
 from lldpa.client.connection import Client
 
 from ..ages import worded
-from ..limits import SECONDS, LimitFault, limited
-from ..names import End, shown
+from ..names import End
 from ..plan import Plan
 from ..what import What, of_hosts
-from .captures import Recorded, read_interfaces, read_port
+from .captures import read_captures
 from .files import SeenFile
 from .listing import Listing
 from .shows import read_ports
 from .tables import Tables
 
 SECONDS_BETWEEN_LOOKS = 0.5
+SKIPPED = "is skipped"
 
 
 class Gathering:
@@ -41,9 +40,15 @@ class Gathering:
         self.status = 0
 
     def add_files(self, whats: Sequence[What], files: Iterator[SeenFile]) -> None:
-        """Takes files, those of hosts as they were read. Several captures of one port are one."""
-        for what, file in zip(of_hosts(whats), files):
-            self.add_file(what, file)
+        """Adds files, those of hosts as they were read. Several captures of one port are one."""
+        for what, listing in zip(of_hosts(whats), files):
+            if listing is None:
+                self.add_captures(what.host, "", [what.file])
+                continue
+            for host, one in (listing.hosts or {what.host: listing}).items():
+                if self.is_usable(host, "", one, what.file):
+                    self.need_one(host, self.tables.add_ports(host, one.ports, what.file,
+                                                              one.has_all_heard))
         of_ports: dict[End, list[str]] = {}
         for what in whats:
             if what.port:
@@ -51,27 +56,43 @@ class Gathering:
                 if not what.is_found:
                     opened(what.file).close()
         for end, captures in of_ports.items():
-            recorded = limited_to(captures, lambda: read_port(captures, end.port, self.program))
-            self.add_recorded(end.host, end.port, captures[0], recorded)
+            self.add_captures(end.host, end.port, captures)
 
-    def add_file(self, what: What, file: SeenFile) -> None:
-        """Takes a file of a form, or a capture that names its interfaces."""
-        if file.fault:
-            self.damaged(what.host, "", file.fault)
-        elif file.listing is None:
-            recorded = limited_to([what.file], lambda: read_interfaces(what.file, self.program))
-            self.add_recorded(what.host, "", what.file, recorded)
-        else:
-            for host, listing in (file.listing.hosts or {what.host: file.listing}).items():
-                self.add_listing(host, listing, what.file, listing.time or file.time)
+    def add_captures(self, host: str, port: str, files: Sequence[str]) -> None:
+        """Adds the ports of captures, all of a host if no port is named. What a port sent itself,
+        which a capture has too, is left out. A port without neighbors is not known if LLDP frames
+        were skipped."""
+        found = read_captures(files, port, self.program)
+        for note in found.notes:
+            self.say(note)
+        if not self.is_usable(host, port, found, files[0]):
+            return
+        if not found.ports:
+            self.tables.add_reason(host, port, f"{files[0]}: it names no Ethernet interface")
+        skipped = next((note for note in found.notes if SKIPPED in note), "")
+        names = self.tables.names
+        for name, heard in found.ports.items():
+            own = names.end(End(host, name))
+            neighbors = [one for one in heard if not names.answers(one, own)]
+            if neighbors or not skipped:
+                self.need_one(host, self.tables.add(host, name, neighbors, files[0]))
+            else:
+                self.tables.add_reason(host, name, skipped)
 
-    def add_listing(self, host: str, listing: Listing, file: str, at: float) -> None:
-        """Takes the list of a host."""
-        if listing.fault:
-            self.damaged(host, "", f"{file}: {shown(host)}: {listing.fault}")
-        elif not self.is_stale(host, "", file, at):
-            self.need_one(host, self.tables.add_ports(host, listing.ports, file)
-                          or (self.tables.add_listed(host, file) if listing.has_all_heard else ""))
+    def is_usable(self, host: str, port: str, listing: Listing, file: str) -> bool:
+        """Returns whether ports are known by a source. If it is damaged or too old, the port, or
+        further ports of the host if none is named, are not known by it."""
+        for fault in listing.faults:
+            self.say(fault)
+            self.status = max(self.status, 1)
+            self.tables.add_reason(host, port, fault)
+        if listing.faults:
+            return False
+        self.tables.times.append(listing.time)
+        age = self.now - listing.time
+        if age > self.stale_after:
+            self.tables.add_reason(host, port, f"{file}: it is {worded(age)} old")
+        return age <= self.stale_after
 
     def need_one(self, host: str, why: str) -> None:
         """Gives up a host if there is a reason why it cannot be judged."""
@@ -80,44 +101,8 @@ class Gathering:
             self.status = 2
             self.tables.forget(host, why)
 
-    def is_stale(self, host: str, port: str, file: str, at: float) -> bool:
-        """Notes the time of a source. If it is too old, the host's ports are not known by it."""
-        self.tables.times.append(at)
-        age = self.now - at
-        if age > self.stale_after:
-            self.tables.add_reason(host, port, f"{file}: it is {worded(age)} old")
-        return age > self.stale_after
-
-    def add_recorded(self, host: str, port: str, file: str, recorded: Recorded) -> None:
-        """Takes the ports of captures, all of a host if no port is named. Captures without time
-        stamps are as old as the file."""
-        for note in recorded.notes:
-            self.say(note)
-        for fault in recorded.faults:
-            self.damaged(host, port, fault)
-        if recorded.faults:
-            return
-        if not recorded.ports:
-            self.tables.add_reason(host, port, f"{file}: it names no Ethernet interface")
-        at = max(recorded.times, default=0.0) or stat_of(file).st_mtime
-        if not self.is_stale(host, port, file, at):
-            for name, neighbors in recorded.ports.items():
-                self.add_heard(host, name, file, recorded)
-
-    def add_heard(self, host: str, port: str, file: str, recorded: Recorded) -> None:
-        """Takes a port of a capture, but not what it sent itself, which a capture has too.
-
-        One without neighbors is not known if LLDP frames were skipped.
-        """
-        own = self.tables.names.end(End(host, port))
-        neighbors = [one for one in recorded.ports[port] if not self.tables.names.answers(one, own)]
-        if neighbors or not recorded.passed_over:
-            self.need_one(host, self.tables.add(host, port, neighbors, file))
-        else:
-            self.tables.add_reason(host, port, recorded.passed_over)
-
     def add_live(self, host: str, path: str, plan: Plan, seconds: float) -> None:
-        """Takes the ports of lldpa-live, when each planned one has a neighbor or time is up."""
+        """Adds the ports of lldpa-live, when each planned one has a neighbor or time is up."""
         end = time.monotonic() + seconds
         with Client(path) as client:
             while True:
@@ -129,25 +114,3 @@ class Gathering:
                 time.sleep(SECONDS_BETWEEN_LOOKS)
         self.need_one(host, self.tables.add_ports(host, ports, path))
         self.tables.times.append(self.now)
-
-    def damaged(self, host: str, port: str, why: str) -> None:
-        """Says what is wrong with a file, whose port, or whose host's ports, are not known."""
-        self.say(why)
-        self.status = max(self.status, 1)
-        self.tables.add_reason(host, port, why)
-
-
-def limited_to(files: Sequence[str], read: Callable[[], Recorded]) -> Recorded:
-    """Returns what is read of captures, or that they need too much. A large one may take long."""
-    try:
-        octets = sum(stat_of(file).st_size for file in files)
-        with limited(files[0], max(SECONDS, octets >> 21)):
-            return read()
-    except LimitFault as fault:
-        return Recorded({}, [str(fault)], [])
-
-
-def stat_of(file: str) -> os.stat_result:
-    """Returns the size of a file, and when it was written."""
-    with opened(file) as octets:
-        return os.fstat(octets.fileno())

@@ -1,7 +1,7 @@
 """What each reader of a form returns: the ports of a host, and who is seen at them."""
 from __future__ import annotations
 
-from typing import Mapping, NamedTuple, Optional, Sequence
+from typing import Mapping, NamedTuple, Sequence
 
 from lldpa.faults import LldpaFault
 from ..names import Seen
@@ -18,12 +18,13 @@ class Listing(NamedTuple):
 
     If `has_all_heard` is set, each port of the host that has a neighbor is among them; a form that
     lists neighbors has no word of a port that hears nobody. `hosts` has the neighbors of each host
-    in a file of many hosts, and `fault` why one of these has none. `time` is when a host was asked,
-    in seconds since 1970, if its list says so.
+    in a file of many hosts. If there are `faults`, the ports are not known. `notes` say what was
+    skipped. `time` is when this was seen, in seconds since 1970; 0 if nothing says it.
     """
 
     ports: Ports
     has_all_heard: bool
     hosts: Mapping[str, Listing] = {}
-    fault: str = ""
-    time: Optional[float] = None
+    faults: Sequence[str] = ()
+    notes: Sequence[str] = ()
+    time: float = 0.0

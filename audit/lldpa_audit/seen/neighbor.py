@@ -2,6 +2,7 @@
 from __future__ import annotations
 
 import ipaddress
+from contextlib import suppress
 from functools import lru_cache
 from typing import Iterable, Optional, Sequence
 
@@ -12,9 +13,6 @@ LONGEST = 512
 MOST_KEPT = 32768
 # the kinds of a Port ID that is the name or the alias of an interface
 OF_INTERFACES = ("ifname", "ifalias")
-
-# an IPv6 address in full, with an IPv4 address at its end and a zone
-LONGEST_ADDRESS = 64
 
 # what stands for a host or a port whose neighbor has no readable name at all
 UNNAMED = ("",)
@@ -28,10 +26,11 @@ def neighbor(chassis: str, kind: str, port_id: str, name: str = "", descr: str =
     The System Name reads best, and so does the Port Description, unless the Port ID is the name or
     the alias of an interface.
     """
+    chassis, port_id = clean(chassis), clean(port_id)
     is_named = kind in OF_INTERFACES and port_id != ""
     ports = texts(port_id, descr) if is_named else texts(descr, port_id)
     aggregated = settings is not None and bool(settings.is_aggregated)
-    return Seen(names_of_host(name, chassis, *addresses), ports, clean(chassis), clean(port_id),
+    return Seen(names_of_host(name, chassis, *addresses), ports, chassis, port_id,
                 aggregated, settings, is_named)
 
 
@@ -40,7 +39,7 @@ def neighbor(chassis: str, kind: str, port_id: str, name: str = "", descr: str =
 def names_of_host(name: str, chassis: str, *addresses: str) -> tuple[str, ...]:
     """Returns the names of a host by its System Name, its chassis ID and its addresses. In a show a
     comma ends an address."""
-    addresses = (chassis, *[address.partition(",")[0] for address in addresses])
+    addresses = (chassis, *[clean(address.partition(",")[0]) for address in addresses])
     return texts(name, *[form for address in addresses for form in names_of_address(address)])
 
 
@@ -69,10 +68,8 @@ def clean(text: str) -> str:
 def names_of_address(address: str) -> Sequence[str]:
     """Returns an address unchanged, and one of IPv6 in full and as people shorten it."""
     is_mac = address.count(":") == 5 and len(address) == 17
-    if ":" not in address or is_mac or len(address) > LONGEST_ADDRESS:
-        return (address,)
-    try:
-        found = ipaddress.IPv6Address(address)
-    except ValueError:
-        return (address,)
-    return tuple(dict.fromkeys([address, found.exploded, found.compressed]))
+    if ":" in address and not is_mac:
+        with suppress(ValueError):
+            found = ipaddress.IPv6Address(address)
+            return tuple(dict.fromkeys([address, found.exploded, found.compressed]))
+    return (address,)

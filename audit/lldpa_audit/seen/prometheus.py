@@ -8,61 +8,61 @@ https://prometheus.io/docs/prometheus/latest/querying/api/ describes it. A query
 from __future__ import annotations
 
 import re
+from collections import defaultdict
 from typing import Any, Iterator
 
-from ..link_settings import Settings, none_if_empty, number
-from ..names import NAMELESS, Seen, escaped
-from .fields import leads
+from ..link_settings import settings_of
+from ..names import NAMELESS, Seen
 from .listing import Listing, SeenFault
-from .neighbor import clean, neighbor
+from .neighbor import neighbor
 from .shows import plain
 
 PORTS, TIMES = "lldpa_too_many", "node_textfile_mtime_seconds"
 # a host in an instance such as leaf1:9100 or [2001:db8::1]:9100
 HOST = re.compile(r"\[(.+)\](?::[0-9]+)?|(.+?)(?::[0-9]+)?")
+EXPORTED = "exported_"  # precedes a label of lldpa's if a target has a label of this name
 Labels = dict[str, str]
-
-
-def is_prometheus(tree: Any) -> bool:
-    """Returns whether JSON is an answer of the API."""
-    return leads(tree, "data resultType")
 
 
 def read_prometheus(tree: Any) -> Listing:
     """Returns the neighbors of each host. Raises SeenFault. Two targets of one host may have the
     same neighbor."""
-    seen: dict[str, dict[str, dict[Any, Seen]]] = {}
+    heard: dict[str, dict[str, dict[Any, Seen]]] = {}
     times: dict[str, float] = {}
     whole = set()
     for host, labels, value in samples(tree):
-        metric = labels.get("__name__", "")
-        if metric == TIMES and is_of_agent(labels.get("file", "")):
+        port, metric = labels["port"], labels["__name__"]
+        if metric == TIMES and is_of_agent(labels["file"]):
             times[host] = value
         elif metric == PORTS:
             whole.add(host)
-            at_port = seen.setdefault(host, {}).setdefault(label(labels, "port"), {})
+            at_port = heard.setdefault(host, {}).setdefault(port, {})
             if value:
                 at_port[PORTS] = NAMELESS
         elif "chassis" in labels and "port_id" in labels:
             one = neighbor_of(labels)
-            seen.setdefault(host, {}).setdefault(label(labels, "port"), {})[one] = one
-    if not seen:
+            heard.setdefault(host, {}).setdefault(port, {})[one] = one
+    if not heard:
         raise SeenFault("it is an answer of Prometheus without lldpa_neighbor_info: see "
                         "lldpa-audit(1)")
     return Listing({}, True, {
         host: Listing({port: tuple(some.values()) for port, some in ports.items()},
-                      host not in whole, time=times.get(host))
-        for host, ports in seen.items()})
+                      host not in whole, time=times.get(host, 0.0))
+        for host, ports in heard.items()})
 
 
 def samples(tree: Any) -> Iterator[tuple[str, Labels, float]]:
-    """Yields the host, the labels and the value of each series. Raises SeenFault."""
+    """Yields the host, the labels and the value of each series. A label that is missing is empty.
+    Raises SeenFault."""
     try:
         for one in tree["data"]["result"]:
-            labels = one["metric"]
-            found = HOST.fullmatch(labels["instance"])
-            if found and set(map(type, labels.values())) <= {str}:
-                yield found[1] or found[2], labels, float(one["value"][1])
+            found = HOST.fullmatch(one["metric"]["instance"])
+            labels = {name: plain(text) for name, text in one["metric"].items()}
+            ours = {name[len(EXPORTED):]: text for name, text in labels.items()
+                    if name.startswith(EXPORTED)}
+            if found:
+                yield (found[1] or found[2], defaultdict(str, {**labels, **ours}),
+                       float(one["value"][1]))
     except (AttributeError, IndexError, KeyError, TypeError, ValueError):
         raise SeenFault("it is an answer of Prometheus with something else than series that have "
                         "the label instance") from None
@@ -77,17 +77,6 @@ def is_of_agent(file: str) -> bool:
 
 def neighbor_of(labels: Labels) -> Seen:
     """Returns a neighbor by its labels."""
-    size, pvid = (number(label(labels, name)) for name in ("max_frame_size", "pvid"))
-    chassis, port_id, name, descr, management = (plain(label(labels, key)) for key in (
-        "chassis", "port_id", "name", "port_descr", "management"))
-    return neighbor(chassis, label(labels, "port_id_kind"), port_id, name, descr, [management],
-                    none_if_empty(Settings(size or None, pvid or None)))
-
-
-def label(labels: Labels, name: str) -> str:
-    """Returns a label as lldpa-ctl wrote it: the text of a show. If a target has a label of this
-    name, `exported_` precedes lldpa's."""
-    text = labels.get(f"exported_{name}", labels.get(name, ""))
-    if text.isascii():
-        return text
-    return "".join(one if one.isascii() else escaped(one) for one in clean(text))
+    settings = settings_of(labels["max_frame_size"], labels["pvid"], "", "")
+    return neighbor(labels["chassis"], labels["port_id_kind"], labels["port_id"], labels["name"],
+                    labels["port_descr"], [labels["management"]], settings)

@@ -7,39 +7,33 @@ from __future__ import annotations
 import re
 from functools import lru_cache
 from sys import intern
-from typing import Sequence
+from typing import Optional, Sequence
 
-from lldpa.agent.show import CHASSIS_KINDS, DIGITS, NAME, PORT_KINDS, ShowFault, unescaped
+from lldpa.agent.show import (CHASSIS_KINDS, DIGITS, NAME, PORT_KINDS, ShowFault, read_show,
+                              unescaped)
 from lldpa.agent.shown import SAID_KEY
+from lldpa.organizational import LinkAggregation, MacPhy, said_by
 
+from ..link_settings import Settings, none_if_empty
 from ..names import NAMELESS, Seen
-from .listing import Listing, Ports
+from .listing import Ports
 from .neighbor import MOST_KEPT, neighbor
-from .tlvs import SETTING, settings_of_tlvs
 
 TEXT = "[ -~]*"
 PORT = re.compile(rf"lldp\.({NAME})\.neighbors=({DIGITS})\nlldp\.\1\.octets={DIGITS}\n"
                   r"lldp\.\1\.too-many=(yes|no)\n")
-# a neighbor: its port and place, its chassis ID, the kind of its port ID, that ID, what it says
-# first in the usual order, and further lines
+# a neighbor: its port and place, its chassis ID, the kind of its port ID, that ID, further lines
 NEIGHBOR = re.compile(
     rf"lldp\.({NAME})\.({DIGITS})\.chassis\.(?:{'|'.join(sorted(CHASSIS_KINDS))})=({TEXT})\n"
     rf"lldp\.\1\.\2\.port\.({'|'.join(sorted(PORT_KINDS))})=({TEXT})\n"
     rf"lldp\.\1\.\2\.ttl={DIGITS}\nlldp\.\1\.\2\.expires={DIGITS}"
-    rf"(?:\nlldp\.\1\.\2\.port\.descr=({TEXT}))?(?:\nlldp\.\1\.\2\.chassis\.name=({TEXT}))?"
-    rf"(?:\nlldp\.\1\.\2\.chassis\.descr={TEXT})?(?:\nlldp\.\1\.\2\.chassis\.caps={TEXT})?"
-    rf"(?:\nlldp\.\1\.\2\.chassis\.mgmt=({TEXT}))?"
     rf"((?:\nlldp\.\1\.\2\.{SAID_KEY}={TEXT})*)\n")
+# Port VLAN ID, MAC/PHY, Maximum Frame Size, and Link Aggregation by 802.1 and by 802.3
+SETTING = r"org\.(?:0080c2\.[17]|00120f\.[134])"
 # the further lines that name the neighbor, or say something of its link
-SAID = re.compile(rf"\nlldp\.[^.]+\.[0-9]+\.(?:(chassis\.name)|(chassis\.mgmt)|(port\.descr)"
-                  rf"|({SETTING}))=(.*)")
+SAID = re.compile(
+    rf"\nlldp\.[^.]+\.[0-9]+\.(chassis\.name|chassis\.mgmt|port\.descr|{SETTING})=(.*)")
 OTHER_SHOW = re.compile(rf"lldp\.{NAME}\.sent=|local-chassis\.|configuration\.")
-
-
-def read_shows(text: str) -> Listing:
-    """Returns the neighbors of each port. Raises ShowFault. A show has each port of its agent, or
-    one."""
-    return Listing(read_ports(text), False)
 
 
 def read_ports(text: str) -> Ports:
@@ -49,56 +43,63 @@ def read_ports(text: str) -> Ports:
     ports: Ports = {}
     at = 0
     while found := PORT.match(text, at):
-        name = intern(found[1])
+        name, count = intern(found[1]), int(found[2])
         if name in ports:
+            first = text.find(found[0].partition("=")[0])
             raise ShowFault(f"line {line_of(text, at)}: the port {name} is in it twice, first in "
-                            f"line {line_of(text, text.find(found[0].partition('=')[0]))}")
-        ports[name], at = neighbors_at(text, found.end(), name, int(found[2]), found[3] == "yes")
+                            f"line {line_of(text, first)}")
+        seen, end = neighbors_at(text, found.end(), name, count)
+        if len(seen) < count:
+            break
+        ports[name] = (*seen, NAMELESS) if found[3] == "yes" else tuple(seen)
+        at = end
     if at < len(text) and (not OTHER_SHOW.match(text, at) or PORT.search(text, at)):
-        raise fault(text, at)
+        read_show(text[:-1].split("\n"))  # it raises ShowFault
     return ports
 
 
-def neighbors_at(text: str, at: int, port: str, count: int, is_full: bool
-                 ) -> tuple[Sequence[Seen], int]:
-    """Returns so many neighbors of a port, and where the lines of the next port begin. All those
-    for which there was no room are one, without a name."""
+def neighbors_at(text: str, at: int, port: str, most: int) -> tuple[list[Seen], int]:
+    """Returns the neighbors of a port whose lines begin here, and where these end."""
     seen: list[Seen] = []
-    while len(seen) < count:
+    while len(seen) < most:
         found = NEIGHBOR.match(text, at)
         if found is None or found[1] != port or found[2] != str(len(seen) + 1):
-            raise fault(text, at)
-        _, _, chassis, kind, port_id, descr, name, address, said = found.groups("")
-        further = SAID.findall(said) if said else ()
-        seen.append(seen_neighbor(chassis, kind, port_id, descr, name, address, further))
+            break
+        seen.append(seen_neighbor(found[3], found[4], found[5], SAID.findall(found[6])))
         at = found.end()
-    return (*seen, NAMELESS) if is_full else tuple(seen), at
+    return seen, at
 
 
-def seen_neighbor(chassis: str, kind: str, port_id: str, descr: str, name: str, address: str,
-                  said: Sequence[tuple[str, ...]]) -> Seen:
-    """Returns a neighbor by what it says, and by what else it says."""
-    addresses, tlvs = [plain(address)] if address else [], []
-    for is_name, is_address, is_descr, setting, value in said:
-        if is_name:
+def seen_neighbor(chassis: str, kind: str, port_id: str, said: Sequence[tuple[str, str]]) -> Seen:
+    """Returns a neighbor by its identifiers, and by what else it says."""
+    name = descr = ""
+    addresses: list[str] = []
+    tlvs: list[tuple[str, str]] = []
+    for key, value in said:
+        if key == "chassis.name":
             name = value
-        elif is_descr:
+        elif key == "port.descr":
             descr = value
-        elif is_address:
+        elif key == "chassis.mgmt":
             addresses.append(plain(value))
         else:
-            tlvs.append((setting, value))
+            tlvs.append((key, value))
     settings = settings_of_tlvs(tuple(tlvs)) if tlvs else None
     return neighbor(plain(chassis), kind, plain(port_id), plain(name), plain(descr), addresses,
                     settings)
 
 
-def fault(text: str, at: int) -> ShowFault:
-    """Returns the fault that lines from here on are not those of a whole port or neighbor."""
-    line = text[at:text.index("\n", at)] if at < len(text) else ""
-    found = repr(line) if line else "the end"
-    return ShowFault(f"line {line_of(text, at)}: {found} where a whole port or neighbor was "
-                     "expected")
+@lru_cache(MOST_KEPT)  # a network has few settings, and many ports
+def settings_of_tlvs(tlvs: tuple[tuple[str, str], ...]) -> Optional[Settings]:
+    """Returns the settings that TLVs say, each with its key in a show and its hexadecimal."""
+    said = said_by([(key[len("org."):], octets) for key, octets in tlvs])
+    mac_phy, aggregation = said.one(MacPhy), said.one(LinkAggregation)
+    mau = None if mac_phy is None else mac_phy.mau
+    speed, duplex = (None, None) if mau is None else (mau.speed, mau.duplex)
+    is_aggregated = None if aggregation is None else aggregation.is_aggregated
+    number = aggregation.port if aggregation is not None and is_aggregated else None
+    return none_if_empty(Settings(said.max_frame_size or None, said.pvid or None, speed, duplex,
+                                  is_aggregated, number))
 
 
 def line_of(text: str, at: int) -> int:
@@ -108,5 +109,8 @@ def line_of(text: str, at: int) -> int:
 
 @lru_cache(MOST_KEPT)
 def plain(text: str) -> str:
-    """Returns a text of a show as people write it."""
-    return unescaped(text).decode(errors="surrogateescape") if "\\" in text else text
+    """Returns a text of a show as people write it. No show has other letters than those of
+    ASCII."""
+    if "\\" not in text or not text.isascii():
+        return text
+    return unescaped(text).decode(errors="surrogateescape")

@@ -25,8 +25,8 @@ COMMAND = "use `snmpwalk -v2c -c COMMUNITY HOST 1.0.8802.1.1.2.1`"
 # the subtypes of chassis IDs and of port IDs that are a MAC address, and a network address
 OF_CHASSIS, OF_PORT = ("4", "5"), ("3", "4")
 
-# the octets of each column of a row
-Row = dict[str, bytes]
+# the texts of the columns of a row
+Row = dict[str, str]
 
 
 def read_walk(text: str) -> Listing:
@@ -67,46 +67,45 @@ def rows_of(text: str) -> tuple[dict[str, Row], dict[str, Row]]:
         if place <= last:
             raise SeenFault(f"{name}.{index} is out of order: {COMMAND}, once")
         last = place
-        tables[name in REMOTE].setdefault(index, {})[name] = octets_of(kind, value)
+        tables[name in REMOTE].setdefault(index, {})[name] = text_of(kind, value)
     return tables
 
 
-def octets_of(kind: str, value: str) -> bytes:
-    """Returns the octets of a value. Those of an enumeration are its number."""
+def text_of(kind: str, value: str) -> str:
+    """Returns the text of a value. That of an enumeration is its number."""
     if kind == "INTEGER":
-        return value.rpartition("(")[2].rstrip(")").encode()
+        return value.rpartition("(")[2].rstrip(")")
     if kind == "Hex-STRING":
         try:
-            return bytes.fromhex(value)
+            return bytes.fromhex(value).decode(errors="surrogateescape")
         except ValueError:
             raise SeenFault(f"{value[:40]!r} is not hexadecimal") from None
     if len(value) > 1 and value[0] == value[-1] == '"':
-        value = re.sub(r"\\(.)", r"\1", value[1:-1], flags=re.S)
-    return value.encode(errors="surrogateescape")
+        return re.sub(r"\\(.)", r"\1", value[1:-1], flags=re.S)
+    return value
 
 
 def port_name(row: Row) -> str:
     """Returns the name of a local port: its ID if that is an interface's, else its description."""
-    texts = [row.get(name, b"").decode(errors="surrogateescape") for name in LOCAL]
-    is_named = kind_of(texts[0]) != "local"
-    return texts[1] if is_named else texts[2] or texts[1]
+    subtype, port_id, descr = (row.get(column, "") for column in LOCAL)
+    return descr or port_id if kind_of(subtype) == "local" else port_id
 
 
 def seen(row: Row, port: str) -> Seen:
     """Returns a neighbor. Raises SeenFault if it has no chassis ID or port ID."""
-    chassis_kind, chassis, kind, port_id, descr, name = (row.get(name, b"") for name in REMOTE)
+    chassis_kind, chassis, kind, port_id, descr, name = (row.get(column, "") for column in REMOTE)
     if not chassis or not port_id or not kind:
         raise SeenFault(f"{port!r} has a neighbor without chassis ID, port ID or its subtype: "
                         f"{COMMAND}")
-    return neighbor(identifier(chassis, chassis_kind.decode(), *OF_CHASSIS), kind_of(kind.decode()),
-                    identifier(port_id, kind.decode(), *OF_PORT),
-                    name.decode(errors="surrogateescape"), descr.decode(errors="surrogateescape"))
+    return neighbor(identifier(chassis, chassis_kind, *OF_CHASSIS), kind_of(kind),
+                    identifier(port_id, kind, *OF_PORT), name, descr)
 
 
-def identifier(octets: bytes, subtype: str, of_mac: str, of_network: str) -> str:
+def identifier(text: str, subtype: str, of_mac: str, of_network: str) -> str:
     """Returns a chassis ID or port ID as people write it."""
+    octets = text.encode(errors="surrogateescape")
     if subtype == of_mac and len(octets) == 6:
         return octets.hex(":")
     if subtype == of_network and len(octets) in (5, 17):
         return str(ip_address(octets[1:]))
-    return octets.decode(errors="surrogateescape")
+    return text

@@ -45,11 +45,14 @@ class Tables:
         """Adds the neighbors of a port. Returns what `add_ports` does."""
         return self.add_ports(host, {port: neighbors}, file)
 
-    def add_ports(self, host: str, ports: Mapping[str, Sequence[Seen]], file: str = "") -> str:
-        """Adds the neighbors of each of a host's ports by a source. Returns an empty text, or why
-        the host cannot be judged: two sources have the same port."""
+    def add_ports(self, host: str, ports: Mapping[str, Sequence[Seen]], file: str = "",
+                  has_all_heard: bool = False) -> str:
+        """Adds the neighbors of each of a host's ports by a source. If it `has_all_heard`, other
+        ports of the host have no neighbor. Returns an empty text, or why the host cannot be judged:
+        two sources have the same port or all ports."""
         self.add_host(host)
-        files = self._files.setdefault(self.names.host(host), [])
+        name = self.names.host(host)
+        files = self._files.setdefault(name, [])
         files.append(file)
         for port, neighbors in ports.items():
             end = End(host, port)
@@ -57,16 +60,12 @@ class Tables:
             if key in self.ends:
                 return f"{end} is in two of its files: {', '.join(files)}"
             self.ends[key] = KnownPort(end, neighbors)
+        if has_all_heard:
+            before = self._listed.get(name)
+            self._listed[name] = file
+            if before is not None:
+                return f"{shown(host)} has two lists: {before} and {file}"
         return ""
-
-    def add_listed(self, host: str, file: str) -> str:
-        """Notes that each port of a host that has a neighbor was added by a list, or will be.
-        Returns an empty text, or why the host cannot be judged: it has another list."""
-        self.add_host(host)
-        name = self.names.host(host)
-        before = self._listed.get(name)
-        self._listed[name] = file
-        return "" if before is None else f"{shown(host)} has two lists: {before} and {file}"
 
     def forget(self, host: str, reason: str) -> None:
         """Gives up all that is known of a host, for this reason."""

@@ -7,9 +7,8 @@ from lldpa.texts import printable
 
 from .fields import FORMS, NAPALM, leads, read_form, text
 from .listing import Listing, SeenFault
-from .lldpcli import is_lldpcli, read_lldpcli
 from .neighbor import clean
-from .prometheus import is_prometheus, read_prometheus
+from .prometheus import read_prometheus
 
 # the names below which programs put a list: NAPALM's getters, salt, Ansible, eAPI, NX-API, Junos,
 # and the tools of gNMI
@@ -27,10 +26,8 @@ CAUSES = (
                    "json`"),
     ("local-chassis", "what lldpcli says of its own host: use `lldpcli -f json show neighbors "
                       "details`"),
-    ("message, msg, error, errors", "an error message"),
 )
 LONGEST_SHOWN = 200
-MOST_ANSWERS = 100
 
 
 def listing_of(tree: Any) -> Listing:
@@ -40,7 +37,7 @@ def listing_of(tree: Any) -> Listing:
         return found
     hosts = {host: listing_or_fault(one) for host, one in tree.items()
              } if isinstance(tree, dict) else {}
-    if any(not one.fault or is_failed(tree[host]) for host, one in hosts.items()):
+    if any(not one.faults or is_failed(tree[host]) for host, one in hosts.items()):
         return Listing({}, True, hosts)
     raise unknown(tree)
 
@@ -49,38 +46,38 @@ def listing_of_host(tree: Any) -> Optional[Listing]:
     """Returns the neighbors in JSON of one host, None if it has no form. Raises SeenFault."""
     if is_failed(tree):
         raise SeenFault(f"the command failed: {last_line(text(tree, 'comment, msg'))}")
-    for is_form, read in ((is_lldpcli, read_lldpcli), (is_prometheus, read_prometheus)):
-        if is_form(tree):
-            return read(tree)
-    cause = next((cause for way, cause in CAUSES[:3] if leads(tree, way)), "")
+    cause = next((cause for way, cause in CAUSES if leads(tree, way)), "")
     if cause:
         raise SeenFault(f"it is {cause}")
+    if leads(tree, "data resultType"):
+        return read_prometheus(tree)
     tree = lowered(tree)
     form = next((form for form in FORMS if leads(tree, form.sign)), None)
     if form is not None:
         return read_form(tree, form)
     if isinstance(tree, list):
         return listing_of_one(tree)
-    wrapper = wrapper_of(tree)
+    return listing_in(tree) if isinstance(tree, dict) else None
+
+
+def listing_in(tree: dict[str, Any]) -> Optional[Listing]:
+    """Returns the neighbors in what a program puts around a list, or in NAPALM's form, which has a
+    list at each port. Returns None if it is neither. Raises SeenFault."""
+    inner = {name.rpartition("/")[2]: one for name, one in tree.items()}
+    wrapper = next((name for name in WRAPPERS if name in inner), None)
     if wrapper is not None:
-        return listing_of_host(tree[wrapper])
-    is_napalm = isinstance(tree, dict) and all(isinstance(one, list) for one in tree.values())
-    is_of_rows = is_napalm and any(leads(lowered(one), FORMS[-1].sign) for one in tree.values())
+        return listing_of_host(inner[wrapper])
+    is_napalm = all(isinstance(one, list) for one in tree.values())
+    is_of_rows = any(leads(lowered(one), FORMS[-1].sign) for one in tree.values())
     return read_form(tree, NAPALM) if is_napalm and not is_of_rows else None
-
-
-def wrapper_of(tree: Any) -> Optional[str]:
-    """Returns the name below which a list is, None if there is none."""
-    names = {name.rpartition("/")[2]: name for name in tree} if isinstance(tree, dict) else {}
-    return next((names[name] for name in WRAPPERS if name in names), None)
 
 
 def listing_of_one(answers: list[Any]) -> Optional[Listing]:
     """Returns the neighbors in the only answer of several that is a list of them, None if none is.
     Raises SeenFault."""
-    if len(answers) == 1 or len(answers) > MOST_ANSWERS:
-        return listing_of_host(answers[0]) if len(answers) == 1 else None
-    found = [one for one in map(listing_or_fault, filter(None, answers)) if not one.fault]
+    if len(answers) == 1:
+        return listing_of_host(answers[0])
+    found = [one for one in map(listing_or_fault, filter(None, answers)) if not one.faults]
     if len(found) > 1:
         raise SeenFault(f"it has {len(found)} lists: give one")
     return found[0] if found else None
@@ -94,7 +91,7 @@ def listing_or_fault(tree: Any) -> Listing:
             return found
         raise unknown(tree)
     except SeenFault as fault:
-        return Listing({}, True, fault=str(fault))
+        return Listing({}, True, faults=[str(fault)])
 
 
 def is_failed(tree: Any) -> bool:
@@ -117,9 +114,9 @@ def unknown(tree: Any) -> SeenFault:
     if tree == []:
         return SeenFault("it is an empty list: ntc-templates returns one if nobody is heard, and "
                          "if it does not know the text")
-    cause = next((f"it is {cause}, and no list of neighbors" for way, cause in CAUSES
-                  if leads(tree, way)), "it is JSON, but no list of neighbors that is known")
-    return SeenFault(f"{cause}: see lldpa-audit(1)")
+    if leads(tree, "message, msg, error, errors"):
+        return SeenFault("it is an error message, and no list of neighbors: see lldpa-audit(1)")
+    return SeenFault("it is JSON, but no list of neighbors that is known: see lldpa-audit(1)")
 
 
 def last_line(words: Optional[str]) -> str:
