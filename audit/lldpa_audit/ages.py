@@ -20,16 +20,13 @@ class Ages(NamedTuple):
 
 
 def ages_of(times: Sequence[float], now: float) -> Ages:
-    """Returns the ages of sources by their times, of which there is at least one, in seconds since
-    1970.
-
-    What comes from the future is new.
-    """
+    """Returns the ages of sources by their times, one at least, in seconds since 1970. What comes
+    from the future is new."""
     return Ages(max(now - max(times), 0.0), max(now - min(times), 0.0))
 
 
 def worded(seconds: float) -> str:
-    """Returns a span in the greatest unit of which it has at least one: `3 days`."""
+    """Returns a span in the greatest unit that it has at least once: `3 days`."""
     _, size, name = next((unit for unit in UNITS if seconds >= unit[1]), UNITS[-1])
     count = int(seconds // size)
     return f"{count} {name}{'' if count == 1 else 's'}"

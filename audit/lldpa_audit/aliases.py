@@ -2,7 +2,7 @@
 from __future__ import annotations
 
 from .names import Aliases, End, Names
-from .planfault import Faults
+from .plan import Faults
 from .rows import table_of
 
 COLUMNS = ["host", "port", "alias"]
@@ -35,7 +35,7 @@ def read_aliases(file: str, names: Names) -> Aliases:
 
 
 def added(aliases: Aliases, names: Names, host: str, port: str, alias: str) -> str:
-    """Adds a further name. Gives why it cannot be one, or nothing."""
+    """Adds a further name. Returns why it cannot be one, or an empty text."""
     host = names.plain_host(host)
     if not port:
         key = names.plain_host(alias)

@@ -4,7 +4,7 @@ from __future__ import annotations
 import re
 from typing import Iterator, Optional, Sequence
 
-from .names import End, Names
+from .names import End
 from .plan import Link, Plan
 from .seen.tables import KnownPort, Tables
 
@@ -54,7 +54,7 @@ def split(tables: Tables, whole: End) -> list[End]:
 
 def joined(lanes: Sequence[End], links: Sequence[Link], whole: End, tables: Tables
            ) -> Iterator[tuple[End, Link]]:
-    """Yields each lane with its link. Lanes of which nothing is known are numbered."""
+    """Yields each lane with its link. Unknown lanes are numbered."""
     left = list(links)
     unheard: list[End] = []
     for lane in lanes:

@@ -1,33 +1,19 @@
-"""Which aggregates of two hosts belong together, by the numbers that both ends of links tell."""
+"""Which aggregates of two hosts belong together, by the numbers that ends of links announce."""
 from __future__ import annotations
 
 from collections import Counter
-from typing import NamedTuple, Optional
+from typing import Optional
 
 from .names import End
 from .plan import Plan
 from .seen.tables import Tables
 
-
+# an aggregate between two hosts: of the first one or not, and its number
 Side = tuple[str, str, bool, int]
 
 
-class Pair(NamedTuple):
-    """The aggregates of two hosts that the ends of a link tell."""
-
-    host: str
-    other_host: str
-    ours: int
-    theirs: int
-
-    def sides(self) -> tuple[Side, Side]:
-        """Returns each of its aggregates, between these two hosts."""
-        return ((self.host, self.other_host, True, self.ours),
-                (self.host, self.other_host, False, self.theirs))
-
-
 class Bundles:
-    """Counts, for each two hosts, how many planned links tell each pair of aggregates.
+    """Counts, for each two hosts, how many planned links announce each pair of aggregates.
 
     An aggregate of one host ends at one of the other. So a link whose pair shares one side with
     another pair, of as many links or more, ends at another aggregate than it ought to.
@@ -35,15 +21,11 @@ class Bundles:
 
     def __init__(self, plan: Plan, tables: Tables) -> None:
         self._tables = tables
-        self._counts: Counter[Pair] = Counter()
-        for end, wish in plan.ends.items():
-            pair = self._pair(end, wish.wanted)
-            if pair is not None:
-                self._counts[pair] += 1
+        self._counts = Counter(self._pair(end, wish.wanted) for end, wish in plan.ends.items())
         # the two greatest counts of the pairs that share a side
         self._greatest: dict[Side, list[int]] = {}
         for pair, times in self._counts.items():
-            for side in pair.sides():
+            for side in pair:
                 greatest = self._greatest.get(side, [0, 0])
                 self._greatest[side] = sorted([*greatest, times])[1:]
 
@@ -51,13 +33,13 @@ class Bundles:
         """Returns whether the two ends of a planned link are of aggregates that do not belong
         together."""
         pair = self._pair(end, other)
-        return pair is not None and any(self._greatest[side][0] >= self._counts[pair]
-                                        for side in pair.sides())
+        return any(self._greatest[side][0] >= self._counts[pair] for side in pair)
 
-    def _pair(self, end: End, other: End) -> Optional[Pair]:
-        """Returns the aggregates of which both ends of a link tell; None if one does not."""
+    def _pair(self, end: End, other: End) -> tuple[Side, ...]:
+        """Returns the aggregates that both ends of a link announce, or none if one does not."""
         ours, theirs = self._heard(other, end.host), self._heard(end, other.host)
-        return None if ours is None or theirs is None else Pair(end.host, other.host, ours, theirs)
+        return () if ours is None or theirs is None else (
+            (end.host, other.host, True, ours), (end.host, other.host, False, theirs))
 
     def _heard(self, end: End, host: str) -> Optional[int]:
         """Returns the aggregate that the only neighbor of an end names, if that neighbor is of a

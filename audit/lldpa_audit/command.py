@@ -5,13 +5,11 @@ import argparse
 import datetime
 import gc
 import json
-from typing import Callable, Optional, Sequence
+from typing import Iterable, Iterator, Mapping, Optional, Sequence
 
 from lldpa import output
-from lldpa.agent.child import Ended
-from lldpa.agent.framing import Refused
-from lldpa.agent.show import ShowFault
 from lldpa.capture.source import hold
+from lldpa.faults import LldpaFault
 
 from .aliases import read_aliases
 from .breakouts import join_lanes
@@ -20,25 +18,25 @@ from .judging import audit
 from .known import NOTHING_KNOWN, Known, read_known
 from .limits import MEGABYTES, limit_memory, limited
 from .mismatches import compared, mismatches
-from .names import NO_ALIASES, Names
-from .plan import Plan
-from .planfault import PlanFault
+from .names import NO_ALIASES, Names, shown
+from .plan import Plan, PlanFault
 from .planfile import read_plan
 from .progress import Progress
-from .report.gauges import metrics_of
-from .report.junit import junit_of
-from .report.files import FileFault, write
+from .report.files import write
+from .report.objects import json_of
 from .report.page import page_of
+from .report.pipelines import junit_of, metrics_of
 from .report.report import Report
 from .report.whole_hosts import several_chassis
-from .seen.files import read_files
+from .seen.files import SeenFile, read_files
 from .seen.folders import read_whats
+from .seen.gather import Gathering
 from .seen.tables import Tables
-from .what import of_hosts, placed
+from .what import What, of_hosts, placed
 from .words import read_words
-from .seen_words import ControlFault, gathered
 
 NAME = "lldpa-audit"
+PROGRAM = "lldpa"  # the agent that reads captures
 
 
 class Audit:
@@ -47,28 +45,27 @@ class Audit:
     def __init__(self, given: argparse.Namespace) -> None:
         self.given = given
         self.progress = Progress(NAME)
+        self.status = 0  # by what is wrong with files
 
     def run(self) -> int:
-        """Audits, prints and writes. Gives the status."""
+        """Audits, prints and writes. Returns the status."""
         limit_memory()
         gc.disable()  # what is made stays to the end; to look for garbage costs a third of the time
         given, names = self.given, self.names()
-        plan, known, tables, status = self.read(names)
+        plan, known, tables = self.read(names)
         self.progress.show("comparing")
         findings = known.applied(audit(plan, tables, given.planned_only), names)
         differing = mismatches(findings, tables, plan) if given.settings else {}
         if given.settings and not compared(findings, tables, plan):
             self.say("--settings compared nothing: no right link has settings from both ends")
-        for note in (*known.unplanned(plan), *several_chassis(findings)):
-            self.say(note)
+        self.say_all((*known.unplanned(plan), *several_chassis(findings)))
         report = Report(plan, tables, findings, differing)
-        self.print(report)
-        self.write(report)
+        self.show(report)
         is_right = report.count.is_all_right and (report.count.is_complete or not given.all)
-        return status or (0 if is_right else 1)
+        return self.status or (0 if is_right else 1)
 
-    def read(self, names: Names) -> tuple[Plan, Known, Tables, int]:
-        """Reads the plan, the known faults and what was seen. Also gives the status by files."""
+    def read(self, names: Names) -> tuple[Plan, Known, Tables]:
+        """Reads the plan, the known faults and what was seen."""
         given = self.given
         whats = list(read_whats(given.what, given.host, self.say))
         for what in whats:
@@ -76,21 +73,36 @@ class Audit:
         files = read_files(of_hosts(whats))  # beside the plan
         with limited(given.plan):
             plan = read_plan(given.plan, names, given.columns, given.panels, self.progress)
-        known = self.known(names)
+        today = datetime.date.today()
+        known = read_known(given.known, names, today) if given.known else NOTHING_KNOWN
         if given.by and key_of(given.by) not in map(key_of, plan.columns):
             raise ValueError(f"{plan.file} has no column {given.by}")
-        for note in (*plan.notes, *known.notes):
-            self.say(note)
+        self.say_all((*plan.notes, *known.notes))
         whats = [placed(what, plan, names, given.host) for what in whats]
-        files = self.progress.over(files, len(whats), "files")
-        tables, status = gathered(given, whats, files, plan, names, self.say)
+        tables = self.gather(whats, self.progress.over(files, len(whats), "files"), plan, names)
         join_lanes(plan, tables)
-        return plan, known, tables, status
+        return plan, known, tables
 
-    def known(self, names: Names) -> Known:
-        """Returns the faults that are known."""
-        file = self.given.known
-        return read_known(file, names, datetime.date.today()) if file else NOTHING_KNOWN
+    def gather(self, whats: Sequence[What], files: Iterator[SeenFile], plan: Plan, names: Names
+               ) -> Tables:
+        """Returns what is known of the audited hosts."""
+        given, tables = self.given, Tables(names)
+        gathering = Gathering(tables, PROGRAM, self.say, given.stale_after)
+        gathering.add_files(whats, files)
+        for what in whats:
+            key = names.host(what.host)
+            if what.host != given.host and key in plan.hosts and key not in tables.hosts:
+                tables.add_reason(what.host, "", f"{what.file}: it is of other hosts")
+        if given.live:
+            try:
+                gathering.add_live(given.host, given.control, plan, given.wait)
+            except OSError as fault:
+                raise ValueError(f"{given.control}: {fault.strerror or fault}") from None
+        tables.complete(plan)
+        self.say_all(unplanned_hosts(tables, plan, {names.host(what.host): what.file
+                                                    for what in whats}))
+        self.status = gathering.status
+        return tables
 
     def names(self) -> Names:
         """Returns how names are compared."""
@@ -100,29 +112,55 @@ class Audit:
             aliases = read_aliases(given.aliases, Names(*rules)) if given.aliases else NO_ALIASES
         return Names(*rules, aliases)
 
-    def print(self, report: Report) -> None:
-        """Prints what was found."""
-        self.progress.clear()
-        if self.given.json:
-            print(json.dumps(report.as_json()).replace("##", "#\\u0023"))
-        else:
-            print("\n".join(map(harmless, report.lines(self.given.by))))
-
-    def write(self, report: Report) -> None:
-        """Writes a page and what pipelines read, if they are asked for."""
+    def show(self, report: Report) -> None:
+        """Prints what was found, and writes the files that are asked for."""
         given = self.given
-        makers: Sequence[tuple[Optional[str], Callable[[], bytes]]] = (
-            (given.html, lambda: page_of(report)),
-            (given.junit, lambda: junit_of(report, given.all)),
-            (given.metrics, lambda: metrics_of(report)))
-        for file, made in makers:
-            if file:
-                write(file, made())
+        self.progress.clear()
+        if given.json:
+            print(json.dumps(json_of(report)).replace("##", "#\\u0023"))
+        else:
+            print("\n".join(map(harmless, report.lines(given.by))))
+        if given.html:
+            write(given.html, page_of(report))
+        if given.junit:
+            write(given.junit, junit_of(report, given.all))
+        if given.metrics:
+            write(given.metrics, metrics_of(report))
 
     def say(self, text: str) -> None:
         """Writes a line on standard error."""
         self.progress.clear()
         output.complain(NAME, harmless(text))
+
+    def say_all(self, texts: Iterable[str]) -> None:
+        """Writes lines on standard error."""
+        for text in texts:
+            self.say(text)
+
+
+def unplanned_hosts(tables: Tables, plan: Plan, files: Mapping[str, str]) -> Sequence[str]:
+    """Returns which hosts have a list and no planned cable, in words, by the files of hosts. Raises
+    ValueError if there are no other hosts."""
+    if not tables.hosts:
+        raise ValueError(f"no file lists neighbors of hosts of {plan.file}")
+    unplanned = {key: host for key, host in tables.hosts.items() if key not in plan.hosts}
+    loose = Names(ignore_case=True, short_names=True)
+    like = {loose.host(one): one for one in plan.hosts.values()} if unplanned else {}
+    told = [f"{plan.file} has no cable of the host {shown(host)}"
+            f"{advice(like.get(loose.host(host)), files.get(key, ''), plan)}"
+            for key, host in unplanned.items()]
+    if len(unplanned) == len(tables.hosts):
+        raise ValueError(told[0])
+    return told
+
+
+def advice(like: Optional[str], file: str, plan: Plan) -> str:
+    """Returns what to do if nothing of a host is planned, in words."""
+    if like:
+        return f", but of {shown(like)}: see --host, --ignore-case, --short-names"
+    first = next(iter(plan.hosts.values()))
+    return (f": if the file is of another host, write HOST:FILE, such as {first}:{file}" if file
+            else "")
 
 
 def harmless(line: str) -> str:
@@ -141,12 +179,11 @@ def status_of(words: Optional[Sequence[str]]) -> int:
     except KeyboardInterrupt:
         return 130
     except PlanFault as fault:
-        for text in fault.texts:
-            program.say(text)
+        program.say_all(fault.texts)
     except OSError as fault:
         where = f"{fault.filename}: " if fault.filename else ""
         program.say(f"{where}{fault.strerror or fault}")
-    except (ControlFault, FileFault, ShowFault, Refused, Ended, ValueError) as fault:
+    except (LldpaFault, ValueError) as fault:
         program.say(str(fault))
     except MemoryError:
         program.say(f"{given.plan}: its audit needs more than {MEGABYTES} MB of memory")

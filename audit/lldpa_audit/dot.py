@@ -65,7 +65,7 @@ def edges_of(text: str) -> Iterator[Edge]:
 
 
 def after_skipped(text: str, at: int) -> int:
-    """Returns the place behind blanks and comments."""
+    """Returns the place after blanks and comments."""
     found = SKIPPED.match(text, at)
     return found.end() if found else at
 

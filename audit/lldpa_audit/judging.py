@@ -72,7 +72,7 @@ class Judge:
 
     def planned(self) -> Iterator[Finding]:
         """Yields the findings on the planned ends of the audited hosts, and on both ends of links
-        of which nothing is known."""
+        that nobody looked at."""
         hosts, ends, items = self.tables.hosts, self.tables.ends, iter(self.plan.ends.items())
         for (one, wish), (other, other_wish) in zip(items, items):  # the two ends of a link
             told, other_told = ends.get(one), ends.get(other)
@@ -114,28 +114,23 @@ class Judge:
         is known of has the other one alone."""
         if told is None:
             return Finding(wish.end, Verdict.NO_DATA, wish.wants)
-        if self._bundles is not None and self.is_of_another_bundle(self._bundles, end,
-                                                                   wish.wanted, told):
+        if self._bundles is not None and self.is_of_another_bundle(end, wish.wanted, told):
             return Finding(wish.end, Verdict.WRONG, wish.wants, told.neighbors)
         if is_right:
             return Finding(wish.end, Verdict.RIGHT, wish.wants, told.neighbors)
-        verdict = self.verdict(end, wish.wanted, told.neighbors)
+        verdict, partner = self.verdict(end, wish.wanted, told.neighbors), None
         if verdict is Verdict.WRONG:
             partner = self.partner(end, wish.wanted, told.neighbors[0])
-            if partner is not None:
-                return Finding(wish.end, Verdict.SWAPPED, wish.wants, told.neighbors, partner)
-        return Finding(wish.end, verdict, wish.wants, told.neighbors)
+        return Finding(wish.end, Verdict.SWAPPED if partner else verdict, wish.wants,
+                       told.neighbors, partner)
 
-    def is_of_another_bundle(self, bundles: Bundles, end: End, wanted: End, told: KnownPort
-                             ) -> bool:
+    def is_of_another_bundle(self, end: End, wanted: End, told: KnownPort) -> bool:
         """Returns whether the one neighbor of an end names an aggregate in place of its port, and
         that is not the one to which the link belongs."""
-        if len(told.neighbors) != 1:
-            return False
-        neighbor = told.neighbors[0]
-        return (self.names.is_any_member(neighbor, wanted.host)
-                and wanted not in self.names.ends(neighbor)
-                and bundles.part(end, wanted))
+        return (self._bundles is not None and len(told.neighbors) == 1
+                and self.names.is_any_member(told.neighbors[0], wanted.host)
+                and wanted not in self.names.ends(told.neighbors[0])
+                and self._bundles.part(end, wanted))
 
     def has_only(self, told: KnownPort, end: End) -> bool:
         """Returns whether a port has one neighbor, which answers to an end."""
@@ -174,7 +169,9 @@ class Judge:
         for host in self.hosts_of_aggregate(neighbor):
             others.update(self._with_another.get((host, wanted), ()),
                           self._with_another.get((host, wanted.host), ()))
-        found = [other for other in others - {end, wanted} if self.has_alone(other, wanted)
+        seen = self.tables.ends
+        found = [other for other in others - {end, wanted}
+                 if other in seen and self.has_only(seen[other], wanted)
                  and not self.sees(other, self.plan.ends[other].wanted)]
         if len(found) > 1:
             found.sort(key=self._ranks.__getitem__)
@@ -186,7 +183,7 @@ class Judge:
         return {end: rank for rank, end in enumerate(self.plan.ends)}
 
     def hosts_of_aggregate(self, neighbor: Seen) -> set[str]:
-        """Returns the hosts of which a neighbor that names its aggregate may be each port."""
+        """Returns the hosts whose ports a neighbor may be, since it names its aggregate."""
         return {host for host in self.names.hosts_of(neighbor)
                 if self.names.is_any_member(neighbor, host)}
 
@@ -207,8 +204,3 @@ class Judge:
                 if len(some) < MOST_TRIED:
                     some.append(end)
         return found
-
-    def has_alone(self, end: End, other: End) -> bool:
-        """Returns whether an end has one neighbor, which answers to the other end."""
-        told = self.tables.ends.get(end)
-        return told is not None and self.has_only(told, other)

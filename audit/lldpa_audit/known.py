@@ -6,8 +6,7 @@ from typing import NamedTuple, Optional, Sequence
 
 from .judging import Finding, Verdict
 from .names import End, Names, shown
-from .plan import Plan
-from .planfault import Faults
+from .plan import Faults, Plan
 from .rows import table_of
 
 COLUMNS, FURTHER = ["host", "port", "reason", "until"], ["verdict"]
@@ -38,7 +37,7 @@ class Known(NamedTuple):
 
     def reason(self, names: Names, end: Optional[End], verdict: Verdict) -> str:
         """Returns why a verdict at an end is excused, or an empty text if it is not."""
-        if end is None or not self.rows:
+        if end is None:
             return ""
         key = names.end(end)
         rows = (*self.rows.get(key, ()), *self.rows.get(End(key.host, ""), ()))
@@ -51,13 +50,11 @@ class Known(NamedTuple):
 
     def _applied(self, one: Finding, names: Names) -> Finding:
         """Returns a finding, as known if it is excused."""
-        reason = "" if one.verdict is Verdict.RIGHT else self._reason_of(one, names)
-        return one._replace(verdict=Verdict.KNOWN, reason=reason) if reason else one
-
-    def _reason_of(self, one: Finding, names: Names) -> str:
-        """Returns why a finding is excused."""
+        if one.verdict is Verdict.RIGHT:
+            return one
         ours, theirs = (self.reason(names, end, one.verdict) for end in (one.end, one.wants))
-        return ours and theirs if one.verdict is Verdict.NOT_LOOKED_AT else ours or theirs
+        reason = ours and theirs if one.verdict is Verdict.NOT_LOOKED_AT else ours or theirs
+        return one._replace(verdict=Verdict.KNOWN, reason=reason) if reason else one
 
     def unplanned(self, plan: Plan) -> list[str]:
         """Returns which rows name nothing that is planned, and so excuse nothing."""

@@ -20,8 +20,8 @@ MOST_KEPT = 4096
 class Settings(NamedTuple):
     """What a port says of its link; None if it does not say it.
 
-    The maximum frame size is in octets, the speed in Mb/s. No port says a PVID of 0, which stands
-    for none. Duplex is `full` or `half`. `aggregation` is the number of the aggregate at that host.
+    The maximum frame size is in octets, the speed in Mb/s. No port says a PVID of 0, which means
+    none. Duplex is `full` or `half`. `aggregation` is the number of the aggregate at that host.
     """
 
     max_frame_size: Optional[int] = None

@@ -1,6 +1,7 @@
 """In what the two ends of right links differ, by what both say of the link and by the plan."""
 from __future__ import annotations
 
+from itertools import combinations
 from typing import Iterable, Iterator, Mapping, NamedTuple, Optional, Union
 
 from .columns import key_of
@@ -28,66 +29,63 @@ class Mismatch(NamedTuple):
     opposite: str = ""
 
 
-def mismatches(findings: Iterable[Finding], tables: Tables, plan: Optional[Plan] = None
-               ) -> dict[End, Mismatch]:
-    """Returns the mismatch of each right link that has one, at its first end in the plan.
+class Said(NamedTuple):
+    """What is said of a right link: by its two ends, and by the plan."""
 
-    What a port says is known from its neighbor at the other end. If the plan has columns mtu, speed
-    or pvid, what each end says is compared with them as well.
-    """
-    right = {tables.names.end(one.end): one for one in findings if one.verdict is Verdict.RIGHT}
-    wanted = expected(plan) if plan is not None else {}
+    ends: tuple[End, End]
+    one: Settings
+    other: Settings
+    planned: Settings
+
+
+def said_of_links(findings: Iterable[Finding], tables: Tables, plan: Plan) -> Iterator[Said]:
+    """Yields what is said of each right link, once for each of its ends. What a port says is known
+    from its neighbor at the other end."""
+    names = tables.names
+    right = {names.end(one.end): one for one in findings if one.verdict is Verdict.RIGHT}
+    wanted = expected(plan)
+    for key, one in right.items():
+        if one.wants is not None:
+            far = right.get(names.end(one.wants))
+            yield Said((one.end, one.wants),
+                       (far.has[0].settings if far is not None else None) or NO_SETTINGS,
+                       one.has[0].settings or NO_SETTINGS, wanted.get(key, NO_SETTINGS))
+
+
+def mismatches(findings: Iterable[Finding], tables: Tables, plan: Plan) -> dict[End, Mismatch]:
+    """Returns the mismatch of each right link that has one, at its first end in the plan."""
     found: dict[End, Mismatch] = {}
-    for finding in right.values():
-        other = right.get(tables.names.end(finding.wants)) if finding.wants else None
-        if finding.wants is None or finding.wants in found:
-            continue
-        said = other.has[0].settings if other is not None else None
-        its = finding.has[0].settings
-        one = together(mismatch(finding.end, finding.wants, said, its),
-                       unlike_plan(finding.end, finding.wants, said, its,
-                                   wanted.get(tables.names.end(finding.end), NO_SETTINGS)))
+    for said in said_of_links(findings, tables, plan):
+        one = mismatch(said) if said.ends[1] not in found else None
         if one is not None:
-            found[finding.end] = one
+            found[said.ends[0]] = one
     return found
 
 
 def compared(findings: Iterable[Finding], tables: Tables, plan: Plan) -> bool:
     """Returns whether any right link has settings that can be compared: of both ends, or of one end
     and the plan."""
-    wanted = expected(plan)
-    right = {tables.names.end(one.end): one for one in findings if one.verdict is Verdict.RIGHT}
-    for key, one in right.items():
-        far = right.get(tables.names.end(one.wants)) if one.wants else None
-        said = far.has[0].settings if far is not None and far.has else None
-        its = one.has[0].settings
-        if any(are_alike(*pair) for pair in ((said, its), (said, wanted.get(key)),
-                                             (its, wanted.get(key)))):
-            return True
-    return False
+    return any(are_alike(one, other) for _, *settings in said_of_links(findings, tables, plan)
+               for one, other in combinations(settings, 2))
 
 
-def are_alike(one: Optional[Settings], other: Optional[Settings]) -> bool:
+def are_alike(one: Settings, other: Settings) -> bool:
     """Returns whether both have a value of some setting."""
-    return one is not None and other is not None and any(
-        value is not None and its is not None for value, its in zip(one[:5], other[:5]))
+    return any(value is not None and its is not None for value, its in zip(one[:5], other[:5]))
 
 
-def together(one: Optional[Mismatch], other: Optional[Mismatch]) -> Optional[Mismatch]:
-    """Returns both mismatches of a link as one, or the one that it has."""
-    if one is None or other is None:
-        return one or other
-    return Mismatch(f"{one.text}; {other.text.removeprefix(MISMATCH)}", one.ends)
-
-
-def mismatch(end: End, other: End, said: Optional[Settings], its: Optional[Settings]
-             ) -> Optional[Mismatch]:
-    """Returns in what the ends of a link differ."""
-    pairs = list(differing(said, its)) if said is not None and its is not None else []
+def mismatch(said: Said) -> Optional[Mismatch]:
+    """Returns in what the ends of a link differ from one another, and from the plan."""
+    end, other = said.ends
+    unlike_plan = [f"{place} says {text}, the plan has {planned}"
+                   for place, settings in ((end, said.one), (other, said.other))
+                   for text, planned, _, _ in differing(settings, said.planned)]
+    pairs = list(differing(said.one, said.other))
     if not pairs:
-        return None
+        return Mismatch(MISMATCH + "; ".join(unlike_plan), said.ends) if unlike_plan else None
     ones, others, more, less = (" and ".join(words) for words in zip(*pairs))
-    return Mismatch(f"{MISMATCH}{end} says {ones}, {other} says {others}", (end, other), more, less)
+    text = MISMATCH + "; ".join([f"{end} says {ones}, {other} says {others}", *unlike_plan])
+    return Mismatch(text, said.ends) if unlike_plan else Mismatch(text, said.ends, more, less)
 
 
 def differing(one: Settings, other: Settings) -> Iterator[tuple[str, str, str, str]]:
@@ -127,16 +125,6 @@ def planned(plan: Plan, key: End) -> Settings:
             raise ValueError(f"{plan.file}: {plan.ends[key].end}: {name} {texts[name]!r} is not a "
                              "number to compare with")
     return wanted
-
-
-def unlike_plan(end: End, other: End, said: Optional[Settings], its: Optional[Settings],
-                wanted: Settings) -> Optional[Mismatch]:
-    """Returns in what the ends of a link differ from the plan."""
-    texts = []
-    for place, one in ((end, said), (other, its)):
-        pairs = list(differing(one, wanted)) if one is not None else []
-        texts += [f"{place} says {text}, the plan has {plan}" for text, plan, _, _ in pairs]
-    return Mismatch(f"{MISMATCH}{'; '.join(texts)}", (end, other)) if texts else None
 
 
 def worded(value: Value) -> str:

@@ -51,14 +51,14 @@ class Seen(NamedTuple):
         return f"chassis {shown(self.chassis)}, port {shown(self.port_id)}"
 
 
-# a neighbor of whom no more is known than that the table had no room for it
+# a neighbor for which the table had no room: nothing else is known
 NAMELESS = Seen((), ())
 
 
 class Aliases(NamedTuple):
     """Further names: of hosts, and of the ports of a host, or of any if the host is empty.
 
-    All stand as they are compared. A port's further name may be that of several ports.
+    All are as they are compared. Several ports may share a further name.
     """
 
     hosts: dict[str, str]
@@ -149,8 +149,8 @@ class Names:
         return key
 
     def ports(self, host: str, name: str) -> Sequence[str]:
-        """Returns the ports that a name stands for, as they are compared, at a host that is
-        compared too."""
+        """Returns the ports that a name means, as they are compared, at a host that is compared
+        too."""
         port = self.plain_port(name)
         aliases = self.aliases.ports
         return aliases.get(End(host, port)) or aliases.get(End("", port)) or (port,)

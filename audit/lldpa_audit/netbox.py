@@ -1,33 +1,79 @@
-"""NetBox's cables as its REST API lists them, at /api/dcim/cables/."""
+"""NetBox's cables: which ends each joins, and which of them are left out. Its REST API lists them
+at /api/dcim/cables/."""
 from __future__ import annotations
 
 import json
+import re
 from typing import Any, Iterator, NamedTuple, Optional, Sequence, Union
 
-from .columns import ABSENT, FREE, NOT_THERE, OF_PANELS, PORTS, POWER
-from .names import End
-from .planfault import Faults
+from .plan import Faults
+
 
 # what else of a cable is reported with its faults
 DETAILS = ("id", "label", "type", "color", "length", "length_unit", "status", "description")
 
+# the ends of cables, as NetBox calls them, that are ports of a network or of a panel
+OF_PANELS = ("frontport", "rearport")
+PORTS = ("interface", *OF_PANELS)
+CIRCUIT = "circuittermination"
+# the names of power and console ports: exports with the headings of tables have no types
+OTHER_PORT = re.compile(r"(?:(?:rj45|(?:mini-?)?usb)[ _-]?)?"
+                        r"(?:psu?|pem|pwr|power|outlet|inlet|con|console|serial|tty[a-z]?|aux)"
+                        r"(?:[ _-]?(?:supply|feed|port))?[ _:/.-]?[a-z]?[0-9]{0,3}", re.I)
+NOT_THERE = ("planned", "decommissioning")
 
-class Termination(NamedTuple):
-    """A port at which a cable ends, and the kind of NetBox's object that it is."""
+# why a cable of NetBox is left out
+POWER, ABSENT, FREE, UNPAIRED = ("of power or consoles", "planned or decommissioning",
+                                 "without a port of a device at both ends",
+                                 "with ends that cannot be paired")
 
-    end: End
-    kind: str
+# the host and the port of an end, and of the two ends that are joined
+Pair = tuple[str, str]
+Row = Sequence[str]
+NO_END = ("", "")
+AT_NO_PANEL = (False, False)
 
 
-class ApiCable(NamedTuple):
-    """The ports that a cable joins, in their order at both its sides, and its details."""
+class Cable(NamedTuple):
+    """The ends that a cable of a plan joins, several at a side if it breaks out, and the line of
+    the plan. `texts` has what else the plan says of it, `at_panels` whether each side is at a
+    panel, and `position` where a front port of a panel is at its rear port."""
 
-    sides: tuple[Sequence[Termination], Sequence[Termination]]
-    texts: Sequence[str]
+    rows: Sequence[Row]
+    line: Optional[int] = None
+    texts: Sequence[str] = ()
+    at_panels: tuple[bool, bool] = AT_NO_PANEL
+    position: str = "1"
 
-    def is_at_panel(self, side: int) -> bool:
-        """Returns whether a side, 0 or 1, has ports of panels."""
-        return any(one.kind in OF_PANELS for one in self.sides[side])
+
+class Side(NamedTuple):
+    """The ends of a cable at one side, and their kinds if these are known."""
+
+    ends: Sequence[Pair]
+    kinds: Sequence[str]
+
+    @property
+    def is_at_panel(self) -> bool:
+        """Returns whether it has ports of panels."""
+        return any(kind.endswith(OF_PANELS) for kind in self.kinds)
+
+
+def rows_of(one: Side, other: Side, kind: str, status: str) -> Union[Sequence[Row], str]:
+    """Returns the ends that a cable joins, or why it is left out: the first two ends, the second
+    two .., or each with the only one of the other side."""
+    kinds, ends = [*one.kinds, *other.kinds], [*one.ends, *other.ends]
+    if status in NOT_THERE:
+        return ABSENT
+    if kind == "power" or any(its and not its.endswith((*PORTS, CIRCUIT)) for its in kinds):
+        return POWER
+    if any("" in end for end in ends) or any(its.endswith(CIRCUIT) for its in kinds):
+        return FREE
+    if not kinds and any(OTHER_PORT.fullmatch(port) for _, port in ends):
+        return POWER
+    if len(one.ends) == 1 or len(other.ends) == 1:
+        return [(*near, *far) for near in one.ends for far in other.ends] or UNPAIRED
+    are_pairs = len(one.ends) == len(other.ends)
+    return [(*near, *far) for near, far in zip(one.ends, other.ends) if are_pairs] or UNPAIRED
 
 
 def is_json(text: str) -> bool:
@@ -35,7 +81,7 @@ def is_json(text: str) -> bool:
     return text.lstrip()[:1] in ("{", "[")
 
 
-def cables_of(text: str, faults: Faults) -> Iterator[Union[ApiCable, str]]:
+def cables_of(text: str, faults: Faults) -> Iterator[Union[Cable, str]]:
     """Yields each cable of an answer, or of a list of answers, or why it is left out. What else is
     wrong is a fault."""
     try:
@@ -55,35 +101,31 @@ def cables_of(text: str, faults: Faults) -> Iterator[Union[ApiCable, str]]:
         yield from map(cable_of, found)
 
 
-def cable_of(node: Any) -> Union[ApiCable, str]:
+def cable_of(node: Any) -> Union[Cable, str]:
     """Returns a cable, or why it is left out."""
     if not isinstance(node, dict):
         return FREE
     texts = [text_of(node.get(name)) for name in DETAILS]
-    some = [node.get(f"{side}_terminations") or () for side in "ab"]
-    if texts[DETAILS.index("status")] in NOT_THERE:
-        return ABSENT
-    if texts[DETAILS.index("type")] == "power":
-        return POWER
-    sides = [[termination_of(one) for one in side] for side in some]
-    if not all(sides) or not all(all(side) for side in sides):
-        return FREE
-    ones, others = [[one for one in side if one is not None] for side in sides]
-    if any(one.kind not in PORTS for one in (*ones, *others)):
-        return POWER
-    return ApiCable((ones, others), texts)
+    one, other = side_of(node.get("a_terminations")), side_of(node.get("b_terminations"))
+    rows = rows_of(one, other, texts[DETAILS.index("type")], texts[DETAILS.index("status")])
+    return rows if isinstance(rows, str) else Cable(
+        rows, None, texts, (one.is_at_panel, other.is_at_panel))
 
 
-def termination_of(node: Any) -> Optional[Termination]:
-    """Returns a side of a cable, or None if it is not a port of a device."""
-    place = node.get("object") if isinstance(node, dict) else None
-    device = place.get("device") or place.get("power_panel") if isinstance(place, dict) else None
-    if not isinstance(place, dict) or not isinstance(device, dict):
-        return None
-    host = device.get("name") or device.get("display")
-    port = place.get("name") or place.get("display")
-    kind = str(node.get("object_type")).partition(".")[2]
-    return Termination(End(str(host), str(port)), kind) if host and port else None
+def side_of(terminations: Any) -> Side:
+    """Returns a side of a cable, with an end without names for what is not a port of a device."""
+    nodes = [one for one in terminations or () if isinstance(one, dict)]
+    kinds = [str(node.get("object_type")).partition(".")[2] for node in nodes]
+    return Side([end_of(node.get("object")) for node in nodes] or [NO_END], kinds)
+
+
+def end_of(port: Any) -> Pair:
+    """Returns the host and the port of an end, or no names if it is not a port of a device."""
+    device = port.get("device") if isinstance(port, dict) else None
+    if not isinstance(device, dict):
+        return NO_END
+    host, name = (one.get("name") or one.get("display") or "" for one in (device, port))
+    return str(host), str(name)
 
 
 def text_of(value: Any) -> str:

@@ -5,8 +5,7 @@ from collections import Counter
 from typing import Iterable, Iterator, NamedTuple, Optional, Sequence, Union
 
 from .names import End, Names
-from .plan import Detail, Link
-from .planfault import Faults
+from .plan import Detail, Faults, Link
 
 
 # the most panels that a link is followed through: in a ring of panels it would never end
@@ -53,8 +52,8 @@ class Panels:
             self._add_pair(pair, faults_of_pairs)
 
     def _add_pair(self, pair: Pair, faults: Faults) -> None:
-        """Remembers what a front port leads to. A port that stands in two pairs is a fault, unless
-        it is a rear port, and they have different positions."""
+        """Remembers what a front port leads to. A port in two pairs is a fault, unless it is a
+        rear port and they have different positions."""
         front, rear = self._names.end(pair.front), self._names.end(pair.rear)
         back = self._pairs.get(rear)
         if back is not None and self._names.end(back.rear) == front:
@@ -72,21 +71,19 @@ class Panels:
         twice."""
         links = list(links)
         for link in links:
-            self._add(link)
+            if self.has(link.one) or self.has(link.other):
+                self._add(link)
         for link in links:
-            one_key, other_key = self._names.end(link.one), self._names.end(link.other)
-            if not self.has(one_key) and not self.has(other_key):
+            one, other = self.has(link.one), self.has(link.other)
+            if not one and not other:
                 yield link
-            elif self._faults.count:
-                continue  # a cable that was refused may close a ring
-            elif not self.has(one_key):
-                yield from self._followed(link.one, self._cable(link, link.other))
-            elif not self.has(other_key):
-                yield from self._followed(link.other, self._cable(link, link.one))
+            elif one != other and not self._faults.count:  # one that was refused may close a ring
+                begin, end = (link.other, link.one) if one else link[:2]
+                yield from self._followed(begin, self._cable(link, end))
 
-    def has(self, key: End) -> bool:
+    def has(self, end: End) -> bool:
         """Returns whether an end is at a panel."""
-        return key.host in self._hosts
+        return self._names.host(end.host) in self._hosts
 
     def _cable(self, link: Link, end: End) -> Cable:
         return Cable(end, self._names.end(end), link.line, link.detail)
@@ -94,11 +91,9 @@ class Panels:
     def _add(self, link: Link) -> None:
         """Remembers a cable of a panel. Two at one side of a panel are a fault of the plan."""
         one, other = self._cable(link, link.one), self._cable(link, link.other)
-        if not self.has(one.key) and not self.has(other.key):
-            return
         for near, far in ((one, other), (other, one)):
             before = self._cables.get(near.key)
-            if before is not None and before.key != far.key and self.has(near.key):
+            if before is not None and before.key != far.key and self.has(near.end):
                 self._faults.add(link.line, f"{near.end} is planned already in line {before.line}")
                 return
         self._cables[one.key], self._cables[other.key] = other, one
@@ -108,7 +103,7 @@ class Panels:
         first = cable
         path: list[End] = []
         positions: list[str] = []
-        while self.has(cable.key):
+        while self.has(cable.end):
             side = self._other_side(cable, positions)
             further = None if isinstance(side, str) else self._cables.get(self._names.end(side))
             if isinstance(side, str) or further is None or len(path) > 2 * MOST_PANELS:

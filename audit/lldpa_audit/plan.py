@@ -1,13 +1,52 @@
-"""A plan of the cabling: which end is to be joined to which."""
+"""A plan of the cabling: which end is to be joined to which, and what is wrong with its file."""
 from __future__ import annotations
 
 from collections import defaultdict
 from functools import cached_property
 from typing import Iterable, Mapping, NamedTuple, Optional, Sequence, Set
 
-from .names import End, Names, shown
-from .planfault import Faults
+from lldpa.faults import LldpaFault
 
+from .names import End, Names, shown
+
+MOST_TOLD = 20
+MOST_COUNTED = 10_000
+
+
+class PlanFault(LldpaFault):
+    """What is wrong with a plan. `texts` has the first faults, each with file and line."""
+
+    def __init__(self, texts: list[str]) -> None:
+        super().__init__("\n".join(texts))
+        self.texts = texts
+
+
+class Faults:
+    """Collects the faults of a file, so that all are reported at once."""
+
+    def __init__(self, file: str) -> None:
+        self.file = file
+        self.count = 0
+        self._texts: list[str] = []
+
+    def add(self, line: Optional[int], text: str) -> None:
+        """Adds a fault, and its line if it has one. Raises PlanFault after very many."""
+        self.count += 1
+        if self.count > MOST_COUNTED:
+            self.end()
+        if self.count <= MOST_TOLD:
+            place = self.file if line is None else f"{self.file}: line {line}"
+            self._texts.append(f"{place}: {text}")
+
+    def end(self) -> None:
+        """Raises PlanFault if there was a fault."""
+        more = self.count - len(self._texts)
+        if more:
+            least = "at least " if self.count > MOST_COUNTED else ""
+            self._texts.append(
+                f"{self.file}: {least}{more} more {'fault' if more == 1 else 'faults'}")
+        if self._texts:
+            raise PlanFault(self._texts)
 
 
 class Detail(NamedTuple):
@@ -97,7 +136,7 @@ class Plan:
                                       "would be one host by --short-names")
 
     def _add(self, link: Link, names: Names, faults: Faults) -> None:
-        """Plans a link, unless it stands there already."""
+        """Plans a link, unless it is planned already."""
         one, other, line, other_line, detail, other_detail = link
         one_key, other_key = names.end(one), names.end(other)
         before, other_before = self.ends.get(one_key), self.ends.get(other_key)
@@ -110,7 +149,7 @@ class Plan:
             faults.add(line, planned_twice(twice, before or other_before, line))
 
     def _add_lane(self, link: Link, whole: Set[End], names: Names, faults: Faults) -> None:
-        """Plans a link of a breakout cable, of which the end that is in `whole` has several."""
+        """Plans a link of a breakout cable: its end in `whole` has several links."""
         if link.one not in whole:
             link = Link(link.other, link.one, link.line, link.other_line, link.detail,
                         link.other_detail)

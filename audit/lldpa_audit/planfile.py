@@ -2,21 +2,20 @@
 from __future__ import annotations
 
 from collections import Counter
-from typing import Iterable, Iterator, Mapping, Optional, Sequence
+from sys import intern
+from typing import Iterable, Iterator, Mapping, Optional, Sequence, Union
 
-from .columns import UNPAIRED, Columns, paired
+from .columns import Columns
 from .dot import DotFault, edges_of, is_dot
 from .names import End, Names
-from .netbox import DETAILS, cables_of, is_json
+from .netbox import DETAILS, Cable, Row, cables_of, is_json
 from .panels import Pair, Panels, fewest_links
-from .plan import NO_DETAIL, Detail, Link, Plan
-from .planfault import Faults
+from .plan import NO_DETAIL, Detail, Faults, Link, Plan
 from .progress import Progress
 from .rows import rows_of, text_of
 
 MOST_NAMED = 3
 LONGEST_NAME = 255  # no neighbor says a longer one
-MOST_KEPT = 65536
 
 
 class PlanFile:
@@ -36,114 +35,80 @@ class PlanFile:
         self.at_panels: dict[End, End] = {}
         self.breakouts: set[End] = set()
         self._given = columns
-        self._names: dict[str, str] = {}
         self._has_panels = has_panels
 
     def links(self) -> Iterator[Link]:
         """Yields the links, without panels only those that do not end at one."""
-        for link in self._all_links():
-            if self._has_panels or not self.at_panels or not self.at_panels.keys() & link[:2]:
-                yield link
+        for cable in self._cables():
+            if isinstance(cable, str):
+                self.left_out[cable] += 1
+                continue
+            for link in self._links_of(cable):
+                if self._has_panels or not self.at_panels or not self.at_panels.keys() & link[:2]:
+                    yield link
 
-    def _all_links(self) -> Iterator[Link]:
-        """Yields the links in the form that the content has."""
+    def pairs(self) -> Iterator[Pair]:
+        """Yields the pairs of ports that panels join."""
+        for cable in self._cables():
+            if isinstance(cable, Cable):
+                for link in self._links_of(cable):
+                    yield Pair(link.one, link.other, cable.position, link.line)
+
+    def _cables(self) -> Iterator[Union[Cable, str]]:
+        """Returns the cables, and why others are left out."""
         if is_json(self.text):
-            return self._links_of_netbox()
-        return self._links_of_dot() if is_dot(self.text) else self._links_of_csv()
+            self.others = DETAILS
+            return cables_of(self.text, self.faults)
+        return self._cables_of_dot() if is_dot(self.text) else self._cables_of_rows()
 
-    def _kept(self, name: str, line: Optional[int]) -> str:
-        """Returns a name, which is kept once if it is in many rows. A name longer than LLDP can say
-        is a fault."""
-        if len(name) > LONGEST_NAME:
-            self.faults.add(line, f"a name in it has {len(name)} characters; the longest name "
-                                  f"that LLDP can send has {LONGEST_NAME}")
-        if len(self._names) >= MOST_KEPT:
-            self._names.clear()
-        self._names[name] = name
-        return name
-
-    def _end(self, names: Iterable[str], line: Optional[int]) -> End:
-        """Returns an end of these two names."""
-        return End(*[self._names.get(name) or self._kept(name, line) for name in names])
-
-    def _links_of_dot(self) -> Iterator[Link]:
+    def _cables_of_dot(self) -> Iterator[Cable]:
+        """Yields the edges of a graph."""
         try:
             for names, line in edges_of(self.text):
                 if not all(names):
                     self.faults.add(line, "a name in it is empty")
-                yield Link(self._end(names[:2], line), self._end(names[2:], line), line)
+                yield Cable((names,), line)
         except DotFault as fault:
             self.faults.add(fault.line, str(fault))
 
-    def _links_of_csv(self) -> Iterator[Link]:
-        """Yields the links of rows, whose first names the columns."""
+    def _cables_of_rows(self) -> Iterator[Union[Cable, str]]:
+        """Yields the cables of rows, the first of which names the columns."""
         rows = rows_of(self.text, self.faults)
         line, header = next(rows, (1, []))
         columns = Columns(header, line, self.faults, self._given)
-        self.others, self.left_out = columns.others, columns.left_out
-        has_details, has_types, names = bool(self.others), columns.has_types, self._names
+        self.others = columns.others
         for line, fields in rows if columns.can_read else ():
-            ends = columns.rows(line, fields)
-            detail = Detail(columns.texts(fields)) if has_details and ends else NO_DETAIL
-            links = []
-            for row in ends:
-                host, port, peer, peer_port = [names.get(name) or self._kept(name, line)
-                                               for name in row]
-                one, other = End(host, port), End(peer, peer_port)
-                if has_types:
-                    self._note_panels(one, other, columns.are_at_panels(fields))
-                links.append(Link(one, other, line, None, detail))
-            if len(links) > 1:
-                self._note_breakout(links)
-            yield from links
+            cable = columns.cable(line, fields)
+            if cable is not None:
+                yield cable
 
-    def _links_of_netbox(self) -> Iterator[Link]:
-        """Yields the links of the cables in an answer of NetBox's API."""
-        self.others = DETAILS
-        for cable in cables_of(self.text, self.faults):
-            if isinstance(cable, str):
-                self.left_out[cable] += 1
-                continue
-            ones, others = ([self._end(one.end, None) for one in side] for side in cable.sides)
-            are_at_panels = cable.is_at_panel(0), cable.is_at_panel(1)
-            detail = Detail(cable.texts)
-            links = [Link(End(*one), End(*other), None, None, detail)
-                     for one, other in paired(ones, others)]
-            if not links:
-                self.left_out[UNPAIRED] += 1
-            for link in links:
-                self._note_panels(link.one, link.other, are_at_panels)
-            if len(links) > 1:
-                self._note_breakout(links)
-            yield from links
-
-    def _note_breakout(self, links: Sequence[Link]) -> None:
-        """Remembers the one end of several links of a cable, if they have one in common."""
-        if links[0].one == links[1].one:
+    def _links_of(self, cable: Cable) -> Sequence[Link]:
+        """Returns the links of a cable, and remembers which of its ends are at panels, or begin
+        several links."""
+        rows, line, texts, at_panels, _ = cable
+        detail = Detail(texts) if texts else NO_DETAIL
+        links = []
+        for row in rows:
+            if len("".join(row)) > LONGEST_NAME:
+                self._need_short(row, line)
+            host, port, peer, peer_port = map(intern, row)  # names are in many rows
+            links.append(Link(End(host, port), End(peer, peer_port), line, None, detail))
+        if at_panels[0]:
+            self.at_panels.update((link.one, link.other) for link in links)
+        if at_panels[1]:
+            self.at_panels.update((link.other, link.one) for link in links)
+        if len(links) > 1 and links[0].one == links[1].one:
             self.breakouts.add(links[0].one)
-        elif links[0].other == links[1].other:
+        elif len(links) > 1 and links[0].other == links[1].other:
             self.breakouts.add(links[0].other)
+        return links
 
-    def _note_panels(self, one: End, other: End, are_at_panels: tuple[bool, bool]) -> None:
-        """Remembers the ends that are ports of panels."""
-        if are_at_panels[0]:
-            self.at_panels[one] = other
-        if are_at_panels[1]:
-            self.at_panels[other] = one
-
-    def pairs(self) -> Iterator[Pair]:
-        """Yields the pairs of ports that panels join: of rows, with the position at the rear port;
-        of other forms with none, since each rear port has one front port there."""
-        if is_json(self.text) or is_dot(self.text):
-            for link in self.links():
-                yield Pair(link.one, link.other, "1", link.line)
-            return
-        rows = rows_of(self.text, self.faults)
-        line, header = next(rows, (1, []))
-        columns = Columns(header, line, self.faults)
-        for line, fields in rows if columns.can_read else ():
-            for panel, front, same, rear in columns.rows(line, fields):
-                yield Pair(End(panel, front), End(same, rear), columns.position(fields), line)
+    def _need_short(self, row: Row, line: Optional[int]) -> None:
+        """Refuses names that are longer than LLDP can send."""
+        longest = max(map(len, row))
+        if longest > LONGEST_NAME:
+            self.faults.add(line, f"a name in it has {longest} characters; the longest name "
+                                  f"that LLDP can send has {LONGEST_NAME}")
 
 
 def read_plan(file: str, names: Names, columns: Optional[Mapping[str, str]] = None,
@@ -158,7 +123,9 @@ def read_plan(file: str, names: Names, columns: Optional[Mapping[str, str]] = No
         links = progress.over(links, read.text.count("\n"), "lines of the plan")
     followed = None
     if panels is not None:
-        followed = read_panels(panels, names, read.faults)
+        of_panels = PlanFile(panels)
+        followed = Panels(of_panels.pairs(), names, read.faults, of_panels.faults)
+        of_panels.faults.end()
         links = followed.through(links)
     plan = Plan(file, links, names, read.faults, read.breakouts)
     begins = ([begin for begin, _ in followed.dead_ends] if followed else
@@ -168,14 +135,6 @@ def read_plan(file: str, names: Names, columns: Optional[Mapping[str, str]] = No
     plan.columns = read.others
     plan.notes = [*notes_of(file, read), *notes_of_panels(file, read, followed)]
     return plan
-
-
-def read_panels(file: str, names: Names, faults: Faults) -> Panels:
-    """Reads the pairs of ports that panels join. Raises PlanFault and OSError."""
-    read = PlanFile(file)
-    panels = Panels(read.pairs(), names, faults, read.faults)
-    read.faults.end()
-    return panels
 
 
 def notes_of(file: str, read: PlanFile) -> list[str]:

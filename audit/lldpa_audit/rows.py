@@ -2,11 +2,14 @@
 from __future__ import annotations
 
 import csv
+import re
 from pathlib import Path
 from typing import Iterator, Sequence
 
-from .planfault import Faults, PlanFault
+from .plan import Faults, PlanFault
 
+
+LINE = re.compile(r"[^\n]*\n|[^\n]+")  # all lines at once may take much memory
 SEPARATORS = ",;\t"
 COMMENT = "#"
 
@@ -24,7 +27,7 @@ def text_of(file: str) -> str:
 def table_of(faults: Faults, columns: Sequence[str], further: Sequence[str] = ()
              ) -> Iterator[tuple[int, list[str]]]:
     """Yields the fields of each row of the faults' file, with its line. The header must have just
-    these columns, and may have further ones behind them. Raises PlanFault and OSError."""
+    these columns, and may have further ones after them. Raises PlanFault and OSError."""
     rows = rows_of(text_of(faults.file), faults)
     line, header = next(rows, (1, []))
     names = [name.strip().lower() for name in header]
@@ -39,7 +42,7 @@ def rows_of(text: str, faults: Faults) -> Iterator[tuple[int, list[str]]]:
     """Yields each row that is not blank and not a comment, with its line; the first is the header.
     Rows that are shorter than the header end in empty fields.
 
-    A comment is a line in front of the header that begins with `#`, or a row behind it whose first
+    A comment is a line before the header that begins with `#`, or a row after it whose first
     field begins with `#` and that has fewer fields than the header. A field in quotes may have line
     feeds, and lines in it that look like comments. Nothing follows a field that never ends.
     """
@@ -59,7 +62,7 @@ def rows_of(text: str, faults: Faults) -> Iterator[tuple[int, list[str]]]:
             return
         if len(row) >= width or not row[0].lstrip().startswith(COMMENT):
             width = width or len(row)
-            lines.is_behind_header = True
+            lines.is_after_header = True
             yield lines.begin, row if len(row) >= width else row + [""] * (width - len(row))
         elif lines.number > lines.begin:
             faults.add(lines.begin, "a comment with a quote in it that ends in a further line")
@@ -74,7 +77,7 @@ def worded(fault: str) -> str:
 
 def separator_of(text: str) -> str:
     """Returns the separator that the header has most often."""
-    header = next((line for line in lines_of(text) if begins_header(line)), "")
+    header = next((line[0] for line in LINE.finditer(text) if begins_header(line[0])), "")
     return max(SEPARATORS, key=header.count)
 
 
@@ -88,30 +91,21 @@ class Lines:
         self._text = text
         self.begin = self.number = 0
         self.is_inside = False
-        self.is_behind_header = False
+        self.is_after_header = False
 
     def __iter__(self) -> Iterator[str]:
-        for self.number, line in enumerate(lines_of(self._text), 1):
+        for self.number, found in enumerate(LINE.finditer(self._text), 1):
+            line = found[0]
             if not self.is_inside:
-                if not (has_fields(line) if self.is_behind_header else begins_header(line)):
+                if not (has_fields(line) if self.is_after_header else begins_header(line)):
                     continue
                 self.begin, self.is_inside = self.number, True
-            yield line + "\n"
-
-
-def lines_of(text: str) -> Iterator[str]:
-    """Yields the lines of a text one by one: all of them at once may take much memory."""
-    begin = 0
-    while begin < len(text):
-        end = text.find("\n", begin)
-        end = len(text) if end < 0 else end
-        yield text[begin:end]
-        begin = end + 1
+            yield line
 
 
 def has_fields(line: str) -> bool:
     """Returns whether a line is not blank."""
-    return bool(line.strip(" \t\r,;"))
+    return bool(line.strip(" \t\r\n,;"))
 
 
 def begins_header(line: str) -> bool:

@@ -2,12 +2,15 @@
 from __future__ import annotations
 
 import argparse
+import socket
+from math import inf
 from typing import Optional, Sequence
 
+from lldpa.client.connection import DEFAULT_PATH
 from lldpa.version import add_version
 
+from .ages import seconds_of
 from .columns import given_columns
-from .seen_words import add_reader_options, is_nothing_given
 
 USAGE = "lldpa-audit [OPTION ..] PLAN WHAT .."
 WORDS = """\
@@ -17,7 +20,7 @@ PLAN is CSV, NetBox's export or API answer of cables, or a topology in DOT. Each
                   NAPALM, lldpcli, networkctl, OpenConfig, Prometheus or lldpa; rows of
                   ntc-templates; the output of snmpwalk; or a capture that names its interfaces
   HOST:FOLDER     several files of a host
-  FILE            the same of the host that the file is named after, or of this host
+  FILE            a list or capture of the host that the file is named after, or of this host
   PORT=FILE       a capture taken at a port of this host; HOST:PORT=FILE at one of another host
 
 The exit status is 0 if everything that was looked at is right, 1 for a fault, a damaged file or,
@@ -41,24 +44,34 @@ def read_words(words: Optional[Sequence[str]]) -> argparse.Namespace:
         formatter_class=argparse.RawDescriptionHelpFormatter)
     parser.add_argument("plan", metavar="PLAN", help="the planned cables, see below")
     parser.add_argument("what", metavar="WHAT", nargs="*", help="what was seen, see below")
-    add_words_of_plan(parser)
-    add_reader_options(parser)
+    add_words_of_sources(parser)
     add_words_of_names(parser)
     add_words_of_report(parser)
     add_version(parser)
     given = parser.parse_intermixed_args(words)
-    if is_nothing_given(given):
+    if not given.what and not given.live:
         parser.error("nothing to audit: give captures, lists of neighbors, or --live")
     return given
 
 
-def add_words_of_plan(parser: argparse.ArgumentParser) -> None:
-    """Adds the words for how the plan is read."""
+def add_words_of_sources(parser: argparse.ArgumentParser) -> None:
+    """Adds the words for how the plan is read, and for what is seen besides files."""
     add = parser.add_argument
     add("--columns", metavar="NAMES", type=columns,
         help="the plan's columns, such as host=device,port=interface,peer=to,peer_port=to_port")
     add("--panels", metavar="FILE",
         help="the ports that patch panels join, such as NetBox's export of front ports")
+    add("--live", action="store_true", help="ask the lldpa-live of this host")
+    add("--control", metavar="PATH", default=DEFAULT_PATH,
+        help=f"the control socket of lldpa-live (default: {DEFAULT_PATH})")
+    add("--wait", metavar="SECONDS", type=seconds, default=0.0,
+        help="with --live, wait up to SECONDS until each planned port has a neighbor")
+    add("--stale-after", metavar="TIME", type=seconds_of, default=inf,
+        help="ignore sources older than TIME: 90 (seconds), 15m, 12h, 1d")
+    add("--host", metavar="NAME", default=socket.gethostname(),
+        help="this host's name in the plan (default: the system's name)")
+    add("--settings", action="store_true",
+        help="compare what both ends of each right link announce: frame size, VLAN, speed, duplex")
 
 
 def add_words_of_names(parser: argparse.ArgumentParser) -> None:
@@ -86,6 +99,14 @@ def add_words_of_report(parser: argparse.ArgumentParser) -> None:
     add("--junit", metavar="FILE", help="write a JUnit report with a test case for each end")
     add("--metrics", metavar="FILE", help="write metrics for node_exporter's textfile collector")
     add("--html", metavar="FILE", help="write a page with the repairs and a picture of each host")
+
+
+def seconds(text: str) -> float:
+    """Returns a number of seconds of an option."""
+    number = float(text)
+    if not 0 <= number <= 86400:
+        raise ValueError
+    return number
 
 
 def columns(text: str) -> "dict[str, str]":

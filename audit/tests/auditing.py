@@ -8,9 +8,10 @@ import sys
 import tempfile
 import unittest
 from pathlib import Path
+from typing import Sequence, Union
 
 import rack
-from served import PROGRAM, REPOSITORY, Served
+from served import PROGRAM, REPOSITORY
 
 AUDIT = os.environ.get("LLDPA_AUDIT") or str(REPOSITORY / "bin" / "lldpa-audit")
 # the agent that reads captures is found on the search path
@@ -36,21 +37,15 @@ def run_whole(*words: str) -> "subprocess.CompletedProcess[str]":
 
 
 def neighbor(port: str, host: str, port_id: str, descr: str = "", kind: str = "ifname",
-             aggregate: int = 0, size: int = 0) -> str:
-    """Returns the lines of a show on a port with one neighbor."""
+             aggregate: int = 0, size: int = 0, tlvs: Sequence[str] = ()) -> str:
+    """Returns the lines of a show on a port with one neighbor, which sent these TLVs."""
     lines = ["neighbors=1", "octets=99", "too-many=no", f"1.chassis.local={host}",
              f"1.port.{kind}={port_id}", "1.ttl=120", "1.expires=99"]
     lines += [f"1.port.descr={descr}"] if descr else []
     lines += [f"1.org.00120f.3=03{aggregate:08x}"] if aggregate else []
     lines += [f"1.org.00120f.4={size:04x}"] if size else []
+    lines += [f"1.org.{tlv}" for tlv in tlvs]
     return "".join(f"lldp.{port}.{line}\n" for line in lines)
-
-
-class LiveRack(Served):
-    """A control socket with an agent of the rack's ports behind it."""
-
-    def __init__(self) -> None:
-        super().__init__(rack.PORTS)
 
 
 class InAFolder(unittest.TestCase):
@@ -62,7 +57,8 @@ class InAFolder(unittest.TestCase):
         self.folder = Path(holder.name)
         self.plan = self.file("plan.csv", rack.csv_plan())
 
-    def file(self, name: str, text: str) -> str:
-        """Writes a file and gives its name."""
-        (self.folder / name).write_text(text)
+    def file(self, name: str, content: Union[str, bytes]) -> str:
+        """Writes a file and returns its name."""
+        octets = content if isinstance(content, bytes) else content.encode()
+        (self.folder / name).write_bytes(octets)
         return str(self.folder / name)

@@ -9,10 +9,11 @@ from __future__ import annotations
 
 import random
 from collections import defaultdict
-from typing import Callable, Dict, Iterator, List, NamedTuple, Sequence, Set, Tuple
+from typing import Dict, Iterator, List, NamedTuple, Sequence, Set, Tuple
 
 End = Tuple[str, str]
 LEAFS, SPINES, SERVERS = 32, 8, 400
+CASSETTE = 12  # front ports of a panel before the servers, with one rear port
 
 
 class Fault(NamedTuple):
@@ -48,24 +49,40 @@ class Fabric:
         self.leafs = [f"leaf{number:02}" for number in range(1, LEAFS + 1)]
         self.lanes = list(range(LEAFS + 4))
         for _ in range(times):
-            for plant in self.kinds():
+            for plant in (self.exchange_cables, self.unplug_cables, self.move_cables,
+                          self.break_ports_out, self.join_ports, self.change_names,
+                          self.change_what_is_heard):
                 plant()
 
     def join(self, one: End, other: End) -> None:
         """Plugs a cable in."""
         self.peer[one], self.peer[other] = other, one
 
-    def cut(self, *ends: End) -> None:
-        """Takes the cables of these ends out."""
-        for end in ends:
-            other = self.peer.pop(end, None)
-            if other is not None:
-                self.peer.pop(other, None)
+    def cut(self, *ends: End) -> List[End]:
+        """Takes the cables of these ends out. Returns their other ends."""
+        others = [self.peer.pop(end) for end in ends]
+        for other in others:
+            del self.peer[other]
+        return others
+
+    def rotate(self, ends: Sequence[End]) -> None:
+        """Gives each end the cable of the next one, and the last one that of the first."""
+        peers = [self.peer[end] for end in ends]
+        for end, peer in zip(ends, [*peers[1:], peers[0]]):
+            self.join(end, peer)
 
     def server(self) -> List[End]:
         """Returns the ends of a server that has no fault yet, eth0 to eth3."""
         name = self.servers.pop()
         return [(name, f"eth{port}") for port in range(4)]
+
+    def port(self) -> End:
+        """Returns the first port of a server that has no fault yet."""
+        return self.server()[0]
+
+    def free(self, leaf: str, row: str) -> End:
+        """Returns a port of a leaf that is not planned."""
+        return leaf, f"swp{row}{len(self.faults):02}"
 
     def told(self, kind: str, ends: Sequence[End], repairs: str, most: int = 1) -> None:
         """Notes a fault that may be reported at these ends and at those that they are planned
@@ -73,134 +90,72 @@ class Fabric:
         all_ends = {*ends, *(self.planned[end] for end in ends if end in self.planned)}
         self.faults.append(Fault(kind, all_ends, set(repairs.split(",")), most))
 
-    def kinds(self) -> Sequence[Callable[[], None]]:
-        """Returns what plants each kind of fault."""
-        return (self.swapped, self.unplugged, self.stranger, self.one_sided, self.extra,
-                self.doubled, self.moved, self.renamed, self.capitals, self.domain, self.hide,
-                self.shifted, self.turned, self.not_broken_out, self.loop, self.unplanned,
-                self.rotated, self.other_name, self.mute_both, self.small_frames)
+    def exchange_cables(self) -> None:
+        for kind, ends, repairs, most in (
+                ("swapped", [self.port(), self.port()], "swapped", 1),
+                ("rotated", [self.port(), self.port(), self.port()], "wrong,shifted", 3),
+                ("turned", list(lanes_of(self.lanes.pop())), "turned", 1)):
+            self.rotate(ends)
+            self.told(kind, ends, repairs, most)
 
-    def swapped(self) -> None:
-        ends = [self.server()[0], self.server()[0]]
-        peers = [self.peer[end] for end in ends]
-        self.join(ends[0], peers[1])
-        self.join(ends[1], peers[0])
-        self.told("swapped", ends, "swapped")
-
-    def unplugged(self) -> None:
-        end = self.server()[0]
+    def unplug_cables(self) -> None:
+        end = self.port()
         self.cut(end)
         self.told("unplugged", [end], "silent")
-
-    def stranger(self) -> None:
-        end = self.server()[0]
-        leaf = self.peer[end]
-        self.cut(end)
+        end = self.port()
+        leaf, = self.cut(end)
         self.peer[leaf] = (f"guest{len(self.faults)}", "eth9")
         self.told("stranger", [end], "wrong")
 
-    def one_sided(self) -> None:
-        end = self.server()[0]
-        self.deaf.add(end)
-        self.told("one-sided", [end], "one-sided")
-
-    def extra(self) -> None:
-        end = self.peer[self.server()[0]]
-        self.beside[end].append((f"phone{len(self.faults)}", "port1"))
-        self.told("extra", [end], "extra")
-
-    def doubled(self) -> None:
-        end = self.peer[self.server()[0]]
-        self.beside[end].append(self.peer[end])
-        self.told("doubled", [end], "doubled")
-
-    def moved(self) -> None:
-        end = self.server()[0]
-        leaf = self.peer[end]
-        self.cut(end)
-        free = (leaf[0], f"swp9{len(self.faults):02}")
+    def move_cables(self) -> None:
+        end = self.port()
+        leaf, = self.cut(end)
+        free = self.free(leaf[0], "9")
         self.join(end, free)
         self.told("moved", [end, free], "wrong")
-
-    def renamed(self) -> None:
-        ends = self.server()
-        self.names[ends[0][0]] = f"web-{len(self.faults):02}"
-        self.told("renamed", ends, "renamed")
-
-    def capitals(self) -> None:
-        ends = self.server()
-        self.names[ends[0][0]] = ends[0][0].upper()
-        self.told("capitals", ends, "renamed")
-
-    def domain(self) -> None:
-        ends = self.server()
-        self.names[ends[0][0]] = f"{ends[0][0]}.example.net"
-        self.told("domain", ends, "renamed")
-
-    def hide(self) -> None:
-        end = self.server()[0]
-        self.hidden.add(self.peer[end])
-        self.told("hidden", [end], "no data,one-sided")
-
-    def shifted(self) -> None:
-        leaf = self.leafs.pop()
-        ports = [(leaf, f"swp{number}") for number in range(52, 57)]
-        peers = [self.peer[port] for port in ports]
-        self.cut(*ports)
-        for port, peer in zip(ports, peers[1:]):
+        leaf_name = self.leafs.pop()
+        ports = [(leaf_name, f"swp{number}") for number in range(52, 57)]
+        for port, peer in zip(ports, self.cut(*ports)[1:]):
             self.join(port, peer)
         self.told("shifted", ports, "shifted")
 
-    def turned(self) -> None:
-        lanes = self.breakout()
-        peers = [self.peer[lane] for lane in lanes]
-        for lane, peer in zip(lanes, peers[1:] + peers[:1]):
-            self.join(lane, peer)
-        self.told("turned", lanes, "turned")
-
-    def breakout(self) -> List[End]:
-        """Returns the lanes of a breakout that has no fault yet."""
-        number = self.lanes.pop()
-        return list(lanes_of(number))
-
-    def not_broken_out(self) -> None:
-        lanes = self.breakout()
-        peers = [self.peer[lane] for lane in lanes]
-        self.cut(*lanes)
+    def break_ports_out(self) -> None:
+        lanes = list(lanes_of(self.lanes.pop()))
         whole = (lanes[0][0], lanes[0][1][:-2])
-        self.join(whole, peers[0])
+        self.join(whole, self.cut(*lanes)[0])
         self.told("not broken out", [*lanes, whole], "not broken out")
 
-    def loop(self) -> None:
-        leaf = self.peer[self.server()[0]][0]
-        ends = [(leaf, f"swp8{len(self.faults):02}{side}") for side in "ab"]
+    def join_ports(self) -> None:
+        leafs = [self.peer[end][0] for end in self.server()[:2]]
+        ends = [self.free(leafs[0], side) for side in ("80", "81")]
         self.join(*ends)
         self.told("loop", ends, "loop")
-
-    def unplanned(self) -> None:
-        ends = [(end[0], f"swp7{len(self.faults):02}") for end in self.server()[:2]]
-        ends = [(self.peer[host, f"eth{port}"][0], free) for port, (host, free) in enumerate(ends)]
+        ends = [self.free(leaf, "7") for leaf in leafs]
         self.join(*ends)
         self.told("unplanned", ends, "unplanned")
 
-    def rotated(self) -> None:
-        ends = [self.server()[0] for _ in range(3)]
-        peers = [self.peer[end] for end in ends]
-        for end, peer in zip(ends, peers[1:] + peers[:1]):
-            self.join(end, peer)
-        self.told("rotated", ends, "wrong,shifted", 3)
-
-    def other_name(self) -> None:
+    def change_names(self) -> None:
+        for kind, change in (("renamed", lambda name: f"web-{name}"), ("capitals", str.upper),
+                             ("domain", lambda name: f"{name}.example.net")):
+            ends = self.server()
+            self.names[ends[0][0]] = change(ends[0][0])
+            self.told(kind, ends, "renamed")
         ends, others = self.server(), self.server()
         self.names[ends[0][0]] = others[0][0]
         self.told("two of one name", [*ends, *others], "renamed")
 
-    def mute_both(self) -> None:
-        ends = self.server()[:1]
-        self.mute.update([*ends, *(self.peer[end] for end in ends)])
-        self.told("mute", ends, "silent")
-
-    def small_frames(self) -> None:
+    def change_what_is_heard(self) -> None:
+        deaf, mute, silent, extra, doubled = [self.port() for _ in range(5)]
+        self.deaf.add(deaf)
+        self.told("one-sided", [deaf], "one-sided")
+        self.mute.update([mute, self.peer[mute]])
+        self.told("mute", [mute], "silent")
+        self.hidden.add(self.peer[silent])
+        self.told("hidden", [silent], "no data,one-sided")
+        self.beside[self.peer[extra]].append((f"phone{len(self.faults)}", "port1"))
+        self.told("extra", [extra], "extra")
+        self.beside[self.peer[doubled]].append(doubled)
+        self.told("doubled", [doubled], "doubled")
         ends = self.server()
         self.frames[ends[0][0]] = 1500
         self.told("small frames", ends, "mismatch")
@@ -256,3 +211,38 @@ def lanes_of(number: int) -> Iterator[End]:
     leaf, port = f"leaf{number % LEAFS + 1:02}", 60 + number // LEAFS
     for lane in range(4):
         yield leaf, f"swp{port}s{lane}"
+
+
+def is_paneled(one: End) -> bool:
+    """Returns whether a link of a leaf goes through panels: its first twelve servers."""
+    return one[0].startswith("leaf") and one[1][3:].isdecimal() and int(one[1][3:]) <= CASSETTE
+
+
+def cables(links: Sequence[Tuple[End, End]]) -> Iterator[Tuple[End, End]]:
+    """Yields each cable of links."""
+    trunks = set()
+    for one, other in links:
+        if not is_paneled(one):
+            yield one, other
+            continue
+        near, far, front = f"pn-{one[0]}", f"pf-{one[0]}", f"F{one[1][3:]}"
+        yield one, (near, front)
+        yield (far, front), other
+        if near not in trunks:
+            trunks.add(near)
+            yield (near, "R1"), (far, "R1")
+
+
+def csv_plan(links: Sequence[Tuple[End, End]]) -> str:
+    """Returns the plan in our own columns, with labels and racks."""
+    rows = [f"{a},{b},{c},{d},C{number},r{number % 40}\n"
+            for number, ((a, b), (c, d)) in enumerate(cables(links))]
+    return "host,port,peer,peer_port,label,rack\n" + "".join(rows)
+
+
+def panels() -> str:
+    """Returns the front ports of the panels as NetBox exports them: cassettes with one rear
+    port."""
+    return "device,name,rear_port,rear_port_position\n" + "".join(
+        f"{side}-leaf{leaf:02},F{port},R1,{port}\n" for side in ("pn", "pf")
+        for leaf in range(1, LEAFS + 1) for port in range(1, CASSETTE + 1))

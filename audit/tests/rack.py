@@ -1,11 +1,15 @@
 """For tests: a switch `leaf1` of six ports with known faults, as captures and as a show."""
 from __future__ import annotations
 
-import struct
+from functools import partial
 from typing import Dict, List, Sequence
 
+import made_captures
 from lldpa import Agent
+from made_captures import SECOND, interface, packet, section, whole
 from served import PROGRAM, frame, tlv
+
+block = partial(made_captures.block, "<")
 
 PORTS = [f"swp{number}" for number in range(1, 7)]
 START = 1_700_000_000
@@ -33,39 +37,23 @@ def lldp_frame(host: str, port: str) -> bytes:
 def frames(port: str) -> List[bytes]:
     """Returns what is captured at a port: each neighbor twice, and a frame that is not an LLDP
     frame."""
-    other = bytes.fromhex("ffffffffffff0011223344550800") + bytes(46)
+    other = made_captures.OTHER
     return [other, *[lldp_frame(*neighbor) for neighbor in HEARD[port]] * 2, other]
 
 
 def pcap(packets: Sequence[bytes], start: int = START) -> bytes:
     """Returns a pcap file, its packets 20 seconds apart."""
-    file = struct.pack("<IHHiIII", 0xA1B2C3D4, 2, 4, 0, 0, 65535, 1)
-    for number, octets in enumerate(packets):
-        file += struct.pack("<IIII", start + 20 * number, 0, len(octets), len(octets)) + octets
-    return file
-
-
-def block(kind: int, body: bytes) -> bytes:
-    """Returns a block of a pcapng file."""
-    body += bytes(-len(body) % 4)
-    size = struct.pack("<I", 12 + len(body))
-    return struct.pack("<I", kind) + size + body + size
+    return made_captures.pcap([whole(octets, (start + 20 * number) * SECOND)
+                               for number, octets in enumerate(packets)])
 
 
 def pcapng(packets_of: Dict[str, Sequence[bytes]]) -> bytes:
     """Returns a pcapng file of named interfaces, which take turns."""
-    file = block(0x0A0D0D0A, struct.pack("<IHHq", 0x1A2B3C4D, 1, 0, -1))
-    for name in packets_of:
-        octets = name.encode()
-        option = struct.pack("<HH", 2, len(octets)) + octets + bytes(-len(octets) % 4)
-        file += block(1, struct.pack("<HHI", 1, 0, 0) + option + bytes(4))
+    file = section() + b"".join(interface(name=name) for name in packets_of)
     for turn in range(max(map(len, packets_of.values()))):
-        for number, packets in enumerate(packets_of.values()):
+        for place, packets in enumerate(packets_of.values()):
             if turn < len(packets):
-                stamp = (START + 20 * turn) * 10**6
-                sizes = [len(packets[turn])] * 2
-                head = struct.pack("<IIIII", number, stamp >> 32, stamp & 0xFFFFFFFF, *sizes)
-                file += block(6, head + packets[turn])
+                file += packet(whole(packets[turn], (START + 20 * turn) * SECOND), place=place)
     return file
 
 

@@ -5,13 +5,12 @@ import os
 import random
 import sys
 import unittest
-from typing import Dict, List, Sequence, Tuple
+from typing import List, Sequence
 
 from lldpa_audit.judging import Finding, Verdict, audit
 from lldpa_audit.link_settings import Settings
 from lldpa_audit.names import NAMELESS, End, Names, Seen
-from lldpa_audit.plan import Link, Plan
-from lldpa_audit.planfault import PlanFault
+from lldpa_audit.plan import Link, Plan, PlanFault
 from lldpa_audit.seen.tables import Tables
 
 from slow_judge import SlowJudge
@@ -27,28 +26,24 @@ class Case:
     """Random links, audited hosts and known ports."""
 
     def __init__(self, seed: int) -> None:
-        self.rng = random.Random(seed)
-        self.names = Names(*(self.rng.random() < 0.3 for _ in range(3)))
-        hosts = self.rng.sample(HOSTS, self.rng.randint(2, len(HOSTS)))
+        self.rng = rng = random.Random(seed)
+        self.names = Names(*(rng.random() < 0.3 for _ in range(3)))
+        hosts = rng.sample(HOSTS, rng.randint(2, len(HOSTS)))
         self.hosts = list({self.names.host(host): host for host in hosts}.values())
-        ports = self.rng.sample(PORTS, self.rng.randint(2, 4))
+        ports = rng.sample(PORTS, rng.randint(2, 4))
         self.ports = list({self.names.plain_port(port): port for port in ports}.values())
-        self.pairs = self.random_pairs()
-        self.audited = self.rng.sample(self.hosts, self.rng.randint(1, len(self.hosts)))
-        self.known: Dict[End, List[Seen]] = {}
-        for host in self.audited:
-            for port in self.ports:
-                if self.rng.random() < 0.85:
-                    self.known[End(host, port)] = self.random_neighbors(End(host, port))
-        self.swap_some()
-
-    def random_pairs(self) -> List[Tuple[End, End]]:
         ends = [End(host, port) for host in self.hosts for port in self.ports]
-        self.rng.shuffle(ends)
-        size = self.rng.randint(2, max(2, len(ends))) // 2 * 2
-        return list(zip(ends[:size:2], ends[1:size:2]))
+        rng.shuffle(ends)
+        size = rng.randint(2, max(2, len(ends))) // 2 * 2
+        self.pairs = list(zip(ends[:size:2], ends[1:size:2]))
+        self.audited = rng.sample(self.hosts, rng.randint(1, len(self.hosts)))
+        self.known = {End(host, port): self.neighbors(End(host, port)) for host in self.audited
+                      for port in self.ports if rng.random() < 0.85}
+        for _ in range(rng.randint(0, 3) if len(self.known) > 1 else 0):
+            one, other = rng.sample(sorted(self.known), 2)
+            self.known[one], self.known[other] = self.known[other], self.known[one]
 
-    def random_neighbors(self, end: End) -> List[Seen]:
+    def neighbors(self, end: End) -> List[Seen]:
         wanted = [pair[1 - pair.index(end)] for pair in self.pairs if end in pair]
         neighbors = [self.somebody(one) for one in wanted if self.rng.random() < 0.8]
         while self.rng.random() < 0.2:
@@ -87,28 +82,18 @@ class Case:
         is_named = self.rng.random() < 0.5
         return seen._replace(port_id=seen.ports[0 if is_named else -1], is_named=is_named)
 
-    def swap_some(self) -> None:
-        for _ in range(self.rng.randint(0, 3)):
-            if len(self.known) > 1:
-                one, other = self.rng.sample(sorted(self.known), 2)
-                self.known[one], self.known[other] = self.known[other], self.known[one]
-
     def findings(self) -> Sequence[Finding]:
         plan = Plan("plan", [Link(one, other, None) for one, other in self.pairs], self.names)
         tables = Tables(self.names)
         for host in self.audited:
-            tables.add_host(host)
-        for end, neighbors in self.known.items():
-            tables.add(end.host, end.port, neighbors)
+            tables.add_ports(host, {end.port: some for end, some in self.known.items()
+                                    if end.host == host})
         return audit(plan, tables)
 
     def slow_judge(self) -> SlowJudge:
-        known = {(end.host, end.port): [(list(one.hosts), list(one.ports), one.aggregated,
-                                         one.port_id, one.is_named) for one in neighbors]
-                 for end, neighbors in self.known.items()}
-        pairs = [((one.host, one.port), (other.host, other.port)) for one, other in self.pairs]
-        return SlowJudge(pairs, self.audited, known, self.names.ignore_case, self.names.short_names,
-                         self.names.vendor_names)
+        names = self.names
+        return SlowJudge(self.pairs, self.audited, self.known,
+                         (names.ignore_case, names.short_names, names.vendor_names))
 
 
 class RandomPlans(unittest.TestCase):
@@ -133,17 +118,18 @@ class RandomPlans(unittest.TestCase):
             self.assertGreater(times, RANDOM_PLANS // 100, verdict)
 
     def compare(self, judge: SlowJudge, findings: Sequence[Finding]) -> None:
-        planned = [end for end in judge.planned_ends()
-                   if judge.is_audited(end) or judge.is_not_looked_at(end)]
+        verdicts = {end: judge.verdicts(end) for end in judge.wants}
+        planned = [end for end in judge.wants if judge.is_one_of(judge.audited, end.host)
+                   or verdicts[end] == ["not looked at"]]
         found = [one for one in findings if one.verdict is not Verdict.UNPLANNED]
-        self.assertEqual([tuple(one.end) for one in found], planned)
+        self.assertEqual([one.end for one in found], planned)
         for end, finding in zip(planned, found):
-            self.assertEqual([finding.verdict.value], judge.verdicts(end), end)
-            self.assertEqual(finding.wants, judge.wants(end))
+            self.assertEqual([finding.verdict.value], verdicts[end], end)
+            self.assertEqual(finding.wants, judge.wants[end])
             self.assertEqual(len(finding.has), len(judge.neighbors(end) or []))
             if finding.verdict is Verdict.SWAPPED:
                 self.assertEqual(finding.partner, judge.partners(end)[0])
-        beside = [tuple(one.end) for one in findings if one.verdict is Verdict.UNPLANNED]
+        beside = [one.end for one in findings if one.verdict is Verdict.UNPLANNED]
         self.assertEqual(sorted(beside), sorted(judge.unplanned()))
 
 

@@ -4,21 +4,21 @@ from __future__ import annotations
 import gzip
 import json
 import os
+import re
 import subprocess
 import sys
 import threading
 import time
 import unittest
 from pathlib import Path
-from typing import List, Tuple
+from typing import Tuple
 
 import rack
-from auditing import (AUDIT, WITH_AGENT, InAFolder, LiveRack, neighbor, run, run_whole,
-                      without_ages)
+from auditing import AUDIT, WITH_AGENT, InAFolder, neighbor, run, run_whole, without_ages
 from lldpa_audit.names import End, Names
 from lldpa_audit.plan import Link, Plan
 from lldpa_audit.what import What, placed
-from served import REPOSITORY
+from served import REPOSITORY, Served
 
 HEAD = "host,port,peer,peer_port\n"
 RIGHT = "1 cable: 1 right, 0 wrong\n"
@@ -37,15 +37,10 @@ class Audits(InAFolder):
         ran = run(self.plan, "--host", "leaf1", *words)
         return ran.returncode, ran.stdout, ran.stderr
 
-    def octets(self, name: str, octets: bytes) -> str:
-        """Writes a file and gives its name."""
-        (self.folder / name).write_bytes(octets)
-        return str(self.folder / name)
-
     def capture(self, name: str, *frames: bytes, start: int = rack.START) -> str:
-        """Writes a capture and gives the word for it, as that of swp1."""
+        """Writes a capture and returns the word for it, as that of swp1."""
         frames = frames or (rack.lldp_frame("host01", "eth0"),)
-        return f"swp1={self.octets(name, rack.pcap(frames, start))}"
+        return f"swp1={self.file(name, rack.pcap(frames, start))}"
 
 
 class Forms(Audits):
@@ -54,10 +49,10 @@ class Forms(Audits):
     def test_forms(self) -> None:
         self.plan = self.file("rack.csv", rack.csv_plan())
         show = self.file("show", rack.text_of_show())
-        captures = [f"{port}={self.octets(port, rack.pcap(rack.frames(port)))}"
+        captures = [f"{port}={self.file(port, rack.pcap(rack.frames(port)))}"
                     for port in rack.PORTS]
-        whole = self.octets("whole", rack.pcapng({port: rack.frames(port) for port in rack.PORTS}))
-        with LiveRack() as served:
+        whole = self.file("whole", rack.pcapng({port: rack.frames(port) for port in rack.PORTS}))
+        with Served(rack.PORTS) as served:
             for port in rack.PORTS:
                 for octets in rack.frames(port):
                     served.frame(port, octets)
@@ -71,7 +66,7 @@ class Forms(Audits):
 
     def test_wait(self) -> None:
         words = ["--live", "--planned-only", "--control"]
-        with LiveRack() as served:
+        with Served(rack.PORTS) as served:
             begin = time.monotonic()
             self.assertEqual(self.audit(*words, served.path, "--wait", "1")[1],
                              "swp1  silent: wants host01 eth0\n1 cable: 0 right, 1 wrong\n")
@@ -94,11 +89,10 @@ class Forms(Audits):
             self.assertEqual(self.audit(front + fifo), (0, RIGHT, ""))
             writer.join()
         self.file("show", show)
-        for words in ("<(cat show)", "<(gzip < show)"):
-            command = f'"$0" "$@" --host leaf1 <(cat plan) {words}'
-            ran = subprocess.run(["bash", "-c", command, sys.executable, AUDIT], cwd=self.folder,
-                                 env=WITH_AGENT, capture_output=True, text=True, check=False)
-            self.assertEqual((ran.returncode, without_ages(ran.stdout), ran.stderr), (0, RIGHT, ""))
+        command = '"$0" "$@" --host leaf1 <(cat plan) <(gzip < show)'
+        ran = subprocess.run(["bash", "-c", command, sys.executable, AUDIT], cwd=self.folder,
+                             env=WITH_AGENT, capture_output=True, text=True, check=False)
+        self.assertEqual((ran.returncode, without_ages(ran.stdout), ran.stderr), (0, RIGHT, ""))
 
 
 class Words(Audits):
@@ -173,7 +167,7 @@ class Captures(Audits):
                 (cut, "swp1=", "its gzip data is cut short"),
                 (rack.pcap(rack.frames("swp1"))[:-7], "swp1=", "it ends at octet "),
                 (rack.pcapng({"swp1": rack.frames("swp1")})[:-7], "", "it ends at octet ")):
-            path = self.octets("file", octets)
+            path = self.file("file", octets)
             status, out, err = self.audit(f"{port}{path}")
             self.assertEqual(status, 1)
             self.assertIn(f"swp1  no data: wants host01 eth0 ({path}: {why}", out)
@@ -203,7 +197,7 @@ class Captures(Audits):
                              ({f"swp{at}": f"{at}" for at in range(1, 151)}, 150)):
             rows = [f"leaf1,{port},host{name},eth0\n" for port, name in heard.items()]
             self.plan = self.file("wide", HEAD + "".join(rows))
-            path = self.octets("wide.pcapng", rack.pcapng({
+            path = self.file("wide.pcapng", rack.pcapng({
                 f"swp{at}": [rack.lldp_frame(f"host{heard[f'swp{at}']}", "eth0")]
                 if f"swp{at}" in heard else [] for at in range(1, ports + 1)}))
             count = len(heard)
@@ -212,38 +206,18 @@ class Captures(Audits):
     def test_names(self) -> None:
         port = "TenGigabitEthernet1/0/1.100"
         self.plan = self.file("long", f"{HEAD}leaf1,{port},host01,eth0\n")
-        path = self.octets("c", rack.pcapng({port: [rack.lldp_frame("host01", "eth0")]}))
+        path = self.file("c", rack.pcapng({port: [rack.lldp_frame("host01", "eth0")]}))
         self.assertEqual(self.audit(path), (0, RIGHT, ""))
         frame = rack.lldp_frame("host", "eth0").replace(b"host", b"\xff\xfe\x80t")
-        path = self.octets("d", rack.pcapng({port: [frame]}))
+        path = self.file("d", rack.pcapng({port: [frame]}))
         status, out, _ = self.audit("--json", path)
         self.assertEqual(status, 1)
         json.dumps(json.loads(out), ensure_ascii=False).encode()
         self.assertEqual(json.loads(out)["ends"][0]["has"][0]["host_names"][0], "\\xff\\xfe\\x80t")
 
 
-class Shows(Audits):
-    """One damaged show does not end the audit of all hosts."""
-
-    def test_numbers_of_many_digits(self) -> None:
-        text = rack.text_of_show(["swp1"])
-        self.plan = self.file("two", f"{HEAD}leaf1,swp1,host01,eth0\nleaf2,swp1,host01,eth1\n")
-        good, count = self.file("good", text), 0
-        for line in text.splitlines():
-            key, _, value = line.partition("=")
-            if value.isdecimal():
-                bad = self.file("bad", text.replace(line, f"{key}={'1' * 5000}"))
-                status, out, err = self.audit(good, f"leaf2:{bad}")
-                self.assertEqual((status, "Traceback" in err), (1, False), key)
-                self.assertIn("leaf2 swp1  no data: wants host01 eth1", out)
-                self.assertIn("2 cables: 1 right, 0 wrong, 1 not looked at (host01)", out)
-                count += 1
-        self.assertGreater(count, 2)
-
-
-
 class Sources(Audits):
-    """Old sources, and those that tell nothing of a host."""
+    """Old sources, damaged shows, and files that say nothing of a host."""
 
     def test_ages(self) -> None:
         self.plan = self.file("two", f"{HEAD}leaf1,swp1,host01,eth0\nleaf2,swp1,host02,eth0\n")
@@ -261,6 +235,18 @@ class Sources(Audits):
         for word in ("1w", "", "-1", "d"):
             self.assertEqual(self.audit(show, f"--stale-after={word}")[0], 2, word)
 
+    def test_numbers_of_many_digits(self) -> None:
+        text = rack.text_of_show(["swp1"])
+        self.plan = self.file("two", f"{HEAD}leaf1,swp1,host01,eth0\nleaf2,swp1,host01,eth1\n")
+        good, numbers = self.file("good", text), re.findall(r"^(.*=)\d+$", text, re.M)
+        self.assertGreater(len(numbers), 2)
+        for key in numbers:
+            bad = self.file("bad", re.sub(rf"{re.escape(key)}\d+", key + "1" * 5000, text))
+            status, out, err = self.audit(good, f"leaf2:{bad}")
+            self.assertEqual((status, "Traceback" in err), (1, False), key)
+            self.assertIn("leaf2 swp1  no data: wants host01 eth1", out)
+            self.assertIn("2 cables: 1 right, 0 wrong, 1 not looked at (host01)", out)
+
     def test_what_tells_nothing(self) -> None:
         self.plan = self.file("two", f"{HEAD}leaf1,swp1,leaf2,swp1\nh1,e0,h2,e0\n")
         other = f"h1:{self.file('h1', neighbor('e0', 'h2', 'e0'))}"
@@ -268,7 +254,7 @@ class Sources(Audits):
         for octets, why in ((empty, "it names no Ethernet interface"),
                             (b'{"leafX": {"swp1": []}}', "it is of other hosts"),
                             (b'{"swp1": {}, "swp2": {}}', "it is of other hosts")):
-            path = self.octets("file", octets)
+            path = self.file("file", octets)
             ran = run(self.plan, other, f"leaf1:{path}")
             self.assertEqual(ran.returncode, 1)
             self.assertIn(f"leaf1 swp1  no data: wants leaf2 swp1 ({path}: {why})", ran.stdout)

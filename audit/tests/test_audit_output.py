@@ -37,9 +37,18 @@ class Output(InAFolder):
     def test_a_link_that_another_user_left(self) -> None:
         page, other = self.folder / "page.html", self.file("other", "theirs")
         (self.folder / f".page.html.{os.getpid()}").symlink_to(other)
+        page.symlink_to(other)
         write(str(page), b"ours")
         self.assertEqual((page.read_text(), Path(other).read_text()), ("ours", "theirs"))
-        self.assertEqual(page.stat().st_mode & 0o777, 0o644)
+        self.assertEqual(page.lstat().st_mode & 0o777, 0o644)
+
+    @unittest.skipUnless(os.geteuid() == 0, "it makes a link of another user")
+    def test_a_link_of_another_user_to_a_device(self) -> None:
+        page = self.folder / "page.html"
+        page.symlink_to(os.devnull)
+        os.lchown(page, 65534, -1)
+        write(str(page), b"ours")
+        self.assertEqual(page.read_text(), "ours")
 
     def test_who_reads_it_has_gone(self) -> None:
         self.assertEqual(unread(self.audit)[0], 2)

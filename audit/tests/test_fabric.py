@@ -10,10 +10,9 @@ import unittest
 from pathlib import Path
 from typing import Any, Dict, List, Sequence, Set, Tuple
 
-import fabric_plans
 import vendors
 from auditing import InAFolder, run
-from fabric import End, Fabric
+from fabric import End, Fabric, csv_plan, panels
 
 sys.path.append(str(Path(__file__).resolve().parents[1] / "tools"))
 import cabling  # noqa: E402
@@ -30,14 +29,14 @@ class Faults(InAFolder):
     def setUp(self) -> None:
         super().setUp()
         print(f"test_fabric: seed {SEED}", flush=True)
-        self.fabric = Fabric(SEED)
-        self.assertEqual((len(self.fabric.links), len(self.fabric.faults)), (2000, 100))
-        self.assertEqual(len({fault.kind for fault in self.fabric.faults}), 20)
-        self.assertEqual(len(self.fabric.lags), 640)
-        self.words = ["--panels", self.file("panels.csv", fabric_plans.panels()), "--settings",
+        self.fabric = fabric = Fabric(SEED)
+        kinds = {fault.kind for fault in fabric.faults}
+        self.assertEqual((len(fabric.links), len(fabric.faults), len(kinds), len(fabric.lags)),
+                         (2000, 100, 20, 640))
+        self.words = ["--panels", self.file("panels.csv", panels()), "--settings",
                       "--vendor-names"]
-        self.lags = {(self.fabric.names.get(end[0], end[0]), self.fabric.said(end)): number
-                     for end, (_, number) in self.fabric.lags.items()}
+        self.lags = {(fabric.names.get(end[0], end[0]), fabric.said(end)): number
+                     for end, (_, number) in fabric.lags.items()}
         (self.folder / "seen").mkdir()
         self.write_lists()
 
@@ -64,17 +63,14 @@ class Faults(InAFolder):
         told = [] if lag is None else [("00120f.3", f"03{lag:08x}")]
         return [("00120f.4", f"{size:04x}"), *told]
 
-    def audited(self, plan: str) -> Any:
-        """Returns the JSON of an audit, without what is not the same each time."""
-        ran = run(plan, *self.words, "--json", str(self.folder / "seen"))
-        self.assertEqual(ran.returncode, 1, ran.stderr)
-        return json.loads(ran.stdout)
-
     def test_faults(self) -> None:
-        plan = self.file("plan.csv", fabric_plans.csv_plan(self.fabric.links))
-        told = self.audited(plan)
+        words = [self.file("plan.csv", csv_plan(self.fabric.links)), *self.words,
+                 str(self.folder / "seen")]
+        ran = run(*words, "--json")
+        self.assertEqual(ran.returncode, 1, ran.stderr)
+        told = json.loads(ran.stdout)
         self.need_each_fault(told)
-        lines = run(plan, *self.words, str(self.folder / "seen")).stdout.splitlines()
+        lines = run(*words).stdout.splitlines()
         self.assertEqual(len(lines), len(told["repairs"]) + 1)
         self.assertLessEqual(len(lines), MOST_LINES)
         self.need_true_neighbors(told)

@@ -4,7 +4,7 @@ from __future__ import annotations
 import unittest
 from typing import List, Sequence
 
-from auditing import InAFolder, run
+from auditing import InAFolder, neighbor, run
 from lldpa_audit.judging import audit
 from lldpa_audit.mismatches import mismatches
 from lldpa_audit.names import End, Names
@@ -18,15 +18,6 @@ TYPES = ("038036001e", "0380360010", "038036000f", "")
 AGGREGATES = ("0300000007", "0100000000", "")
 
 
-def shown(port: str, peer: End, tlvs: Sequence[str]) -> List[str]:
-    """Returns what a show says of a port with one neighbor, which sent these TLVs."""
-    front = f"lldp.{port}."
-    return [f"{front}neighbors=1", f"{front}octets=100", f"{front}too-many=no",
-            f"{front}1.chassis.mac=02:00:00:00:00:01", f"{front}1.port.ifname={peer.port}",
-            f"{front}1.ttl=120", f"{front}1.expires=100", f"{front}1.chassis.name={peer.host}",
-            *[f"{front}1.org.{tlv}" for tlv in tlvs]]
-
-
 def tlvs(size: str = "", vlan: str = "", kind: str = "", aggregate: str = "") -> List[str]:
     """Returns the TLVs of these contents, as a show has them, and none for an empty one."""
     pairs = (("00120f.4", size), ("0080c2.1", vlan), ("00120f.1", kind), ("00120f.3", aggregate))
@@ -38,8 +29,8 @@ def found(said: Sequence[str], its: Sequence[str]) -> List[str]:
     one, other, names = End("host0", "p0"), End("host1", "p0"), Names()
     plan, tables = Plan("plan", [Link(one, other, None)], names), Tables(names)
     for end, peer, sent in ((one, other, its), (other, one, said)):
-        tables.add_ports(end.host, read_ports("\n".join([*shown(end.port, peer, sent), ""])))
-    return [one.text for one in mismatches(audit(plan, tables), tables).values()]
+        tables.add_ports(end.host, read_ports(neighbor(end.port, *peer, tlvs=sent)))
+    return [one.text for one in mismatches(audit(plan, tables), tables, plan).values()]
 
 
 class Mismatches(unittest.TestCase):
@@ -96,31 +87,20 @@ class Texts(unittest.TestCase):
 class Command(InAFolder):
     """The program's option."""
 
-    def test_settings(self) -> None:
-        self.plan = self.file("plan.csv", "host,port,peer,peer_port\nleaf1,swp1,host01,eth0\n")
-        show = shown("swp1", End("host01", "eth0"), tlvs("05dc", "000a"))
-        ours = self.file("leaf1", "".join(line + "\n" for line in show))
-        show = shown("eth0", End("leaf1", "swp1"), tlvs("2400", "000a"))
-        theirs = self.file("host01", "".join(line + "\n" for line in show))
-        words = [self.plan, f"leaf1:{ours}", f"host01:{theirs}"]
-        ran = run(*words)
-        self.assertEqual((ran.returncode, ran.stdout), (0, "1 cable: 1 right, 0 wrong\n"))
-        ran = run("--settings", *words)
-        self.assertEqual(ran.returncode, 1)
-        self.assertIn("mismatch: leaf1 swp1 says MTU 9216, host01 eth0 says 1500", ran.stdout)
-        self.assertNotIn("PVID", ran.stdout)
-
     def test_the_other_end_and_the_plan(self) -> None:
-        plan = self.file("plan.csv", "host,port,peer,peer_port,mtu,pvid\n"
-                                     "leaf1,swp1,host01,eth0,9216,10\n")
-        lines = [shown("swp1", End("host01", "eth0"), tlvs("05dc", "0014")),
-                 shown("eth0", End("leaf1", "swp1"), tlvs("2400", "0014"))]
-        words = [f"{host}:{self.file(host, ''.join(line + chr(10) for line in some))}"
-                 for host, some in zip(("leaf1", "host01"), lines)]
-        self.assertEqual(run("--settings", plan, *words).stdout.splitlines()[0].partition(" [")[0],
-                         "leaf1 swp1  mismatch: leaf1 swp1 says MTU 9216, host01 eth0 says 1500; "
-                         "leaf1 swp1 says PVID 20, the plan has 10; host01 eth0 says MTU 1500, "
-                         "the plan has 9216; host01 eth0 says PVID 20, the plan has 10")
+        shows = {"leaf1": neighbor("swp1", "host01", "eth0", tlvs=tlvs("05dc", "0014")),
+                 "host01": neighbor("eth0", "leaf1", "swp1", tlvs=tlvs("2400"))}
+        lists = [f"{host}:{self.file(host, show)}" for host, show in shows.items()]
+        ends = "leaf1 swp1  mismatch: leaf1 swp1 says MTU 9216, host01 eth0 says 1500"
+        for columns, texts, words, said in (
+                ("", "", [], "1 cable: 1 right, 0 wrong"), ("", "", ["--settings"], ends),
+                (",mtu,pvid", ",9216,10", ["--settings"],
+                 f"{ends}; host01 eth0 says MTU 1500, the plan has 9216; host01 eth0 says PVID 20, "
+                 "the plan has 10 [mtu 9216, pvid 10]")):
+            plan = self.file("plan.csv", f"host,port,peer,peer_port{columns}\n"
+                                         f"leaf1,swp1,host01,eth0{texts}\n")
+            ran = run(plan, *lists, *words)
+            self.assertEqual((ran.returncode, ran.stdout.splitlines()[0]), (len(words), said))
 
 
 if __name__ == "__main__":

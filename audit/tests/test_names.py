@@ -2,13 +2,12 @@
 from __future__ import annotations
 
 import unittest
-from typing import Sequence
 
 from auditing import InAFolder, neighbor, run
 from lldpa_audit import differs
 from lldpa_audit.aliases import read_aliases
 from lldpa_audit.names import Aliases, End, Names, Seen, shown, text_of, without_domain
-from lldpa_audit.planfault import PlanFault
+from lldpa_audit.plan import PlanFault
 from lldpa_audit.report.order import natural
 from lldpa_audit.spelling import is_aggregate, plain, plain_port
 
@@ -51,15 +50,8 @@ ADDRESSES = [
 class Spelling(unittest.TestCase):
     """One spelling for all that vendors have, and no more than that."""
 
-    def test_ports(self) -> None:
-        self.compare(PORTS, [plain_port])
-
-    def test_addresses(self) -> None:
-        self.compare(ADDRESSES, [plain, plain_port])
-
-    def compare(self, groups: Sequence[Sequence[str]], rules: Sequence[object]) -> None:
-        for rule in rules:
-            assert callable(rule)
+    def test_ports_and_addresses(self) -> None:
+        for groups, rule in ((PORTS, plain_port), (ADDRESSES, plain), (ADDRESSES, plain_port)):
             keys = [{rule(name) for name in group} for group in groups]
             self.assertEqual([len(some) for some in keys], [1] * len(groups), keys)
             self.assertEqual(len(set().union(*keys)), len(groups), keys)
@@ -112,7 +104,8 @@ class Differences(unittest.TestCase):
         names = Names(short_names=True)
         names.learn_domains(["sw1.dc1", "sw1.dc2", "a.x", "b"])
         for name, hosts in (("sw1.dc1", ["sw1.dc1"]), ("sw1.dc9", []), ("a", ["a.x"]),
-                            ("b.y", ["b"]), ("sw1", ["sw1.dc1", "sw1.dc2"]), ("a.y", []), ("a.x", ["a.x"])):
+                            ("b.y", ["b"]), ("sw1", ["sw1.dc1", "sw1.dc2"]), ("a.y", []),
+                            ("a.x", ["a.x"])):
             found = [host for host in ("sw1.dc1", "sw1.dc2", "a.x", "b")
                      if names.answers(Seen((name,), ("1",)), names.end(End(host, "1")))]
             self.assertEqual(found, hosts, name)
@@ -121,9 +114,9 @@ class Differences(unittest.TestCase):
 class FurtherNames(InAFolder):
     """--aliases."""
 
-    def aliases(self, text: str, names: Names = Names()) -> Aliases:
+    def aliases(self, text: str) -> Aliases:
         """Returns the aliases of a file."""
-        return read_aliases(self.file("aliases", text), names)
+        return read_aliases(self.file("aliases", text), Names())
 
     def test_rows(self) -> None:
         aliases = self.aliases("host,port,alias\n# ours\nhost01,,srv-17\nhost01,eth0,LOM1\n"
@@ -143,13 +136,6 @@ class FurtherNames(InAFolder):
         self.assertEqual(list(names.ends(Seen(("host02",), ("bond0",)))),
                          [End("host02", "eth0"), End("host02", "eth1")])
 
-    def test_as_the_rules_compare(self) -> None:
-        rules = Names(True, True, True)
-        aliases = self.aliases("host,port,alias\nHOST01.lab,Gi1/0/1,Uplink\n", rules)
-        names = Names(True, True, True, aliases)
-        self.assertTrue(names.answers(Seen(("host01",), ("UPLINK",)),
-                                      names.end(End("Host01.x", "GigabitEthernet1/0/1"))))
-
     def test_faults(self) -> None:
         for text, said in (("host,port\n", "line 1: the first line is not host,port,alias"),
                            ("host,port,alias\n,,x\n", "line 2: it has no alias, or neither a host"),
@@ -167,7 +153,9 @@ class FurtherNames(InAFolder):
                 ("ETH0", "eth0", "host01,,srv-17", "--ignore-case", "1 right"),
                 ("ETH0", "eth0", "host01,,srv-17", "--ignore-case --vendor-names", "1 right"),
                 ("ETH0", "Ethernet0", "host01,,srv-17", "--ignore-case --vendor-names", " wrong: "),
-                ("p1", "Ethernet0", "host01,,srv-17\nsrv-17,p1,Ethernet0", "", "1 right")):
+                ("p1", "Ethernet0", "host01,,srv-17\nsrv-17,p1,Ethernet0", "", "1 right"),
+                ("Gi0/1", "UPLINK", "HOST01.lab,,srv-17.x\nHOST01.lab,GI0/1,Uplink",
+                 "--ignore-case --vendor-names --short-names", "1 right")):
             plan = self.file("p", f"{head}leaf1,p,host01,{port}\n")
             show = self.file("leaf1", neighbor("p", "srv-17", port_id))
             file = self.file("aliases", f"host,port,alias\n{aliases}\n")

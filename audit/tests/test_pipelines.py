@@ -38,21 +38,16 @@ class Outputs(InAFolder):
         show = self.file("show", "".join(ports))
         self.words = [self.plan, f"leaf1:{show}", "--settings"]
 
-    def test_lines_have_what_the_plan_says(self) -> None:
-        self.assertEqual(run(*self.words).stdout.splitlines(), [
-            "swp2  wrong: wants host02 eth0, has x y [label C2, rack r1]",
-            "swp3  silent: wants host03 eth0 [label C3, rack r1]",
-            "swp4  mismatch: host04 eth0 says MTU 9000, the plan has 1500 [label C4, rack r10, mtu "
-            "1500]", "4 cables: 2 right, 2 wrong; "
-            "1 with a mismatch"])
-
-    def test_by_a_column(self) -> None:
-        lines = run(*self.words, "--by", "rack").stdout.splitlines()
-        self.assertEqual([line for line in lines if not line.startswith(" ")][:-1],
-                         ["rack r1: 2", "rack r10: 1"])
-        ran = run(*self.words, "--by", "row")
-        self.assertEqual((ran.returncode, ran.stderr),
-                         (2, f"lldpa-audit: {self.plan} has no column row\n"))
+    def test_lines(self) -> None:
+        count = "4 cables: 2 right, 2 wrong; 1 with a mismatch"
+        lines = ["swp2  wrong: wants host02 eth0, has x y [label C2, rack r1]",
+                 "swp3  silent: wants host03 eth0 [label C3, rack r1]",
+                 "swp4  mismatch: host04 eth0 says MTU 9000, the plan has 1500 [label C4, rack "
+                 "r10, mtu 1500]"]
+        self.assertEqual(run(*self.words).stdout.splitlines(), [*lines, count])
+        lines = [f"  {line}" for line in lines]
+        self.assertEqual(run(*self.words, "--by", "rack").stdout.splitlines(),
+                         ["rack r1: 2", *lines[:2], "rack r10: 1", lines[2], count])
 
     @unittest.skipIf(jsonschema is None, "there is no jsonschema")
     def test_json_is_as_its_schema_says(self) -> None:
@@ -70,20 +65,15 @@ class Outputs(InAFolder):
                 jsonschema.validate({key: value for key, value in told.items() if key != name},
                                     SCHEMA)
 
-    def test_junit(self) -> None:
-        path = self.folder / "junit.xml"
-        status = run(*self.words, "--junit", str(path)).returncode
-        root = ElementTree.parse(path).getroot()
+    def test_junit_and_metrics(self) -> None:
+        junit, metrics = self.folder / "junit.xml", self.folder / "audit.prom"
+        status = run(*self.words, "--junit", str(junit), "--metrics", str(metrics)).returncode
+        root, text = ElementTree.parse(junit).getroot(), metrics.read_text()
         cases = [(one.get("classname"), one.get("name"), [inner.tag for inner in one])
                  for one in root.iter("testcase")]
-        self.assertEqual(cases, [("leaf1", "swp1", []), ("leaf1", "swp2", ["failure"]),
-                                 ("leaf1", "swp3", ["failure"]), ("leaf1", "swp4", ["failure"])])
+        self.assertEqual(cases, [("leaf1", "swp1", []), *[("leaf1", f"swp{at}", ["failure"])
+                                                          for at in (2, 3, 4)]])
         self.assertEqual((status, root.get("tests"), root.get("failures")), (1, "4", "3"))
-
-    def test_metrics(self) -> None:
-        path = self.folder / "audit.prom"
-        run(*self.words, "--metrics", str(path))
-        text = path.read_text()
         for line in ('lldpa_audit_ends{verdict="right"} 1',
                      'lldpa_audit_ends{verdict="mismatch"} 1',
                      'lldpa_audit_cables{state="right"} 2', 'lldpa_audit_cables{state="wrong"} 2',

@@ -9,8 +9,7 @@ from typing import Any, List, Mapping, Optional, Sequence
 
 from lldpa_audit.columns import given_columns
 from lldpa_audit.names import Names
-from lldpa_audit.plan import Plan
-from lldpa_audit.planfault import PlanFault
+from lldpa_audit.plan import Plan, PlanFault
 from lldpa_audit.planfile import read_plan
 
 HEAD = "host,port,peer,peer_port\n"
@@ -219,7 +218,8 @@ class NetBox(Plans):
             self.assertEqual(self.links(plan), ["a 1 - b 1", "a 2 - b 2", "a 3 - b 3"])
             self.assertEqual(self.notes(plan), [
                 "plan: 6 cables are left out: 3 without a port of a device at both ends, 1 of "
-                "power or consoles, 1 planned or decommissioning, 1 with ends that cannot be paired"])
+                "power or consoles, 1 planned or decommissioning, 1 with ends that cannot be "
+                "paired"])
         nameless = cable(1, [("a", "1")], [("b", "1")])
         nameless["b_terminations"][0]["object"]["device"] = {"name": None, "display": "EX (7)"}
         self.assertEqual(self.links(self.plan(json.dumps({"results": [nameless]}))),

@@ -1,12 +1,10 @@
-"""The line of each fault, with what helps to find the cable; verdicts in JSON."""
+"""The line of each fault, with what helps to find the cable."""
 from __future__ import annotations
 
-import json
 import unittest
-from typing import Any, List, Mapping, Sequence, Tuple
+from typing import Sequence, Tuple
 
 from lldpa_audit.judging import audit
-from lldpa_audit.mismatches import Mismatch
 from lldpa_audit.names import NAMELESS, End, Names, Seen
 from lldpa_audit.plan import Link, Plan
 from lldpa_audit.report.report import Report
@@ -87,7 +85,7 @@ def end(text: str) -> End:
 
 
 def seen(text: str) -> Seen:
-    """Returns a neighbor of these names; several ports stand between bars."""
+    """Returns a neighbor of these names; bars separate several ports."""
     if text == "?":
         return NAMELESS
     host, port = text.rstrip("!").split()
@@ -95,22 +93,16 @@ def seen(text: str) -> Seen:
                 "c!" if text.endswith("!") else "c", port)
 
 
-def report_of(links: str, known: str, names: Names = Names(),
-              mismatches: Mapping[End, Mismatch] = {}) -> Report:
+def report_of(links: str, known: str) -> Report:
     """Returns the report of links, and of the neighbors of ends."""
+    names = Names()
     pairs = [text.split(" - ") for text in links.split("; ")]
     plan = Plan("plan", [Link(end(one), end(other), None) for one, other in pairs], names)
     tables = Tables(names)
     for text in known.split("; "):
         at, _, neighbors = text.partition(" =")
         tables.add(*end(at), [seen(one.strip()) for one in neighbors.split(",") if one.strip()])
-    return Report(plan, tables, audit(plan, tables), mismatches)
-
-
-def verdicts(report: Report) -> List[Any]:
-    """Returns the verdict of each end in JSON, and its text."""
-    told = json.loads(json.dumps(report.as_json(), ensure_ascii=False))
-    return [(one["host"] + " " + one["port"], one["verdict"], one["text"]) for one in told["ends"]]
+    return Report(plan, tables, audit(plan, tables))
 
 
 class Lines(unittest.TestCase):
@@ -119,29 +111,6 @@ class Lines(unittest.TestCase):
     def test_lines(self) -> None:
         for links, known, lines in ROWS:
             self.assertEqual(report_of(links, known).lines(), lines)
-
-    def test_verdicts(self) -> None:
-        for links, known, wanted in (
-                (TWO, f"{SWAPPED}; s2 q1 = l1 p1", ["swapped"] * 4),
-                (TWO, SWAPPED, ["swapped", "swapped", "wrong"]),
-                (THREE, "a 1 = b 2; a 2 = b 3; a 3 = b 1", ["wrong"] * 3),
-                (THREE, "a 1 = b 1; a 2 =; a 9 =",
-                 ["right", "silent", "no data", "not looked at"])):
-            self.assertEqual([verdict for _, verdict, _ in verdicts(report_of(links, known))],
-                             wanted)
-
-    def test_mismatches(self) -> None:
-        text = "mismatch: a 2 says MTU 9216, b 2 says 1500"
-        report = report_of("a 2 - b 2; a 1 - b 1", "a 2 = b 2; a 1 = b 1", Names(),
-                           {end("a 2"): Mismatch(text, (end("a 2"), end("b 2")))})
-        self.assertEqual(report.lines(), [f"2  {text}", "2 cables: 2 right, 0 wrong; 1 with a "
-                                          "mismatch"])
-        self.assertFalse(report.count.is_all_right)
-        self.assertEqual(verdicts(report), [("a 1", "right", None), ("a 2", "mismatch", text)])
-
-    def test_octets_that_are_no_text(self) -> None:
-        told: Any = report_of("a 1 - b 1", "a 1 = \udcff\udc80 1").as_json()
-        self.assertEqual(told["ends"][0]["has"][0]["host_names"][0], "\\xff\\x80")
 
 
 if __name__ == "__main__":

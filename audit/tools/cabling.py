@@ -42,7 +42,8 @@ def write(folder, pods, form="show"):
 
 def show_of(ports, tlvs=lambda neighbor: ()):
     """Returns a show, in which each neighbor has the TLVs that `tlvs` returns for it."""
-    return "".join(line + "\n" for port, neighbors in ports.items() for line in show_of_port(port, neighbors, tlvs))
+    return "".join(f"lldp.{port}.{line}\n" for port, neighbors in ports.items()
+                   for line in show_of_port(neighbors, tlvs))
 
 
 def tree_of(ports, tlvs=lambda neighbor: SETTINGS):
@@ -52,32 +53,21 @@ def tree_of(ports, tlvs=lambda neighbor: SETTINGS):
     return neighbors(Told(show, since, {}, 725), None, Depth.DETAILS)
 
 
-def of_lldpcli(form):
-    """Returns the writer of a form of lldpcli's."""
-    return lambda *words: OF_LLDPCLI[form](tree_of(*words)) + "\n"
+FORMS = {"show": show_of, **{form: lambda *words, write=write: write(tree_of(*words)) + "\n"
+                             for form, write in OF_LLDPCLI.items() if form in ("json", "json0")}}
 
 
-FORMS = {"show": show_of, **{form: of_lldpcli(form) for form in ("json", "json0")}}
-
-
-def show_of_port(port, neighbors, tlvs):
-    """Returns what a show says of a port."""
-    yield f"lldp.{port}.neighbors={len(neighbors)}"
-    yield f"lldp.{port}.octets={110 * len(neighbors)}"
-    yield f"lldp.{port}.too-many=no"
+def show_of_port(neighbors, tlvs):
+    """Yields what a show says of a port."""
+    yield from (f"neighbors={len(neighbors)}", f"octets={110 * len(neighbors)}", "too-many=no")
     for place, (host, port_id) in enumerate(neighbors, 1):
-        front = f"lldp.{port}.{place}."
-        number = sum(map(ord, host))
-        yield f"{front}chassis.mac=02:00:5e:{place:02x}:{number >> 8:02x}:{number & 255:02x}"
-        yield f"{front}port.ifname={port_id}"
-        yield f"{front}ttl=120"
-        yield f"{front}expires=107"
-        yield f"{front}port.descr=to the fabric"
-        yield f"{front}chassis.name={host}"
-        yield f"{front}chassis.descr=Debian GNU/Linux 12 (bookworm) Linux 6.1.0-18-amd64"
-        yield f"{front}chassis.caps=Bridge:on,Router:on,Station:off"
-        yield f"{front}chassis.mgmt=10.0.{number >> 8}.{number & 255},2,1,"
-        yield from (f"{front}org.{kind}={octets}" for kind, octets in tlvs((host, port_id)))
+        high, low = divmod(sum(map(ord, host)), 256)
+        for line in (f"chassis.mac=02:00:5e:{place:02x}:{high:02x}:{low:02x}", f"port.ifname={port_id}",
+                     "ttl=120", "expires=107", "port.descr=to the fabric", f"chassis.name={host}",
+                     "chassis.descr=Debian GNU/Linux 12 (bookworm) Linux 6.1.0-18-amd64",
+                     "chassis.caps=Bridge:on,Router:on,Station:off", f"chassis.mgmt=10.0.{high}.{low},2,1,",
+                     *[f"org.{kind}={octets}" for kind, octets in tlvs((host, port_id))]):
+            yield f"{place}.{line}"
 
 
 def measured(words):

@@ -4,8 +4,8 @@ shapes of audit/tests/shapes.py.
 
     audit/tools/try-damage.py [--minutes 10] [--seed N]
 
-Each run must end by itself within 30 seconds of the processor and 500 MB, and write nothing through a link that stands
-where its page is to be. LLDPA names the agent. Prints the seed first; the last line is `N passed, M failed`.
+Each run must end by itself within 30 seconds of the processor and 500 MB, and write nothing through a link in the place
+of its page. LLDPA names the agent. Prints the seed first; the last line is `N passed, M failed`.
 """
 import argparse
 import gzip
@@ -21,7 +21,6 @@ sys.path[:0] = [str(TOP / folder) for folder in ("audit", "python", "audit/tests
 os.environ.setdefault("LLDPA", str(TOP / "crates" / "lldpa" / "out" / "lldpa"))
 import cabling  # noqa: E402
 import fabric  # noqa: E402
-import fabric_plans  # noqa: E402
 import rack  # noqa: E402
 import shapes  # noqa: E402
 import vendors  # noqa: E402
@@ -34,12 +33,12 @@ PORTS = {"swp1": [("host01", "eth0")], "swp2": [("host02", "eth0"), ("host03", "
 def samples():
     """Yields what is damaged, and its place among the words of an audit."""
     links = list(fabric.links())[:300]
-    yield "plan", fabric_plans.csv_plan(links).encode()
+    yield "plan", fabric.csv_plan(links).encode()
     yield "plan", (b"side_a_device,side_a_type,side_a_name,side_b_device,side_b_type,side_b_name,type,label\n"
                    b"leaf01,dcim.interface,swp1,host01,dcim.interface,eth0,cat6,C1\n" * 2)
     yield "plan", b'graph {\n"leaf01":"swp1" -- "host01":"eth0" [label="C1"]\n}\n'
     yield "plan", f'{{"next": null, "results": [{shapes.cable(1)}, {shapes.cable(2)}]}}'.encode()
-    yield "panels", fabric_plans.panels().encode()
+    yield "panels", fabric.panels().encode()
     yield "aliases", b"host,port,alias\nhost01,eth0,bond0\nhost01,eth1,bond0\nhost02,,web-00\n"
     for write in (*vendors.FORMS.values(), *cabling.FORMS.values()):
         yield "leaf01", write(PORTS).encode()
@@ -87,8 +86,8 @@ class Trial:
 
     def __init__(self, room):
         self.room, self.counts, self.most = pathlib.Path(room), Counts(), [0.0, 0]
-        for name, octets in (("plan", fabric_plans.csv_plan(list(fabric.links())[:300])), ("victim", "victim"),
-                             ("list", vendors.FORMS["napalm"](PORTS)), ("panels", fabric_plans.panels()),
+        for name, octets in (("plan", fabric.csv_plan(list(fabric.links())[:300])), ("victim", "victim"),
+                             ("leaf01", vendors.FORMS["napalm"](PORTS)), ("panels", fabric.panels()),
                              ("aliases", "host,port,alias\nhost01,eth0,bond0\n")):
             (self.room / name).write_text(octets)
 

@@ -8,8 +8,7 @@ import html
 from typing import Iterator, NamedTuple, Sequence
 
 from ..judging import Finding, Verdict
-from ..names import shown
-from .hints import Hints
+from ..names import Names, shown
 
 WIDTH = 360
 ENDS_OF_A_PICTURE = 24
@@ -28,36 +27,31 @@ class Line(NamedTuple):
     peer: str
 
 
-def pictures_of(host: str, faults: Sequence[Finding], hints: Hints) -> Iterator[str]:
-    """Returns the pictures of a host's faults in SVG, of so many ends each."""
+def pictures_of(host: str, faults: Sequence[Finding], names: Names) -> Iterator[str]:
+    """Yields the pictures of a host's faults in SVG, each of some ends."""
     for begin in range(0, len(faults), ENDS_OF_A_PICTURE):
-        yield picture(host, faults[begin:begin + ENDS_OF_A_PICTURE], hints)
+        some = faults[begin:begin + ENDS_OF_A_PICTURE]
+        parts, top = [], MARGIN
+        for fault in some:
+            lines = lines_of(fault, names)
+            parts.append(group(fault, lines, top))
+            top += ROW * len(lines) + GAP
+        height = top - GAP + MARGIN
+        title = html.escape(f"{shown(host)}: {len(some)} ends with a fault")
+        yield (f'<svg viewBox="0 0 {WIDTH} {height}" width="{WIDTH}" height="{height}" role="img" '
+               f'aria-label="{title}">{"".join(parts)}</svg>')
 
 
-def picture(host: str, faults: Sequence[Finding], hints: Hints) -> str:
-    """Returns one picture."""
-    parts, top = [], MARGIN
-    for fault in faults:
-        lines = lines_of(fault, hints)
-        parts.append(group(fault, lines, top))
-        top += ROW * len(lines) + GAP
-    height = top - GAP + MARGIN
-    title = html.escape(f"{shown(host)}: {len(faults)} ends with a fault")
-    return (f'<svg viewBox="0 0 {WIDTH} {height}" width="{WIDTH}" height="{height}" role="img" '
-            f'aria-label="{title}">{"".join(parts)}</svg>')
-
-
-def lines_of(fault: Finding, hints: Hints) -> list[Line]:
+def lines_of(fault: Finding, names: Names) -> list[Line]:
     """Returns the lines of an end: to each neighbor, and to the wanted one if it is missing."""
     wants = fault.wants
-    key = hints.names.end(wants) if wants is not None else None
-    are_it = [key is not None and hints.names.answers(one, key) for one in fault.has]
-    is_wanted = any(are_it)
+    key = names.end(wants) if wants is not None else None
+    are_it = [key is not None and names.answers(one, key) for one in fault.has]
     lines = [Line("right" if is_it else "has", str(wants if is_it else neighbor))
              for is_it, neighbor in zip(are_it[:MOST_NEIGHBORS], fault.has)]
     if len(fault.has) > MOST_NEIGHBORS:
         lines.append(Line("has", f"{len(fault.has) - MOST_NEIGHBORS} more"))
-    if wants is not None and not is_wanted:
+    if wants is not None and not any(are_it):
         unknown = fault.verdict is Verdict.NO_DATA
         lines.append(Line("unknown" if unknown else "wants", str(wants)))
     return lines or [Line("unknown", "?")]

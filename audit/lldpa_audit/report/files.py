@@ -6,24 +6,25 @@ import tempfile
 from contextlib import suppress
 from pathlib import Path
 
-from lldpa.faults import LldpaFault
-
-
-class FileFault(LldpaFault):
-    """Why a file cannot be written."""
-
 
 def write(file: str, octets: bytes) -> None:
-    """Writes a file. A reader never sees a part of it, unless it is not a plain file. Raises
-    FileFault."""
+    """Writes a file. A reader never sees a part of it, unless it is a pipe or a device. Raises
+    OSError."""
     path = Path(file)
     try:
-        if path.exists() and not path.is_file():
+        if is_written_in_place(path):
             path.write_bytes(octets)
         else:
             replace(path, octets)
     except OSError as fault:
-        raise FileFault(f"{file}: {fault.strerror or fault}") from None
+        raise OSError(fault.errno, fault.strerror, file) from None
+
+
+def is_written_in_place(path: Path) -> bool:
+    """Returns whether a file is not a plain one, such as a pipe or a device. One that is another
+    user's is replaced, and so is a link of another user to a device."""
+    return (path.exists() and not path.is_file()
+            and path.lstat().st_uid in (0, os.geteuid()))
 
 
 def replace(path: Path, octets: bytes) -> None:

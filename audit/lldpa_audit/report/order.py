@@ -2,26 +2,19 @@
 from __future__ import annotations
 
 import re
-from typing import Iterable, Protocol, TypeVar, Union
+from typing import Iterable, TypeVar, Union
 
+from ..judging import Finding
 from ..names import End
+from .repairs import Repair
 
-
-class HasEnd(Protocol):
-    """What stands at an end."""
-
-    @property
-    def end(self) -> End:
-        """Returns the end."""
-
-
-Item = TypeVar("Item", bound=HasEnd)
+Item = TypeVar("Item", Finding, Repair)
 # texts and numbers in turn; a number is compared by how many digits it has, and then by these
 Key = list[Union[str, tuple[int, str]]]
 
 
 def in_order(items: Iterable[Item]) -> list[Item]:
-    """Findings or repairs by host and port: swp2 before swp10."""
+    """Returns findings or repairs by host and port: swp2 before swp10."""
     keys: dict[str, Key] = {}
     return sorted(items, key=lambda item: [natural(name, keys) for name in item.end])
 

@@ -14,8 +14,8 @@ Heard = Mapping[str, Sequence[tuple[End, Seen]]]
 
 
 def exchanged(faults: Faults) -> Iterator[Repair]:
-    """Yields a repair for each two hosts of which each has the other's name at all its links, two
-    at least."""
+    """Yields a repair for each two hosts that have each other's names at all their links, two at
+    least."""
     heard = other_names(faults)
     for host, by_name in heard.items():
         other = next(iter(by_name))
@@ -39,12 +39,13 @@ def exchange(faults: Faults, host: str, other: str, some: Sequence[End]) -> Repa
 
 
 def renamed(faults: Faults) -> Iterator[Repair]:
-    """Yields a repair for each planned host of which another name is heard at each of its links,
+    """Yields a repair for each planned host that is heard by another name at each of its links,
     two at least, with the ports that are planned."""
     for host, by_name in other_names(faults).items():
         some = max(by_name.values(), key=len)
-        if (len(some) >= FEWEST and not is_heard_rightly(faults, host)
-                and not is_miswired(faults, some)):
+        own = [faults.left[end] for end, _ in some if end in faults.left]
+        is_miswired = any(fault.verdict in HAVE_ANOTHER for fault in own)  # its cables are wrong
+        if len(some) >= FEWEST and not is_heard_rightly(faults, host) and not is_miswired:
             yield repair(faults, host, some)
 
 
@@ -72,24 +73,20 @@ def has_port(faults: Faults, neighbor: Seen, wanted: End) -> bool:
 
 def is_heard_rightly(faults: Faults, host: str) -> bool:
     """Returns whether a host is heard by its planned name at one of its links."""
-    ends, names = faults.hints.tables.ends, faults.names
+    ends, names = faults.tables.ends, faults.names
     return any(names.answers(neighbor, key)
                for key in faults.plan.ends_of_hosts.get(host, ())
                for told in (ends.get(faults.plan.ends[key].wanted),) if told is not None
                for neighbor in told.neighbors)
 
 
-def is_miswired(faults: Faults, some: Sequence[tuple[End, Seen]]) -> bool:
-    """Returns whether the host itself hears others than it wants: then its cables are wrong."""
-    return any(faults.left[end].verdict in HAVE_ANOTHER for end, _ in some if end in faults.left)
-
-
 def repair(faults: Faults, host: str, some: Sequence[tuple[End, Seen]]) -> Repair:
     """Returns the repair of a host that is heard at these ends by another name."""
     name, neighbor = faults.plan.hosts[host], some[0][1]
-    differs = faults.hints.differences.of_neighbor(neighbor, some[0][0])
-    links = faults.plan.ends_of_hosts[host]
-    known = [key for key in links if has_neighbors(faults, faults.plan.ends[key].wanted)]
+    differs = faults.differences.of_neighbor(neighbor, some[0][0])
+    fars = [faults.tables.ends.get(faults.plan.ends[key].wanted)
+            for key in faults.plan.ends_of_hosts[host]]
+    known = [told for told in fars if told is not None and told.neighbors]
     at = (f"all {len(some)} of its links" if len(some) == len(known)
           else f"{len(some)} of {len(known)} links of it")
     text = f"answers as {shown(neighbor.hosts[0])} at {at}"
@@ -97,8 +94,3 @@ def repair(faults: Faults, host: str, some: Sequence[tuple[End, Seen]]) -> Repai
     return Repair("renamed", End(name, some[0][0].port), f"{text} ({differs})" if differs else text,
                   faults.take(ends), shown(name))
 
-
-def has_neighbors(faults: Faults, key: End) -> bool:
-    """Returns whether an end has a neighbor."""
-    told = faults.hints.tables.ends.get(key)
-    return told is not None and bool(told.neighbors)

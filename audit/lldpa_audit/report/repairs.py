@@ -3,14 +3,14 @@ from __future__ import annotations
 
 from typing import Iterable, Iterator, NamedTuple, Optional, Sequence
 
+from ..differs import Differences
 from ..judging import Finding, Verdict
-from ..names import End, Seen
-from ..plan import Plan
-from .hints import Hints
+from ..names import End, Seen, shown
+from ..plan import Plan, Wish
+from ..seen.tables import Tables
 
 HAVE_ANOTHER = (Verdict.WRONG, Verdict.SWAPPED)
 HAVE_NOBODY = (Verdict.SILENT, Verdict.ONE_SIDED, Verdict.NO_DATA)
-
 
 TO_DO = {
     "renamed": "correct the name, at the host or in the plan",
@@ -34,7 +34,7 @@ TO_DO = {
 
 
 class Repair(NamedTuple):
-    """One line: of what kind, where to go, what is wrong there, and each end that it mends.
+    """One line: its kind, where to go, what is wrong there, and each end that it mends.
 
     `place` names where to go if that is not the end, but a whole host or several ports.
     """
@@ -52,13 +52,31 @@ class Repair(NamedTuple):
 
 
 class Faults:
-    """The faults that no repair mends so far, by their ends as they are compared, in order."""
+    """The faults by their ends as they are compared, in order, and what helps to find cables.
 
-    def __init__(self, plan: Plan, hints: Hints, faults: Iterable[Finding]) -> None:
+    `left` has the faults that no repair mends so far, and `seen` where each wanted end is seen.
+    """
+
+    def __init__(self, plan: Plan, tables: Tables, faults: Iterable[Finding]) -> None:
         self.plan = plan
-        self.hints = hints
-        self.names = hints.names
-        self.left = {self.names.end(fault.end): fault for fault in faults}
+        self.tables = tables
+        self.names = tables.names
+        self.all = {self.names.end(fault.end): fault for fault in faults}
+        self.left = dict(self.all)
+        self.differences = Differences(self.names)
+        self.seen = self._places_of_wanted()
+        beside = [tables.ends[key].end for key in tables.beside(plan)]
+        self._beside = {self.differences.loosest(end): end for end in beside}
+
+    def _places_of_wanted(self) -> dict[End, End]:
+        faults = self.all.values()
+        wanted = {self.names.end(fault.wants) for fault in faults if fault.wants}
+        places: dict[End, End] = {}
+        for fault in faults:
+            for neighbor in fault.has:
+                for end in wanted.intersection(self.names.ends(neighbor)):
+                    places.setdefault(end, fault.end)
+        return places
 
     def __iter__(self) -> Iterator[tuple[End, Finding]]:
         return iter(list(self.left.items()))
@@ -93,5 +111,26 @@ class Faults:
     def meant(self, fault: Finding) -> Optional[End]:
         """Returns the end that ought to have what an end has."""
         neighbor = self.only(fault)
-        wish = self.hints.planned(neighbor) if neighbor is not None else None
+        wish = self.planned(neighbor) if neighbor is not None else None
         return self.names.end(wish.wants) if wish else None
+
+    def planned(self, neighbor: Seen) -> Optional[Wish]:
+        """Returns the one end of the plan that a neighbor answers to, or None if there are
+        several."""
+        ends = {key for key in self.names.ends(neighbor) if key in self.plan.ends}
+        return self.plan.ends[ends.pop()] if len(ends) == 1 else None
+
+    def place(self, end: End) -> str:
+        """Returns an end as its line names it: by its port if only one host is audited."""
+        is_ours = len(self.tables.hosts) == 1 and self.names.host(end.host) in self.tables.hosts
+        return shown(end.port) if is_ours else str(end)
+
+    def reason(self, end: End) -> str:
+        """Returns why nothing is known of an end."""
+        return self.tables.reason(self.names.end(end)) or self.like(end)
+
+    def like(self, end: End) -> str:
+        """Returns an unplanned port that has nearly the name of an end, in words."""
+        like = self._beside.get(self.differences.loosest(end))
+        differs = self.differences.of_ends(like, end) if like else None
+        return f"{self.place(like)} is known: {differs}" if like and differs else ""

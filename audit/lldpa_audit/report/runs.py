@@ -89,7 +89,7 @@ def looped(faults: Faults) -> Iterator[Repair]:
         other = own_end(faults, key, fault) if key in faults.left else None
         if other is None:
             continue
-        name = faults.hints.place(End(fault.end.host, other.port))
+        name = faults.place(End(fault.end.host, other.port))
         text = "it hears itself" if other == key else f"joined to {name}, of the same host"
         ends = faults.with_far([key, other], HAVE_NOBODY)
         yield Repair("loop", fault.end, f"a loop: {text}", faults.take(dict.fromkeys(ends)))
@@ -100,7 +100,7 @@ def own_end(faults: Faults, key: End, fault: Finding) -> Optional[End]:
     if len(fault.has) != 1 or fault.verdict not in (*HAVE_ANOTHER, Verdict.UNPLANNED):
         return None
     ends = [end for end in faults.names.ends(fault.has[0]) if end.host == key.host]
-    return next((end for end in ends if end in faults.hints.tables.ends or end in faults.plan.ends),
+    return next((end for end in ends if end in faults.tables.ends or end in faults.plan.ends),
                 None)
 
 
@@ -108,7 +108,7 @@ def repair(faults: Faults, kind: str, keys: Sequence[End], text: str, places: Se
            ) -> Repair:
     """Returns a repair of several ports of one host, and of the other ends of their links."""
     first = faults.left[places[0]].end
-    host = "" if len(faults.hints.tables.hosts) == 1 else f"{shown(first.host)} "
+    host = "" if len(faults.tables.hosts) == 1 else f"{shown(first.host)} "
     ends = faults.with_far(keys, FAR)
     place = f"{host}{of_ports(faults, places)}"
     return Repair(kind, first, text, faults.take(dict.fromkeys(ends)), place)
@@ -131,6 +131,6 @@ def lanes(faults: Faults) -> dict[End, list[End]]:
 
 
 def port_of(lane: Optional[End]) -> Optional[End]:
-    """Returns the port of which an end is a lane; None if its name is not that of a lane."""
+    """Returns the port that an end is a lane of; None if its name is not that of a lane."""
     found = LANE.fullmatch(lane.port) if lane is not None else None
     return None if lane is None or found is None else End(lane.host, found[1] or found[2])

@@ -5,9 +5,9 @@ from typing import Mapping, Optional, Sequence
 
 from ..judging import Finding, Verdict
 from ..mismatches import Mismatch
-from ..names import End, shown
-from .exchanges import Exchanges
-from .hints import Hints
+from ..names import End, Seen, shown
+from .exchanges import exchanges_of
+from .repairs import Faults
 
 # how many neighbors of an end are named in its line
 MOST_NAMED = 3
@@ -16,17 +16,11 @@ MOST_NAMED = 3
 class FaultTexts:
     """Says what is wrong at each end with a fault."""
 
-    def __init__(self, faults: Sequence[Finding], hints: Hints, exchanges: Exchanges,
-                 mismatches: Mapping[End, Mismatch]) -> None:
-        self.names = hints.names
-        self.hints = hints
-        self.exchanges = exchanges
+    def __init__(self, faults: Faults, mismatches: Mapping[End, Mismatch]) -> None:
+        self.names = faults.names
+        self.faults = faults
+        self.exchanges = exchanges_of(faults)
         self.mismatches = mismatches
-        self.faults = {self.names.end(fault.end): fault for fault in faults}
-
-    def other_end(self, fault: Finding) -> Optional[Finding]:
-        """Returns the fault at the other end of the planned link."""
-        return self.faults.get(self.names.end(fault.wants)) if fault.wants else None
 
     def text(self, fault: Finding) -> str:
         """Returns what is wrong at an end, or nothing if it is right."""
@@ -42,12 +36,13 @@ class FaultTexts:
         if fault.verdict is Verdict.EXTRA:
             return f"extra: {self.neighbors(fault)} besides {fault.wants}"
         if fault.verdict is Verdict.ONE_SIDED:
-            return f"one-sided: {who_hears(fault)}"
+            return (f"one-sided: hears {fault.wants}, is not heard there" if fault.has else
+                    f"one-sided: is heard by {fault.wants}, hears nobody")
         if fault.verdict is Verdict.DISAGREES:
             return f"disagrees: hears {fault.wants}, which hears somebody else"
         if fault.partner is not None:
             return f"swapped with {self.swapped(fault, fault.partner)}"
-        text = f"{fault.verdict.value}: wants {self.hints.wanted(fault.end, fault.wants)}"
+        text = f"{fault.verdict.value}: wants {self.wanted(fault.end, fault.wants)}"
         if fault.has:
             text += f", has {self.neighbors(fault)}"
         reason = self.reason(fault)
@@ -57,35 +52,43 @@ class FaultTexts:
         """Returns what is wrong at an end of a link, and at its other end, which has a lesser
         fault."""
         text = self.text(fault)
-        if other is None or fault.verdict is other.verdict is Verdict.ONE_SIDED:
+        are_alike = other is not None and fault.verdict is other.verdict
+        if other is None or are_alike and other.verdict in (Verdict.ONE_SIDED, Verdict.SILENT):
             return text
-        if fault.verdict is other.verdict is Verdict.SILENT:
-            return text
-        at = self.hints.place(other.end)
+        at = self.faults.place(other.end)
         if other.verdict is Verdict.DISAGREES:
             return f"{text}; {at} hears it"
         if other.verdict is Verdict.NO_DATA:
             return f"{text}; of {at} nothing is known"
-        if not other.has:
-            return f"{text}; {at} hears nobody"
-        return f"{text}; {at} has {self.neighbors(other)}"
+        return f"{text}; {at} has {self.neighbors(other)}" if other.has else (
+            f"{text}; {at} hears nobody")
 
     def swapped(self, fault: Finding, partner: End) -> str:
         """Returns with which end an end is swapped, and which exchange would mend it as well."""
-        has = self.hints.plan.ends[self.names.end(partner)].wants
-        text = f"{self.hints.place(partner)}: wants {fault.wants}, has {has}"
-        other = self.exchanges.other_pair(fault)
-        return f"{text} (or else {other[0].end} with {other[1].end}, not both)" if other else text
+        has = self.faults.plan.ends[self.names.end(partner)].wants
+        text = f"{self.faults.place(partner)}: wants {fault.wants}, has {has}"
+        other = self.exchanges.others.get(self.names.end(fault.end))
+        if other is None:
+            return text
+        one, twin = [self.faults.all[key].end for key in other]
+        return f"{text} (or else {one} with {twin}, not both)"
+
+    def wanted(self, end: End, wants: End) -> str:
+        """Returns which end is wanted, and where else that one is seen."""
+        place = self.faults.seen.get(self.names.end(wants))
+        if place is None or place == end:
+            return str(wants)
+        return f"{wants} (seen at {self.faults.place(place)})"
 
     def reason(self, fault: Finding) -> str:
         """Returns why nothing is known of an end, or heard at it."""
         if fault.verdict is Verdict.NO_DATA:
-            return self.hints.reason(fault.end)
+            return self.faults.reason(fault.end)
         if fault.verdict is not Verdict.SILENT:
             return ""
-        twin = self.other_end(fault)
+        twin = self.faults.all.get(self.names.end(fault.wants)) if fault.wants else None
         is_twin = twin is not None and twin.verdict is Verdict.SILENT
-        return self.hints.like(fault.end) or ("which is silent, too" if is_twin else "")
+        return self.faults.like(fault.end) or ("which is silent, too" if is_twin else "")
 
     def neighbors(self, fault: Finding) -> str:
         """Returns the neighbors of an end, or only the extra ones if the wanted one is there."""
@@ -93,11 +96,23 @@ class FaultTexts:
         if fault.verdict is Verdict.EXTRA and fault.wants is not None:
             wanted = self.names.end(fault.wants)
             has = [neighbor for neighbor in has if not self.names.answers(neighbor, wanted)]
-        texts = [self.hints.neighbor(neighbor, fault.end, fault.wants)
-                 for neighbor in has[:MOST_NAMED]]
+        texts = [self.neighbor(neighbor, fault.end, fault.wants) for neighbor in has[:MOST_NAMED]]
         if len(set(texts)) < len(texts):
             texts = [f"{text} ({neighbor.ids})" for text, neighbor in zip(texts, has)]
         return listed(texts, len(has) - len(texts))
+
+    def neighbor(self, neighbor: Seen, end: End, wants: Optional[End]) -> str:
+        """Returns which neighbor an end has, and where that is planned, or in what its name
+        differs."""
+        differs = self.faults.differences.of_neighbor(neighbor, wants) if wants else None
+        if differs:
+            return f"{neighbor} ({differs})"
+        wish = self.faults.planned(neighbor)
+        if wish is None:
+            return str(neighbor)
+        is_here = self.names.end(wish.wants) == self.names.end(end)
+        return str(wish.end) if is_here else (
+            f"{wish.end} (planned at {self.faults.place(wish.wants)})")
 
 
 def listed(texts: Sequence[str], more: int) -> str:
@@ -105,9 +120,3 @@ def listed(texts: Sequence[str], more: int) -> str:
     texts = [*texts, f"{more} more"] if more else texts
     return " and ".join(filter(None, [", ".join(texts[:-1]), texts[-1]]))
 
-
-def who_hears(fault: Finding) -> str:
-    """Returns which end of a link hears the other one."""
-    if fault.has:
-        return f"hears {fault.wants}, is not heard there"
-    return f"is heard by {fault.wants}, hears nobody"

@@ -1,29 +1,33 @@
-"""Faults of whole hosts: one line for a host without data, one that is silent, two of a name."""
+"""Faults of whole hosts: one line for a host without data, one that is silent, two of a name, or
+one that differs in a setting from its neighbors."""
 from __future__ import annotations
 
 from collections import Counter
-from typing import Iterator, Sequence
+from typing import Iterator, Mapping, Sequence
 
 from ..judging import Finding, Verdict
-from ..names import End, shown
+from ..mismatches import Mismatch
+from ..names import End, Names, shown
+from ..plan import Plan
 from .repairs import Faults, Repair
 
-FEWEST = 2
+FEWEST, FEWEST_UNLIKE = 2, 3
 MOST_NAMED = 3
+MISMATCH = "mismatch"
 
 
 def without_data(faults: Faults) -> Iterator[Repair]:
     """Yields a repair for each host without data: of all its ports, or of many for one reason."""
     ports: dict[str, list[End]] = {}
     for key, fault in faults:
-        reason = faults.hints.tables.reason(End(key.host, ""))
-        if reason and fault.verdict is Verdict.NO_DATA and faults.hints.reason(fault.end) == reason:
+        reason = faults.tables.reason(End(key.host, ""))
+        if reason and fault.verdict is Verdict.NO_DATA and faults.reason(fault.end) == reason:
             ports.setdefault(key.host, []).append(key)
     for host, keys in ports.items():
         count = len(faults.plan.ends_of_hosts[host])
         if len(keys) >= FEWEST and (len(keys) == count or len(keys) > MOST_NAMED):
             first = faults.left[keys[0]].end
-            text = f"no data at {len(keys)} of {count} ports ({faults.hints.reason(first)})"
+            text = f"no data at {len(keys)} of {count} ports ({faults.reason(first)})"
             yield Repair("no data", first, text, faults.take(keys), shown(first.host))
 
 
@@ -45,20 +49,16 @@ def silent_links(faults: Faults, host: str) -> Sequence[Sequence[End]]:
     """Returns the ends that were looked at of each link of a host, or none if one of them is not
     silent, the host's end is seen at another place, or only some of its ports were looked at."""
     found: list[Sequence[End]] = []
-    tables = faults.hints.tables
+    tables = faults.tables
     for key in faults.plan.ends_of_hosts.get(host, ()):
         ends = [end for end in (key, faults.far(key)) if end is not None and end in tables.ends]
-        if (key in faults.hints.seen or not all(is_silent(faults, end) for end in ends)
-                or not ends and host in tables.hosts):
+        left = [faults.left.get(end) for end in ends]
+        are_silent = all(one is not None and one.verdict is Verdict.SILENT for one in left)
+        if key in faults.seen or not are_silent or not ends and host in tables.hosts:
             return ()
         if ends:
             found.append(ends)
     return found
-
-
-def is_silent(faults: Faults, key: End) -> bool:
-    """Returns whether an end has the fault that it is silent."""
-    return key in faults.left and faults.left[key].verdict is Verdict.SILENT
 
 
 def of_one_name(faults: Faults) -> Iterator[Repair]:
@@ -94,3 +94,44 @@ def several_chassis(findings: Sequence[Finding]) -> Iterator[str]:
         more = f"; so do {len(several) - 1} more hosts" if len(several) > 1 else ""
         yield (f"{shown(host)} answers with {len(some)} chassis IDs ({ids}){more}: two devices may "
                "have one name")
+
+
+def together(faults: Sequence[Finding], found: Mapping[End, Mismatch], names: Names, plan: Plan
+             ) -> Iterator[Repair]:
+    """Yields a repair for each host and difference of three links or more, and for each other link
+    with a mismatch. Of two hosts at which a link could be reported, it is one most of whose links
+    differ so, and of two such hosts that with more."""
+    groups: dict[tuple[str, str], list[Finding]] = {}
+    for fault in faults:
+        for key in keys_of(found[fault.end], names):
+            groups.setdefault(key, []).append(fault)
+    told: set[End] = set()
+    def rank(group: tuple[tuple[str, str], list[Finding]]) -> tuple[bool, int]:
+        links = len(plan.ends_of_hosts.get(group[0][0], ()))
+        return 2 * len(group[1]) < links, -len(group[1])
+    for (host, by), some in sorted(groups.items(), key=rank):
+        left = [fault for fault in some if fault.end not in told]
+        if len(left) >= FEWEST_UNLIKE:
+            told.update(fault.end for fault in left)
+            yield of_host(host, by, left, found, names)
+    for fault in faults:
+        if fault.end not in told:
+            yield Repair(MISMATCH, fault.end, found[fault.end].text, (fault,))
+
+
+def keys_of(one: Mismatch, names: Names) -> Iterator[tuple[str, str]]:
+    """Yields each host of a link with how it differs, if that is the same at several links."""
+    if one.by_how_much:
+        yield names.host(one.ends[0].host), one.by_how_much
+        yield names.host(one.ends[1].host), one.opposite
+
+
+def of_host(host: str, by: str, some: Sequence[Finding], found: Mapping[End, Mismatch],
+            names: Names) -> Repair:
+    """Returns the repair of a host that differs from its neighbors in the same way at several
+    links."""
+    first = found[some[0].end]
+    end = next(end for end in first.ends if names.host(end.host) == host)
+    example = first.text.partition(": ")[2]
+    return Repair(MISMATCH, end, f"mismatch at {len(some)} links: differs in {by}, as {example}",
+                  some, shown(end.host))

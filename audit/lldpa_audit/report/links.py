@@ -1,0 +1,70 @@
+"""Repairs of one link, or of two that are exchanged."""
+from __future__ import annotations
+
+from typing import Iterator, Sequence
+
+from ..judging import Finding, Verdict
+from ..names import End
+from .repairs import Faults, Repair
+from .texts import FaultTexts
+
+# which end of a link is reported first: the one that is wrong
+RANKS = (Verdict.WRONG, Verdict.SWAPPED, Verdict.DOUBLED, Verdict.EXTRA, Verdict.NO_DATA,
+         Verdict.ONE_SIDED, Verdict.SILENT, Verdict.DISAGREES)
+
+
+def of_exchanges(faults: Faults, texts: FaultTexts) -> Iterator[Repair]:
+    """Yields a repair for each two cables that are exchanged."""
+    members: dict[End, list[End]] = {}
+    for key, _ in faults:
+        told_at = texts.exchanges.told_at.get(key)
+        if told_at is not None:
+            members.setdefault(told_at, []).append(key)
+    for told_at, keys in members.items():
+        fault = faults.left.get(told_at)
+        if fault is not None:
+            ends = faults.with_far(keys, [Verdict.DISAGREES])
+            yield Repair("swapped", fault.end, texts.text(fault), faults.take(ends))
+
+
+def of_links(faults: Faults, texts: FaultTexts) -> Iterator[Repair]:
+    """Yields a repair for each planned link that has a fault."""
+    for key, fault in faults:
+        if key not in faults.left or fault.verdict is Verdict.UNPLANNED:
+            continue
+        far = faults.far(key)
+        ends = [key] if far is None or far not in faults.left else [key, far]
+        ends.sort(key=lambda end: rank(faults.left[end]))
+        moved = ports_beside(faults, ends)
+        mends = faults.take(ends)
+        text = texts.of_link(mends[0], mends[1] if len(mends) > 1 else None)
+        yield Repair(mends[0].verdict.value, mends[0].end, text, [*mends, *faults.take(moved)])
+
+
+def rank(fault: Finding) -> tuple[int, bool]:
+    """Returns the key that sorts the end of a link that is wrong first, and if both are, the one
+    that hears the other."""
+    return RANKS.index(fault.verdict), not fault.has
+
+
+def ports_beside(faults: Faults, ends: Sequence[End]) -> list[End]:
+    """Returns the ports beside the plan that the line of a link names: at which an end of it is, or
+    which is heard at an end."""
+    found: dict[End, None] = {}
+    for end in ends:
+        place, neighbor = faults.seen.get(end), faults.only(faults.left[end])
+        keys = [*faults.names.ends(neighbor)] if neighbor is not None else []
+        keys += [faults.names.end(place)] if place is not None else []
+        found.update((key, None) for key in keys if key in faults.left
+                     and faults.left[key].verdict is Verdict.UNPLANNED)
+    return list(found)
+
+
+def of_ports(faults: Faults, texts: FaultTexts) -> Iterator[Repair]:
+    """Yields a repair for each port that is not planned, and for the port that it is joined to."""
+    for key, fault in faults:
+        if key in faults.left:
+            there = [end for one in fault.has for end in faults.names.ends(one)
+                     if end in faults.left and len(faults.left[end].has) == 1]
+            yield Repair(fault.verdict.value, fault.end, texts.text(fault),
+                         faults.take(dict.fromkeys([key, *there])))
