@@ -10,7 +10,7 @@ from lldpa.agent.synchronous import Agent
 from lldpa.capture.packets import ETHERNET, BadCapture, interfaces_of, reader_of
 from lldpa.capture.pcap import PcapReader
 from lldpa.capture.source import Source, opened
-from lldpa.capture.trace import Told, frames_of, ignored
+from lldpa.capture.trace import SILENT, Told, frames_of
 from lldpa.faults import LldpaFault
 from lldpa.limits import MOST_NEIGHBORS, MOST_PORTS
 
@@ -56,7 +56,7 @@ def recorded(files: Sequence[str], port: str, program: str) -> Listing:
     sources = [Source(file, "p0" if port else None, ports, MOST_UNPACKED) for file in files]
     heard = list(ports.values()) or ["p0"]  # an agent has a port
     if len(heard) > MOST_PORTS:  # those without LLDP frames have no neighbor
-        lines = frames_of(sources, Told(ignored, ignored), False)
+        lines = frames_of(sources, SILENT, False)
         heard = list(dict.fromkeys(line.split(" ", 2)[1] for line in lines)) or ["p0"]
     faults: list[str] = []
     notes: list[str] = []
@@ -66,7 +66,7 @@ def recorded(files: Sequence[str], port: str, program: str) -> Listing:
     for first in range(0, len(heard), MOST_PORTS):
         some = heard[first:first + MOST_PORTS]
         seen.update(at_the_end(frames_of(sources, told, True), some, program))
-        told = Told(ignored, ignored)  # the next ports are of the same captures
+        told = SILENT  # the next ports are of the same captures
     return Listing({name: seen.get(at, ()) for name, at in ports.items()}, False,
                    faults=faults, notes=notes, time=max(times, default=0.0))
 

@@ -38,6 +38,9 @@ class Told(NamedTuple):
     end: Callable[[float], None] = lambda _: None
 
 
+SILENT = Told(lambda _: None, lambda _: None)
+
+
 class Notes:
     """Writes notes on a file: the first of each kind, and how many others there are."""
 
@@ -78,8 +81,7 @@ def ports_of(sources: Sequence[Source]) -> List[str]:
     for source in sources:
         ports.update((name, None) for name in names_of(source) if is_port_name(name))
     if len(ports) > MOST_PORTS:
-        ignored = Told(lambda _: None, lambda _: None)
-        heard = {line.split(" ")[1] for line in frames_of(sources, ignored, False)}
+        heard = {line.split(" ")[1] for line in frames_of(sources, SILENT, False)}
         ports = {name: None for name in ports if name in heard}
     if len(ports) > MOST_PORTS:
         raise TooManyPorts(f"{len(ports)} ports; the limit is {MOST_PORTS}")
