@@ -23,8 +23,8 @@ CHECK = (TOP / "tools" / "gate" / "check.sh").read_text()
 WORDS = (TOP / "tools" / "gate" / "words.sh").read_text()
 KINDS = ("body", "tested", "example")
 # the test that runs the rows of a kind
-TEST_OF_ROWS = {"examine": "pdu::vectors::examined", "caps": "pdu::vectors::capabilities",
-                "mgmt": "pdu::vectors::management_addresses", "build": "pdu::vectors::built",
+TEST_OF_ROWS = {"examine": "pdu::vectors::octets_read", "caps": "pdu::vectors::octets_read",
+                "mgmt": "pdu::vectors::octets_read", "build": "pdu::vectors::built",
                 "machine": "transmit::machine", "open": "engine::opening::openings"}
 
 

@@ -17,7 +17,7 @@ status_text Disabled = codes "disabled"
 abbrev pub status_line : PortState → List ℕ
 status_line port = front_of (codes "configuration.") port.name ++ (codes "status=" ++ status_text port.status)
 
--- each number behind its key: `ttl` is the TTL of an ordinary frame, and `max-neighbors` the limit in force
+-- each number after its key: `ttl` is the TTL of an ordinary frame, and `max-neighbors` the limit in force
 abbrev pub numbers_shown : AgentState → List (List ℕ × ℕ)
 numbers_shown agent =
     let c = agent.configuration in

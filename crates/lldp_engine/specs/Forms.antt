@@ -55,7 +55,7 @@ status_of w =
     else if bytes_eq w (codes "disabled") then Some Disabled
     else None
 
--- What is left of a form behind a word, or what is wrong with the word for this form. The names of the ports are given.
+-- What is left of a form after a word, or what is wrong with the word for this form. The names of the ports are given.
 abbrev pub after_word : List (List ℕ) → Form → List ℕ → Result Form CommandFault
 after_word names (complete command) w = Err Extra
 after_word names (word expected next) w = if bytes_eq w expected then Ok next else Err Unknown

@@ -13,7 +13,7 @@ port_key name = front_of (codes "lldp.") name
 abbrev pub neighbor_key : List ℕ → ℕ → List ℕ
 neighbor_key name number = port_key name ++ decimal number ++ codes "."
 
--- a number in decimal, behind what its line begins with and its key
+-- a number in decimal, after what its line begins with and its key
 abbrev pub number_line : List ℕ → List ℕ × ℕ → List ℕ
 number_line front number = front ++ (number.0 ++ decimal number.1)
 

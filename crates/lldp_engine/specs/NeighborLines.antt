@@ -9,7 +9,7 @@ use Rattle.lldp_engine.specs.Keys.{port_key, neighbor_key}
 use Rattle.lldp_text.specs.Identifier.{chassis_text, port_text}
 use Rattle.lldp_text.specs.KeptTlv.{tlv_text}
 
--- the line of a kept TLV, behind this key
+-- the line of a kept TLV, after this key
 abbrev pub kept_line : List ℕ → TlvUnit → List ℕ
 kept_line key tlv = key ++ tlv_text tlv
 

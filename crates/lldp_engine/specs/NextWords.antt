@@ -5,12 +5,12 @@ use Rattle.lldp_text.specs.declared.fault.CommandFault.TheVariants.{Unknown, NoS
 use Rattle.lldp_text.specs.Answer.{or_fault, ◌>>=◌}
 use Rattle.lldp_engine.specs.Place.{place_of}
 
--- the next word, and those behind it
+-- the next word, and those after it
 abbrev pub word_said : List (List ℕ) → Result (List ℕ × List (List ℕ)) CommandFault
 word_said [] = Err Unknown
 word_said (word ∷ words) = Ok (word, words)
 
--- the port of these that the next word names, and the words behind it
+-- the port of these that the next word names, and the words after it
 abbrev pub port_said : List (List ℕ) → List (List ℕ) → Result (ℕ × List (List ℕ)) CommandFault
 port_said names words = do
   name ← word_said words

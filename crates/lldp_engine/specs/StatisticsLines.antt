@@ -5,7 +5,7 @@ use Rattle.lldp_engine.specs.declared.port.counters.Counters.{Counters}
 use Rattle.lldp_engine.specs.AgentState.{PortState}
 use Rattle.lldp_engine.specs.Keys.{port_key, number_lines}
 
--- each counter of a port, behind its key
+-- each counter of a port, after its key
 abbrev pub counters_shown : Counters → List (List ℕ × ℕ)
 counters_shown counters =
     (codes "sent=", counters.sent)

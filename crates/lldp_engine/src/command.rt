@@ -60,7 +60,7 @@ fn read_show(words: &mut Words<'_>) -> Result<Show, CommandFault>
     }
 }
 
-/// Reads a command of this first word and those behind it, and does not look for further words.
+/// Reads a command of this first word and those after it, and does not look for further words.
 fn read_form<'l, A: Allocator>(
     agent: &Agent<A>,
     first: &[u8],
@@ -113,7 +113,7 @@ fn refuse_in_use<'l, A: Allocator>(
 }
 
 impl<A: Allocator> Agent<A> {
-    /// Returns the command that words give, the first and those behind it, or the first fault: the
+    /// Returns the command that words give, the first and those after it, or the first fault: the
     /// words from left to right, then a word too many, then a limit below what a port holds. The
     /// agent allows the command.
     pub fn read_words<'l>(

@@ -27,6 +27,7 @@ pub mod whose;
 
 /// An allowed event carries standing from each past to that past with the event, and its marks are
 /// those of that past.
+#[tactic(auto, using(crate::proofs::Standing::Carrying::steps_carry_standing))]
 pub fn steps_carry_standing()
     ensures marks { (past : Past) (event : Event) (agent : AgentState) → Stands past agent →
         Allows agent event → HasOctets event →
@@ -39,6 +40,7 @@ pub fn steps_carry_standing()
 /// Each port's table holds the last stored frames that have not expired, and nothing else. Each
 /// port has sent exactly what was due while its credit window was open, by the right of its status,
 /// and no other choice has sent more up to any event.
+#[tactic(auto, using(crate::proofs::Headline::Promise::promised))]
 pub fn standing_agents_are_promised()
     ensures { (past : Past) (agent : AgentState) → Stands past agent → Promised past agent }
 {}

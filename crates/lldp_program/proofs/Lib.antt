@@ -3,6 +3,5 @@ pub mod Texts
 pub mod Runs
 pub mod Serving
 pub mod Words
-mod Examples
 pub mod ForLaws
 pub mod Statuses

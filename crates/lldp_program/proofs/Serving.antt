@@ -9,6 +9,7 @@ use Rattle.std.specs.Prelude.{is_err}
 use Rattle.std.specs.List.{filter}
 use Rattle.lldp_program.specs.Serving.{faults_in, faults_of, calls_of}
 use Rattle.lldp_program.specs.declared.trace.RunFault.{RunFault}
+use Rattle.lldp_program.proofs.ForLaws.Listening.{asked_by_texts}
 
 pub at_most_one : (r : Result (Unit {0}) RunFault) → faults_in r ≤ 1
 at_most_one (Ok done) = omega arith
@@ -42,3 +43,5 @@ pub faults_counted : (results : List (Result (Unit {0}) RunFault)) → faults_of
 faults_counted [] = refl
 faults_counted (Ok done ∷ earlier) = add-zero (faults_of earlier) ∙ faults_counted earlier
 faults_counted (Err fault ∷ earlier) = add-one (faults_of earlier) ∙ ap (λ (n : ℕ). suc n) (faults_counted earlier)
+
+pub ruleset words_ask_to_listen = (asked_by_texts, faults_counted)

@@ -1,4 +1,4 @@
--- What a flush behind a run leaves, and what an agent that was just opened has run.
+-- What a flush after a run leaves, and what an agent that was just opened has run.
 use Rattle.std.proofs.Common.{◌≡◌, ◌∙◌, ap, subst, Bool, true, false, refl, sym, arith, Some, None, ◌⊎◌, ℕ, List, ◌++◌, Option, Result, Ok, Err, inl, inr}
 use Rattle.std.specs.Prelude.{◌≢◌, is_ok}
 use Rattle.clap.specs.Walk.{Text}
@@ -53,7 +53,7 @@ ends_kept past input left old mid new agent (Err Read) k e = done_kept past (ite
 ends_kept past input left old mid new agent (Err Write) k e = stopped_kept past input left old mid new agent k e
 ends_kept past input left old mid new agent (Err InputTooLong) k e = done_kept past (items_of_lines past (ended_lines input)) old mid new agent k e
 
--- a run, if the writer was flushed behind it
+-- a run, if the writer was flushed after it
 pub run_kept : {T : Type 0} → (to_come left old mid new : Option (List ℕ)) (before after : AgentState) (r : Result T RunFault)
     → HasRun to_come left old mid before after r → Keeps mid new → HasRun to_come left old new before after r
 run_kept to_come left old mid new before after r h k =

@@ -19,7 +19,7 @@ abbrev pub faults_of : List (Result (Unit {0}) RunFault) → ℕ
 faults_of [] = 0
 faults_of (result ∷ earlier) = faults_of earlier + faults_in result
 
--- What the answer says of the runs. Ok: all were made, and so many of them ended with a fault. Err: fewer were.
+-- What the answer says of the runs. Ok: all were made, and this many of them ended with a fault. Err: fewer were.
 abbrev pub Tells : ℕ → List (Result (Unit {0}) RunFault) → Result ℕ ServeFault → Type 0
 Tells connections results (Ok faulty) = (length results ≡ connections) × (faulty ≡ faults_of results)
 Tells connections results (Err fault) = length results < connections
@@ -34,7 +34,7 @@ abbrev pub calls_of : {C : Type 0} → List (Visit C) → List (Call C)
 calls_of [] = []
 calls_of (visit ∷ earlier) = ran visit ∷ accepted visit.connection ∷ calls_of earlier
 
--- the same with the refusal that an answer Err reports, behind all of them
+-- the same with the refusal that an answer Err reports, after all of them
 abbrev pub calls_with : {C : Type 0} → List (Visit C) → Result ℕ ServeFault → List (Call C)
 calls_with visits (Ok faulty) = calls_of visits
 calls_with visits (Err fault) = refused ∷ calls_of visits
@@ -47,7 +47,7 @@ AreRun to_come taken (visit ∷ earlier) before after =
     (between : AgentState) × AreRun to_come taken earlier before between
     × HasRun (to_come visit.connection) visit.left (taken visit.connection) visit.new between after visit.result
 
--- What an acceptor was asked, if it reports that: so many connections were accepted and each was run over once, and the
+-- What an acceptor was asked, if it reports that: this many connections were accepted, each was run over once, and the
 -- answer says how many of the runs ended with a fault; or fewer were, and then accepting was refused.
 pub record HasAsked {C : Type 0} (to_come taken : C → Option (List ℕ)) (old new : Option (List (Call C)))
     (connections : ℕ) (before after : AgentState) (result : Result ℕ ServeFault) : Type 0 where
@@ -65,7 +65,7 @@ abbrev pub without_fault : Result ℕ ServeFault → Result (Unit {0}) DeviceFau
 without_fault (Ok faulty) = if faulty == 0 then Ok tt else Err Failed
 without_fault (Err fault) = Err Failed
 
--- The port of this host was bound first, and then so many connections were served, with a fault or without. Or it was
+-- The port of this host was bound first, and then this many connections were served, with a fault or without. Or it was
 -- not bound, which is a fault, and nothing else was asked.
 abbrev pub HasListened : {C : Type 0} → (C → Option (List ℕ)) → (C → Option (List ℕ)) → Option (List (Call C)) → Option (List (Call C)) →
     Listening → AgentState → AgentState → Result (Unit {0}) DeviceFault → Type 0

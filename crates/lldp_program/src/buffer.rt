@@ -6,7 +6,7 @@ ghost use Rattle.lldp_program.specs.Devices.Counts.{one_more, failures_after, en
 use crate::device::{DeviceFault, Source};
 use crate::line::LONGEST;
 
-/// Reads behind the octets that are held.
+/// Reads after the octets that are held.
 pub fn read_more<S: Source>(
     source: &mut S,
     buffer: &mut [u8],

@@ -32,7 +32,7 @@ pub enum LineFault {
 pub enum Work<'l> {
     /// Nothing.
     Skip,
-    /// So many ticks, at least one.
+    /// This many ticks, at least one.
     Ticks(u16),
     /// A frame was received on a port.
     Frame { port: u8, octets: &'l [u8] },
@@ -89,7 +89,7 @@ fn is_skipped_line(line: &[u8]) -> bool
     true
 }
 
-/// Reads `tick` and `tick N`, behind their first word.
+/// Reads `tick` and `tick N`, after their first word.
 #[tactic(auto, unfolding(crate::specs::Trace::Forms::tick_form))]
 fn read_tick<'l>(mut words: Words<'_>) -> Result<Work<'l>, LineFault>
     ensures read { on_ok work_of result ≡ tick_form words.entry }
@@ -121,7 +121,7 @@ fn decode<'l>(digits: &[u8], room: &'l mut [u8]) -> Result<&'l [u8], LineFault>
     }
 }
 
-/// Reads `rx PORT HEX`, behind its first word. The octets are written into the room.
+/// Reads `rx PORT HEX`, after its first word. The octets are written into the room.
 #[tactic(auto, unfolding(crate::specs::Trace::Forms::frame_form))]
 fn read_frame<'l>(
     agent: &Agent,
@@ -139,7 +139,7 @@ fn read_frame<'l>(
     Ok(Work::Frame { port, octets })
 }
 
-/// Reads `up PORT` and `down PORT`, behind their first word.
+/// Reads `up PORT` and `down PORT`, after their first word.
 #[tactic(auto, unfolding(crate::specs::Trace::Forms::link_form))]
 fn read_link<'l>(agent: &Agent, mut words: Words<'_>, up: bool) -> Result<Work<'l>, LineFault>
     ensures read { on_ok work_of result ≡ link_form agent.now up words.entry }

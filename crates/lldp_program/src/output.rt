@@ -178,7 +178,7 @@ impl<W: Sink> LineSink for Output<'_, W> {
     ghost takes = { λ old new line.
         Between W.taken W.failures W.place old new (Puts (ended line)) };
 
-    /// Lends what waits, so that the next line is written behind it.
+    /// Lends what waits, so that the next line is written after it.
     fn begin_line(&mut self) -> Option<&mut Writer> {
         self.make_room(LINE_ROOM);
         if self.answer.is_err() {

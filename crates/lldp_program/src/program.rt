@@ -47,7 +47,7 @@ const REFUSED: u8 = 2;
 /// says, all of it if the status is 0. With `--listen` nothing was read and nothing written; it
 /// listens at the port that `--listen` gives, for as many connections as `--connections` gives, 1
 /// by default. The status is 0 and nothing was written to `faults`, or it is that of the fault
-/// whose line was written: of the run, or else of the flush behind it; of the socket with
+/// whose line was written: of the run, or else of the flush after it; of the socket with
 /// `--listen`; of the write of help or the version.
 ///
 ///
@@ -190,7 +190,7 @@ fn run_streams<R: Read, W: Write, E: Sink>(
     run_devices(agent, &mut source, &mut sink, faults)
 }
 
-/// Runs the trace that comes from a source, and flushes the sink behind the last write, even if the
+/// Runs the trace that comes from a source, and flushes the sink after the last write, even if the
 /// run failed. Status 0 means that no read, write or flush failed, status 1 that one did or that
 /// the trace was too long.
 fn run_devices<S: Source, W: Flush, E: Sink>(

@@ -41,7 +41,7 @@ fn count_fault(ran: Result<(), RunFault>) -> u16
     }
 }
 
-/// Runs a trace on so many connections of an acceptor. Each is accepted and then run once before
+/// Runs a trace on this many connections of an acceptor. Each is accepted and then run once before
 /// the next, and a fault of one does not keep the next from being served. Returns how many ended
 /// with a fault, at most that many. The agent keeps its state from one connection to the next. If
 /// accepting is refused it fails, and the agent stands for the fewer connections served so far. The
@@ -52,7 +52,7 @@ pub fn serve_connections<D: Acceptor>(
     acceptor: &mut D,
     connections: u16,
 ) -> Result<u16, ServeFault>
-    // All that the acceptor was asked: so many connections, each run over once, or fewer and a refusal.
+    // All that the acceptor was asked: connections, each run over once, or fewer and a refusal.
     ensures asked { HasAsked D.to_come D.taken (D.asked acceptor.old) (D.asked acceptor.new) connections
         agent.old agent.new result }
     ensures few { IfOk result (λ faulty. faulty ≤ connections) }
@@ -69,7 +69,7 @@ pub fn serve_connections<D: Acceptor>(
     Ok(faulty)
 }
 
-/// Binds a port of this host, 127.0.0.1, before anything else, and serves so many connections
+/// Binds a port of this host, 127.0.0.1, before anything else, and serves this many connections
 /// there. Ok exactly if all were served and none ended with a fault. Fails if it cannot bind, and
 /// then asks for nothing else; if accepting failed; and if a connection ended with a fault. The
 /// agent is promised either way.
@@ -91,7 +91,7 @@ pub fn listen<D: Bind>(
     }
 }
 
-/// Serves so many connections to a listener, as `serve_connections` does at an acceptor, and
+/// Serves this many connections to a listener, as `serve_connections` does at an acceptor, and
 /// returns how many ended with a fault, at most that many. The toolchain's sockets do not report
 /// their octets, and a listener does not report its calls, so no clause says that any client is
 /// served.

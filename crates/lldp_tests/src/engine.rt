@@ -4,11 +4,9 @@ mod embedded;
 mod memory;
 mod opening;
 
-use arrayvec::ArrayVec;
-use lldp_engine::{Agent, Event, OpenFault, Options, Role};
+use lldp_engine::{Agent, OpenFault, Options, Role};
 use std::alloc::Allocator;
 use std::process::Abort;
-use std::test::Fail;
 
 /// Names of as many ports as an agent can have.
 const NAMES: [&str; 64] = [
@@ -19,28 +17,12 @@ const NAMES: [&str; 64] = [
     "p52", "p53", "p54", "p55", "p56", "p57", "p58", "p59", "p60", "p61", "p62", "p63",
 ];
 
-/// Opens an agent with the program's defaults, except that its ports only receive.
-pub fn open<A: Allocator + Clone>(
-    rt: &impl Abort,
-    alloc: A,
-    ports: &[&str],
-    max_neighbors: u8,
-) -> Result<Agent<A>, OpenFault> {
-    open_as(rt, alloc, ports, "localhost", max_neighbors)
-}
-
-/// Opens the same with this hostname.
-fn open_as<A: Allocator + Clone>(
-    rt: &impl Abort,
-    alloc: A,
-    ports: &[&str],
-    hostname: &str,
-    max_neighbors: u8,
-) -> Result<Agent<A>, OpenFault> {
-    let options = Options {
+/// Returns the options of agents with the program's defaults, except that the ports only receive.
+pub fn only_receiving<'a>(ports: &'a [&'a str], max_neighbors: u8) -> Options<'a> {
+    Options {
         ports,
         mac: [2, 0, 0, 0, 0, 1],
-        hostname,
+        hostname: "localhost",
         management: None,
         role: Role::Station,
         max_neighbors,
@@ -48,28 +30,14 @@ fn open_as<A: Allocator + Clone>(
         fast_init: 4,
         reinit: 2,
         receive_only: true,
-    };
-    assert!(rt; options.in_range());
-    Agent::open(alloc, &options)
+    }
 }
 
-/// Gives a port a frame with this LLDPDU.
-fn hear<A: Allocator>(
+pub fn open<A: Allocator + Clone>(
     rt: &impl Abort,
-    agent: &mut Agent<A>,
-    port: u8,
-    pdu: &[u8],
-) -> Result<(), Fail> {
-    let mut octets: ArrayVec<u8, 1514> = ArrayVec::new();
-    for part in [
-        b"\x01\x80\xc2\x00\x00\x0e\x00\x11\x22\x33\x44\x55\x88\xcc",
-        pdu,
-    ] {
-        octets.try_extend_from_slice(part).ok().ok_or("room")?;
-    }
-    let octets = octets.as_slice();
-    let event = Event::Frame { port, octets };
-    assert!(rt; agent.allows(&event));
-    agent.step(event);
-    Ok(())
+    alloc: A,
+    options: &Options<'_>,
+) -> Result<Agent<A>, OpenFault> {
+    assert!(rt; options.in_range());
+    Agent::open(alloc, options)
 }

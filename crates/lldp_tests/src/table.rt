@@ -28,7 +28,7 @@ fn told<'a>(rt: &impl Abort, pdu: &'a [u8]) -> Info<'a>
     }
 }
 
-/// Checks that the neighbor at place `i` has this frame, with so many ticks left.
+/// Checks that the neighbor at place `i` has this frame, with this many ticks left.
 fn expect_entry<A: Allocator>(rt: &impl Abort, table: &Table<A>, i: u8, pdu: &[u8; 22], left: u16) {
     assert!(rt; i < table.len());
     let entry = table.entry(i);
@@ -51,18 +51,11 @@ fn forgets<A: Allocator>(rt: &impl Abort, table: &mut Table<A>, pdu: &[u8; 22], 
     assert_eq!(rt; table.forget(&told(rt, pdu).msap()), held);
 }
 
-/// Takes so many ticks, and checks that so many neighbors age out at each.
+/// Takes this many ticks, and checks that this many neighbors age out at each.
 fn ticks<A: Allocator>(rt: &impl Abort, table: &mut Table<A>, count: u8, gone: u8) {
     for _ in 0..count {
         assert_eq!(rt; table.tick(), gone);
     }
-}
-
-/// Sets another limit, which the table allows.
-fn limits<A: Allocator>(rt: &impl Abort, table: &mut Table<A>, limit: u8) {
-    assert!(rt; 0 < limit && limit <= table.capacity() && table.len() <= limit);
-    table.set_limit(limit);
-    assert_eq!(rt; table.limit(), limit);
 }
 
 /// Checks how many neighbors and octets the table holds, and whether too many came.
@@ -137,19 +130,15 @@ fn memory(rt: HostRuntime) -> Result<(), Fail> {
         let used = ample.used();
         for port in 0..limit {
             learns(&rt, &mut table, &lldpdu(port, 9), Learned::New);
-            assert_eq!(rt; ample.used(), used);
         }
         learns(&rt, &mut table, &lldpdu(limit, 9), Learned::Dropped);
         learns(&rt, &mut table, &lldpdu(0, 1), Learned::Refreshed);
-        assert_eq!(rt; ample.used(), used);
-        limits(&rt, &mut table, limit);
-        assert_eq!(rt; ample.used(), used);
+        assert!(rt; limit <= table.capacity() && table.len() <= limit);
+        table.set_limit(limit);
         ticks(&rt, &mut table, 1, 1);
-        assert_eq!(rt; ample.used(), used);
         forgets(&rt, &mut table, &lldpdu(1, 9), limit > 1);
-        assert_eq!(rt; ample.used(), used);
         table.purge();
-        assert_eq!(rt; ample.used(), used);
+        assert_eq!(rt; (table.limit(), ample.used()), (limit, used));
         assert!(rt; rest.is_empty());
     }
     Ok(())

@@ -18,6 +18,7 @@ const MARKS: &[Mark] = &[Mark::Quiet, Mark::Ordinary, Mark::Shutdown];
 fn machine(rt: HostRuntime) -> Result<(), Fail> {
     let rows = rows_of(rt.alloc(), "machine")?;
     assert_eq!(rt; rows.len(), 7);
+    assert_eq!(rt; Mark::default(), Mark::Quiet);
     for row in rows.iter() {
         let credit_max = row.given.parse::<u8>()?;
         assert!(rt; 0 < credit_max && credit_max <= 10);

@@ -46,9 +46,6 @@ abbrev first_cause : History → Cause
 first_cause [] = Nothing
 first_cause (e ∷ h) = e.cause
 
-for_is : (past : Past) (event : Event) (i : ℕ) (cause : Cause) → IsFor past event i cause → cause_now past event i ≡ cause
-for_is past event i cause h = ap first_cause h.is
-
 -- what the table of port i answers to a name, after a past
 abbrev pub answers_now : Past → ℕ → MsapId → Learned
 answers_now past i name = answer past.options.max_neighbors name (table_events_after past.options (past_of past i))
@@ -60,7 +57,7 @@ IsNoChange Change = ⊥
 IsNoChange cause = Unit {0}
 
 no_change : (past : Past) (event : Event) (i : ℕ) → IsNoChange (cause_now past event i) → ¬ (IsFor past event i Change)
-no_change past event i n h = subst IsNoChange (for_is past event i Change h) n
+no_change past event i n h = subst IsNoChange (ap first_cause h.is) n
 
 right_is_no_change : (before after : Bool) → IsNoChange (cause_of_right before after)
 right_is_no_change true false = tt
@@ -136,3 +133,7 @@ module _ (past : Past) (i : ℕ) (octets : List ℕ) (before after : List Held) 
 
   pub others_are_nothing : length after ≢ 1 + length before → IsFor past (frame i octets) i Nothing
   others_are_nothing other = elim (by_gain gain) [ inl g ↦ absurd (other g.0) | inr n ↦ is_for past (frame i octets) i Nothing n.1 ]
+
+pub ruleset new_neighbors_are_one_more = (one_more_is_new, others_are_nothing)
+
+pub ruleset statuses_links_and_frames_are_no_changes = (status_is_no_change, link_event_is_no_change, frame_is_no_change)

@@ -37,7 +37,7 @@ own_happened event i n = ap (λ (e : PortEvent). let h : Happened = record { eve
 abbrev pub heard_now : Past → ℕ → List ℕ → Option Heard
 heard_now past i octets = heard_by (status_after past.options (past_of past i)) (up_after (past_of past i)) octets
 
-unheard_leaves : (past : Past) (i : ℕ) (octets : List ℕ) → InRange past.options → heard_now past i octets ≡ None → LeavesPort past (agent.frame i octets) i
+pub unheard_leaves : (past : Past) (i : ℕ) (octets : List ℕ) → InRange past.options → heard_now past i octets ≡ None → LeavesPort past (agent.frame i octets) i
 unheard_leaves past i octets r e =
     let now = happened past.options i (agent.frame i octets) past.events in
     nothing_leaves past (agent.frame i octets) i r
@@ -62,13 +62,9 @@ module _ (past : Past) (i : ℕ) (octets : List ℕ) (r : InRange past.options) 
   pub down_is_deaf : IsLastLink i past.events false → LeavesPort past (agent.frame i octets) i
   down_is_deaf h = unheard_leaves past i octets r (deaf given up octets (ap (λ (b : Bool). receives given && b) (sym (last_is_link past.options i past.events false h)) ∙ and_right (receives given) false refl))
 
-none_either_way : (b : Bool) (o : Option (List ℕ)) → o ≡ None → (if b then option_map heard_of o else None) ≡ None
+pub none_either_way : (b : Bool) (o : Option (List ℕ)) → o ≡ None → (if b then option_map heard_of o else None) ≡ None
 none_either_way true o e = ap (option_map heard_of) e
 none_either_way false o e = refl
-
-pub no_lldp_frame_is_unheard : (past : Past) (i : ℕ) (octets : List ℕ) → InRange past.options → lldpdu_of octets ≡ None → LeavesPort past (agent.frame i octets) i
-no_lldp_frame_is_unheard past i octets r e =
-    unheard_leaves past i octets r (none_either_way (receives (status_after past.options (past_of past i)) && up_after (past_of past i)) (lldpdu_of octets) e)
 
 -- ## Ports that hear
 

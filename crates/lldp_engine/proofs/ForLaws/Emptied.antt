@@ -89,14 +89,11 @@ refused_leaves past i octets pdu fault is f =
 -- ## Statuses that receive
 
 module _ (given : Status) (receiving : receives given ≡ true) where
-  no_purge : (before : Status) → (if receives before && not (receives given) then Some purge else None) ≡ None
-  no_purge before = rw (receiving, and_right (receives before) false refl) refl
-
   pub receiving_leaves_tables : (past : Past) (port : ℕ) → LeavesTables past (agent.set (agent.status port given))
   receiving_leaves_tables past port = λ i.
       let before = status_after past.options (past_of past i) in
       let up = up_after (past_of past i) in
-      table_same past (agent.set (agent.status port given)) i (own_or_nothing (λ (e : PortEvent). call_at e before up ≡ None) (port == i) (status given) (no_purge before) refl)
+      table_same past (agent.set (agent.status port given)) i (own_or_nothing (λ (e : PortEvent). call_at e before up ≡ None) (port == i) (status given) (rw (receiving, and_right (receives before) false refl) refl) refl)
 
 -- ## A port that cannot receive holds none
 
@@ -137,3 +134,5 @@ module _ (given : Status) (ceases : receives given ≡ false) where
   deaf_holds_none past i h =
       if_held past i (slice_get past.options.names i) _ (neighbors_at past i) (of_table (λ table. table.neighbors) past i)
       (none_held past.options (past_of past i) (ap receives (sym (last_is_status past.options i past.events given h)) ∙ ceases))
+
+pub ruleset lldpdus_speak_of_one_neighbor = (others_stay_at, own_leaves, refused_leaves)

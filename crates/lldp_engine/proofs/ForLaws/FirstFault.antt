@@ -82,7 +82,7 @@ module _ (names : List (List ℕ)) (w : List ℕ) (behind : List (List ℕ)) whe
   made_fault : {A : Type 0} (r : Result A CommandFault) (next : A → Form) (fault : CommandFault) → r ≡ Err fault → read_forms names (one_left (on_ok next r)) behind ≡ Err fault
   made_fault r next fault e = ap (λ s. read_forms names (one_left (on_ok next s)) behind) e ∙ one_fault fault
 
-  -- ## A word behind a whole command
+  -- ## A word after a whole command
 
   text_extra : (b : Bool) (command : Command) → b ≡ true → read_forms names (one_left (if b then Ok (complete command) else Err Text)) (w ∷ behind) ≡ Err Extra
   text_extra b command e = ap (λ (c : Bool). read_forms names (one_left (if c then Ok (complete command) else Err Text)) (w ∷ behind)) e
@@ -96,7 +96,7 @@ module _ (agent : AgentState) (w : List ℕ) (behind : List (List ℕ)) where
   abbrev names : List (List ℕ)
   names = names_of agent
 
-  -- the forms left behind words of all of them
+  -- the forms left after words of all of them
   abbrev left_behind : List (List ℕ) → List Form
   left_behind [] = forms agent.configuration.capacity
   left_behind (last ∷ before) = forms_left names (left_behind before) last

@@ -42,14 +42,11 @@ role_spelled Station = refl
 role_spelled Bridge = refl
 role_spelled Router = refl
 
-twelve : (address : List ℕ) → length address ≡ 4 → length (management_body address) ≤ 255
-twelve address l = omega (arith, l, length-append (5 ∷ 1 ∷ address) (1 ∷ 0 ∷ 0 ∷ 0 ∷ 0 ∷ 0 ∷ []))
-
 management_spelled : (address : Option (List ℕ)) → IfSome address (λ a. length a ≡ 4) → spellings (management_tlvs address) ≡ management_octets address
 management_spelled None l = refl
 management_spelled (Some address) l =
     append-nil (spelling (unit 8 (management_body address)))
-    ∙ one_tlv 8 0x10 (management_body address) (omega arith) refl (twelve address l)
+    ∙ one_tlv 8 0x10 (management_body address) (omega arith) refl (omega (arith, l, length-append (5 ∷ 1 ∷ address) (1 ∷ 0 ∷ 0 ∷ 0 ∷ 0 ∷ 0 ∷ [])))
 
 -- ## Frames
 
@@ -80,3 +77,5 @@ module _ (c : Configuration) (name : List ℕ) (h : HasLengths c name) where
   pub shutdown : frame_of c name Shutdown ≡ shutdown_octets c name
   unfolding frame_of
   shutdown = few_parts_alike nearest_bridge c.mac lldp_ethertype (spelling end_of_lldpdu) _ _ (0x06 ∷ 0x02 ∷ 0x00 ∷ 0x00 ∷ []) _ _ chassis port
+
+pub ruleset frames_have_these_octets = (ordinary, shutdown)

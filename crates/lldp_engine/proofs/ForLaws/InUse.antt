@@ -45,14 +45,11 @@ status_other : {A : Type 0} (o : Option A) → is_other (or_fault o Unknown) ≡
 status_other (Some a) = refl
 status_other None = refl
 
-number_other : (w : List ℕ) (least greatest : ℕ) → is_other (number_of w least greatest) ≡ true
-number_other w least greatest = if_other (is_number w) _ (Err Number) (if_other _ (Ok _) (Err Range) refl refl) refl
-
 word_other : (names : List (List ℕ)) (form : Form) (w : List ℕ) → is_other (after_word names form w) ≡ true
 word_other names (complete command) w = refl
 word_other names (word expected next) w = if_other (bytes_eq w expected) (Ok next) (Err Unknown) refl refl
 word_other names (port next) w = made_other next (or_fault (place_of names w) NoSuchPort) (place_other (place_of names w))
-word_other names (number least greatest next) w = made_other next (number_of w least greatest) (number_other w least greatest)
+word_other names (number least greatest next) w = made_other next (number_of w least greatest) (if_other (is_number w) _ (Err Number) (if_other _ (Ok _) (Err Range) refl refl) refl)
 word_other names (text next) w = if_other (is_text w) (Ok (next w)) (Err Text) refl refl
 word_other names (status next) w = made_other next (or_fault (status_of w) Unknown) (status_other (status_of w))
 
@@ -71,9 +68,6 @@ any_other (form ∷ others) fault h = refl
 any_other [] InUse h = h
 any_other [] fault h = refl
 
-forms_other : (names : List (List ℕ)) (left : List Form) (w : List ℕ) → is_other (going_on names left w) ≡ true
-forms_other names left w = any_other (forms_left names left w) (first_fault names left w) (fault_other names left w)
-
 end_other : (left : List Form) → is_other (completed left) ≡ true
 end_other [] = refl
 end_other (complete command ∷ others) = refl
@@ -83,7 +77,7 @@ words_other : (names : List (List ℕ)) (left : Result (List Form) CommandFault)
 words_other names (Err InUse) words h = h
 words_other names (Err fault) words h = refl
 words_other names (Ok left) [] h = end_other left
-words_other names (Ok left) (w ∷ words) h = words_other names (going_on names left w) words (forms_other names left w)
+words_other names (Ok left) (w ∷ words) h = words_other names (going_on names left w) words (any_other (forms_left names left w) (first_fault names left w) (fault_other names left w))
 
 not_said : (agent : AgentState) (words : List (List ℕ)) → said_by agent words ≡ Err InUse → ⊥
 not_said agent words e =
@@ -149,3 +143,5 @@ allows_limit agent most h = (h.least, h.most, (held_decided agent.ports most).0 
 
 pub limit_allowed : (agent : AgentState) (most : ℕ) → (1 ≤ most) × (most ≤ agent.configuration.capacity) × HoldAtMost agent most → AllowsSetting agent (limit most)
 limit_allowed agent most h = record { least = h.0; most = h.1; held = (held_decided agent.ports most).1 h.2 }
+
+pub ruleset limits_below_what_ports_hold_are_in_use = (in_use, would_be, allows_limit, limit_allowed)

@@ -60,12 +60,6 @@ module _ (opened : ℕ) (calls : List Call) where
   abbrev pub DropsNone : Option Call → Type 0
   DropsNone call = length (filter is_dropped (with_call call)) ≡ length (filter is_dropped past)
 
-  learn_ages_none : (name : MsapId) (ttl : ℕ) (octets : List ℕ) → AgesNone (Some (learn name ttl octets))
-  learn_ages_none name ttl octets = ap all_aged_out (events-more opened (learn name ttl octets) calls) ∙ omega arith
-
-  forget_ages_none : (name : MsapId) → AgesNone (Some (forget name))
-  forget_ages_none name = ap all_aged_out (events-more opened (forget name) calls) ∙ omega arith
-
   purge_ages_none : (b : Bool) → AgesNone (if b then Some purge else None)
   purge_ages_none true = ap all_aged_out (events-more opened purge calls) ∙ omega arith
   purge_ages_none false = refl
@@ -76,8 +70,8 @@ module _ (opened : ℕ) (calls : List Call) where
   heard_ages_none : (h : Option Heard) → AgesNone (option_and_then call_of h)
   heard_ages_none None = refl
   heard_ages_none (Some refused) = refl
-  heard_ages_none (Some (leaves name)) = forget_ages_none name
-  heard_ages_none (Some (tells pdu)) = learn_ages_none (msap_of pdu) (ttl_of pdu) (extent pdu)
+  heard_ages_none (Some (leaves name)) = ap all_aged_out (events-more opened (forget name) calls) ∙ omega arith
+  heard_ages_none (Some (tells pdu)) = ap all_aged_out (events-more opened (learn (msap_of pdu) (ttl_of pdu) (extent pdu)) calls) ∙ omega arith
 
   tick_drops_none : DropsNone (Some tick_call)
   tick_drops_none = ap (λ es. length (filter is_dropped es)) (events-more opened tick_call calls)
@@ -206,11 +200,8 @@ module _ (past : Past) (i : ℕ) where
   abbrev Drops : PortEvent → Type 0
   Drops event = DropsNone mx (calls_of past i) (call_at event given up)
 
-  own_frame : (octets : List ℕ) → own past i (agent.frame i octets) ≡ frame octets
-  own_frame octets = ap (λ (h : Happened). h.event) (own_happened (frame octets) i 0)
-
   called : (octets : List ℕ) (h : Option Heard) → heard_by given up octets ≡ h → told_now past i (agent.frame i octets) ≡ option_and_then call_of h
-  called octets h e = ap (λ (x : PortEvent). call_at x given up) (own_frame octets) ∙ ap (option_and_then call_of) e
+  called octets h e = ap (λ (x : PortEvent). call_at x given up) (ap (λ (h : Happened). h.event) (own_happened (frame octets) i 0)) ∙ ap (option_and_then call_of) e
 
   pub drop_is_counted : (octets : List ℕ) → HasNoRoom past i octets → Makes past (agent.frame i octets) i CountsDrop
   drop_is_counted octets full before after was now =
@@ -319,3 +310,5 @@ module _ (past : Past) (i : ℕ) where
       ((counters_at (with_event past event) i after now).1
       ∙ ap (λ (h : Option Heard). counters_of (cons_option h (heard_after o old)) (table_events_after o (more ∷ old)) (marks_after o (more ∷ old))) quiet.0)
       quiet.1
+
+pub ruleset ports_count_what_they_lose = (aged_out_is_counted, others_age_none, drop_is_counted, no_drop_is_counted, others_count_none)

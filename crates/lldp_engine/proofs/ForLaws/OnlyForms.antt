@@ -34,7 +34,7 @@ text_said names b command e = ap (λ (c : Bool). read_forms names (one_left (if 
 made_said : {A : Type 0} (names : List (List ℕ)) (r : Result A CommandFault) (command : A → Command) (a : A) → r ≡ Ok a → read_forms names (one_left (on_ok (λ a. complete (command a)) r)) [] ≡ Ok (command a)
 made_said names r command a e = ap (λ s. read_forms names (one_left (on_ok (λ a. complete (command a)) s)) []) e
 
--- the form behind a port's name
+-- the form after a port's name
 abbrev pub status_form : ℕ → Form
 status_form p = word (codes "lldp") (word (codes "status") (status (λ given. complete (set (set_status p given)))))
 

@@ -56,17 +56,13 @@ text_decided text = (
 named_decided : (names : List (List ℕ)) → Decides (list_all is_port_name names) (All IsName names)
 named_decided names = Decides-by_and is_port_name IsName (list_all is_port_name) names_decided refl (λ _ _. refl) names
 
--- a name behind the first that is the first one
-first_again : (name : List ℕ) (names : List (List ℕ)) (k : ℕ) (d : List ℕ) → k < length names → get_or names k d ≡ name → list_any (λ other. bytes_eq other name) names ≡ true
-first_again name names k d lt e = list_any_at (λ other. bytes_eq other name) names k d lt ((bytes_eq-Decides (get_or names k d) name).1 e)
-
 apart : (names : List (List ℕ)) → has_same names ≡ false → AllPairs (λ name other. name ≢ other) names
 apart [] h i j d lt below = absurd (omega arith)
 apart (name ∷ names) h zero zero d lt below = absurd (omega arith)
 apart (name ∷ names) h (suc i) zero d lt below = absurd (omega arith)
 apart (name ∷ names) h zero (suc j) d lt below =
     let parts = or_parts (list_any (λ other. bytes_eq other name) names) (has_same names) h in
-    λ e. both_ways (list_any (λ other. bytes_eq other name) names) parts.0 (first_again name names j d (omega arith) (sym e))
+    λ e. both_ways (list_any (λ other. bytes_eq other name) names) parts.0 (list_any_at (λ other. bytes_eq other name) names j d (omega arith) ((bytes_eq-Decides (get_or names j d) name).1 (sym e)))
 apart (name ∷ names) h (suc i) (suc j) d lt below =
     let parts = or_parts (list_any (λ other. bytes_eq other name) names) (has_same names) h in
     apart names parts.1 i j d (omega arith) (omega arith)
@@ -78,12 +74,9 @@ not_apart name names apart_all h =
     apart_all 0 (suc again.0) again.1 (omega arith) (let lt = again.2 in omega arith)
     (sym ((bytes_eq-Decides (get_or names again.0 again.1) name).0 (ap (λ x. bytes_eq x name) again.3 ∙ again.4)))
 
-apart_behind : (name : List ℕ) (names : List (List ℕ)) → AllPairs (λ a b. a ≢ b) (name ∷ names) → AllPairs (λ a b. a ≢ b) names
-apart_behind name names h i j d lt below = h (suc i) (suc j) d (omega arith) (omega arith)
-
 none_same : (names : List (List ℕ)) → AllPairs (λ a b. a ≢ b) names → has_same names ≡ false
 none_same [] h = refl
-none_same (name ∷ names) h = or_from _ _ (false_from_ne_true _ (not_apart name names h)) (none_same names (apart_behind name names h))
+none_same (name ∷ names) h = or_from _ _ (false_from_ne_true _ (not_apart name names h)) (none_same names (λ i j d lt below. h (suc i) (suc j) d (omega arith) (omega arith)))
 
 -- ## The numbers of the faults
 
@@ -198,3 +191,5 @@ none_told o h (Some g) e = let first = fault_is_first o g e in absurd (first.fai
 
 pub passed_opens : (o : Options) → ((f : OpenFault) → Passes o f) → fault_of o ≡ None
 passed_opens o h = none_told o h (fault_of o) refl
+
+pub ruleset openings_tell_first_faults = (fault_is_first, first_is_fault, none_fails, passed_opens)

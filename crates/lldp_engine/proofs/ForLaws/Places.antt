@@ -10,7 +10,7 @@ use Rattle.lldp_engine.specs.Laws.Places.{IsFirstPlace}
 pub same_inside : {X : Type 0} (x y : X) → Some x ≡ Some y → x ≡ y
 same_inside x y h = cc
 
--- counted from s, the place is s and so many more
+-- counted from s, the place is s and this many more
 abbrev IsPlaceFrom : ℕ → List (List ℕ) → List ℕ → ℕ → Type 0
 IsPlaceFrom s names word i = (k : ℕ) × (i ≡ s + k) × IsFirstPlace names word k
 
@@ -19,9 +19,6 @@ IsPlaceFrom s names word i = (k : ℕ) × (i ≡ s + k) × IsFirstPlace names wo
 not_before : (name : List ℕ) (names : List (List ℕ)) (word : List ℕ) (k : ℕ) → name ≢ word → IsFirstPlace names word k → (j : ℕ) → j < suc k → slice_get (name ∷ names) j ≢ Some word
 not_before name names word k other h zero lt = λ e. other (same_inside name word e)
 not_before name names word k other h (suc j) lt = h.first j (omega arith)
-
-pub one_behind : (name : List ℕ) (names : List (List ℕ)) (word : List ℕ) (k : ℕ) → name ≢ word → IsFirstPlace names word k → IsFirstPlace (name ∷ names) word (suc k)
-one_behind name names word k other h = record { here = h.here; first = not_before name names word k other h }
 
 one_before : (name : List ℕ) (names : List (List ℕ)) (word : List ℕ) (k : ℕ) → IsFirstPlace (name ∷ names) word (suc k) → IsFirstPlace names word k
 one_before name names word k h = record { here = h.here; first = λ j lt. h.first (suc j) (omega arith) }
@@ -36,7 +33,7 @@ found_by true s i name names word others d rest e =
 found_by false s i name names word others d rest e =
     let h = rest e in
     let other : name ≢ word = λ same. absurd (let wrong = d.1 same in cc) in
-    (suc h.0, omega (arith, h.1), one_behind name names word h.0 other h.2)
+    (suc h.0, omega (arith, h.1), record { here = h.2.here; first = not_before name names word h.0 other h.2 })
 
 found_from : (s i : ℕ) (names : List (List ℕ)) (word : List ℕ) → place_from s names word ≡ Some i → IsPlaceFrom s names word i
 found_from s i [] word e = cc

@@ -130,9 +130,6 @@ module _ (o : Options) (past : List Happened) (now : Happened) (r : InRange o) w
   machine_same : IsNothing → machine_of (settings_of o) (causes_after o (now ∷ past)) ≡ machine_of (settings_of o) (causes_after o past)
   machine_same n = ap (λ (c : Cause). machine_of (settings_of o) (caused c now.interval ∷ causes_after o past)) n.cause ∙ same_machine (settings_of o) (causes_after o past) now.interval (settings_in_range o r)
 
-  table_stays : IsNothing → port_table o (now ∷ past) ≡ port_table o past
-  table_stays n = ap (λ (c : Option Call). table_of o.max_neighbors (cons_option c (calls_after o past))) n.call
-
   pub port_same : IsNothing → (name : List ℕ) → port_after o (now ∷ past) name ≡ port_after o past name
   unfolding port_after
-  port_same n name = rw (n.status, table_stays n, machine_same n, counters_same n) refl
+  port_same n name = rw (n.status, ap (λ (c : Option Call). table_of o.max_neighbors (cons_option c (calls_after o past))) n.call, machine_same n, counters_same n) refl

@@ -61,12 +61,9 @@ numbered_alike : (name : List ℕ) (number : ℕ) (neighbors : List Neighbor) �
 numbered_alike name number [] = refl
 numbered_alike name number (neighbor ∷ others) = both_alike _ _ _ _ (neighbor_alike name number neighbor) (numbered_alike name (number + 1) others)
 
-port_alike : (port : PortState) → port_lines port ≡ lines_of_port port
-port_alike port = ap (λ lines. lines_of_counts port ++ lines) (numbered_alike port.name 1 port.table.neighbors)
-
 ports_alike : (ports : List PortState) → flat_map port_lines ports ≡ flat_map lines_of_port ports
 ports_alike [] = refl
-ports_alike (port ∷ ports) = both_alike _ _ _ _ (port_alike port) (ports_alike ports)
+ports_alike (port ∷ ports) = both_alike _ _ _ _ (ap (λ lines. lines_of_counts port ++ lines) (numbered_alike port.name 1 port.table.neighbors)) (ports_alike ports)
 
 pub whole : (show : Show) (agent : AgentState) → lines_of show agent ≡ whole_of show agent
 whole Neighbors agent = ports_alike agent.ports

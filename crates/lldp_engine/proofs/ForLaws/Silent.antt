@@ -48,7 +48,7 @@ module _ (o : Options) where
   right : (past : List Happened) → is_allowed (settings_of o) (moments (settings_of o) (causes_after o past)) ≡ transmits (status_after o past)
   right past = (follows_status o past).right
 
-  ordinary_transmits : (past : List Happened) → mark_after o past ≡ Ordinary → transmits (status_after o past) ≡ true
+  pub ordinary_transmits : (past : List Happened) → mark_after o past ≡ Ordinary → transmits (status_after o past) ≡ true
   ordinary_transmits [] e = cc
   ordinary_transmits (now ∷ past) e =
       let s = settings_of o in
@@ -66,38 +66,27 @@ module _ (o : Options) where
       (sym (right past) ∙ allowed_if_active s h stop.0, sym (right (now ∷ past)) ∙ stop.1)
 
 -- which statuses they are
-may_transmit : (given : Status) → transmits given ≡ true → (given ≡ RxAndTx) ⊎ (given ≡ TxOnly)
+pub may_transmit : (given : Status) → transmits given ≡ true → (given ≡ RxAndTx) ⊎ (given ≡ TxOnly)
 may_transmit RxAndTx e = inl refl
 may_transmit TxOnly e = inr refl
 may_transmit RxOnly e = cc e
 may_transmit Disabled e = cc e
 
-may_not_transmit : (given : Status) → transmits given ≡ false → (given ≡ RxOnly) ⊎ (given ≡ Disabled)
+pub may_not_transmit : (given : Status) → transmits given ≡ false → (given ≡ RxOnly) ⊎ (given ≡ Disabled)
 may_not_transmit RxAndTx e = cc e
 may_not_transmit TxOnly e = cc e
 may_not_transmit RxOnly e = inl refl
 may_not_transmit Disabled e = inr refl
 
-has_one : (past : Past) (i : ℕ) (one other : Status) → (status_after past.options (past_of past i) ≡ one) ⊎ (status_after past.options (past_of past i) ≡ other) → HasStatus past i one ⊎ HasStatus past i other
+pub has_one : (past : Past) (i : ℕ) (one other : Status) → (status_after past.options (past_of past i) ≡ one) ⊎ (status_after past.options (past_of past i) ≡ other) → HasStatus past i one ⊎ HasStatus past i other
 has_one past i one other (inl e) = inl (subst (HasStatus past i) e (status_is_last past.options i past.events))
 has_one past i one other (inr e) = inr (subst (HasStatus past i) e (status_is_last past.options i past.events))
 
-pub ordinary_by_status : (past : Past) (i : ℕ) → Sends past i Ordinary → HasStatus past i RxAndTx ⊎ HasStatus past i TxOnly
-ordinary_by_status past i h =
-    has_one past i RxAndTx TxOnly (may_transmit (status_after past.options (past_of past i)) (ordinary_transmits past.options (past_of past i) (sent_is past i Ordinary h).2))
-
-shutdown_leaves : (o : Options) (past : List Happened) → mark_after o past ≡ Shutdown → transmits (status_after o past) ≡ false
+pub shutdown_leaves : (o : Options) (past : List Happened) → mark_after o past ≡ Shutdown → transmits (status_after o past) ≡ false
 shutdown_leaves o [] e = cc
 shutdown_leaves o (now ∷ past) e = (shutdown_stops o now past e).1
 
-pub shutdown_by_status : (past : Past) (i : ℕ) → Sends past i Shutdown → HasStatus past i RxOnly ⊎ HasStatus past i Disabled
-shutdown_by_status past i h =
-    has_one past i RxOnly Disabled (may_not_transmit (status_after past.options (past_of past i)) (shutdown_leaves past.options (past_of past i) (sent_is past i Shutdown h).2))
-
 -- ## Opened to receive only
-
-no_status_before : (i : ℕ) (event : Event) (events : List Event) → NoneSets (λ given. set (status i given)) (event ∷ events) → NoneSets (λ given. set (status i given)) events
-no_status_before i event events none = λ later earlier given e. none (event ∷ later) earlier given (ap (λ (l : List Event). event ∷ l) e)
 
 opened_right : (o : Options) (i : ℕ) (events : List Event) → IsTrue o.receive_only → NoneSets (λ given. set (status i given)) events → transmits (status_after o (port_past o i events)) ≡ false
 opened_right o i events only none =
@@ -108,7 +97,7 @@ opened_silent o i events Quiet only none e = refl
 opened_silent o i events Ordinary only none e = absurd (false≢true (sym (opened_right o i events only none) ∙ ordinary_transmits o (port_past o i events) e))
 opened_silent o i [] Shutdown only none e = cc
 opened_silent o i (event ∷ events) Shutdown only none e =
-    absurd (false≢true (sym (opened_right o i events only (no_status_before i event events none)) ∙ (shutdown_stops o _ (port_past o i events) e).0))
+    absurd (false≢true (sym (opened_right o i events only (λ later earlier given e. none (event ∷ later) earlier given (ap (λ (l : List Event). event ∷ l) e))) ∙ (shutdown_stops o _ (port_past o i events) e).0))
 
 pub receive_only_is_silent : (past : Past) (i : ℕ) (mark : Mark) → IsTrue past.options.receive_only → NoneSets (λ given. set (status i given)) past.events → ¬ (Sends past i mark)
 receive_only_is_silent past i mark only none h =

@@ -118,14 +118,11 @@ rises_if false h heard = omega arith
 sum_rises : (f : Heard → ℕ) (h : Heard) (heard : List Heard) → wrapped (sum_by f (h ∷ heard)) ≡ (wrapped (sum_by f heard) + f h) % 2 ^ 32
 sum_rises f h heard = ap wrapped (sum_by-cons f h heard) ∙ rises (sum_by f heard) (f h)
 
-one_rises : (h : Heard) (heard : List Heard) → wrapped (length (h ∷ heard)) ≡ (wrapped (length heard) + 1) % 2 ^ 32
-one_rises h heard = omega arith
-
 risen : (h : Heard) (heard : List Heard) (before after : List TableEvent) (sent marks : List Mark)
     → HaveRisen (counters_of heard before sent) (counters_of (h ∷ heard) after marks) (one_if (is_refused h)) (one_if (is_error h)) (discarded_tlvs h) (unrecognized_tlvs h)
 unfolding counters_of
 risen h heard before after sent marks = record {
-  received = one_rises h heard;
+  received = omega arith;
   discarded = rises_if (is_refused h) h (filter is_refused heard);
   errors = rises_if (is_error h) h (filter is_error heard);
   tlvs_discarded = sum_rises discarded_tlvs h heard;
@@ -164,3 +161,5 @@ module _ (past : Past) (i : ℕ) (octets pdu : List ℕ) (hears : Hears past i) 
   faulty_adds f t d =
       let some : nat_lt 0 (discarded_of pdu) ≡ true = grind (arith, nat_tests) in
       subst (λ b. Adds past i octets 0 (one_if b) (discarded_of pdu) (unknown_tlvs pdu)) some (tells_adds f t)
+
+pub ruleset ports_count_what_they_sent = (sent_is_counted, shutdowns_are_counted)

@@ -39,15 +39,6 @@ module _ (o : Options) (past : List Happened) (r : InRange o) where
   pub of_another : (event : PortEvent) (port i n : ℕ) → i ≢ port → IsNothing o past (record { event = for_port i (one_port port event); interval = n }) r
   of_another event port i n other = let no : (port == i) ≡ false = grind (arith, nat_tests) in rw no (record { status = refl; heard = refl; call = refl; cause = refl })
 
-pub frame_leaves_others : (past : Past) (port other : ℕ) (octets : List ℕ) → InRange past.options → other ≢ port → LeavesPort past (frame port octets) other
-frame_leaves_others past port other octets r h = nothing_leaves past (frame port octets) other r (of_another past.options (past_of past other) r (own.frame octets) port other _ h)
-
-pub link_leaves_others : (past : Past) (port other : ℕ) (up : Bool) → InRange past.options → other ≢ port → LeavesPort past (link port up) other
-link_leaves_others past port other up r h = nothing_leaves past (link port up) other r (of_another past.options (past_of past other) r (own.link up) port other _ h)
-
-pub status_leaves_others : (past : Past) (port other : ℕ) (given : Status) → InRange past.options → other ≢ port → LeavesPort past (set (status port given)) other
-status_leaves_others past port other given r h = nothing_leaves past (set (status port given)) other r (of_another past.options (past_of past other) r (own.status given) port other _ h)
-
 -- ## A tick comes to each
 
 older_one : (x : Neighbor) (xs : List Neighbor) → cons_option (aged x) (one_tick_older xs) ≡ one_tick_older (x ∷ xs)
@@ -144,3 +135,7 @@ limits_are_configured past = All-from_recursion _ _ (each_limit past.options pas
 pub rooms_are_opened : (past : Past) → All (λ port. port.table.capacity ≡ past.options.max_neighbors) (agent_of past).ports
 unfolding agent_of
 rooms_are_opened past = All-from_recursion _ _ (each_room past.options past.events 0 past.options.names)
+
+pub ruleset links_and_updates_leave_tables = (link_leaves_tables, setting_leaves_tables, limit_leaves_neighbors)
+
+pub ruleset ports_have_the_configured_limit = (limits_are_configured, rooms_are_opened)

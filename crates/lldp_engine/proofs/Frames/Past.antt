@@ -1,5 +1,5 @@
 -- A frame shows the configuration that the definitions give of the past.
-use Rattle.std.proofs.Common.{◌≡◌, ℕ, List, Option, Some, ap, sym, ◌∙◌}
+use Rattle.std.proofs.Common.{◌≡◌, ℕ, List, Option, Some, ap, ◌∙◌}
 use Rattle.lldp_transmit.specs.declared.event.Mark.{Mark}
 use Rattle.lldp_engine.specs.Configuration.{Configuration}
 use Rattle.lldp_engine.specs.AgentState.{AgentState}
@@ -11,10 +11,7 @@ pub configuration_reads : (past : Past) (agent : AgentState) → Stands past age
 unfolding agent_of
 configuration_reads past agent h = ap (λ (a : AgentState). a.configuration) h.is
 
-some_same : {X : Type 0} (x y : X) → Some x ≡ Some y → x ≡ y
-some_same x y h = cc
-
 pub frame_reads : (past : Past) (agent : AgentState) (c : Configuration) (found : Option (List ℕ)) (own name octets : List ℕ) (mark : Mark) → Stands past agent → c ≡ agent.configuration → found ≡ Some own → found ≡ Some name
     → octets ≡ frame_of c own mark → octets ≡ frame_of (configuration_after past.options past.events) name mark
 frame_reads past agent c found own name octets mark h is at named e =
-    e ∙ ap (λ (n : List ℕ). frame_of c n mark) (some_same own name (sym at ∙ named)) ∙ ap (λ (c : Configuration). frame_of c name mark) (is ∙ configuration_reads past agent h)
+    e ∙ ap (λ (n : List ℕ). frame_of c n mark) (cc) ∙ ap (λ (c : Configuration). frame_of c name mark) (is ∙ configuration_reads past agent h)

@@ -18,16 +18,13 @@ pub record Gives (sink : OneLine) (given : Option (List ℕ)) : Type 0 where
   pub none : sink.came ≡ false → given ≡ None
   pub line : (line : List ℕ) → sink.came ≡ true → sink.line ≡ ended line → given ≡ Some line
 
-none_kept : (came : Bool) (kept : List ℕ) → came ≡ false → (if came then Some (take (length kept - 1) kept) else None) ≡ None
-none_kept came kept e = rw e refl
-
 some_kept : (came : Bool) (kept line : List ℕ) → came ≡ true → kept ≡ ended line → (if came then Some (take (length kept - 1) kept) else None) ≡ Some line
 some_kept came kept line e k =
     let n : length (ended line) - 1 ≡ length line = omega (arith, length-append line (10 ∷ [])) in
     rw (e, k) (ap (λ (xs : List ℕ). Some xs) (ap (λ (m : ℕ). take m (ended line)) n ∙ take-append_seam line (10 ∷ [])))
 
 pub gives : (sink : OneLine) → Gives sink (line_kept sink)
-gives sink = record { none = none_kept sink.came sink.line; line = some_kept sink.came sink.line }
+gives sink = record { none = λ e. rw e refl; line = some_kept sink.came sink.line }
 
 stays : (before : ℕ) (kept : List ℕ) (b : OneLine) (lines : List (List ℕ)) → Takes KeepsOne (record { before = before; came = true; line = kept }) b lines → b ≡ record { before = before; came = true; line = kept }
 unfolding Takes

@@ -57,10 +57,6 @@ TakesTo t a b left all = (gone : List (List ℕ)) × (gone ++ left ≡ all) × T
 pub takes_more : {S : Type 0} (t : S → S → List ℕ → Type 0) (a b c : S) (xs left all : List (List ℕ)) → TakesTo t a b (xs ++ left) all → Takes t b c xs → TakesTo t a c left all
 takes_more t a b c xs left all h k = (h.0 ++ xs, append_assoc h.0 xs left ∙ h.1, takes_then t a b c h.0 xs h.2 k)
 
--- if no line changes anything, those that are left needn't come
-pub takes_left : {S : Type 0} (t : S → S → List ℕ → Type 0) (a b : S) (left all : List (List ℕ)) → TakesTo t a b left all → ((x : List ℕ) → t b b x) → Takes t a b all
-takes_left t a b left all h k = rw (← h.1) (takes_then t a b b h.0 left h.2 (takes_all t b left k))
-
 drop_step : {X : Type 0} (y : X) (ys : List X) (k : ℕ) → drop (k + 1) ys ≡ drop (suc k + 1) (y ∷ ys)
 drop_step y ys k = simp add-one
 

@@ -18,7 +18,7 @@ use Rattle.lldp_engine.specs.declared.port.status.Status.{Status}
 use Rattle.lldp_engine.specs.Status.{receives}
 use Rattle.lldp_engine.specs.Event as agent
 use Rattle.lldp_engine.specs.Event.{Event}
-use Rattle.lldp_engine.specs.Heard.{refused, leaves, tells, heard_of, heard_by}
+use Rattle.lldp_engine.specs.Heard.{refused, leaves, tells, heard_of}
 use Rattle.lldp_engine.specs.Port.Event.{PortEvent, frame, link, status, limit, whose, for_port}
 use Rattle.lldp_engine.specs.Port.Effects.{call_of, call_at}
 use Rattle.lldp_engine.specs.Code.Taking.{FitsLimit}
@@ -29,9 +29,6 @@ use Rattle.lldp_engine.proofs.AllPorts.EachPort.{own_or_nothing}
 short_lldpdu : (octets : List ℕ) → is_lldp_frame octets ≡ true → length (drop 14 octets) ≤ 1500
 unfolding is_lldp_frame
 short_lldpdu octets h = grind (arith, nat_tests, h, length-drop 14 octets)
-
-octets_behind : (n : ℕ) (octets : List ℕ) → AreOctets octets → AreOctets (drop n octets)
-octets_behind n octets h = AreOctets-right (take n octets) (drop n octets) (subst AreOctets (sym (take-append-drop n octets)) h)
 
 pdu_told_as : (table : Contents) (pdu : List ℕ) (f : Option PduFault) (b : Bool) → AreOctets pdu → length pdu ≤ 1500 → fault_of pdu ≡ f → (ttl_of pdu == 0) ≡ b
     → IfSome (call_of (if is_some f then refused else (if b then leaves (msap_of pdu) else tells pdu))) (IsPossible table)
@@ -45,16 +42,13 @@ pdu_told table pdu fits short = pdu_told_as table pdu (fault_of pdu) (ttl_of pdu
 
 lldpdu_told : (table : Contents) (octets : List ℕ) (b : Bool) → is_lldp_frame octets ≡ b → AreOctets octets
     → IfSome (option_and_then call_of (option_map heard_of (if b then Some (drop 14 octets) else None))) (IsPossible table)
-lldpdu_told table octets true e fits = pdu_told table (drop 14 octets) (octets_behind 14 octets fits) (short_lldpdu octets e)
+lldpdu_told table octets true e fits = pdu_told table (drop 14 octets) (AreOctets-right (take 14 octets) (drop 14 octets) (subst AreOctets (sym (take-append-drop 14 octets)) fits)) (short_lldpdu octets e)
 lldpdu_told table octets false e fits = tt
 
 heard_told_as : (table : Contents) (octets : List ℕ) (b : Bool) → AreOctets octets
     → IfSome (option_and_then call_of (if b then option_map heard_of (lldpdu_of octets) else None)) (IsPossible table)
 heard_told_as table octets true fits = lldpdu_told table octets (is_lldp_frame octets) refl fits
 heard_told_as table octets false fits = tt
-
-heard_told : (table : Contents) (given : Status) (up : Bool) (octets : List ℕ) → AreOctets octets → IfSome (option_and_then call_of (heard_by given up octets)) (IsPossible table)
-heard_told table given up octets fits = heard_told_as table octets (receives given && up) fits
 
 purge_told : (table : Contents) (b : Bool) → IfSome (if b then Some purge else None) (IsPossible table)
 purge_told table true = tt
@@ -67,7 +61,7 @@ HasOctets event = Unit {0}
 
 -- what an allowed event tells a table can be told to it
 pub event_told : (table : Contents) (event : PortEvent) (given : Status) (up : Bool) → HasOctets event → FitsLimit event table → IfSome (call_at event given up) (IsPossible table)
-event_told table (frame octets) given up h f = heard_told table given up octets h
+event_told table (frame octets) given up h f = heard_told_as table octets (receives given && up) h
 event_told table (limit neighbors) given up h f = f
 event_told table (status next) given up h f = purge_told table (receives given && not (receives next))
 event_told table event given up h f = tt

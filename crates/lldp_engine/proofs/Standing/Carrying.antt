@@ -78,15 +78,12 @@ module _ (opened : ℕ) (calls : List Call) (heard : List Heard) (marks : List M
   purge_counted true = counted_purged heard (events_of opened calls) marks ∙ ap (λ es. counters_of heard es marks) (sym (events-more opened purge calls))
   purge_counted false = refl
 
-  limit_counted : (n : ℕ) → counters_of heard (events_of opened calls) marks ≡ counters_of heard (events_of opened (set_limit n ∷ calls)) marks
-  limit_counted n = counted_limit heard (events_of opened calls) marks n ∙ ap (λ es. counters_of heard es marks) (sym (events-more opened (set_limit n) calls))
-
   event_counted : (event : PortEvent) (given : Status) (up : Bool) → with_event_counted event given up (table_of opened calls) (counters_of heard (events_of opened calls) marks)
       ≡ counters_of (cons_option (heard_at event given up) heard) (events_of opened (cons_option (call_at event given up) calls)) marks
   event_counted tick given up = second_counted
   event_counted (frame octets) given up = one_counted (heard_by given up octets)
   event_counted (status next) given up = purge_counted _
-  event_counted (limit n) given up = limit_counted n
+  event_counted (limit n) given up = counted_limit heard (events_of opened calls) marks n ∙ ap (λ es. counters_of heard es marks) (sym (events-more opened (set_limit n) calls))
   event_counted event given up = refl
 
 -- ## The transmitting of a port
@@ -201,3 +198,5 @@ carries past event agent h a octets = grind (arith, common_steps, allowed_more, 
 
 pub marks_carry : (past : Past) (event : Event) (agent : AgentState) → Stands past agent → Allows agent event → HasOctets event → agent_marks event agent ≡ marks_of (with_event past event)
 marks_carry past event agent h a octets = ap (agent_marks event) h.is ∙ agent_marked past event h.in_range (allowed_more past event agent h a octets)
+
+pub ruleset steps_carry_standing = (marks_carry, carries)

@@ -38,7 +38,7 @@ opened_stands o agent r c h = grind (arith, common_steps, ports_opened)
 short_name : (name : List ℕ) → is_port_name name ≡ true → length name ≤ 15
 short_name name h = grind (arith, nat_tests)
 
--- the next name is one, and so are those behind it
+-- the next name is one, and so are those after it
 pub next_named : (names : List (Bor (List ℕ))) (i : ℕ) (none : Bor (List ℕ)) → i < length names → list_all is_port_name (map (λ n. n.now) (drop i names)) ≡ true
     → (length (get_or names i none).now ≤ 15) × (list_all is_port_name (map (λ n. n.now) (drop (suc i) names)) ≡ true)
 next_named [] i none lt h = absurd (omega arith)

@@ -39,7 +39,7 @@ with_received c = record c { received = wrapped (c.received + 1) }
 abbrev pub with_refused : Counters → Counters
 with_refused c = record c { discarded = wrapped (c.discarded + 1); errors = wrapped (c.errors + 1) }
 
--- so many of its TLVs were discarded, and so many of those kept are unrecognized
+-- this many of its TLVs were discarded, and this many of those kept are unrecognized
 abbrev pub with_tlvs : Counters → ℕ → ℕ → Counters
 with_tlvs c discarded unrecognized =
     record c {
@@ -53,7 +53,7 @@ abbrev pub with_answer : Counters → Learned → Counters
 with_answer c Dropped = record c { drops = wrapped (c.drops + 1) }
 with_answer c answer = c
 
--- so many neighbors aged out
+-- this many neighbors aged out
 abbrev pub with_aged_out : Counters → ℕ → Counters
 with_aged_out c n = record c { ageouts = wrapped (c.ageouts + n) }
 

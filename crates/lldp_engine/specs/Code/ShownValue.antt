@@ -1,4 +1,4 @@
--- The value behind the key of a shown line.
+-- The value after the key of a shown line.
 use Rattle.std.specs.Prelude.{ℕ, ◌≤◌, List, length, decimal}
 use Rattle.std.specs.Borrow.{Bor}
 use Rattle.lldp_pdu.specs.Msap.{IsIdentifier}

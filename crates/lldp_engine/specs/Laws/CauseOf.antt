@@ -11,7 +11,7 @@ use Rattle.lldp_engine.specs.Port.Past.{causes_after}
 abbrev pub causes_at : Past → ℕ → History
 causes_at past i = causes_after past.options (past_of past i)
 
--- This is what the event means to the transmit machine of port i, with a tx-interval of so many seconds: those of the
+-- This is what the event means to the transmit machine of port i, with a tx-interval of this many seconds: those of the
 -- last command that set them, the event's own included, or else 30.
 pub record IsFor (past : Past) (event : Event) (i : ℕ) (cause : Cause) : Type 0 where
   pub seconds : ℕ

@@ -25,7 +25,7 @@ choices =
     ∷ (codes "configure" ∷ codes "system" ∷ [], codes "hostname" ∷ codes "description" ∷ [])
     ∷ (codes "configure" ∷ codes "lldp" ∷ [], codes "tx-interval" ∷ codes "tx-hold" ∷ codes "max-neighbors" ∷ []) ∷ []
 
--- The same behind `configure ports` and the name of a port.
+-- The same after `configure ports` and the name of a port.
 abbrev pub choices_behind : List ℕ → List Choice
 choices_behind name =
     (codes "configure" ∷ codes "ports" ∷ name ∷ [], codes "lldp" ∷ [])
@@ -46,13 +46,13 @@ before_arguments =
 abbrev pub WantsMore : AgentState → List (List ℕ) → Type 0
 WantsMore agent front = said_by agent front ≡ Err Unknown
 
--- The fault of a word behind the first ones that is not one of the choice is Unknown, whatever follows it.
+-- The fault of a word after the first ones that is not one of the choice is Unknown, whatever follows it.
 abbrev pub TakesOnly : AgentState → List ℕ → List (List ℕ) → Choice → Type 0
 TakesOnly agent word behind choice =
     ¬ (Contains choice.1 word) → said_by agent (choice.0 ++ word ∷ behind) ≡ Err Unknown
 
 -- The fault of a word that no command has in its place, whatever follows it: Unknown in the place of a fixed word;
--- Text, the fault of the number, or NoSuchPort in the place of an argument; Extra behind the words of a command. For a
+-- Text, the fault of the number, or NoSuchPort in the place of an argument; Extra after the words of a command. For a
 -- missing word it is Unknown.
 pub record TellsFirstFault (agent : AgentState) (word : List ℕ) (behind : List (List ℕ)) : Type 0 where
   pub fixed : AllByRecursion (TakesOnly agent word behind) choices

@@ -11,7 +11,7 @@ use Rattle.lldp_text.specs.Words.{words_of}
 abbrev pub HoldsMore : AgentState → ℕ → Type 0
 HoldsMore agent most = Any (λ port. most < length port.table.neighbors) agent.ports
 
--- Every port holds at most so many.
+-- Every port holds at most this many.
 abbrev pub HoldAtMost : AgentState → ℕ → Type 0
 HoldAtMost agent most = All (λ port. length port.table.neighbors ≤ most) agent.ports
 

@@ -42,7 +42,7 @@ AreWordsOf agent (set (status port given)) words =
     × (words ≡ codes "configure" ∷ codes "ports" ∷ name ∷ codes "lldp" ∷ codes "status" ∷ word_of given ∷ [])
 AreWordsOf agent (set update) words = words ≡ codes "update" ∷ []
 
--- A limit that a command sets is not in use: every port holds at most so many.
+-- A limit that a command sets is not in use: every port holds at most this many.
 abbrev pub IsNotInUse : AgentState → Command → Type 0
 IsNotInUse agent (set (limit n)) = HoldAtMost agent n
 IsNotInUse agent command = Unit {0}

@@ -13,13 +13,13 @@ use Rattle.lldp_engine.specs.Past.{Past, with_event}
 use Rattle.lldp_engine.specs.Laws.PortAt.{port_at, Sends}
 use Rattle.lldp_engine.specs.Laws.Deaf.{Hears}
 
--- Of these events so many pass, each with those before it.
+-- This many of these events pass, each with those before it.
 pub data AreMany (P : List Event → Type 0) : List Event → ℕ → Type 0 where
   none : AreMany P [] 0
   one_more : {event : Event} {events : List Event} {n : ℕ} → P (event ∷ events) → AreMany P events n → AreMany P (event ∷ events) (suc n)
   no_more : {event : Event} {events : List Event} {n : ℕ} → ¬ (P (event ∷ events)) → AreMany P events n → AreMany P (event ∷ events) n
 
--- At so many events port i has sent this.
+-- At this many events port i has sent this.
 abbrev pub HasSent : Past → ℕ → Mark → ℕ → Type 0
 HasSent past i mark n = AreMany (λ events. Sends (record { options = past.options; events = events }) i mark) past.events n
 
@@ -31,7 +31,7 @@ pub record HaveRisen (before after : Counters) (faults faulty left_out unknown :
   pub tlvs_discarded : after.tlvs_discarded ≡ (before.tlvs_discarded + left_out) % 2 ^ 32
   pub unrecognized : after.unrecognized ≡ (before.unrecognized + unknown) % 2 ^ 32
 
--- These octets, if they come on port i, add so many faults, errors, discarded and unrecognized TLVs to its counters.
+-- These octets, if they come on port i, add this many faults, errors, discarded and unrecognized TLVs to its counters.
 abbrev pub Adds : Past → ℕ → List ℕ → ℕ → ℕ → ℕ → ℕ → Type 0
 Adds past i octets faults errors discarded unrecognized =
     (before after : PortState) → port_at past i ≡ Some before → port_at (with_event past (frame i octets)) i ≡ Some after →

@@ -15,6 +15,7 @@ ghost use Rattle.lldp_engine.specs.Laws.Tally.{HasSent, Adds, unknown_tlvs, Make
 
 /// `sent` is the number of events at which a port sent an ordinary frame, and `shutdowns` that of
 /// those at which it sent a shutdown frame, modulo 2^32.
+#[tactic(auto, using(crate::proofs::ForLaws::Tally::ports_count_what_they_sent))]
 pub fn ports_count_what_they_sent()
     ensures sent { (past : Past) (i : ℕ) (port : PortState) → port_at past i ≡ Some port →
         (n : ℕ) × HasSent past i Ordinary n × (port.counters.sent ≡ n % 2 ^ 32) }
@@ -43,6 +44,7 @@ pub fn ports_count_each_lldpdu_once()
 /// A tick adds to `ageouts` of each port the neighbors that it takes away, and nothing else changes
 /// `ageouts`. A frame adds one to `drops` of its port exactly if it finds no room there. The
 /// counters of received frames are changed by frames of that port only.
+#[tactic(auto, using(crate::proofs::ForLaws::Losses::ports_count_what_they_lose))]
 pub fn ports_count_what_they_lose()
     ensures aged_out { (past : Past) (i : ℕ) → Makes past tick i CountsAgedOut }
     ensures others_age_none { (past : Past) (i : ℕ) (event : Event) → event ≢ tick →

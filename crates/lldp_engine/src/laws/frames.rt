@@ -7,6 +7,7 @@ ghost use Rattle.lldp_engine.specs.Laws.FrameOctets.{HasLengths, ordinary_octets
 
 /// A frame has these octets and no others, for every configuration and every name of a port with
 /// lengths that an agent allows.
+#[tactic(auto, using(crate::proofs::ForLaws::FrameOctets::frames_have_these_octets))]
 pub fn frames_have_these_octets()
     ensures ordinary { (configuration : Configuration) (name : List ℕ) →
         HasLengths configuration name →

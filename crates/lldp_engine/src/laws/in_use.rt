@@ -9,6 +9,7 @@ ghost use Rattle.lldp_engine.specs.Laws.InUse.{WouldLimitBelow, HoldAtMost};
 /// The fault of a line is that a limit is in use exactly if its words would set one and some port
 /// holds more neighbors. A limit may be set exactly if it is between 1 and that of opening and no
 /// port holds more neighbors.
+#[tactic(auto, using(crate::proofs::ForLaws::InUse::limits_below_what_ports_hold_are_in_use))]
 pub fn limits_below_what_ports_hold_are_in_use()
     ensures refused { (agent : AgentState) (line : List ℕ) →
         (command_given agent line ≡ Err InUse) ↔ WouldLimitBelow agent line }

@@ -10,6 +10,7 @@ ghost use Rattle.lldp_engine.specs.Laws.CauseOf.{IsFor};
 
 /// A tick is one for each port, and each command except a status command is a local change for
 /// each.
+#[tactic(auto, using(crate::proofs::ForLaws::Causes::is_for))]
 pub fn settings_are_local_changes()
     ensures tick { (past : Past) (i : ℕ) → IsFor past tick i Tick }
     ensures hostname { (past : Past) (i : ℕ) (text : List ℕ) →
@@ -24,6 +25,7 @@ pub fn settings_are_local_changes()
 {}
 
 /// No status, no link event and no frame is a local change.
+#[tactic(auto, using(crate::proofs::ForLaws::Causes::statuses_links_and_frames_are_no_changes))]
 pub fn statuses_links_and_frames_are_no_changes()
     ensures status { (past : Past) (i port : ℕ) (given : Status) →
         ¬ (IsFor past (set (status port given)) i Change) }
@@ -35,6 +37,7 @@ pub fn statuses_links_and_frames_are_no_changes()
 
 /// A frame is a new neighbor exactly if its port holds one neighbor more after it. Every other
 /// frame, such as a refresh or one that is dropped, means nothing to the transmit machine.
+#[tactic(auto, using(crate::proofs::ForLaws::Causes::new_neighbors_are_one_more))]
 pub fn new_neighbors_are_one_more()
     ensures new { (past : Past) (i : ℕ) (octets : List ℕ) (before after : List Held) →
         neighbors_at past i ≡ Some before →

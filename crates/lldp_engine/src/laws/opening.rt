@@ -9,6 +9,7 @@ ghost use Rattle.lldp_engine.specs.Laws.Opening.{Passes, IsFirstFault, OpensWith
 /// Options have a fault exactly if they fail its check and pass each check of a smaller number,
 /// each over all the ports. They have no fault exactly if they pass each check. Of the 256 octets
 /// these may occur in names of ports.
+#[tactic(auto, using(crate::proofs::ForLaws::Opening::openings_tell_first_faults))]
 pub fn openings_tell_first_faults()
     ensures fault { (options : Options) (fault : OpenFault) →
         (fault_of options ≡ Some fault) ↔ IsFirstFault options fault }

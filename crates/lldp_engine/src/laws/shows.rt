@@ -7,6 +7,7 @@ ghost use Rattle.lldp_engine.specs.Laws.Shows.{whole_of};
 
 /// A show has the lines of all ports, of all neighbors and of all their kept TLVs, octet by octet,
 /// and no other lines.
+#[tactic(auto, using(crate::proofs::ForLaws::Shows::whole))]
 pub fn shows_have_these_lines_alone()
     ensures { (show : Show) (agent : AgentState) → lines_of show agent ≡ whole_of show agent }
 {}

@@ -15,6 +15,7 @@ ghost use Rattle.lldp_engine.specs.Laws.Neighbors.{others_than};
 /// An LLDPDU concerns the neighbor of its own name only: all others of its port stay, in their
 /// order. If the port hears, the TTL is 0 and there is no fault, that neighbor leaves. If there is
 /// a fault, the table does not change.
+#[tactic(auto, using(crate::proofs::ForLaws::Emptied::lldpdus_speak_of_one_neighbor))]
 pub fn lldpdus_speak_of_one_neighbor()
     ensures others { (past : Past) (i : ℕ) (octets pdu : List ℕ) → lldpdu_of octets ≡ Some pdu →
         option_map (others_than (msap_of pdu)) (neighbors_at (with_event past (frame i octets)) i)
@@ -30,6 +31,7 @@ pub fn lldpdus_speak_of_one_neighbor()
 
 /// A status that receives, RxAndTx or RxOnly, changes no table. A port whose status is TxOnly or
 /// Disabled holds no neighbor.
+#[tactic(auto, using(crate::proofs::ForLaws::Emptied::receiving_leaves_tables))]
 pub fn ports_that_cannot_receive_hold_none()
     ensures rx_and_tx { (past : Past) (port : ℕ) → LeavesTables past (set (status port RxAndTx)) }
     ensures rx_only { (past : Past) (port : ℕ) → LeavesTables past (set (status port RxOnly)) }

@@ -21,6 +21,7 @@ pub fn events_of_one_port_leave_the_others()
 
 /// A tick concerns each port: each of its neighbors has one tick less left, and those that had one
 /// left are removed.
+#[tactic(auto, using(crate::proofs::ForLaws::Whose::tick_ages))]
 pub fn ticks_come_to_each_port()
     ensures { (past : Past) (i : ℕ) →
         neighbors_at (with_event past tick) i
@@ -28,6 +29,7 @@ pub fn ticks_come_to_each_port()
 {}
 
 /// Only ticks, frames, limits and statuses change tables, and a limit removes no neighbor.
+#[tactic(auto, using(crate::proofs::ForLaws::Whose::links_and_updates_leave_tables))]
 pub fn links_and_updates_leave_tables()
     ensures link { (past : Past) (port : ℕ) (up : Bool) → LeavesTables past (link port up) }
     ensures setting { (past : Past) (setting : Setting) →
@@ -39,6 +41,7 @@ pub fn links_and_updates_leave_tables()
 
 /// The limit of each port's table is the configured one, whatever came before, and its room is the
 /// number of neighbors that the options gave.
+#[tactic(auto, using(crate::proofs::ForLaws::Whose::ports_have_the_configured_limit))]
 pub fn ports_have_the_configured_limit()
     ensures limit { (past : Past) →
         All (λ port. port.table.limit ≡ (agent_of past).configuration.limit)

@@ -17,7 +17,7 @@ pub(crate) enum PortEvent<'a> {
     Link(bool),
     /// It was given this status.
     Status(Status),
-    /// It may hold at most so many neighbors.
+    /// It may hold at most this many neighbors.
     Limit(u8),
     /// A local change.
     Change,

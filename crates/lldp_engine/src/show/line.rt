@@ -31,7 +31,7 @@ pub trait LineSink {
         ensures { result ≡ true → (line : List ℕ) → takes self.now self.now line };
 }
 
-/// The value behind the key of a shown line.
+/// The value after the key of a shown line.
 #[derive(Clone, Copy)]
 pub(crate) enum Value<'a> {
     /// A number, in decimal.

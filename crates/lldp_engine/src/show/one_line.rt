@@ -25,7 +25,7 @@ impl OneLine {
         }
     }
 
-    /// Empties it, with so many lines before the wanted one.
+    /// Empties it, with this many lines before the wanted one.
     pub(crate) fn want(&mut self, before: u32)
         ensures { self.new ≡ record { before = before; came = false; line = [] } }
     {

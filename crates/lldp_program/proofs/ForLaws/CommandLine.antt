@@ -1,5 +1,5 @@
 -- The options, the roles and the ranges of the command line.
-use Rattle.std.proofs.Common.{◌≡◌, ◌∙◌, ℕ, ◌<◌, ◌≤◌, List, [], Option, Some, Ok, refl, sym, ap, Bor, option_map}
+use Rattle.std.proofs.Common.{◌≡◌, ◌∙◌, ℕ, ◌≤◌, List, [], Option, Some, Ok, refl, sym, ap, Bor, option_map}
 use Rattle.std.specs.Prelude.{unwrap_or}
 use Rattle.clap.specs.Walk.{Row, Text, byte_or_zero, one_of}
 use Rattle.clap.proofs.WalkLemmas.{byte_read}
@@ -8,7 +8,6 @@ use Rattle.lldp_engine.specs.declared.agent.options.Role.TheVariants.{Station, B
 use Rattle.lldp_engine.specs.Options.{Options}
 use Rattle.lldp_program.specs.CommandLine.Usage.{Asks, AsksManagement, role_named}
 use Rattle.lldp_program.specs.Laws.CommandLine.{number_to, AreAsked, HasOptions, HasRoles, SaysAddress, SaysNumber, TakesRange, word_of_role}
-use Rattle.lldp_program.specs.Laws.Listening.{IsNumberIn}
 
 pub has_options : (roles : Bor (List (Bor Text))) → HasOptions roles
 has_options roles =
@@ -47,14 +46,10 @@ takes_range roles o = (
   },
 )
 
--- a number is the one that the text writes
-byte_said : (text : Text) (m : ℕ) → IsNumberIn text m → m < 256 → m ≡ byte_or_zero text
-byte_said text m w small = byte_read {E = Unit {0}} text (Ok m) ((w.digits, rw (← w.value) small), w.value)
-
 says_number : (name : Text) (rows : List Row) (n : ℕ) → option_map byte_or_zero (one_of name rows) ≡ Some n → SaysNumber name rows n
 says_number name rows n asked text m given w small =
     let same : Some (byte_or_zero text) ≡ Some n = rw given at asked in
-    ap (λ o. unwrap_or o 0) (sym same) ∙ sym (byte_said text m w small)
+    ap (λ o. unwrap_or o 0) (sym same) ∙ sym (byte_read {E = Unit {0}} text (Ok m) ((w.digits, rw (← w.value) small), w.value))
 
 says_address : (text : Text) (given : Option (List ℕ)) → AsksManagement (Some text) given → SaysAddress text given
 says_address text given (octets, is, dotted) =
@@ -77,3 +72,5 @@ are_asked rows o asks =
       receives = asks.receives;
       sends = asks.sends;
     }
+
+pub ruleset options_are_these_alone = (has_options, has_roles)

@@ -45,9 +45,6 @@ only (line ∷ lines) rest input c =
     let more = only lines rest octets (record { whole = refl; each = c.each.1; last = c.last }) in
     (ap ended_lines whole ∙ f.0 ∙ ap (λ (ls : List (List ℕ)). line ∷ ls) more.0, ap unfinished whole ∙ f.1 ∙ more.1)
 
-cut_is : (input : List ℕ) (lines : List (List ℕ)) (rest : List ℕ) → (ended_lines input ≡ lines) × (unfinished input ≡ rest) → IsCut input lines rest
-cut_is input lines rest h = rw (← h.0, ← h.1) (is_cut input)
-
 ended_all : (lines : List (List ℕ)) (rest : List ℕ) → rest ≡ [] → lines ++ if_any rest ≡ lines
 ended_all lines [] e = append-nil lines
 ended_all lines (octet ∷ octets) e = cc
@@ -58,7 +55,7 @@ unended_all lines (octet ∷ octets) ne = refl
 
 pub cuts : (input : List ℕ) → CutsLines input
 cuts input = record {
-  cut = λ lines rest. (cut_is input lines rest, only lines rest input);
+  cut = λ lines rest. (λ h. rw (← h.0, ← h.1) (is_cut input), only lines rest input);
   ended = ended_all (ended_lines input) (unfinished input);
   unended = unended_all (ended_lines input) (unfinished input);
 }

@@ -271,3 +271,5 @@ module _ (agent : AgentState) where
     up = (link_refused true words fault, refused_link true words fault);
     down = (link_refused false words fault, refused_link false words fault);
   }
+
+pub ruleset lines_say_what_their_words_say = (says_its_words, says_work)

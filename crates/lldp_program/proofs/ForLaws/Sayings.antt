@@ -31,7 +31,7 @@ pub command_begins : (agent : AgentState) (words : List (List ℕ)) (word : List
 unfolding form_of
 command_begins agent words word a b c d = rw (differs word tick_word a, differs word rx_word b, differs word up_word c, differs word down_word d) refl
 
--- a step behind another never skips if it doesn't behind any answer
+-- a step after another never skips if it doesn't after any answer
 then_never : {A : Type 0} (r : Result A LineFault) (next : A → Result Work LineFault) → ((a : A) → next a ≡ Ok skip → ⊥) → (r >>= next) ≡ Ok skip → ⊥
 then_never (Ok a) next never h = never a h
 then_never (Err fault) next never h = cc
@@ -41,7 +41,7 @@ unfolding tick_form
 ticks_never [] h = cc
 ticks_never (word ∷ words) h = then_never (of_command (number_of word 1 65535)) _ (λ n. then_never (of_command (end_said words)) _ (λ _ k. cc)) h
 
--- `tick` with one word behind it
+-- `tick` with one word after it
 pub counted : (r : Result ℕ LineFault) → (r >>= (λ n. of_command (end_said []) >>= (λ _. Ok (ticks n)))) ≡ on_ok ticks r
 counted (Ok n) = refl
 counted (Err fault) = refl

@@ -161,10 +161,6 @@ pub the_rest : (xs : List ℕ) (start : ℕ) → unfinished (take start xs) ≡ 
 the_rest xs start whole none =
     ap unfinished (sym (take-append-drop start xs)) ∙ unfinished-append (take start xs) (drop start xs) ∙ ap (λ t. unfinished (t ++ drop start xs)) whole ∙ no_lf-unfinished (drop start xs) none
 
--- the lines of the first octets, and those after them
-pub lines_then : (n : ℕ) (xs : List ℕ) → ended_lines xs ≡ ended_lines (take n xs) ++ ended_lines (unfinished (take n xs) ++ drop n xs)
-lines_then n xs = ap ended_lines (sym (take-append-drop n xs)) ∙ ended_lines-append (take n xs) (drop n xs)
-
 -- an unfinished line in front of more octets goes onto their first line
 abbrev pub onto_all : List ℕ → List (List ℕ) → List (List ℕ)
 onto_all p [] = []
@@ -211,7 +207,8 @@ take_rest_all : (n : ℕ) (p : List ℕ) (ls : List (List ℕ)) (r : List ℕ) �
 take_rest_all n p [] r = take_front n p r
 take_rest_all n p (l ∷ ls) r = refl
 
--- The octets xs were read, the first n of what is unfinished are held, and more octets come: so many of what is unfinished then are the same.
+-- The octets xs were read, the first n of what is unfinished are held, and more octets come: the first n of what is
+-- unfinished then are the same.
 pub held_more : (n : ℕ) (xs ys : List ℕ) → take n (unfinished (take n (unfinished xs) ++ ys)) ≡ take n (unfinished (xs ++ ys))
 held_more n xs ys =
     let p = unfinished xs in

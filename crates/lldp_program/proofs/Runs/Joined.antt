@@ -2,7 +2,7 @@
 use Rattle.std.proofs.Common.{◌≡◌, ℕ, suc, zero, ◌+◌, ◌<◌, List, [], ◌∷◌, ◌++◌, replicate, refl, sym, ap, ◌∙◌, append_assoc, arith, Option, subst}
 use Rattle.std.specs.Prelude.{Result, Ok, Err}
 use Rattle.std.specs.Io.KnownBytes.{Appends}
-use Rattle.std.proofs.lemmas.List.{append-nil, replicate_more}
+use Rattle.std.proofs.lemmas.List.{append-nil}
 use Rattle.std.specs.List.{flat_map}
 use Rattle.lldp_engine.specs.declared.command.Show.{Show}
 use Rattle.lldp_engine.specs.Past.{Past}
@@ -12,9 +12,7 @@ use Rattle.lldp_engine.specs.AgentState.{AgentState}
 use Rattle.lldp_engine.proofs.Headline.{promised as keeps_promise}
 use Rattle.lldp_program.specs.declared.line.LineFault.{LineFault}
 use Rattle.lldp_program.specs.Trace.Lines.{ended}
-use Rattle.lldp_program.specs.Trace.Forms.{work_given}
-use Rattle.lldp_program.specs.Trace.Work.{Work}
-use Rattle.lldp_program.specs.Trace.Items.{Item, happens, shows, refused, after, after_all, text_of, text_of_all, items_of_work, items_of, items_of_lines}
+use Rattle.lldp_program.specs.Trace.Items.{Item, happens, shows, refused, after, after_all, text_of, text_of_all, items_of, items_of_lines}
 use Rattle.lldp_program.specs.declared.device.DeviceFault.{DeviceFault}
 use Rattle.lldp_program.specs.Code.Output.{IsWritten, WrittenBy, Output, Writes}
 use Rattle.lldp_program.specs.Trace.Runs.{IsCutOff, Done, Failed}
@@ -69,7 +67,7 @@ failed_early past xs ys a b agent h = record {
   promised = h.promised;
 }
 
--- what failed behind items that were done failed
+-- what failed after items that were done failed
 pub failed_later : (past : Past) (xs ys : List Item) (a b c : Option (List ℕ)) (agent : AgentState) → Appends a b (text_of_all past xs) → Failed (after_all past xs) ys b c agent → Failed past (xs ++ ys) a c agent
 failed_later past xs ys a b c agent h k = record {
   before = xs ++ k.before;
@@ -85,10 +83,6 @@ failed_later past xs ys a b c agent h k = record {
 
 pub done_same : (past : Past) (xs ys : List Item) (a b : Option (List ℕ)) (agent : AgentState) → xs ≡ ys → Done past xs a b agent → Done past ys a b agent
 done_same past xs ys a b agent e h = rw (← e) h
-
--- what a line was read as is what it asks for after the past
-pub items_read : (past : Past) (agent : AgentState) (line : List ℕ) (read : Result Work LineFault) → Stands past agent → read ≡ work_given agent line → items_of_work read ≡ items_of past line
-items_read past agent line read h is = ap items_of_work (is ∙ ap (λ seen. work_given seen line) (h.is))
 
 -- ## A part of a run and another
 
@@ -129,7 +123,7 @@ pub ended_then : {T : Type 0} (past : Past) (xs ys : List Item) (r : Result T De
 ended_then past xs ys (Ok done) a b c agent h k = done_then past xs ys a b c agent h k
 ended_then past xs ys (Err fault) a b c agent h k = failed_later past xs ys a b c agent h k
 
--- what was asked for first was done, and then what was asked for behind it
+-- what was asked for first was done, and then what was asked for after it
 pub runs_then : {T : Type 0} (xs ys zs : Past → List Item) (r : Result T DeviceFault) (before between agent : AgentState) (o p q : Output) (done : Unit {0}) → ((past : Past) → xs past ++ ys (after_all past (xs past)) ≡ zs past)
     → RunsItems {T = Unit {0}} xs (Ok done) before between o p → RunsItems ys r between agent p q → RunsItems zs r before agent o q
 runs_then xs ys zs r before between agent o p q done is h k = record {
@@ -148,10 +142,6 @@ runs_cut_off xs ys zs fault other before agent o p is h = record {
 
 -- ## Ticks
 
--- one more tick
-pub tick_more : (n : ℕ) (past : Past) → replicate n (happens tick) ++ happens tick ∷ [] ≡ replicate (n + 1) (happens tick)
-tick_more n past = replicate_more n (happens tick)
-
 pub ticks_left : (i n : ℕ) → i < n → (more : List Item) × ((replicate i (happens tick) ++ happens tick ∷ []) ++ more ≡ replicate n (happens tick))
 ticks_left i zero lt = absurd (omega arith)
 ticks_left zero (suc n) lt = (replicate n (happens tick), refl)
@@ -163,7 +153,3 @@ ticks_left (suc i) (suc n) lt = let left = ticks_left i n (omega arith) in (left
 pub line_more : (ls : List (List ℕ)) (line : List ℕ) (past : Past) → items_of_lines past ls ++ items_of (after_all past (items_of_lines past ls)) line ≡ items_of_lines past (ls ++ line ∷ [])
 line_more ls line past =
     ap (λ t. items_of_lines past ls ++ t) (sym (append-nil (items_of (after_all past (items_of_lines past ls)) line))) ∙ sym (items_of_lines-append past ls (line ∷ []))
-
--- the items of the lines that are left
-pub lines_left : (ls ms : List (List ℕ)) (past : Past) → items_of_lines past ls ++ items_of_lines (after_all past (items_of_lines past ls)) ms ≡ items_of_lines past (ls ++ ms)
-lines_left ls ms past = sym (items_of_lines-append past ls ms)

@@ -18,7 +18,7 @@ use Rattle.lldp_program.proofs.Lines.Pieces.{ended_lines-append, unfinished_no_l
 use Rattle.lldp_program.proofs.Lines.Long.{same_items, same_last}
 use Rattle.lldp_program.proofs.Runs.Joined.{ended_then}
 
--- what is held, and the piece behind it
+-- what is held, and the piece after it
 pub held_and_piece : (old new : List ℕ) (held n : ℕ) (p : List ℕ) → take held new ≡ take held old → take held old ≡ take 4097 p → take (held + n) new ≡ take 4097 p ++ take n (drop held new)
 held_and_piece old new held n p kept is = take-add held n new ∙ ap (λ t. t ++ take n (drop held new)) (kept ∙ is)
 
@@ -34,7 +34,7 @@ consumes_end a b c xs ys n h zero k =
     let joined : xs ++ take n ys ≡ xs = ap (λ t. xs ++ t) none ∙ append-nil xs in
     rw joined at (consumes_then a b c xs (take n ys) h k)
 
--- what came of items behind others that were done, with any answer
+-- what came of items after others that were done, with any answer
 module _ {T : Type 0} (r : Result T DeviceFault) (past : Past) (a b c : Option (List ℕ)) (agent : AgentState) where
   lines_end : (ls ms : List (List ℕ)) → Appends a b (text_of_all past (items_of_lines past ls))
       → Ended r (after_all past (items_of_lines past ls)) (items_of_lines (after_all past (items_of_lines past ls)) ms) b c agent

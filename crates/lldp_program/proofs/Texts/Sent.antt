@@ -1,5 +1,5 @@
 -- The lines of what ports send.
-use Rattle.std.proofs.Common.{◌≡◌, ℕ, ◌+◌, ◌<◌, List, [], ◌∷◌, ◌++◌, length, get_or, take, sym, ap, ◌∙◌, add-one}
+use Rattle.std.proofs.Common.{◌≡◌, ℕ, ◌+◌, ◌<◌, List, [], ◌∷◌, ◌++◌, length, get_or, take, sym, ap, ◌∙◌, add-one, subst}
 use Rattle.std.specs.Prelude.{Result, codes}
 use Rattle.std.specs.List.{flat_map}
 use Rattle.std.proofs.Math.Seq.{take-suc}
@@ -19,7 +19,7 @@ use Rattle.lldp_program.specs.Trace.Sent.{sent_line, mark_line, sent_text}
 use Rattle.lldp_program.specs.Code.Output.{Output, Puts, Writes}
 use Rattle.lldp_program.specs.Code.Parts.{RunsItems}
 use Rattle.lldp_program.specs.declared.device.DeviceFault.{DeviceFault}
-use Rattle.lldp_program.proofs.Texts.Taken.{in_parts, puts_then, puts_same}
+use Rattle.lldp_program.proofs.Texts.Taken.{in_parts, puts_then}
 use Rattle.lldp_program.proofs.Runs.Joined.{one_item}
 
 -- ## One port after another
@@ -27,16 +27,13 @@ use Rattle.lldp_program.proofs.Runs.Joined.{one_item}
 abbrev lines_of : List (List ℕ) → Configuration → List Sending → List ℕ
 lines_of names c marks = flat_map (mark_line names c) marks
 
--- the parts of the line of a frame, one behind another
+-- the parts of the line of a frame, one after another
 pub sent_waits : (w a b c d e name hex : List ℕ) → a ≡ w ++ codes "tx " → b ≡ a ++ name → c ≡ b ++ codes " " → d ≡ c ++ hex → e ≡ d ++ codes "\n" → e ≡ w ++ ended (codes "tx " ++ name ++ codes " " ++ hex)
 sent_waits w a b c d e name hex tx named space digits end =
     let front = in_parts w a b (codes "tx ") name tx named in
     let words = in_parts w b c (codes "tx " ++ name) (codes " ") front space in
     let line = in_parts w c d (codes "tx " ++ name ++ codes " ") hex words digits in
     in_parts w d e (codes "tx " ++ name ++ codes " " ++ hex) (codes "\n") line end
-
-marked : (names : List (List ℕ)) (c : Configuration) (mark : Sending) (name octets : List ℕ) → name ≡ get_or names mark.0 [] → octets ≡ frame_of c (get_or names mark.0 []) mark.1 → sent_line name octets ≡ mark_line names c mark
-marked names c mark name octets n o = ap (λ (x : List ℕ). sent_line x octets) n ∙ ap (sent_line (get_or names mark.0 [])) o
 
 one_more : (names : List (List ℕ)) (c : Configuration) (marks : List Sending) (mark : Sending) → lines_of names c marks ++ mark_line names c mark ≡ lines_of names c (marks ++ mark ∷ [])
 one_more names c marks mark =
@@ -47,9 +44,9 @@ pub mark_next : (names : List (List ℕ)) (c : Configuration) (marks : List Send
     → name ≡ get_or names (get_or marks i d).0 [] → octets ≡ frame_of c (get_or names (get_or marks i d).0 []) (get_or marks i d).1
     → Puts (lines_of names c (take i marks)) x y → Puts (sent_line name octets) y z → Puts (lines_of names c (take (i + 1) marks)) x z
 mark_next names c marks i d name octets x y z lt n o h k =
-    let line : sent_line name octets ≡ mark_line names c (get_or marks i d) = marked names c (get_or marks i d) name octets n o in
+    let line : sent_line name octets ≡ mark_line names c (get_or marks i d) = (ap (λ (x : List ℕ). sent_line x octets) n ∙ ap (sent_line (get_or names (get_or marks i d).0 [])) o) in
     rw (add-one, take-suc marks i d lt)
-    (puts_same x z _ _ (ap (λ t. lines_of names c (take i marks) ++ t) line ∙ one_more names c (take i marks) (get_or marks i d)) (puts_then x y z _ _ h k))
+    (subst (λ (text : List ℕ). Puts text x z) (ap (λ t. lines_of names c (take i marks) ++ t) line ∙ one_more names c (take i marks) (get_or marks i d)) (puts_then x y z _ _ h k))
 
 -- ## An event
 

@@ -1,4 +1,4 @@
--- Text on its way: what was taken, and what waits behind it.
+-- Text on its way: what was taken, and what waits after it.
 use Rattle.std.proofs.Common.{◌≡◌, ◌≢◌, ℕ, true, false, List, [], ◌∷◌, ◌++◌, refl, sym, ap, ◌∙◌, append_assoc, subst, Option, Some, rules}
 use Rattle.std.specs.Prelude.{Result, Ok, Err, is_ok, is_err, OnOk}
 use Rattle.std.specs.Borrow.{MutBor}
@@ -17,9 +17,6 @@ abbrev Answer : Type 0
 Answer = Result (Unit {0}) DeviceFault
 
 -- ## What went out
-
-goes_out_none : (a : Option (List ℕ)) (w : List ℕ) → GoesOut a w a w []
-goes_out_none a w = record { sent = []; in_order = append-nil w; taken = appends_nothing a }
 
 -- one text and another
 goes_out_then : (a b c : Option (List ℕ)) (w v u t s : List ℕ) → GoesOut a w b v t → GoesOut b v c u s → GoesOut a w c u (t ++ s)
@@ -50,7 +47,7 @@ cut_off_longer a b w s k = (
   k.2,
 )
 
--- what is cut off behind a text is cut off in both
+-- what is cut off after a text is cut off in both
 cut_off_after : (a b c : Option (List ℕ)) (w v t s : List ℕ) → GoesOut a w b v t → IsWritten (IsCutOff (v ++ s)) b c → IsWritten (IsCutOff (w ++ (t ++ s))) a c
 cut_off_after a b c w v t s h k = (
   h.sent ++ k.0,
@@ -104,20 +101,17 @@ pub puts_then : (a b c : Output) (t s : List ℕ) → Puts t a b → Puts s b c 
 puts_then a b c t s h k = behind_then a b c t s a.answer refl h k
 
 behind_nothing : (a : Output) (r : Answer) → a.answer ≡ r → GoesBehind r [] a a
-behind_nothing a (Ok done) is = record { went = rw is (goes_out_none _ _); same = record { failures = rw is refl; place = refl; sink = refl } }
+behind_nothing a (Ok done) is = record { went = rw is record { sent = []; in_order = append-nil _; taken = appends_nothing _ }; same = record { failures = rw is refl; place = refl; sink = refl } }
 behind_nothing a (Err fault) is = refl
 
 pub puts_nothing : (a : Output) → Puts [] a a
 puts_nothing a = behind_nothing a a.answer refl
 
-pub puts_same : (a b : Output) (t s : List ℕ) → t ≡ s → Puts t a b → Puts s a b
-puts_same a b t s e h = subst (λ (x : List ℕ). Puts x a b) e h
-
--- one part behind another
+-- one part after another
 pub in_parts : (w v u x y : List ℕ) → v ≡ w ++ x → u ≡ v ++ y → u ≡ w ++ (x ++ y)
 in_parts w v u x y h k = k ∙ ap (λ t. t ++ y) h ∙ append_assoc w x y
 
--- octets went behind what waits
+-- octets went after what waits
 behind_waits : (a : Output) (waits text : List ℕ) (r : Answer) → a.answer ≡ r → is_ok r ≡ true → waits ≡ a.waits ++ text → GoesBehind r text a (record a { waits = waits })
 behind_waits a waits text (Ok done) is ok e = record {
   went = rw is record { sent = []; in_order = sym e; taken = appends_nothing _ };
@@ -137,13 +131,13 @@ pub a_fault : (r : Answer) → is_err r ≡ true → is_ok r ≡ false
 a_fault (Ok done) h = cc
 a_fault (Err fault) h = refl
 
--- what stands behind the text of a writer stands behind that of the same writer
+-- what stands after the text of a writer stands after that of the same writer
 pub behind_lent : (x y : MutBor (List ℕ)) (text line : List ℕ) → Some x ≡ Some y → text ≡ y.now ++ line → text ≡ x.now ++ line
 behind_lent x y text line is e =
     let same : x ≡ y = cc in
     e ∙ ap (λ (w : MutBor (List ℕ)). w.now ++ line) (sym same)
 
--- behind a write that failed nothing happens
+-- after a write that failed nothing happens
 behind_fault : (a : Output) (text : List ℕ) (r : Answer) → a.answer ≡ r → is_ok r ≡ false → GoesBehind r text a a
 behind_fault a text (Ok done) is failed = cc
 behind_fault a text (Err fault) is failed = refl

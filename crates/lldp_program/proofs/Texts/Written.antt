@@ -1,8 +1,7 @@
 -- What a device holds after one write and another.
-use Rattle.std.proofs.Common.{◌≡◌, ◌≢◌, ℕ, ◌+◌, ◌<◌, List, [], ◌++◌, length, take, drop, refl, sym, ap, ◌∙◌, append_assoc, arith, Option, Some, None, length-drop}
+use Rattle.std.proofs.Common.{◌≡◌, ℕ, ◌+◌, ◌<◌, List, [], ◌++◌, length, take, drop, refl, sym, ap, ◌∙◌, append_assoc, arith, Option, Some, None, length-drop}
 use Rattle.std.specs.Io.KnownBytes.{Appends, Keeps, Consumes}
 use Rattle.std.proofs.lemmas.List.{append-nil, take-append-drop}
-use Rattle.std.proofs.Math.Seq.{take-add}
 use Rattle.lldp_program.specs.Trace.Runs.{IsCutOff}
 use Rattle.lldp_program.specs.Code.Output.{IsWritten}
 
@@ -48,13 +47,6 @@ consumes_kept (Some xs) None c x h k = absurd h
 consumes_kept (Some xs) (Some ys) None x h k = absurd k
 consumes_kept (Some xs) (Some ys) (Some zs) x h k = h ∙ ap (λ t. x ++ t) (sym k)
 
--- the next octets of a list were written behind the first
-pub next_written : (a b c : Option (List ℕ)) (xs : List ℕ) (i n : ℕ) → Appends a b (take i xs) → Appends b c (take n (drop i xs)) → Appends a c (take (i + n) xs)
-next_written a b c xs i n h k = appends_same a c _ _ (sym (take-add i n xs)) (appends_then a b c _ _ h k)
-
-nonempty : (xs : List ℕ) → 0 < length xs → xs ≢ []
-nonempty xs h e = let k : length xs ≡ 0 = ap length e in absurd (omega arith)
-
 -- the rest of a list was not written
 pub cut_off_at : (a b c : Option (List ℕ)) (xs : List ℕ) (i : ℕ) → i < length xs → Appends a b (take i xs) → Keeps b c → IsWritten (IsCutOff xs) a c
 cut_off_at a b c xs i within h k = (
@@ -62,7 +54,7 @@ cut_off_at a b c xs i within h k = (
   record {
     rest = drop i xs;
     joined = sym (take-append-drop i xs);
-    missing = nonempty (drop i xs) (omega (arith, length-drop i xs));
+    missing = λ e. let none : length (drop i xs) ≡ 0 = ap length e in absurd (omega (arith, length-drop i xs));
   },
   appends_same a c _ _ (append-nil (take i xs)) (appends_then a b c _ _ h (appends_kept b c k)),
 )

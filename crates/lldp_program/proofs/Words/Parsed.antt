@@ -6,9 +6,9 @@ use Rattle.std.specs.Str.{bytes_eq}
 use Rattle.std.proofs.lemmas.Bool.{cases_lt}
 use Rattle.std.proofs.lemmas.List.Elements.{All-cons, All-nil}
 use Rattle.std.proofs.lemmas.Slice.Eq.{bytes_eq-Decides}
-use Rattle.clap.specs.Facts.{Entry, EntryPasses, HasIn, HasReading, IsCountArg, IsParsed, AllowsNone, PassesArg, WantsDefault, args_of, groups_of, least_values, parser_of, parser_of_value, unwrap_or_range}
+use Rattle.clap.specs.Facts.{Entry, EntryPasses, HasIn, HasReading, IsCountArg, AllowsNone, PassesArg, WantsDefault, args_of, groups_of, least_values, parser_of, parser_of_value, unwrap_or_range}
 use Rattle.clap.specs.Values.{Accepts, reading_of}
-use Rattle.clap.specs.Matches.{found_of, has_subcommand, matched_of, one_text}
+use Rattle.clap.specs.Matches.{found_of, matched_of, one_text}
 use Rattle.clap.specs.Built.{AddsArg, IsAuto, SameRules}
 use Rattle.clap.specs.Simple.{App, IsSimple, IsSimpleArg, app_of, is_ready, is_ready_leaf, with_rule}
 use Rattle.clap.specs.Walk.{Rule, Text, is_empty, is_simple_arg, rule_of, texts}
@@ -113,9 +113,6 @@ module _ {m : ArgMatches} (g : IsProgramParse m) where
   simple : IsSimple g.command
   simple = ready_simple g.command (ap (λ a. is_ready a.top) g.line) (ap (λ a. list_all is_ready_leaf a.subs) g.line)
 
-  parsed : IsParsed g.parsed.built (found_of m) (has_subcommand m)
-  parsed = g.parsed.parsed (g.parsed.from.globals ∙ simple.globals)
-
   no_groups : groups_of g.parsed.built ≡ []
   no_groups = (g.parsed.from.same_groups (simple_groups g.command (ap (λ a. all_simple a.top.rules) g.line))).1 ∙ simple.groups
 
@@ -151,7 +148,7 @@ module _ {m : ArgMatches} (g : IsProgramParse m) where
     held : (x : MatchedArg) → matched_of (found_of m) name ≡ Some x → IsHeld x
     held x found =
         let b = g.parsed.built in
-        let e = entry_by_id (EntryPasses b) (found_of m).entries.items name x parsed.values found in
+        let e = entry_by_id (EntryPasses b) (found_of m).entries.items name x (g.parsed.parsed (g.parsed.from.globals ∙ simple.globals)).values found in
         let is : e.0.0.now ≡ name = (bytes_eq-Decides e.0.0.now name).0 e.2 in
         let no_group : e.0.1.is_group ≡ true → ⊥ = λ y. elim (e.3.3 y) [
           | inl empty ↦ not_own [] (sym is ∙ empty) refl

@@ -15,7 +15,7 @@ abbrev pub WrittenBy : Result (Unit {0}) DeviceFault → List ℕ → Option (Li
 WrittenBy (Ok done) text old new = Appends old new text
 WrittenBy (Err fault) text old new = IsWritten (IsCutOff text) old new
 
--- text went on its way behind what waited: some octets were taken, and the rest waits
+-- text went on its way after what waited: some octets were taken, and the rest waits
 pub record GoesOut (old : Option (List ℕ)) (waited : List ℕ) (new : Option (List ℕ)) (waits : List ℕ) (text : List ℕ) :
     Type 0 where
   pub sent : List ℕ
@@ -48,7 +48,7 @@ pub record Goes (text : List ℕ) (old new : Output) : Type 0 where
   pub went : Went new.answer text old new
   pub same : SameSink new.answer old new
 
--- by the answer so far: a text goes, or, behind a write that failed, nothing happens
+-- by the answer so far: a text goes, or, after a write that failed, nothing happens
 abbrev pub GoesBehind : Result (Unit {0}) DeviceFault → List ℕ → Output → Output → Type 0
 GoesBehind (Ok done) text old new = Goes text old new
 GoesBehind (Err fault) text old new = new ≡ old

@@ -65,7 +65,7 @@ abbrev pub fault_of_address : AddressFault → ProgramFault
 fault_of_address address.Mac = Mac
 fault_of_address address.Management = Management
 
--- how the program ends by its run and the flush behind it: the fault of the run counts before that of the flush
+-- how the program ends by its run and the flush after it: the fault of the run counts before that of the flush
 abbrev pub ended_by : Result (Unit {0}) RunFault → Result (Unit {0}) DeviceFault → Result (Unit {0}) ProgramFault
 ended_by (Ok done) (Ok flushed) = Ok tt
 ended_by (Ok done) (Err fault) = Err Write

@@ -11,7 +11,7 @@ pub record Stream : Type 0 where
   pub taken : Option (List ℕ)
   pub failures : ℕ
 
--- a stream that has taken this, with so many failed writes
+-- a stream that has taken this, with this many failed writes
 abbrev pub stream : Option (List ℕ) → ℕ → Stream
 stream taken failures = record { taken = taken; failures = failures }
 

@@ -17,7 +17,7 @@ use Rattle.lldp_program.specs.Trace.Items.{Item, happens, shows, refused, items_
 use Rattle.lldp_program.specs.Trace.Sent.{sent_text}
 use Rattle.lldp_program.specs.Trace.Work.{Work, skip, ticks, frame, link, command}
 
--- The items of some work: so many, all of them ticks; one event; one show; none if it is skipped.
+-- The items of some work: this many, all of them ticks; one event; one show; none if it is skipped.
 abbrev pub AreItemsOf : Work → List Item → Type 0
 AreItemsOf skip items = items ≡ []
 AreItemsOf (ticks n) items = (length items ≡ n) × AllByRecursion (λ item. item ≡ happens tick) items

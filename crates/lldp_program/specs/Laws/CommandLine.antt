@@ -37,7 +37,7 @@ pub record IsPlain (rule : Rule) : Type 0 where
   pub required : rule.required ≡ false
 
 -- Eleven options and the ports, and nothing else: no short form, no alias, no subcommand. Each option is written in its
--- own name behind `--`; `--help` and `--version` are `clap`'s own. Beside the names are what an option takes and its
+-- own name after `--`; `--help` and `--version` are `clap`'s own. Beside the names are what an option takes and its
 -- default.
 pub record HasOptions (roles : Bor (List (Bor Text))) : Type 0 where
   pub names : map (λ r. r.id) (rules roles)

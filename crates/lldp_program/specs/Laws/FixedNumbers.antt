@@ -33,7 +33,7 @@ pub record AreNumbers : Type 0 where
   pub host : this_host ≡ 127 ∷ 0 ∷ 0 ∷ 1 ∷ []
 
 -- How the program ends, case by case: the line of each fault, and the faults of a run, of an opening and of an address.
--- The fault of a run counts before that of the flush behind it.
+-- The fault of a run counts before that of the flush after it.
 pub record AreEnds : Type 0 where
   pub lines : map line_of
       (program.Read ∷ program.Write ∷ program.InputTooLong ∷ program.Socket

@@ -7,12 +7,12 @@ use Rattle.lldp_program.specs.Trace.Lines.{ended_lines, unfinished, lines_of}
 abbrev pub HasNoLf : List ℕ → Type 0
 HasNoLf octets = AllByRecursion (λ octet. octet ≢ 0x0a) octets
 
--- lines one behind another, each with LF behind it
+-- lines one after another, each with LF after it
 abbrev pub joined : List (List ℕ) → List ℕ
 joined [] = []
 joined (line ∷ lines) = line ++ 0x0a ∷ joined lines
 
--- The octets are these lines, each with LF behind it, and a rest; and neither a line nor the rest has LF.
+-- The octets are these lines, each with LF after it, and a rest; and neither a line nor the rest has LF.
 pub record IsCut (input : List ℕ) (lines : List (List ℕ)) (rest : List ℕ) : Type 0 where
   pub whole : input ≡ joined lines ++ rest
   pub each : AllByRecursion HasNoLf lines

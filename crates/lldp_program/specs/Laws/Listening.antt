@@ -7,7 +7,7 @@ use Rattle.clap.specs.Walk.{Text, one_of}
 use Rattle.lldp_program.specs.declared.arguments.Listening.{Listening}
 use Rattle.lldp_program.specs.CommandLine.Usage.{AsksListening, program}
 
--- the text has decimal digits alone, behind a `+` if that stands first, and n is the number that they write
+-- the text has decimal digits alone, after a `+` if that stands first, and n is the number that they write
 pub record IsNumberIn (text : Text) (n : ℕ) : Type 0 where
   pub digits : IsNumeral 10 (without_leading_plus text)
   pub value : n ≡ digits_value 10 (without_leading_plus text)

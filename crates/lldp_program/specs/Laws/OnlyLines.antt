@@ -27,7 +27,7 @@ pub record SaysItsWords (agent : AgentState) (line : List ℕ) : Type 0 where
       work_given agent line ≡ Err (Command Quote)
   pub long : 4096 < length line → work_given agent line ≡ Err TooLong
 
--- the word says so many ticks
+-- the word says this many ticks
 abbrev pub SaysTicks : ℕ → List ℕ → Type 0
 SaysTicks n word = number_of word 1 65535 ≡ Ok n
 
@@ -63,7 +63,7 @@ abbrev pub IsLineOfWork : AgentState → Work → List ℕ → Type 0
 IsLineOfWork agent skip line = (length line ≤ 4096) × IsPassedOver line
 IsLineOfWork agent work line = (words : List (List ℕ)) × IsReadAs line words × AreWordsOfWork agent work words
 
--- The faults of what follows `tick`: that of its number, or a word too many behind a number that it may say.
+-- The faults of what follows `tick`: that of its number, or a word too many after a number that it may say.
 abbrev pub RefusesTicks : List (List ℕ) → LineFault → Type 0
 RefusesTicks [] fault = ⊥
 RefusesTicks (word ∷ behind) (Command fault) =
@@ -91,7 +91,7 @@ RefusesLink agent (name ∷ behind) fault =
     (NamesNoPort agent name × (fault ≡ Command NoSuchPort))
     ⊎ ((port : ℕ) × NamesPort agent port name × (behind ≢ []) × (fault ≡ Command Extra))
 
--- The words behind the first have a fault exactly if it is one of these.
+-- The words after the first have a fault exactly if it is one of these.
 pub record RefusesForms (agent : AgentState) (words : List (List ℕ)) (fault : LineFault) : Type 0 where
   pub tick : (tick_form words ≡ Err fault) ↔ RefusesTicks words fault
   pub rx : (frame_form agent words ≡ Err fault) ↔ RefusesFrame agent words fault

@@ -47,7 +47,7 @@ pub record CountTicks : Type 0 where
 abbrev pub AreBlanks : List ℕ → Type 0
 AreBlanks octets = AllByRecursion (λ octet. (octet ≡ 0x20) ⊎ (octet ≡ 0x09)) octets
 
--- nothing but spaces and tabs, or `#` behind them
+-- nothing but spaces and tabs, or `#` after them
 abbrev pub IsPassedOver : List ℕ → Type 0
 IsPassedOver line =
     AreBlanks line ⊎ ((blanks : List ℕ) × (rest : List ℕ) × AreBlanks blanks × (line ≡ blanks ++ 0x23 ∷ rest))

@@ -14,7 +14,7 @@ asked_in_turn visits = flat_map (λ visit. ran visit ∷ accepted visit.connecti
 abbrev pub faulty_among : {C : Type 0} → List (Visit C) → ℕ
 faulty_among visits = length (filter (λ visit. is_err visit.result) visits)
 
--- So many connections were accepted, and each was run over once. So many of the runs ended with a fault, and nothing
+-- This many connections were accepted, and each was run over once. This many of the runs ended with a fault. Nothing
 -- else was asked.
 pub record AreServed {C : Type 0} (old new : Option (List (Call C))) (connections faulty : ℕ) : Type 0 where
   pub visits : List (Visit C)

@@ -25,7 +25,7 @@ abbrev pub or_hex : {E : Type 0} → Result (List ℕ) E → Result (List ℕ) L
 or_hex (Ok octets) = Ok octets
 or_hex (Err fault) = Err Hex
 
--- `tick` and `tick N`, behind the first word: one tick, or N, from 1 to 65535
+-- `tick` and `tick N`, after the first word: one tick, or N, from 1 to 65535
 unfoldable pub tick_form : List (List ℕ) → Result Work LineFault
 tick_form [] = Ok (ticks 1)
 tick_form (word ∷ words) = do
@@ -33,7 +33,7 @@ tick_form (word ∷ words) = do
   end ← of_command (end_said words)
   Ok (ticks n)
 
--- `rx PORT HEX`, behind the first word: a frame that came on a port
+-- `rx PORT HEX`, after the first word: a frame that came on a port
 unfoldable pub frame_form : AgentState → List (List ℕ) → Result Work LineFault
 frame_form agent words = do
   port ← of_command (port_said (names_of agent) words)
@@ -42,7 +42,7 @@ frame_form agent words = do
   end ← of_command (end_said digits.1)
   Ok (frame port.0 octets)
 
--- `up PORT` and `down PORT`, behind the first word: the link of a port came, or went
+-- `up PORT` and `down PORT`, after the first word: the link of a port came, or went
 unfoldable pub link_form : AgentState → Bool → List (List ℕ) → Result Work LineFault
 link_form agent up words = do
   port ← of_command (port_said (names_of agent) words)

@@ -13,6 +13,7 @@ ghost use Rattle.lldp_program.specs.declared.trace.RunFault.{RunFault};
 
 /// The command line has exactly these options, none with an alias or a short form, and these roles,
 /// octet by octet. Four options take the numbers that an opening takes, and no others.
+#[tactic(auto, using(crate::proofs::ForLaws::CommandLine::options_are_these_alone))]
 pub fn options_are_these_alone()
     ensures options { (roles : Bor (List (Bor Text))) → HasOptions roles }
     ensures roles { (roles : Bor (List (Bor Text))) → HasRoles roles }
@@ -21,6 +22,7 @@ pub fn options_are_these_alone()
 {}
 
 /// Options that the words ask for are, one by one, what the word of each says.
+#[tactic(auto, using(crate::proofs::ForLaws::CommandLine::are_asked))]
 pub fn options_are_what_their_words_say()
     ensures { (rows : List Row) (options : Options) → Asks rows options → AreAsked rows options }
 {}
@@ -29,6 +31,7 @@ pub fn options_are_what_their_words_say()
 /// the first gives and for as many connections as the second gives. Four command lines ask for
 /// this, one of them by the default of one connection. The number of faults is that of the
 /// connections that ended with one.
+#[tactic(auto, using(crate::proofs::Serving::words_ask_to_listen))]
 pub fn words_ask_to_listen()
     ensures texts { (port connections : Option Text) (asked : Option Listening) →
         AskByTexts port connections asked }

@@ -7,24 +7,28 @@ ghost use Rattle.lldp_program.specs.Trace.Items.{Item};
 
 /// An input is cut at each LF and at no other octet; a last line without LF is a line, if it is not
 /// empty.
+#[tactic(auto, using(crate::proofs::ForLaws::Lines::cuts))]
 pub fn lf_alone_ends_lines()
     ensures { (input : List ℕ) → CutsLines input }
 {}
 
 /// A line asks for what its work is: `tick N` for N ticks, whatever N is; a frame, a link and a
 /// setting for one event; a show for itself; a refused line for its fault.
+#[tactic(auto, using(crate::proofs::ForLaws::Asked::asks_its_items))]
 pub fn lines_ask_for_their_items()
     ensures { (past : Past) (line : List ℕ) → AsksItsItems past line }
 {}
 
 /// What was sent at an event is reported by one line for each port that sent, with its whole name
 /// and all octets of its frame, and by nothing else.
+#[tactic(auto, using(crate::proofs::ForLaws::Asked::tells_each_port))]
 pub fn each_port_that_sends_is_told()
     ensures { (past : Past) → TellsEachPort past }
 {}
 
 /// The text of a show is its lines, that of a refused line its fault, and that of an event what was
 /// sent at it: whole lines, and nothing else.
+#[tactic(auto, using(crate::proofs::ForLaws::Asked::tells_item))]
 pub fn items_are_told_by_their_lines()
     ensures { (past : Past) (item : Item) → TellsItem past item }
 {}

@@ -1,6 +1,6 @@
 //! What opening refuses is reported. No call takes memory after it: the types say so, and
 //! tools/gate/refuse-memory.sh sees it of the program.
-use super::{NAMES, open};
+use super::{NAMES, only_receiving, open};
 use linked_list_allocator::LocalHeap;
 use lldp_engine::OpenFault;
 use lldp_table::Table;
@@ -20,50 +20,42 @@ fn table_size(rt: &impl Abort, alloc: Global, limit: u8) -> Result<usize, Fail> 
     Ok(heap.used())
 }
 
-/// Returns the room that an opening takes in all.
-fn agent_size(rt: &impl Abort, alloc: Global, ports: &[&str], limit: u8) -> Result<usize, Fail> {
-    let heap = LocalHeap::new(alloc, AMPLE)?;
-    let agent = open(rt, &heap, ports, limit)?;
-    assert_eq!(rt; usize::from(agent.ports()), ports.len());
-    Ok(heap.used())
-}
-
-/// Checks that in a heap of this size there is no room for the opening, and that nothing of it
-/// stays.
-fn expect_refused(
+/// Opens an agent in a heap of this size, and returns how much it takes, or the fault. What was
+/// refused leaves nothing after.
+fn taken(
     rt: &impl Abort,
     alloc: Global,
     ports: &[&str],
     limit: u8,
     size: usize,
-) -> Result<(), Fail> {
-    let scarce = LocalHeap::new(alloc, size)?;
-    assert_eq!(rt; scarce.used(), 0);
-    let refused = open(rt, &scarce, ports, limit).err();
-    assert_eq!(rt; refused, Some(OpenFault::Memory));
-    assert_eq!(rt; scarce.used(), 0);
-    Ok(())
+) -> Result<Result<usize, OpenFault>, Fail> {
+    let heap = LocalHeap::new(alloc, size)?;
+    match open(rt, &heap, &only_receiving(ports, limit)) {
+        Ok(agent) => {
+            assert_eq!(rt; usize::from(agent.ports()), ports.len());
+            Ok(Ok(heap.used()))
+        }
+        Err(fault) => {
+            assert_eq!(rt; heap.used(), 0);
+            Ok(Err(fault))
+        }
+    }
 }
 
-/// Refuses each allocation of an opening in turn: that of the ports, with one unit too little room,
-/// and that of the table of each port, behind those before it. With just enough room, none is
+/// Refuses each allocation of an opening in turn, with one unit too little room for it: that of the
+/// table of each port, and that of the ports, which comes first. With just enough room, none is
 /// refused.
 fn refuse_each(rt: &impl Abort, alloc: Global, ports: &[&str], limit: u8) -> Result<(), Fail> {
     let table = table_size(rt, alloc, limit)?;
-    let all = agent_size(rt, alloc, ports, limit)?;
+    let all = taken(rt, alloc, ports, limit, AMPLE)??;
+    assert_eq!(rt; taken(rt, alloc, ports, limit, all)?, Ok(all));
     let mut size = all;
-    for _ in ports {
+    for _ in 0..=ports.len() {
         assert!(rt; 16 < size);
-        expect_refused(rt, alloc, ports, limit, size - 16)?;
-        assert!(rt; table < size);
-        size -= table;
+        let refused = taken(rt, alloc, ports, limit, size - 16)?;
+        assert_eq!(rt; refused, Err(OpenFault::Memory));
+        size = size.saturating_sub(table);
     }
-    assert!(rt; 16 < size);
-    expect_refused(rt, alloc, ports, limit, size - 16)?;
-    let enough = LocalHeap::new(alloc, all)?;
-    let agent = open(rt, &enough, ports, limit)?;
-    assert_eq!(rt; usize::from(agent.ports()), ports.len());
-    assert_eq!(rt; enough.free(), 0);
     Ok(())
 }
 
@@ -77,8 +69,7 @@ fn refused_at_opening(rt: HostRuntime) -> Result<(), Fail> {
 /// Checks that faults of the options are reported before memory is taken.
 #[test]
 fn other_faults_first(rt: HostRuntime) -> Result<(), Fail> {
-    let none = LocalHeap::new(rt.alloc(), 64)?;
-    let refused = open(&rt, &none, &["a.b"], 2).err();
-    assert_eq!(rt; refused, Some(OpenFault::PortName));
+    let refused = taken(&rt, rt.alloc(), &["a.b"], 2, 64)?;
+    assert_eq!(rt; refused, Err(OpenFault::PortName));
     Ok(())
 }

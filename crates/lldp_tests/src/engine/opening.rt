@@ -1,37 +1,8 @@
-//! That opening works if there is memory, and the numbers of faults.
-use super::{NAMES, open, open_as};
+//! That opening works if there is memory, and what it refuses.
+use super::{NAMES, only_receiving, open};
 use crate::row::{octets, rows_of};
-use lldp_engine::{CommandFault, Mark, OpenFault};
+use lldp_engine::Options;
 use std::test::Fail;
-
-/// Checks the numbers of the faults.
-#[test]
-fn numbers_of_faults(rt: HostRuntime) {
-    for (fault, number) in [
-        (OpenFault::Memory, 1u8),
-        (OpenFault::NoPorts, 2),
-        (OpenFault::TooManyPorts, 3),
-        (OpenFault::PortName, 4),
-        (OpenFault::SamePort, 5),
-        (OpenFault::Text, 6),
-    ] {
-        assert_eq!(rt; fault as u8, number);
-        assert_eq!(rt; fault.number(), number);
-    }
-    for (fault, number) in [
-        (CommandFault::Unknown, 1u8),
-        (CommandFault::NoSuchPort, 2),
-        (CommandFault::Number, 3),
-        (CommandFault::Range, 4),
-        (CommandFault::Text, 5),
-        (CommandFault::Extra, 6),
-        (CommandFault::Quote, 7),
-        (CommandFault::InUse, 8),
-    ] {
-        assert_eq!(rt; fault as u8, number);
-        assert_eq!(rt; fault.number(), number);
-    }
-}
 
 /// Opens an agent by each row of examples/vectors.rows, and compares the number of the fault, or 0.
 #[test]
@@ -47,16 +18,15 @@ fn openings(rt: HostRuntime) -> Result<(), Fail> {
             names.push(String::from_utf8(octets(rt.alloc(), name)?)?)?;
         }
         let ports: Vec<&str> = names.iter().map(|name| name.as_str()).collect(rt.alloc())?;
-        let opened = open_as(&rt, rt.alloc(), &ports, hostname.as_str(), 32);
+        let options = Options {
+            hostname: hostname.as_str(),
+            ..only_receiving(&ports, 32)
+        };
+        let opened = open(&rt, rt.alloc(), &options);
         let found = opened.err().map_or(0, |fault| fault.number());
         assert_eq!(rt; found, fault, "{}", row.name);
     }
     Ok(())
-}
-
-#[test]
-fn quiet_is_the_default(rt: HostRuntime) {
-    assert_eq!(rt; Mark::default(), Mark::Quiet);
 }
 
 /// Checks that no opening is refused if there is memory: every number of ports, with every limit.
@@ -64,7 +34,7 @@ fn quiet_is_the_default(rt: HostRuntime) {
 fn every_size(rt: HostRuntime) -> Result<(), Fail> {
     for ports in 1..65 {
         for limit in 1..129 {
-            let agent = open(&rt, rt.alloc(), &NAMES[..ports], limit)?;
+            let agent = open(&rt, rt.alloc(), &only_receiving(&NAMES[..ports], limit))?;
             assert_eq!(rt; usize::from(agent.ports()), ports);
         }
     }

@@ -1,7 +1,7 @@
 //! Cut and altered frames: all that `examine` tells of each is what the slow reader tells.
 use super::slow_reader::read;
 use super::told::Told;
-use crate::engine::open;
+use crate::engine::{only_receiving, open};
 use crate::row::octets;
 use lldp_engine::Event;
 use lldp_pdu::frame_pdu;
@@ -55,7 +55,7 @@ fn cut_and_altered(rt: HostRuntime) -> Result<(), Fail> {
 
 /// Returns how many frames an agent of its own receives of this one.
 fn received(rt: &(impl Abort + AllocGlobal), octets: &[u8]) -> Result<u32, Fail> {
-    let mut agent = open(rt, rt.alloc(), &["eth0"], 1)?;
+    let mut agent = open(rt, rt.alloc(), &only_receiving(&["eth0"], 1))?;
     let event = Event::Frame { port: 0, octets };
     assert!(rt; agent.allows(&event));
     assert!(rt; agent.step(event).is_empty());

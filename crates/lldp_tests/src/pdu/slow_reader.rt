@@ -97,18 +97,6 @@ fn kept<'a>(alloc: Global, later: &[Tlv<'a>]) -> Result<Vec<Tlv<'a>>, AllocError
     Ok(kept)
 }
 
-/// Joins the spellings of TLVs.
-fn spelled(alloc: Global, tlvs: &[Tlv<'_>]) -> Result<Vec<u8>, AllocError> {
-    let mut octets = Vec::new(alloc);
-    for (kind, body) in tlvs {
-        let header = 512 * usize::from(*kind) + body.len();
-        octets.push((header / 256 % 256) as u8)?;
-        octets.push((header % 256) as u8)?;
-        octets.extend_from_slice(body)?;
-    }
-    Ok(octets)
-}
-
 /// Returns what is told of an LLDPDU.
 pub fn read(alloc: Global, pdu: &[u8]) -> Result<Told<'_>, AllocError> {
     let (tlvs, rest) = cut(alloc, pdu)?;
@@ -124,7 +112,11 @@ pub fn read(alloc: Global, pdu: &[u8]) -> Result<Told<'_>, AllocError> {
     told.port = tlvs.get(1).map_or(&[], |tlv| tlv.1);
     if told.ttl > 0 {
         let incomplete = end.is_none() && !rest.is_empty();
-        told.extent = spelled(alloc, extent)?;
+        let mut end = 0usize;
+        for tlv in extent {
+            end = end.saturating_add(tlv.1.len()).saturating_add(2);
+        }
+        told.extent = pdu.get(..end).unwrap_or(pdu);
         told.kept = kept(alloc, later)?;
         told.unrecognized = told.kept.iter().filter(|tlv| tlv.0 >= 9).count();
         told.discarded = later.len().saturating_sub(told.kept.len());

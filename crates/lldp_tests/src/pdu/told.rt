@@ -12,7 +12,7 @@ pub struct Told<'a> {
     pub ttl: usize,
     pub chassis: &'a [u8],
     pub port: &'a [u8],
-    pub extent: Vec<u8>,
+    pub extent: &'a [u8],
     pub discarded: usize,
     pub unrecognized: usize,
     pub kept: Vec<(u8, &'a [u8])>,
@@ -26,50 +26,39 @@ impl<'a> Told<'a> {
             ttl: 0,
             chassis: &[],
             port: &[],
-            extent: Vec::new(alloc),
+            extent: &[],
             discarded: 0,
             unrecognized: 0,
             kept: Vec::new(alloc),
         }
     }
 
-    /// Returns what is told of a neighbor that is gone.
-    fn gone(alloc: Global, name: &Msap<'a>) -> Self {
-        Told {
-            fault: 0,
-            ttl: 0,
-            chassis: name.chassis,
-            port: name.port,
-            extent: Vec::new(alloc),
-            discarded: 0,
-            unrecognized: 0,
-            kept: Vec::new(alloc),
-        }
+    /// Returns what is told of a neighbor by its name alone.
+    fn named(alloc: Global, name: &Msap<'a>) -> Self {
+        let mut told = Told::only(alloc, 0);
+        told.chassis = name.chassis;
+        told.port = name.port;
+        told
     }
 
     /// Returns what is told of a neighbor that lives.
     fn alive(alloc: Global, info: &Info<'a>) -> Result<Self, AllocError> {
-        let mut kept = Vec::new(alloc);
+        let mut told = Told::named(alloc, &info.msap());
+        told.ttl = usize::from(info.ttl());
+        told.extent = info.octets();
+        told.discarded = info.discarded();
+        told.unrecognized = info.unrecognized();
         for tlv in info.kept() {
-            kept.push((tlv.kind, tlv.body))?;
+            told.kept.push((tlv.kind, tlv.body))?;
         }
-        Ok(Told {
-            fault: 0,
-            ttl: usize::from(info.ttl()),
-            chassis: info.msap().chassis,
-            port: info.msap().port,
-            extent: info.octets().to_vec(alloc)?,
-            discarded: info.discarded(),
-            unrecognized: info.unrecognized(),
-            kept,
-        })
+        Ok(told)
     }
 
     /// Returns what `examine` tells.
     pub fn of(alloc: Global, pdu: &'a [u8]) -> Result<Self, AllocError> {
         match examine(pdu) {
             Err(fault) => Ok(Told::only(alloc, fault.number())),
-            Ok(Examined::Shutdown(name)) => Ok(Told::gone(alloc, &name)),
+            Ok(Examined::Shutdown(name)) => Ok(Told::named(alloc, &name)),
             Ok(Examined::Info(info)) => Told::alive(alloc, &info),
         }
     }

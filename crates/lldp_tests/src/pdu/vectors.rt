@@ -6,30 +6,12 @@ use std::alloc::Global;
 use std::process::Abort;
 use std::test::Fail;
 
-#[test]
-fn examined(rt: HostRuntime) -> Result<(), Fail> {
-    let rows = rows_of(rt.alloc(), "examine")?;
-    assert_eq!(rt; rows.len(), 44);
-    for row in rows.iter() {
-        let pdu = octets(rt.alloc(), row.given)?;
-        let told = Told::of(rt.alloc(), &pdu)?.fields(rt.alloc())?;
-        assert_eq!(rt; told.as_str(), row.told, "{}", row.name);
-    }
-    Ok(())
-}
-
-#[test]
-fn capabilities(rt: HostRuntime) -> Result<(), Fail> {
-    let rows = rows_of(rt.alloc(), "caps")?;
-    assert_eq!(rt; rows.len(), 6);
-    for row in rows.iter() {
-        let told = match caps(&octets(rt.alloc(), row.given)?) {
-            Some(read) => format!(in rt.alloc(); "{}\t{}", read.available, read.enabled)?,
-            None => String::new(rt.alloc()),
-        };
-        assert_eq!(rt; told.as_str(), row.told, "{}", row.name);
-    }
-    Ok(())
+/// Writes what is read of a System Capabilities body as the last fields of a row.
+fn capabilities(alloc: Global, body: &[u8]) -> Result<String, Fail> {
+    let Some(read) = caps(body) else {
+        return Ok(String::new(alloc));
+    };
+    Ok(format!(in alloc; "{}\t{}", read.available, read.enabled)?)
 }
 
 /// Writes what is read of the body of a Management Address as the last fields of a row.
@@ -42,13 +24,21 @@ fn address(alloc: Global, body: &[u8]) -> Result<String, Fail> {
     Ok(format!(in alloc; "{family}\t{address}\t{numbering}\t{interface}\t{oid}")?)
 }
 
+/// Reads the octets of each row that is about a whole LLDPDU or a body.
 #[test]
-fn management_addresses(rt: HostRuntime) -> Result<(), Fail> {
-    let rows = rows_of(rt.alloc(), "mgmt")?;
-    assert_eq!(rt; rows.len(), 10);
-    for row in rows.iter() {
-        let told = address(rt.alloc(), &octets(rt.alloc(), row.given)?)?;
-        assert_eq!(rt; told.as_str(), row.told, "{}", row.name);
+fn octets_read(rt: HostRuntime) -> Result<(), Fail> {
+    for (kind, count) in [("examine", 44usize), ("caps", 6), ("mgmt", 10)] {
+        let rows = rows_of(rt.alloc(), kind)?;
+        assert_eq!(rt; rows.len(), count);
+        for row in rows.iter() {
+            let given = octets(rt.alloc(), row.given)?;
+            let told = match kind {
+                "examine" => Told::of(rt.alloc(), &given)?.fields(rt.alloc())?,
+                "caps" => capabilities(rt.alloc(), &given)?,
+                _ => address(rt.alloc(), &given)?,
+            };
+            assert_eq!(rt; told.as_str(), row.told, "{}", row.name);
+        }
     }
     Ok(())
 }

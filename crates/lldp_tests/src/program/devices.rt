@@ -13,7 +13,8 @@ pub struct Drip<'a> {
     first: usize,
     later: usize,
     fails_at: Option<usize>,
-    calls: usize,
+    /// How often it was read.
+    pub calls: usize,
 }
 
 impl<'a> Drip<'a> {
@@ -30,11 +31,6 @@ impl<'a> Drip<'a> {
     /// Returns a reader that returns all at once.
     pub fn whole(octets: &'a [u8]) -> Self {
         Drip::new(octets, usize::MAX, usize::MAX, None)
-    }
-
-    /// Returns how often it was read.
-    pub fn calls(&self) -> usize {
-        self.calls
     }
 }
 
@@ -66,8 +62,8 @@ pub enum Burn {
     AtFlush,
 }
 
-/// A writer that takes pieces of this size, and fails once after so many octets, or if it is
-/// flushed. What is written after that is kept too. It counts how often it is flushed.
+/// A writer that takes pieces of this size, and fails once after this many octets, or if it is
+/// flushed. What is written after that is kept too.
 #[derive(Drop)]
 pub struct Fuse {
     octets: [u8; 4096],
@@ -75,7 +71,8 @@ pub struct Fuse {
     piece: usize,
     burns_at: usize,
     burn: Burn,
-    flushes: usize,
+    /// How often it was flushed.
+    pub flushes: usize,
     ghost within: { len ≤ 4096 },
 }
 
@@ -99,11 +96,6 @@ impl Fuse {
     /// Returns what it took.
     pub fn taken(&self) -> &[u8] {
         &self.octets[..self.len]
-    }
-
-    /// Returns how often it was flushed.
-    pub fn flushes(&self) -> usize {
-        self.flushes
     }
 }
 

@@ -1,11 +1,8 @@
 //! Runs over devices that fail.
 use super::devices::{Burn, Drip, Fuse};
-use super::runs::{
-    HEARD, INPUT, OUTPUT, SENT, expect_counters, expect_run, only_receiving, open, sending,
-};
-use lldp_engine::Agent;
+use super::runs::{HEARD, INPUT, OUTPUT, SENT, expect_counters, expect_run, sending};
+use crate::engine::{only_receiving, open};
 use lldp_program::trace::RunFault;
-use std::alloc::Global;
 use std::process::Abort;
 use std::test::Fail;
 
@@ -19,12 +16,12 @@ fn reader_that_fails_inside_a_line(rt: HostRuntime) -> Result<(), Fail> {
         (b"tick 28\n", None, Ok(()), ""),
         (b"tick\n", None, Ok(()), SENT),
     ];
-    let mut agent = open(&rt, &sending())?;
+    let mut agent = open(&rt, rt.alloc(), &sending())?;
     for (place, &(input, fails_at, answer, output)) in rows.iter().enumerate() {
         let mut drip = Drip::new(input, usize::MAX, usize::MAX, fails_at);
         let wanted = (answer, output.as_bytes());
         expect_run(&rt, &mut agent, &mut drip, Fuse::endless(), wanted, place);
-        assert_eq!(rt; drip.calls(), 2);
+        assert_eq!(rt; drip.calls, 2);
     }
     Ok(())
 }
@@ -86,11 +83,11 @@ fn fails_at_call(
     call: usize,
     output: &str,
 ) -> Result<(), Fail> {
-    let mut agent = open(rt, &only_receiving(2))?;
+    let mut agent = open(rt, rt.alloc(), &only_receiving(&["eth0"], 2))?;
     let mut drip = Drip::new(input.as_bytes(), 1, 1, Some(call));
     let wanted = (Err(RunFault::Read), output.as_bytes());
     expect_run(rt, &mut agent, &mut drip, Fuse::endless(), wanted, call);
-    assert_eq!(rt; drip.calls(), call);
+    assert_eq!(rt; drip.calls, call);
     Ok(())
 }
 
@@ -115,111 +112,65 @@ fn reader_that_fails(rt: HostRuntime) -> Result<(), Fail> {
     fails_at_call(&rt, input.as_str(), call, output.as_str())
 }
 
-/// Nine lines, and what they send: the first five and the eighth send a frame each.
+/// Nine lines, of which the first five and the eighth send a frame each.
 const LINES: [&str; 9] = [
     "tick\n", "update\n", "update\n", "update\n", "update\n", "update\n", "update\n", "tick\n",
     "tick\n",
 ];
 
-const FRAMES: [&str; 6] = [SENT; 6];
+/// Their frames, and that of two further updates: there is credit for one.
+const FRAMES: [&str; 7] = [SENT; 7];
 
-/// How many octets the line of a sent frame has, its LF among them.
-const SENT_OCTETS: usize = 141;
-
-/// Further lines. There is credit for one frame.
-const MORE: [&str; 2] = ["update\n", "update\n"];
-
-/// What was then sent, including the frames that were not written.
-const SENT_SEVEN: [&str; 2] = ["lldp.eth0.sent=7", "lldp.eth0.shutdowns=0"];
-
-/// Runs the lines with a writer that fails after so many octets.
-fn cut_off_at(
-    rt: &(impl Abort + AllocGlobal),
-    agent: &mut Agent,
-    octets: usize,
-    burn: Burn,
-) -> Result<(), Fail> {
+/// Runs the lines with a writer that fails after this many octets, then those that were not done,
+/// and two further ones. The line of a frame has 141 octets, its LF among them.
+fn fails_at(rt: &(impl Abort + AllocGlobal), octets: usize, burn: Burn) -> Result<(), Fail> {
+    let mut agent = open(rt, rt.alloc(), &sending())?;
     let input = LINES.concat(rt.alloc())?;
     let output = FRAMES.concat(rt.alloc())?;
-    let cut_off = output.as_bytes().get(..octets).unwrap_or(&[]);
     let mut drip = Drip::whole(input.as_bytes());
     let fuse = Fuse::new(1, octets, burn);
-    let wanted = (Err(RunFault::Write), cut_off);
-    expect_run(rt, agent, &mut drip, fuse, wanted, octets);
-    Ok(())
-}
-
-/// Returns the lines that were not done if so many frames were written whole, and the further ones.
-fn lines_left(alloc: Global, frames: usize) -> Result<String, Fail> {
-    let done = if frames < 5 { frames + 1 } else { 8 };
-    let mut input = LINES[done..].concat(alloc)?;
-    for line in MORE {
-        input.push_str(line)?;
-    }
-    Ok(input)
-}
-
-/// Returns what those lines write.
-fn frames_left(rt: &(impl Abort + AllocGlobal), frames: usize) -> Result<String, Fail> {
-    let mut output = FRAMES[frames.saturating_add(1).min(6)..].concat(rt.alloc())?;
-    output.push_str(SENT)?;
-    Ok(output)
-}
-
-/// Runs the lines with a writer that fails after so many octets, and then those that were not done,
-/// and the further ones.
-fn fails_at(rt: &(impl Abort + AllocGlobal), octets: usize, burn: Burn) -> Result<(), Fail> {
-    let mut agent = open(rt, &sending())?;
-    cut_off_at(rt, &mut agent, octets, burn)?;
-    let frames = octets / SENT_OCTETS;
-    let input = lines_left(rt.alloc(), frames)?;
-    let output = frames_left(rt, frames)?;
+    let answer = if octets < 846 {
+        Err(RunFault::Write)
+    } else {
+        Ok(())
+    };
+    let wanted = (answer, output.as_bytes().get(..octets).unwrap_or(&[]));
+    expect_run(rt, &mut agent, &mut drip, fuse, wanted, octets);
+    let frames = octets / 141;
+    let done = match frames {
+        0..=4 => frames + 1,
+        5 => 8,
+        _ => 9,
+    };
+    let mut input = LINES[done..].concat(rt.alloc())?;
+    input.push_str("update\nupdate\n")?;
+    let output = FRAMES[frames.saturating_add(1).min(6)..].concat(rt.alloc())?;
     let mut drip = Drip::whole(input.as_bytes());
     let wanted = (Ok(()), output.as_bytes());
     expect_run(rt, &mut agent, &mut drip, Fuse::endless(), wanted, octets);
-    expect_counters(rt, &agent, &SENT_SEVEN);
+    // The frame that was not written whole counts as sent.
+    let counters = ["lldp.eth0.sent=7", "lldp.eth0.shutdowns=0"];
+    expect_counters(rt, &agent, &counters);
     Ok(())
 }
 
 /// Checks that exactly the octets before the fault were written, and that the agent stands for the
-/// events up to the one whose output failed. If no write fails, all were written.
+/// events up to the one whose output failed. With room for 846 octets, none fails.
 #[test]
 fn writer_that_fails(rt: HostRuntime) -> Result<(), Fail> {
-    for octets in 0..6 * SENT_OCTETS {
+    for octets in 0..=846 {
         fails_at(&rt, octets, Burn::Error)?;
         fails_at(&rt, octets, Burn::TakesNone)?;
     }
-    let input = LINES.concat(rt.alloc())?;
-    let output = FRAMES.concat(rt.alloc())?;
-    assert_eq!(rt; output.len(), 846);
-    let mut agent = open(&rt, &sending())?;
-    let mut drip = Drip::whole(input.as_bytes());
-    let fuse = Fuse::new(1, usize::MAX, Burn::Error);
-    let wanted = (Ok(()), output.as_bytes());
-    expect_run(&rt, &mut agent, &mut drip, fuse, wanted, 846);
     Ok(())
 }
 
-/// Checks that the frame that was not written whole counts as sent, and that the line behind its
-/// own was not done.
-#[test]
-fn writer_that_fails_inside_a_frame(rt: HostRuntime) -> Result<(), Fail> {
-    let mut agent = open(&rt, &sending())?;
-    let mut drip = Drip::whole(b"tick\nupdate\nupdate\n");
-    let fuse = Fuse::new(1, SENT.len() + 70, Burn::Interrupted);
-    let cut_off = [SENT, &SENT[..70]].concat(rt.alloc())?;
-    let wanted = (Err(RunFault::Write), cut_off.as_bytes());
-    expect_run(&rt, &mut agent, &mut drip, fuse, wanted, 0);
-    expect_counters(&rt, &agent, &["lldp.eth0.sent=2"]);
-    Ok(())
-}
-
-/// Checks that exactly the octets before the fault were written, wherever it comes.
+/// Checks that exactly the octets before the fault were written, wherever it comes inside a show.
 #[test]
 fn writer_that_fails_inside_a_show(rt: HostRuntime) -> Result<(), Fail> {
     for octets in 0..OUTPUT.len() {
         for burn in [Burn::Error, Burn::TakesNone] {
-            let mut agent = open(&rt, &only_receiving(32))?;
+            let mut agent = open(&rt, rt.alloc(), &only_receiving(&["eth0"], 32))?;
             let mut drip = Drip::whole(INPUT);
             let fuse = Fuse::new(1, octets, burn);
             let wanted = (Err(RunFault::Write), &OUTPUT[..octets]);

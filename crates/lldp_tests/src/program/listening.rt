@@ -21,7 +21,7 @@ fn run(
     let mut reader = Drip::whole(b"show chassis\n");
     let mut writer = Fuse::endless();
     expect_status(rt, net, words, &mut reader, &mut writer, wanted)?;
-    assert_eq!(rt; reader.calls(), 0);
+    assert_eq!(rt; reader.calls, 0);
     assert_eq!(rt; writer.taken(), b"".as_slice());
     Ok(())
 }
@@ -64,7 +64,7 @@ fn port_and_connections(rt: HostRuntime) -> Result<(), Fail> {
     Ok(())
 }
 
-/// Checks that so many clients as were asked for are served, and the next one is not.
+/// Checks that as many clients as were asked for are served, and the next one is not.
 #[test]
 fn serves_so_many(rt: HostRuntime) -> Result<(), Fail> {
     let two = "lldpa --listen 4711 --receive-only eth0 --connections 2";

@@ -5,10 +5,10 @@ ghost use Rattle.lldp_engine.specs.Standing.{Stands};
 ghost use Rattle.lldp_program.specs.Trace.Items.{text, after_input};
 
 use super::devices::{Drip, Fuse};
-use lldp_engine::{Agent, Options, Role, Show};
+use crate::engine::{only_receiving, open};
+use lldp_engine::{Agent, Options, Show};
 use lldp_program::device::{FromReader, Source, ToWriter};
 use lldp_program::trace::{RunFault, run_trace};
-use std::alloc::Global;
 use std::process::Abort;
 use std::test::Fail;
 
@@ -56,31 +56,9 @@ lldp.eth0.too-many=no
 
 /// Returns the options of an agent on one port if no option is given.
 pub fn sending() -> Options<'static> {
-    Options {
-        ports: &["eth0"],
-        mac: [2, 0, 0, 0, 0, 1],
-        hostname: "localhost",
-        management: None,
-        role: Role::Station,
-        max_neighbors: 32,
-        credit_max: 5,
-        fast_init: 4,
-        reinit: 2,
-        receive_only: false,
-    }
-}
-
-/// Returns the same options if it only receives, of so many neighbors at most.
-pub fn only_receiving(max_neighbors: u8) -> Options<'static> {
-    let mut options = sending();
-    options.max_neighbors = max_neighbors;
-    options.receive_only = true;
+    let mut options = only_receiving(&["eth0"], 32);
+    options.receive_only = false;
     options
-}
-
-pub fn open(rt: &(impl Abort + AllocGlobal), options: &Options<'_>) -> Result<Agent, Fail> {
-    assert!(rt; options.in_range());
-    Ok(Agent::open(rt.alloc(), options)?)
 }
 
 /// Checks that the counters of eth0 begin with these lines.
@@ -116,7 +94,7 @@ pub fn expect_run(
 fn any_pieces(rt: HostRuntime) -> Result<(), Fail> {
     for first in 1..=INPUT.len() {
         let later = if first == 1 { 1 } else { usize::MAX };
-        let mut agent = open(&rt, &only_receiving(32))?;
+        let mut agent = open(&rt, rt.alloc(), &only_receiving(&["eth0"], 32))?;
         let mut drip = Drip::new(INPUT, first, later, None);
         let wanted = (Ok(()), OUTPUT);
         expect_run(&rt, &mut agent, &mut drip, Fuse::endless(), wanted, first);
@@ -145,7 +123,7 @@ pub fn text_of_input(
 
 #[test]
 fn runs_octets(rt: HostRuntime) -> Result<(), Fail> {
-    let mut agent = open(&rt, &only_receiving(32))?;
+    let mut agent = open(&rt, rt.alloc(), &only_receiving(&["eth0"], 32))?;
     let out = text_of_input(&rt, &mut agent, INPUT)?;
     assert_eq!(rt; out.as_slice(), OUTPUT);
     Ok(())
@@ -160,6 +138,6 @@ fn adapters_ask(rt: HostRuntime) -> Result<(), Fail> {
         assert_eq!(rt; FromReader::new(&mut drip).read(&mut room).ok(), read);
     }
     assert_eq!(rt; &room[..2], b"cb".as_slice());
-    assert_eq!(rt; drip.calls(), 4);
+    assert_eq!(rt; drip.calls, 4);
     Ok(())
 }

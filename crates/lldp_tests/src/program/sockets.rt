@@ -1,6 +1,7 @@
 //! Traces over connections to a listener of this host.
-use super::runs::{HEARD, expect_counters, only_receiving, open};
+use super::runs::{HEARD, expect_counters};
 use super::statuses::NONE;
+use crate::engine::{only_receiving, open};
 use lldp_engine::Agent;
 use lldp_program::device::{FromReader, ToWriter};
 use lldp_program::serve::{ServeFault, serve};
@@ -103,13 +104,13 @@ impl Server {
         rt: &(impl Abort + AllocGlobal + Net<Stream = TcpStream, Listener = TcpListener>),
     ) -> Result<Server, Fail> {
         Ok(Server {
-            agent: open(rt, &only_receiving(32))?,
+            agent: open(rt, rt.alloc(), &only_receiving(&["eth0"], 32))?,
             listener: listen(rt)?,
         })
     }
 
-    /// Lets clients connect and send, serves so many connections and compares the answer, each time
-    /// in turn, and lets them read.
+    /// Lets clients connect and send, serves this many connections and compares the answer, each
+    /// time in turn, and lets them read.
     fn serves(
         &mut self,
         rt: &(impl Abort + AllocGlobal + Net<Stream = TcpStream, Listener = TcpListener>),

@@ -48,15 +48,16 @@ fn streams_that_fail(rt: HostRuntime) -> Result<(), Fail> {
         (None, 10, Burn::Error, 10, WRITE_FAILED),
         (None, 10, Burn::Interrupted, 10, WRITE_FAILED),
         (None, 10, Burn::TakesNone, 10, WRITE_FAILED),
+        (None, 100, Burn::TakesNone, 100, WRITE_FAILED),
         (None, FAR, Burn::AtFlush, OUTPUT.len(), WRITE_FAILED),
         (Some(1), FAR, Burn::AtFlush, 0, READ_FAILED),
     ];
     for &(fails_at, burns_at, burn, taken, told) in rows {
         let mut reader = Drip::new(INPUT, FAR, FAR, fails_at);
-        let mut writer = Fuse::new(FAR, burns_at, burn);
+        let mut writer = Fuse::new(1, burns_at, burn);
         expect_status(&rt, &OFFLINE, words, &mut reader, &mut writer, (1, told))?;
         assert_eq!(rt; writer.taken(), &OUTPUT[..taken]);
-        assert_eq!(rt; writer.flushes(), 1);
+        assert_eq!(rt; writer.flushes, 1);
     }
     Ok(())
 }
@@ -80,28 +81,8 @@ fn help_that_cannot_be_written(rt: HostRuntime) -> Result<(), Fail> {
     Ok(())
 }
 
-/// Checks that no words at all count as the name alone, and that without `--listen` the number of
-/// connections changes nothing.
-#[test]
-fn no_words_and_no_listen(rt: HostRuntime) -> Result<(), Fail> {
-    let rows: &[(&str, (u8, &str), &str)] = &[
-        ("", (2, "lldpa: no ports\n"), ""),
-        ("lldpa --connections 2 --receive-only eth0", (0, ""), NONE),
-    ];
-    for &(words, wanted, written) in rows {
-        let mut reader = Drip::whole(b"show neighbors\n");
-        let mut writer = Fuse::endless();
-        expect_status(&rt, &OFFLINE, words, &mut reader, &mut writer, wanted)?;
-        assert_eq!(rt; writer.taken(), written.as_bytes());
-    }
-    Ok(())
-}
-
-/// Checks that what is wrong with the words is reported in all its lines, and nothing is read or
-/// written.
-#[test]
-fn words_with_a_fault(rt: HostRuntime) -> Result<(), Fail> {
-    let told = "error: unexpected argument '--no-such' found
+/// All that is written for a word that is not an option.
+const NO_SUCH: &str = "error: unexpected argument '--no-such' found
 
   tip: to pass '--no-such' as a value, use '-- --no-such'
 
@@ -109,31 +90,40 @@ Usage: lldpa [OPTIONS] PORT...
 
 For more information, try '--help'.
 ";
-    let mut reader = Drip::whole(b"show neighbors\n");
-    let mut writer = Fuse::endless();
-    let words = "lldpa --no-such eth0";
-    expect_status(&rt, &OFFLINE, words, &mut reader, &mut writer, (2, told))?;
-    assert_eq!(rt; reader.calls(), 0);
-    assert_eq!(rt; writer.taken(), b"".as_slice());
+
+/// Checks that no words at all count as the name alone, that without `--listen` the number of
+/// connections changes nothing, and that nothing is read if the words have a fault.
+#[test]
+fn words_of_the_program(rt: HostRuntime) -> Result<(), Fail> {
+    let without_listen = "lldpa --connections 2 --receive-only eth0";
+    let rows: &[(&str, (u8, &str), &str, usize)] = &[
+        ("", (2, "lldpa: no ports\n"), "", 0),
+        (without_listen, (0, ""), NONE, 2),
+        ("lldpa --no-such eth0", (2, NO_SUCH), "", 0),
+    ];
+    for &(words, wanted, written, calls) in rows {
+        let mut reader = Drip::whole(b"show neighbors\n");
+        let mut writer = Fuse::endless();
+        expect_status(&rt, &OFFLINE, words, &mut reader, &mut writer, wanted)?;
+        assert_eq!(rt; writer.taken(), written.as_bytes());
+        assert_eq!(rt; reader.calls, calls);
+    }
     Ok(())
 }
 
-/// Checks that the messages of faults are the lines that the program writes.
+/// Checks that the messages of faults are the lines that the program writes. No test can read so
+/// often that the input is too long.
 #[test]
 fn texts_of_faults(rt: HostRuntime) -> Result<(), Fail> {
-    let read = format!(in rt.alloc(); "{}", RunFault::Read)?;
-    assert_eq!(rt; read.as_str(), "lldpa: read failed");
-    let write = format!(in rt.alloc(); "{}", RunFault::Write)?;
-    assert_eq!(rt; write.as_str(), "lldpa: write failed");
     let accept = format!(in rt.alloc(); "{}", ServeFault::Accept)?;
     assert_eq!(rt; accept.as_str(), "lldpa: socket failed");
-    Ok(())
-}
-
-/// Checks the text of a fault that no test can bring about: no test can read so often.
-#[test]
-fn text_of_input_too_long(rt: HostRuntime) -> Result<(), Fail> {
-    let told = format!(in rt.alloc(); "{}", RunFault::InputTooLong)?;
-    assert_eq!(rt; told.as_str(), "lldpa: input too long");
+    for (fault, text) in [
+        (RunFault::Read, "lldpa: read failed"),
+        (RunFault::Write, "lldpa: write failed"),
+        (RunFault::InputTooLong, "lldpa: input too long"),
+    ] {
+        let told = format!(in rt.alloc(); "{fault}")?;
+        assert_eq!(rt; told.as_str(), text);
+    }
     Ok(())
 }

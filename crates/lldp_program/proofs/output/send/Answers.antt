@@ -1,13 +1,14 @@
-use Rattle.std.proofs.Common.{arith, rules}
+use Rattle.std.proofs.Common.{arith, rules, sym}
 use Rattle.std.proofs.lemmas.List.{take_rest}
 use Rattle.std.proofs.lemmas.Result.{err_from_is_err_and}
-use Rattle.lldp_program.proofs.Texts.Written.{next_written, cut_off_at}
+use Rattle.lldp_program.proofs.Texts.Written.{cut_off_at, appends_then, appends_same}
 use Rattle.lldp_program.proofs.output.send.Goals as goal
+use Rattle.std.proofs.Math.Seq.{take-add}
 
 pub loop-sent-preserved : goal.loop-sent-preserved
 loop-sent-preserved g c = record {
   within = search rules;
-  sent = next_written _ _ _ c.args.octets.now c.loop-sent.sent c.in_ok-sent.field-0 c.loop-sent.invariant.sent (rw take_rest at c.in_ok-sent.ensures.octets);
+  sent = appends_same _ _ _ _ (sym (take-add c.loop-sent.sent c.in_ok-sent.field-0 c.args.octets.now)) (appends_then _ _ _ _ _ c.loop-sent.invariant.sent (rw take_rest at c.in_ok-sent.ensures.octets));
   failures = search rules;
   place = search rules;
 }

@@ -1,9 +1,9 @@
 use Rattle.std.proofs.Common.{rules}
-use Rattle.lldp_engine.proofs.Lines.Taken.{takes_left, takes_more}
+use Rattle.lldp_engine.proofs.Lines.Taken.{takes_more, takes_all, takes_then}
 use Rattle.lldp_engine.proofs.show.neighbor_lines.put_port.Goals as goal
 
 pub returns-then-is_done : goal.returns-then-is_done
-returns-then-is_done g c = takes_left _ _ _ _ _ c.loop-entry.invariant.taken (c.is_done.ensures c.if-is_done.true)
+returns-then-is_done g c = rw (← c.loop-entry.invariant.taken.1) (takes_then _ _ _ _ c.loop-entry.invariant.taken.0 _ c.loop-entry.invariant.taken.2 (takes_all _ _ _ (c.is_done.ensures c.if-is_done.true)))
 
 pub loop-entry-preserved : goal.loop-entry-preserved
 loop-entry-preserved g c = record {

@@ -1,9 +1,11 @@
-use Rattle.std.proofs.Common.{refl}
-use Rattle.lldp_program.proofs.Runs.Joined.{items_read, runs_same}
+use Rattle.std.proofs.Common.{refl, ap, ◌∙◌}
+use Rattle.lldp_program.proofs.Runs.Joined.{runs_same}
 use Rattle.lldp_program.proofs.trace.Run.line.Goals as goal
+use Rattle.lldp_program.specs.Trace.Forms.{work_given}
+use Rattle.lldp_program.specs.Trace.Items.{items_of_work}
 
 pub returns : goal.returns
 returns g c = record {
   agent = refl;
-  items_run = runs_same _ _ _ _ _ _ _ (λ past stands. items_read past _ c.args.line.now _ stands c.read_line-read.ensures.read) c.run_work.ensures;
+  items_run = runs_same _ _ _ _ _ _ _ (λ past stands. ap items_of_work (c.read_line-read.ensures.read ∙ ap (λ seen. work_given seen c.args.line.now) stands.is)) c.run_work.ensures;
 }

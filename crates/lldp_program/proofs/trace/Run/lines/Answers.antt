@@ -1,11 +1,12 @@
 use Rattle.std.proofs.Common.{◌≡◌, ◌-◌, ◌+◌, ◌++◌, ◌∷◌, [], take, drop, rules, arith, refl, sym, ap, ◌∙◌}
-use Rattle.std.proofs.lemmas.List.{take_rest}
+use Rattle.std.proofs.lemmas.List.{take_rest, take-append-drop}
 use Rattle.std.proofs.lemmas.Result.{err_from_is_err_and}
 use Rattle.lldp_program.specs.Trace.Lines.{ended_lines, unfinished}
 use Rattle.lldp_program.specs.Trace.Items.{items_of, items_of_lines}
-use Rattle.lldp_program.proofs.Lines.Pieces.{one_more_line, no_lf_left, all_lines, the_rest, lines_then}
-use Rattle.lldp_program.proofs.Runs.Joined.{nothing_runs, runs_then, runs_cut_off, line_more, lines_left}
+use Rattle.lldp_program.proofs.Lines.Pieces.{one_more_line, no_lf_left, all_lines, the_rest, ended_lines-append}
+use Rattle.lldp_program.proofs.Runs.Joined.{nothing_runs, runs_then, runs_cut_off, line_more}
 use Rattle.lldp_program.proofs.trace.Run.lines.Goals as goal
+use Rattle.lldp_program.proofs.Runs.Items.{items_of_lines-append}
 
 pub returns-in_err-line-clause-run : goal.returns-in_err-line-clause-run
 returns-in_err-line-clause-run g c =
@@ -17,10 +18,10 @@ returns-in_err-line-clause-run g c =
     let before = ended_lines (take c.loop-at.start xs) in
     let line = take (end - c.loop-at.start) (drop c.loop-at.start xs) in
     let later = ended_lines (unfinished (take (end + 1) xs) ++ drop (end + 1) xs) in
-    let whole : (before ++ line ∷ []) ++ later ≡ ended_lines xs = ap (λ ls. ls ++ later) (sym more.lines) ∙ sym (lines_then (end + 1) xs) in
+    let whole : (before ++ line ∷ []) ++ later ≡ ended_lines xs = ap (λ ls. ls ++ later) (sym more.lines) ∙ sym (ap ended_lines (sym (take-append-drop (end + 1) xs)) ∙ ended_lines-append (take (end + 1) xs) (drop (end + 1) xs)) in
     rw p.1 record {
       agent = c.in_err-line.ensures.agent ∙ inv.run.agent;
-      items_run = runs_cut_off _ _ _ _ _ _ _ _ _ (λ past. lines_left (before ++ line ∷ []) later past ∙ ap (items_of_lines past) whole)
+      items_run = runs_cut_off _ _ _ _ _ _ _ _ _ (λ past. sym (items_of_lines-append past (before ++ line ∷ []) later) ∙ ap (items_of_lines past) whole)
           (runs_then _ (λ past. items_of past line) _ _ _ _ _ _ _ _ tt (line_more before line) inv.run.items_run c.in_err-line.ensures.items_run);
     }
 
