@@ -2,19 +2,15 @@
 
 from __future__ import annotations
 
-import array
 import contextlib
-import fcntl
 import os
 import shutil
 import signal
-import socket
 import subprocess
-import termios
 import time
 import unittest
 from pathlib import Path
-from typing import IO, Any, Optional, Sequence, Union
+from typing import Any, Optional, Sequence
 
 from lldpa import Refused
 from lldpa.client import Client
@@ -23,7 +19,6 @@ from patience import SECONDS, eventually
 from served import REPOSITORY
 from wires import Peer, Wires, inside
 
-Stream = Union[IO[bytes], socket.socket]
 LIVE = os.environ.get("LLDPA_LIVE") or str(REPOSITORY / "rust" / "live" / "out" / "lldpa-live")
 is_built = unittest.skipUnless(os.access(LIVE, os.X_OK),
                                "there is no lldpa-live: tools/release/live.sh builds it")
@@ -36,20 +31,6 @@ NO_ADDRESS = "there is no IPv4 address to announce\n"
 # what runs in the background of a shell, or by nohup, ignores these, and so would lldpa-live
 signal.signal(signal.SIGINT, signal.default_int_handler)
 signal.signal(signal.SIGHUP, lambda *_: None)
-
-
-def unread(stream: Stream) -> int:
-    """Returns how many octets of a pipe or a socket were not read yet."""
-    octets = array.array("i", [0])
-    fcntl.ioctl(stream, termios.FIONREAD, octets)
-    return octets[0]
-
-
-def is_full(stream: Stream) -> bool:
-    """Returns whether a pipe or a socket that nobody reads takes no more."""
-    before = unread(stream)
-    time.sleep(0.2)
-    return before == unread(stream) > 0
 
 
 class Live:
@@ -71,11 +52,15 @@ class Live:
         """Returns whether its agent runs, or it has ended."""
         return self.process.poll() is not None or self.ask_quietly()
 
+    def has(self, line: str, what: str = "live") -> bool:
+        """Returns whether it answers a question, and the answer has that line."""
+        with contextlib.suppress(OSError):
+            return line in self.ask(what)
+        return False
+
     def ask_quietly(self) -> bool:
         """Returns whether its control socket answers, and there is an agent."""
-        with contextlib.suppress(OSError):
-            return "live.agent=running" in self.ask("live")
-        return False
+        return self.has("live.agent=running")
 
     def ask(self, line: str) -> list[str]:
         """Returns what it answers at its control socket."""
@@ -105,6 +90,21 @@ class Live:
     def seconds_told(self) -> int:
         """Returns how many seconds its agent was given."""
         return self.number("seconds")
+
+    def spend(self, seconds: int) -> None:
+        """Waits until its agent was given so many more seconds."""
+        last = self.seconds_told() + seconds
+        if not eventually(lambda: self.seconds_told() >= last):
+            raise AssertionError(f"no {seconds} seconds pass: {self.errors()}")
+
+    def comes_to(self, line: str, what: str = "live") -> None:
+        """Waits until it answers a question, and the answer has that line."""
+        if not eventually(lambda: self.has(line, what)):
+            raise AssertionError(f"{what} has no {line}: {self.ask(what)}")
+
+    def used(self) -> float:
+        """Returns its processor time in seconds, whatever else the machine does."""
+        return int(Path(f"/proc/{self.process.pid}/schedstat").read_text().split()[0]) / 1e9
 
     def errors(self) -> str:
         """Returns what it has said on standard error, but that this host has no address."""
@@ -170,3 +170,13 @@ class OnLinks(unittest.TestCase):
         peer = Peer(self.wires, end)
         self.addCleanup(peer.close)
         return peer
+
+    def receiving(self, *words: str) -> tuple[Live, Peer]:
+        """Starts an lldpa-live of eth0 that only receives, and opens a sender at the other end."""
+        return self.live(*words, "eth0", "--", "--receive-only"), self.peer()
+
+    def refuses(self, text: str, *words: str, status: int = 1, **options: Any) -> None:
+        """Checks that an lldpa-live of these words does not start, and why."""
+        live = self.live(*words, **options)
+        self.assertEqual(live.ends(), status, words)
+        self.assertIn(text, live.errors())

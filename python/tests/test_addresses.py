@@ -2,6 +2,7 @@
 
 from __future__ import annotations
 
+import os
 import shutil
 import signal
 import subprocess
@@ -13,7 +14,7 @@ from typing import Optional
 from lldpa.client import since_of
 from patience import by_the_clock, eventually
 from real_lldpd import Lldpd, beside_lldpd
-from replaced import Replaced, address_in
+from replaced import Replaced
 from replays import Moments, differing, sent
 from running_live import NO_ADDRESS, on_links
 from wires import Peer, inside, ip
@@ -51,9 +52,10 @@ class AtPeers(Replaced):
         """Starts a program at the peer's side, and returns the file that it writes to."""
         path = Path(self.wires.folder, words[0])
         with inside(self.wires.there), path.open("wb") as file:
-            program = subprocess.Popen(words, stdin=subprocess.DEVNULL, stdout=file, stderr=file)
+            program = subprocess.Popen(words, stdin=subprocess.DEVNULL, stdout=file, stderr=file,
+                                       start_new_session=True)
         self.addCleanup(program.wait)
-        self.addCleanup(program.terminate)
+        self.addCleanup(os.killpg, program.pid, signal.SIGKILL)  # tshark has a child
         return path
 
     def is_there(self, address: Optional[str]) -> bool:
@@ -81,6 +83,8 @@ class AtPeers(Replaced):
         self.stays(before, began, live)
         self.assertEqual(since_of(live.ask("live")), since)
         self.assertNotIn("lldp-deleted.", self.watched.read_text())
+        said = [live.errors().count(text) for text in ("the management address is", "came", "gone")]
+        self.assertEqual(said, [3, 4, 0])
         live.signal(signal.SIGTERM)
         self.assertEqual(live.ends(), 0)
         self.assertTrue(eventually(lambda: "lldp-deleted.peer1" in self.watched.read_text()))
@@ -92,27 +96,27 @@ class AtPeers(Replaced):
     def test_an_address_of_a_port_is_at_the_peers(self) -> None:
         self.is_followed_at("eth0")
 
-    @by_the_clock
-    def test_an_address_of_a_bridge_above_a_port_is_at_the_peers(self) -> None:
-        self.is_followed_above("bridge")
-
-    @by_the_clock
-    @unittest.skipUnless(makes("bond"), "it needs a kernel with bonds")
-    def test_an_address_of_a_bond_above_a_port_is_at_the_peers(self) -> None:
-        self.is_followed_above("bond")
-
-    @by_the_clock
-    @unittest.skipUnless(makes("team"), "it needs a kernel with teams")
-    def test_an_address_of_a_team_above_a_port_is_at_the_peers(self) -> None:
-        self.is_followed_above("team")
-
     def is_followed_above(self, kind: str) -> None:
         """Puts an interface of that kind above the first port, and follows its addresses."""
+        if not makes(kind):
+            self.skipTest(f"it needs a kernel with {kind}s")
         ip("-n", self.wires.here, "link", "add", "above0", "type", kind)
         for words in ("eth0 down", "eth0 master above0", "eth0 up", "above0 up"):
             ip("-n", self.wires.here, "link", "set", *words.split())
         eventually(self.wires.all_up)
         self.is_followed_at("above0")
+
+    @by_the_clock
+    def test_an_address_of_a_bridge_above_a_port_is_at_the_peers(self) -> None:
+        self.is_followed_above("bridge")
+
+    @by_the_clock
+    def test_an_address_of_a_bond_above_a_port_is_at_the_peers(self) -> None:
+        self.is_followed_above("bond")
+
+    @by_the_clock
+    def test_an_address_of_a_team_above_a_port_is_at_the_peers(self) -> None:
+        self.is_followed_above("team")
 
 
 def frames_of(peer: Peer) -> list[bytes]:
@@ -133,42 +137,13 @@ class Addresses(Replaced):
         command = ["ip", "-n", self.wires.here, "link", "add", "name", name, *words]
         return subprocess.run(command, check=False, capture_output=True).returncode == 0
 
-    def test_an_address_that_comes_changes_and_goes_is_at_the_peer(self) -> None:
-        live = self.begun()
-        self.assertIsNone(address_in(self.peers[0].hears() or b""))
-        before, began = self.neighbors(live), time.monotonic()
-        since = since_of(live.ask("live"))
-        moments = Moments(live)
-        moments.take()
-        self.add("192.0.2.7")
-        self.assertTrue(self.hears_address("192.0.2.7"))
-        self.assertTrue(self.hears_address("192.0.2.7", 1))
-        moments.take()
-        self.add("198.51.100.7")
-        self.add("192.0.2.7", word="del")
-        self.assertTrue(self.hears_address("198.51.100.7"))
-        moments.take()
-        self.add("198.51.100.7", word="del")
-        self.assertTrue(self.hears_address(None))
-        self.stays(before, began, live)
-        self.assertEqual(since_of(live.ask("live")), since)
-        moments.take()
-        self.assertEqual(live.errors().count("the management address is"), 3)
-        self.assertNotIn("gone", live.errors())
-        self.assertEqual(live.errors().count("came"), 4)
-        live.signal(signal.SIGTERM)
-        self.assertEqual(live.ends(), 0)
-        self.assertEqual(differing(self.log, moments), [])
-
-    def test_an_address_of_the_bridge_above_a_port_is_followed(self) -> None:
+    def test_an_address_of_a_bridge_is_left_when_the_port_leaves_the_bridge(self) -> None:
         here = self.wires.here
-        ip("-n", here, "link", "add", "br0", "type", "bridge")
-        ip("-n", here, "link", "set", "br0", "up")
+        ip("-n", here, "link", "add", "br0", "up", "type", "bridge")
         ip("-n", here, "link", "set", "eth0", "master", "br0")
         self.add("192.0.2.8", "lo")
-        self.begun()
-        self.assertTrue(self.hears_address("192.0.2.8"))
         self.add("192.0.2.9", "br0")
+        self.begun()
         self.assertTrue(self.hears_address("192.0.2.9"))
         ip("-n", here, "link", "set", "eth0", "nomaster")
         self.assertTrue(self.hears_address("192.0.2.8"))
@@ -197,8 +172,7 @@ class Addresses(Replaced):
         live = self.begun()
         self.add("192.0.2.7")
         self.add("192.0.2.7", word="del")
-        told = live.seconds_told()
-        self.assertTrue(eventually(lambda: live.seconds_told() >= told + 4))
+        live.spend(4)
         self.assertNotIn("the management address is", live.errors())
         self.assertEqual(len(list(self.log.iterdir())), 1)  # another agent begins another file
 
@@ -207,8 +181,7 @@ class Addresses(Replaced):
             live = self.live(*words)
             before = live.ask("show chassis")
             self.add("192.0.2.7")
-            told = live.seconds_told()
-            self.assertTrue(eventually(lambda: live.seconds_told() >= told + 4))
+            live.spend(4)
             self.assertEqual(live.ask("show chassis"), before)
             self.assertEqual(live.errors(), "")
             live.close()

@@ -142,28 +142,24 @@ class Clients(Answered):
         answer = rest_of(lazy)
         self.assertLess(answer.count(b"\n"), 2 * int(answer[1:answer.index(b"\n")]))
 
-    def test_a_client_that_reads_slowly_gets_all(self) -> None:
+    def test_slow_clients_get_all_and_answers_that_wait_take_bounded_memory(self) -> None:
         self.fill()
-        with Client(self.served.control) as client:
-            wanted = len(client.ask("show neighbors"))
-        slow = self.raw()
-        slow.sendall(b"show neighbors\n")
+        wanted = len(self.served.ask("show neighbors"))
+        lazy = [self.raw() for _ in range(MOST_CLIENTS)]
+        for one in lazy:
+            one.sendall(b"show neighbors\n")
+        self.assertEqual(len(self.served.ask("show chassis")), 4)
+        self.assertLess(self.served.resident("VmHWM"), 100_000)
+        slow, octets = lazy.pop(), b""
+        for one in lazy:
+            one.close()
         slow.shutdown(socket.SHUT_WR)
-        octets = b""
         for _ in range(8):
             time.sleep(0.5)
             octets += slow.recv(20_000)
         octets += rest_of(slow)
         self.assertEqual((octets.count(b"\n"), octets[:octets.index(b"\n")]),
                          (wanted + 1, b"=%d" % wanted))
-
-    def test_answers_that_nobody_reads_take_bounded_memory(self) -> None:
-        self.fill()
-        lazy = [self.raw() for _ in range(MOST_CLIENTS)]
-        for one in lazy:
-            one.sendall(b"show neighbors\n")
-        self.assertEqual(len(self.served.ask("show chassis")), 4)
-        self.assertLess(self.served.resident("VmHWM"), 100_000)
 
     def test_answers_are_whole_under_load(self) -> None:
         faults: list[Exception] = []

@@ -47,9 +47,7 @@ class AtAPath(OnLinks):
 
     def fails(self, text: str, path: str = "") -> None:
         """Checks that an lldpa-live cannot have the path, and says why."""
-        live = self.live("--control", path or self.path, "eth0")
-        self.assertEqual(live.ends(), 1)
-        self.assertIn(text, live.errors())
+        self.refuses(text, "--control", path or self.path, "eth0")
 
 
 @on_links
@@ -70,17 +68,16 @@ class Paths(AtAPath):
             Client(self.path)
         self.assertEqual(len(self.at_path().ask("show chassis")), 4)
 
-    def test_the_socket_of_another_program_is_left_alone(self) -> None:
+    def test_a_file_and_the_socket_of_another_program_are_left_alone(self) -> None:
+        Path(self.path).write_text("kept")
+        self.fails(f"{self.path}: this is not a socket")
+        self.assertEqual(Path(self.path).read_text(), "kept")
+        os.unlink(self.path)
         with socket.socket(socket.AF_UNIX, socket.SOCK_STREAM) as other:
             other.bind(self.path)
             other.listen(1)
             self.fails(IN_USE)
             self.assertTrue(os.path.exists(self.path))
-
-    def test_a_file_is_left_alone(self) -> None:
-        Path(self.path).write_text("kept")
-        self.fails(f"{self.path}: this is not a socket")
-        self.assertEqual(Path(self.path).read_text(), "kept")
 
     def test_the_end_removes_the_socket(self) -> None:
         self.folder.chmod(0o777)
@@ -98,23 +95,20 @@ class Paths(AtAPath):
         self.assertEqual(os.stat(os.path.dirname(self.path)).st_mode & 0o777, 0o755)
         self.fails("No such file or directory", str(self.folder / "a" / "b" / "control"))
 
-    def test_a_socket_that_was_removed_is_made_again(self) -> None:
+    def test_what_was_removed_is_made_again(self) -> None:
         self.folder.chmod(0o777)
+        self.path = str(self.folder / "lldpa" / "control")
         live = self.at_path("--control-group", "daemon")
         self.assertEqual(os.stat(self.path).st_mode & 0o777, 0o660)
-        for removed in ([self.path], [self.path, self.path + ".lock"]):
+        (self.folder / "lldpa").chmod(0o777)
+        for removed in ([self.path], [self.path, self.path + ".lock"], [self.folder / "lldpa"]):
+            live.signal(signal.SIGSTOP)
             for path in removed:
-                os.unlink(path)
+                shutil.rmtree(path) if os.path.isdir(path) else os.unlink(path)
+            live.signal(signal.SIGCONT)
             self.assertTrue(eventually(live.ask_quietly), removed)
             self.assertEqual(os.stat(self.path).st_mode & 0o777, 0o600)
         self.fails(IN_USE)
-
-    def test_a_folder_that_was_removed_is_made_again(self) -> None:
-        self.folder.chmod(0o777)
-        self.path = str(self.folder / "lldpa" / "control")
-        live = self.at_path()
-        shutil.rmtree(self.folder / "lldpa")
-        self.assertTrue(eventually(live.ask_quietly))
 
 
 @on_links

@@ -11,6 +11,7 @@ from pathlib import Path
 from running_live import Live, OnLinks, on_links
 from patience import eventually
 from real_lldpd import Lldpd, beside_lldpd
+from served import numbered
 from wires import ip, tlvs_of
 
 
@@ -34,10 +35,10 @@ class TestLate(OnLinks):
     def test_interface_that_comes_names_the_host(self) -> None:
         self.others()
         live = self.live("eth0", "eth1", awaits=False)
-        self.assertTrue(live.says("no such interface yet; waiting for it"))
-        self.assertTrue(eventually(lambda: "live.agent=waiting" in asked(live, "live")))
-        self.assertEqual(asked(live, "show neighbors"),
-                         ["error: waiting for an interface: eth0 eth1"])
+        self.assertTrue(live.says("eth0 eth1: no such interface yet; waiting for it"))
+        live.comes_to("live.agent=waiting")
+        self.assertEqual(live.ask_refused("show neighbors"),
+                         "waiting for an interface: eth0 eth1")
         time.sleep(0.5)
         self.assertEqual(live.errors().count("\n"), 1, live.errors())
         self.wires.add_link(0)
@@ -45,11 +46,15 @@ class TestLate(OnLinks):
         self.assertIn(f"local-chassis.mac={self.wires.address('eth0').hex(':')}",
                       live.ask("show chassis"))
         self.assertTrue(live.says("eth0: the interface is there, and in use"))
+        self.peer().send(numbered(1))
+        self.assertTrue(eventually(live.neighbors))
 
-    def test_it_ends_while_it_waits(self) -> None:
-        live = self.live("eth0", awaits=False)
-        self.assertTrue(live.says("waiting for it"))
-        self.assertTrue(eventually(lambda: "live.agent=waiting" in asked(live, "live")))
+    def test_it_sleeps_and_ends_while_it_waits(self) -> None:
+        live = self.live("--state", str(Path(self.wires.folder, "state")), "eth0", awaits=False)
+        live.comes_to("live.agent=waiting")
+        before = live.used()
+        time.sleep(2)
+        self.assertLess(live.used() - before, 0.1)
         self.assertEqual(live.ended(), 0, live.errors())
 
     @beside_lldpd
@@ -79,17 +84,6 @@ class TestLate(OnLinks):
         self.assertTrue(eventually(lambda: chassis() == wanted), chassis())
 
 
-def asked(live: Live, line: str) -> list[str]:
-    """Returns what lldpa-live answers, the text of a refusal too, or nothing while it does not
-    answer."""
-    try:
-        return live.ask(line)
-    except OSError:
-        return []
-    except Exception as refused:  # pylint: disable=broad-except
-        return [f"error: {refused}"]
-
-
 @on_links
 class TestAnnounced(OnLinks):
     """What the agent says of this host, and with which source address."""
@@ -100,6 +94,7 @@ class TestAnnounced(OnLinks):
         ip("-n", self.wires.here, "addr", "add", "192.0.2.7/24", "dev", "eth0")
         shown = self.live("eth0").ask("show chassis")
         self.assertIn("local-chassis.mgmt=192.0.2.7,1,0,", shown)
+        self.assertIn(f"local-chassis.name={os.uname().nodename}", shown)
         shown = self.live("--no-description", "--no-management", "eth0").ask("show chassis")
         self.assertIn("local-chassis.descr=", shown)
         self.assertFalse(any("mgmt" in line for line in shown))
@@ -142,20 +137,20 @@ class TestAnnounced(OnLinks):
                                    and dict(tlvs_of(octets))[1] == b"\4" + chassis))
 
     def test_name_of_the_host_is_followed(self) -> None:
-        rename = ["unshare", "--uts"]
-        live = self.live("eth0", before=rename)
-        given = self.live("eth0", "--", "--hostname", "given", before=rename)
-        for one_ in (live, given):
-            subprocess.run(["nsenter", f"--uts=/proc/{one_.process.pid}/ns/uts", "hostname",
-                            "renamed-1"], check=True)
+        def rename(live: Live, name: str) -> None:
+            words = ["nsenter", f"--uts=/proc/{live.process.pid}/ns/uts", "hostname", name]
+            subprocess.run(words, check=True)
+
+        live = self.live("eth0", before=["unshare", "--uts"])
+        given = self.live("eth0", "--", "--hostname", "given", before=["unshare", "--uts"])
+        rename(live, "renamed-1")
+        rename(given, "renamed-1")
         self.assertTrue(eventually(lambda: "local-chassis.name=renamed-1"
                                    in live.ask("show chassis"), 5))
         self.assertIn("local-chassis.name=given", given.ask("show chassis"))
         live.ask("configure system hostname chosen")
-        subprocess.run(["nsenter", f"--uts=/proc/{live.process.pid}/ns/uts", "hostname",
-                        "renamed-2"], check=True)
-        told = live.seconds_told()
-        self.assertTrue(eventually(lambda: live.seconds_told() > told + 1))
+        rename(live, "renamed-2")
+        live.spend(2)
         self.assertIn("local-chassis.name=chosen", live.ask("show chassis"))
 
     def test_unsent_frames_are_counted_and_told_once(self) -> None:

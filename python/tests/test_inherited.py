@@ -60,8 +60,7 @@ class OfRoot(OnLinks):
         for change in (lambda: os.chown(theirs, 12345, -1), lambda: theirs.chmod(0o777)):
             os.chown(theirs, 0, -1)
             change()
-            live = self.live("--log", str(theirs / "log"), "eth0")
-            self.assertEqual(live.ends(), 1)
+            self.refuses(str(theirs / "log"), "--log", str(theirs / "log"), "eth0")
             self.assertEqual(target.stat().st_uid, 0)
         self.live("--log", str(self.folder / "log"), "eth0")
         self.assertEqual(target.stat().st_uid, 65534)
@@ -75,9 +74,8 @@ class OfRoot(OnLinks):
             folder = self.folder / name
             folder.mkdir()
             (folder / name).symlink_to(target)
-            live = self.live("--control", str(folder / "control"), "--control-group", "daemon",
-                             "eth0")
-            self.assertEqual(live.ends(), 1)
+            self.refuses(str(folder / "control"), "--control", str(folder / "control"),
+                         "--control-group", "daemon", "eth0")
             self.assertEqual((stat.S_IMODE(target.stat().st_mode), target.stat().st_gid),
                              (0o600, 0))
 

@@ -5,6 +5,7 @@ from __future__ import annotations
 import os
 import subprocess
 import unittest
+from pathlib import Path
 
 from running_live import LIVE, OnLinks, is_built, on_links
 from patience import SECONDS
@@ -42,6 +43,8 @@ class TestWords(unittest.TestCase):
                 (["eth0", "--", "--mac", "02:00"], "--mac"),
                 (["eth0", "--", "--role", "king"], "--role"),
                 (["eth0", "--", "--max-neighbors", "129"], "--max-neighbors"),
+                (["eth0", "--", "--max-neighbors", "0"], "--max-neighbors"),
+                (["eth0", "--", "--tx-intervall", "7"], "--tx-intervall"),
                 (["eth0", "--", "--management"], "--management")):
             with self.subTest(words):
                 ended = run(*words)
@@ -64,21 +67,28 @@ class TestWords(unittest.TestCase):
 class TestStart(OnLinks):
     """What it needs to begin."""
 
-    def test_only_existing(self) -> None:
-        live = self.live("--only-existing", "eth0", "eth5")
-        self.assertEqual(live.ends(), 1)
-        self.assertIn("eth5: there is no such interface", live.errors())
+    def test_what_keeps_it_from_starting(self) -> None:
+        folder = Path(self.wires.folder, "of-somebody-else")
+        folder.mkdir(mode=0o755)
+        file = folder / "file"
+        file.touch()
+        cannot = "the log's user may not create files there"
+        for status, text, *words in (
+                (1, "eth5: there is no such interface", "--only-existing", "eth0", "eth5"),
+                (1, "lo: not an Ethernet interface", "lo"),
+                (1, "no Ethernet interface has such a name", "--only-existing", "lan*", "!lan3"),
+                (1, "no Ethernet interface has such a name", "!eth*"),
+                (1, "no Ethernet interface has such a name", "--once", "1", "lan*"),
+                (1, str(file), "--log", str(file), "eth0"),
+                (1, f"{folder}: {cannot}", "--log", str(folder), "eth0"),
+                # so that systemd does not start it again
+                (2, "error: user no-such-one does not exist", "--user", "no-such-one", "eth0")):
+            self.refuses(text, *words, status=status)
 
-    def test_interface_that_is_no_ethernet(self) -> None:
-        live = self.live("lo")
-        self.assertEqual(live.ends(), 1)
-        self.assertIn("lo: not an Ethernet interface", live.errors())
-
-    def test_user_and_group_that_are_not_there(self) -> None:
-        for kind, option in (("user", "--user"), ("group", "--control-group")):
-            live = self.live(option, "no-such-one", "eth0")
-            self.assertEqual(live.ends(), 2)  # so that systemd does not start it again
-            self.assertIn(f"error: {kind} no-such-one does not exist", live.errors())
+    def test_without_any_right_it_says_what_it_needs(self) -> None:
+        Path(self.wires.folder).chmod(0o777)
+        self.refuses("CAP_NET_RAW", "eth0",
+                     before=["setpriv", "--reuid=1", "--regid=1", "--clear-groups"])
 
     def test_options_of_the_agent(self) -> None:
         live = self.live("eth0", "--", "--mac=02:00:5e:00:53:01", "--hostname", "a b",
@@ -90,8 +100,3 @@ class TestStart(OnLinks):
                      "configuration.max-neighbors=2", "configuration.reinit-delay=9",
                      "local-chassis.mgmt=192.0.2.9,1,0,"):
             self.assertIn(line, shown)
-
-    def test_address_and_name_are_those_of_the_host(self) -> None:
-        shown = self.live("eth0").ask("show chassis")
-        self.assertIn(f"local-chassis.mac={self.wires.address('eth0').hex(':')}", shown)
-        self.assertIn(f"local-chassis.name={os.uname().nodename}", shown)

@@ -1,4 +1,4 @@
-"""How lldpa-live ends, even if something hinders it, and what rights it has before."""
+"""How lldpa-live ends, even if something hinders it."""
 
 from __future__ import annotations
 
@@ -10,7 +10,6 @@ import struct
 import subprocess
 import sys
 import time
-from pathlib import Path
 from typing import Optional
 
 from running_live import OnLinks, on_links
@@ -48,8 +47,7 @@ class TestEnds(OnLinks):
             if live.process.stdin is not None:
                 live.process.stdin.write(b"configure lldp tx-hold 9\n")
                 live.process.stdin.close()
-            told = live.seconds_told()
-            self.assertTrue(eventually(lambda: live.seconds_told() > told))
+            live.spend(1)
             self.assertIn("configuration.tx-hold=4", live.ask("show configuration"))
 
     @by_the_clock
@@ -76,12 +74,6 @@ class TestEnds(OnLinks):
             live.signal(number)
             self.assertIn(live.ends(), (0, -number))
             self.assertEqual(live.errors(), "")
-
-    def test_words_of_the_agent_that_are_wrong_are_told(self) -> None:
-        for words in (["--max-neighbors", "0"], ["--tx-intervall", "7"]):
-            live = self.live("eth0", "--", *words)
-            self.assertEqual(live.ends(), 2)
-            self.assertIn(words[0], live.errors())
 
 
 def stamped(peer: Peer) -> Optional[float]:
@@ -133,29 +125,3 @@ def write_some(number: int) -> bool:
         return os.write(number, b"x" * 4096) > 0
     except BlockingIOError:
         return False
-
-
-@on_links
-class TestRights(OnLinks):
-    """Nothing is left of root."""
-
-    def test_another_user_can_be_named(self) -> None:
-        live = self.live("--user", "daemon", "eth0")
-        self.assertIn("Uid:\t1\t1\t1\t1", Path(f"/proc/{live.process.pid}/status").read_text())
-
-    def test_without_root_the_one_capability_is_dropped(self) -> None:
-        Path(self.wires.folder).chmod(0o777)
-        as_daemon = ["setpriv", "--reuid=1", "--regid=1", "--clear-groups", "--inh-caps=+net_raw",
-                     "--ambient-caps=+net_raw"]
-        live = self.live("eth0", before=as_daemon)
-        status = Path(f"/proc/{live.process.pid}/status").read_text()
-        for kind in ("CapInh", "CapPrm", "CapEff", "CapAmb"):
-            self.assertIn(f"{kind}:\t0000000000000000", status)
-        self.peer().send(numbered(1))
-        self.assertTrue(eventually(live.neighbors))
-
-    def test_without_any_right_it_says_what_it_needs(self) -> None:
-        Path(self.wires.folder).chmod(0o777)
-        live = self.live("eth0", before=["setpriv", "--reuid=1", "--regid=1", "--clear-groups"])
-        self.assertEqual(live.ends(), 1)
-        self.assertIn("CAP_NET_RAW", live.errors())

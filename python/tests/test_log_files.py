@@ -77,14 +77,13 @@ class TestFiles(OnLinks):
             for octets in LONG[:100] if number % 2 else LONG[100:]:
                 many.send(octets)
             peer.send(numbered(5 - number % 3, 30 + number))
-            told = live.seconds_told()
-            self.assertTrue(eventually(lambda: live.seconds_told() > told))
+            live.spend(1)
             moments.take()
             self.assertLessEqual(self.size(), 9_000_000)
         peer.send(numbered(0, ttl=0))
         moments.take()
         self.wires.set_link("eth1", "down")
-        self.assertTrue(eventually(lambda: "live.eth1.link=down" in live.ask("live")))
+        live.comes_to("live.eth1.link=down")
         self.assertEqual(live.ended(), 0)
         self.assertGreater(len(list(self.folder.iterdir())), 2)
         self.assertTrue(any(line == "lldp.eth0.too-many=yes" for line in
@@ -107,32 +106,23 @@ class TestFiles(OnLinks):
         self.assertLessEqual(self.size(), 2_000_001)
 
     @by_the_clock
-    def test_folder_that_is_removed_is_told_and_found_again(self) -> None:
+    def test_file_or_folder_that_is_changed_or_removed_is_told_and_another_file_follows(
+            self) -> None:
         live = self.live("--log", str(self.folder), "eth0")
         self.assertTrue(eventually(lambda: list(self.folder.iterdir())))
+        os.truncate(next(self.folder.iterdir()), 0)
+        self.assertTrue(live.says("its file was changed by another program"))
+        live.comes_to("live.log=on")
+        self.assertEqual(sorted(path.stat().st_size > 0 for path in self.folder.iterdir()),
+                         [False, True])
         shutil.rmtree(self.folder)
         self.assertTrue(live.says("its file was removed"))
         self.assertIn("live.log=stalled", live.ask("live"))
-        self.assertTrue(eventually(lambda: "live.log-lines-lost=0" not in live.ask("live")))
+        self.assertTrue(eventually(lambda: live.number("log-lines-lost")))
         os.chmod(self.wires.folder, 0o777)
-        self.assertTrue(eventually(lambda: "live.log=on" in live.ask("live")))
+        live.comes_to("live.log=on")
         self.assertEqual(len(list(self.folder.iterdir())), 1)
         self.assertTrue(live.says("the log continues in"))
-
-    def test_folder_without_permission_is_told_at_the_start(self) -> None:
-        self.folder.mkdir(mode=0o755)
-        (self.folder / "of-somebody-else").touch()
-        live = self.live("--log", str(self.folder), "eth0")
-        self.assertEqual(live.ends(), 1)
-        self.assertIn(f"{self.folder}: the log's user may not create files there", live.errors())
-
-    @by_the_clock
-    def test_folder_that_has_logs_alone_is_taken(self) -> None:
-        self.folder.mkdir(mode=0o755)
-        for _ in range(2):
-            live = self.live("--log", str(self.folder), "eth0")
-            self.assertEqual(live.ended(), 0)
-        self.assertEqual(len(list(self.folder.iterdir())), 2)
 
     @by_the_clock
     def test_log_that_stands_still_holds_nothing_up(self) -> None:
@@ -209,8 +199,7 @@ class TestFrozenDisk(OnLinks):
         self.assertTrue(live.says("the log continues in"))
         self.assertTrue(eventually(lambda: len(list(self.folder.glob("*.trace"))) == 2))
         self.freeze()
-        told = live.seconds_told()
-        self.assertTrue(eventually(lambda: live.seconds_told() > told + 1))
+        live.spend(2)
         live.signal(signal.SIGTERM)
         self.assertIsNotNone(peer.hears(2, ttl=0))
         self.assertTrue(eventually(lambda: not is_served(live.control), 2))

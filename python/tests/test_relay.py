@@ -19,7 +19,7 @@ class TestTime(OnLinks):
 
     @by_the_clock
     def test_stopped_lldpa_live_ages_out_nobody_who_was_heard(self) -> None:
-        live, peer = self.live("eth0", "--", "--receive-only"), self.peer()
+        live, peer = self.receiving()
         peer.send(numbered(1, ttl=10))
         self.assertTrue(eventually(live.neighbors))
         live.signal(signal.SIGSTOP)
@@ -34,7 +34,7 @@ class TestTime(OnLinks):
         self.assertGreater(seconds_left(shown), 10 - (now() - sent) - 1)
 
     def test_stopped_lldpa_live_ages_out_who_was_not_heard(self) -> None:
-        live, peer = self.live("eth0", "--", "--receive-only"), self.peer()
+        live, peer = self.receiving()
         peer.send(numbered(1, ttl=2))
         self.assertTrue(eventually(lambda: "lldp.eth0.received=1" in live.ask("show statistics")))
         live.signal(signal.SIGSTOP)
@@ -75,7 +75,7 @@ class TestQuestions(OnLinks):
             live.signal(signal.SIGSTOP)
             for number in range(120):
                 for peer in peers:
-                    peer.send(numbered(number, 1000 + round_))
+                    peer.send(numbered(number, 1000 + round_).ljust(1514, b"\0"))
             live.signal(signal.SIGCONT)
             shown = live.ask("show neighbors")
             for port in ("eth0", "eth1"):
@@ -93,34 +93,28 @@ class TestLinks(OnLinks):
         peer.send(numbered(1))
         self.assertTrue(eventually(live.neighbors))
         self.wires.set_link("peer0", "down")
-        self.assertTrue(eventually(lambda: "live.eth0.link=down" in live.ask("live")))
+        live.comes_to("live.eth0.link=down")
         self.assertEqual(live.neighbors(), 1)
         self.wires.set_link("peer0", "up")
-        self.assertTrue(eventually(lambda: "live.eth0.link=up" in live.ask("live")))
+        live.comes_to("live.eth0.link=up")
         self.assertIsNotNone(peer.hears())
 
-    def test_forget_on_down_empties_the_table_and_sends_nothing(self) -> None:
+    def test_forget_on_down_empties_the_table_and_keeps_the_status(self) -> None:
         live, peer = self.live("--forget-on-down", "eth0"), self.peer()
-        peer.send(numbered(1))
-        self.assertTrue(eventually(live.neighbors))
-        self.wires.set_link("eth0", "down")
-        self.assertTrue(eventually(lambda: not live.neighbors()))
-        self.assertIn("configuration.eth0.status=rx-and-tx", live.ask("show configuration"))
-        self.assertIn("lldp.eth0.shutdowns=0", live.ask("show statistics"))
-        self.wires.set_link("eth0", "up")
-        self.assertTrue(eventually(lambda: "live.eth0.link=up" in live.ask("live")))
-        peer.send(numbered(2))
-        self.assertTrue(eventually(live.neighbors))
-
-    def test_forget_on_down_keeps_a_status_that_was_set(self) -> None:
-        live = self.live("--forget-on-down", "eth0")
-        for status in ("rx-only", "disabled"):
+        for status, neighbors, shutdowns in (("rx-and-tx", 1, 0), ("rx-only", 1, 1),
+                                             ("disabled", 0, 1)):
             live.ask(f"configure ports eth0 lldp status {status}")
-            self.wires.set_link("peer0", "down")
-            self.assertTrue(eventually(lambda: "live.eth0.link=down" in live.ask("live")))
+            peer.send(numbered(1))
+            # pylint: disable-next=cell-var-from-loop
+            self.assertTrue(eventually(lambda: live.neighbors() == neighbors), status)
+            self.wires.set_link("eth0", "down")
+            live.comes_to("live.eth0.link=down")
+            self.assertEqual(live.neighbors(), 0)
             self.assertIn(f"configuration.eth0.status={status}", live.ask("show configuration"))
-            self.wires.set_link("peer0", "up")
-            self.assertTrue(eventually(lambda: "live.eth0.link=up" in live.ask("live")))
+            self.assertIn(f"lldp.eth0.shutdowns={shutdowns}", live.ask("show statistics"))
+            self.wires.set_link("eth0", "up")
+            live.comes_to("live.eth0.link=up")
+            self.assertTrue(eventually(self.wires.all_up))
 
     def test_interface_that_goes_and_comes_back(self) -> None:
         live = self.live("eth0", "--", "--receive-only")
@@ -130,20 +124,12 @@ class TestLinks(OnLinks):
         self.assertIn("live.eth0.link=down", live.ask("live"))
         self.wires.add_link(0)
         self.assertTrue(live.says("eth0: the interface is there, and in use"))
-        self.assertTrue(eventually(lambda: "live.eth0.link=up" in live.ask("live")))
+        live.comes_to("live.eth0.link=up")
         self.peer().send(numbered(1))
         self.assertTrue(eventually(live.neighbors))
 
-    def test_interface_that_comes_later(self) -> None:
-        live = self.live("eth1", "--", "--receive-only", awaits=False)
-        self.assertTrue(live.says("eth1: no such interface yet; waiting for it"))
-        self.wires.add_link(1)
-        self.assertTrue(eventually(lambda: "live.eth1.link=up" in live.ask("live")))
-        self.peer("peer1").send(numbered(1))
-        self.assertTrue(eventually(lambda: live.neighbors("eth1")))
-
     def test_interface_that_is_renamed_and_named_back(self) -> None:
-        live, peer = self.live("eth0", "--", "--receive-only"), self.peer()
+        live, peer = self.receiving()
         self.wires.set_link("eth0", "down")
         self.wires.set_link("eth0", "name", "ethX")
         self.wires.set_link("ethX", "up")
@@ -157,29 +143,23 @@ class TestLinks(OnLinks):
         self.wires.set_link("ethX", "down")
         self.wires.set_link("ethX", "name", "eth0")
         self.wires.set_link("eth0", "up")
-        self.assertTrue(eventually(lambda: "live.eth0.link=up" in live.ask("live")))
+        live.comes_to("live.eth0.link=up")
         peer.send(numbered(2))
         self.assertTrue(eventually(live.neighbors))
 
-    def test_frame_of_a_link_that_went_meanwhile_counts(self) -> None:
-        live, peer = self.live("eth0", "--", "--receive-only"), self.peer()
-        live.signal(signal.SIGSTOP)
-        peer.send(numbered(1))
-        self.wires.set_link("eth0", "down")
-        time.sleep(0.2)
-        live.signal(signal.SIGCONT)
-        self.assertTrue(eventually(live.neighbors))
-
-    def test_frame_of_a_link_that_came_meanwhile_counts(self) -> None:
-        live, peer = self.live("eth0", "--", "--receive-only"), self.peer()
-        self.wires.set_link("eth0", "down")
-        self.assertTrue(eventually(lambda: "live.eth0.link=down" in live.ask("live")))
-        live.signal(signal.SIGSTOP)
-        self.wires.set_link("eth0", "up")
-        self.assertTrue(eventually(self.wires.all_up))
-        peer.send(numbered(1))
-        live.signal(signal.SIGCONT)
-        self.assertTrue(eventually(live.neighbors))
+    def test_frames_of_a_link_that_went_and_came_meanwhile_count(self) -> None:
+        live, peer = self.receiving()
+        for count, state in ((1, "down"), (2, "up")):
+            live.signal(signal.SIGSTOP)
+            if state == "down":
+                peer.send(numbered(count))
+            self.wires.set_link("eth0", state)
+            if state == "up":
+                self.assertTrue(eventually(self.wires.all_up))
+                peer.send(numbered(count))
+            live.signal(signal.SIGCONT)
+            self.assertTrue(eventually(lambda: live.neighbors() == count), state)
+            live.comes_to(f"live.eth0.link={state}")
 
 
 @on_links
@@ -203,7 +183,7 @@ class TestSending(OnLinks):
             self.wires.remove_link("eth0")
             self.wires.add_link(0)
             live.signal(signal.SIGCONT)
-            self.assertTrue(eventually(lambda: "live.eth0.link=up" in live.ask("live")))
+            live.comes_to("live.eth0.link=up")
         self.peer().send(numbered(1))
         self.assertTrue(eventually(lambda: live.neighbors() == 1))
         self.assertNotIn("cannot be used", live.errors())

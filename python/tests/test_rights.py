@@ -72,21 +72,25 @@ class TestFilter(OnLinks):
     links = 2
 
     def test_kernel_refuses_on_the_sockets_of_a_running_lldpa_live(self) -> None:
-        live = self.live("eth0", "eth1")
+        live = self.live("eth0", "eth7", "--", "--receive-only")  # there is no eth7 yet
         found = sockets_of(live)
         self.assertEqual(len(found), 2)
         for one in found:
             self.assertEqual(what_is_refused(one), ["detach", "attach", "unlock"])
             one.close()
-        peer = self.peer()
-        peer.send(numbered(1))
+        self.peer().send(numbered(1))
         self.assertTrue(eventually(live.neighbors))
 
-    def test_bound_to_another_interface_it_reads_lldp_frames_alone(self) -> None:
-        live = self.live("eth0", "--", "--receive-only")
-        one = sockets_of(live)[0]
+    def socket(self) -> socket.socket:
+        """Returns the packet socket of an lldpa-live, the very same one."""
+        self.watched = self.live("eth0", "--", "--receive-only")
+        one = sockets_of(self.watched)[0]
         self.addCleanup(one.close)
-        live.signal(signal.SIGSTOP)  # it would read the frame from the same socket
+        return one
+
+    def test_bound_to_another_interface_it_reads_lldp_frames_alone(self) -> None:
+        one = self.socket()
+        self.watched.signal(signal.SIGSTOP)  # it would read the frame from the same socket
         with inside(self.wires.here):
             one.bind(("eth1", 3))
         sender = self.peer("peer1")
@@ -95,15 +99,8 @@ class TestFilter(OnLinks):
         one.settimeout(5)
         self.assertEqual(one.recv(2000), numbered(1))
 
-    def test_filter_stands_before_the_first_frame_could_come(self) -> None:
-        live = self.live("eth0", "eth7", "--", "--receive-only")
-        for one in sockets_of(live):
-            self.assertEqual(what_is_refused(one), ["detach", "attach", "unlock"])
-            one.close()
-
     def test_what_is_left_is_to_send_any_frame(self) -> None:
-        one = sockets_of(self.live("eth0", "--", "--receive-only"))[0]
-        self.addCleanup(one.close)
+        one = self.socket()
         with inside(self.wires.there):
             listener = socket.socket(socket.AF_PACKET, socket.SOCK_RAW, socket.htons(0x0800))
         self.addCleanup(listener.close)
@@ -116,8 +113,7 @@ class TestFilter(OnLinks):
         self.assertEqual(listener.recv(2000), no_lldp)
 
     def test_what_is_left_is_a_packet_ring_and_promiscuous_mode(self) -> None:
-        one = sockets_of(self.live("eth0", "--", "--receive-only"))[0]
-        self.addCleanup(one.close)
+        one = self.socket()
         with inside(self.wires.here):
             number = socket.if_nametoindex("eth1")
             show = ["ip", "-d", "link", "show", "dev", "eth1"]
@@ -137,21 +133,32 @@ class TestSets(OnLinks):
         pid = live.process.pid
         self.assertEqual(Path(f"/proc/{pid}/task/{pid}/children").read_text(), "")
         for thread in os.listdir(f"/proc/{pid}/task"):
-            status = status_of(int(thread))
-            for kind in ("CapBnd", "CapInh", "CapPrm", "CapEff", "CapAmb"):
-                self.assertEqual(int(status[kind], 16), 0, kind)
-            self.assertEqual(status["Groups"].strip(), "")
-            self.assertEqual(status["NoNewPrivs"].strip(), "1")
-            self.assertEqual(set(status["Uid"].split()), {"65534"})
-            self.assertNotIn("0", status["Gid"].split())
+            self.keeps_nothing(int(thread), "65534")
+
+    def test_another_user_can_be_named(self) -> None:
+        self.keeps_nothing(self.live("--user", "daemon", "eth0").process.pid, "1")
+
+    def keeps_nothing(self, thread: int, user: str) -> None:
+        """Checks that a thread has no right left, and is of a user and its group."""
+        status = status_of(thread)
+        for kind in ("CapBnd", "CapInh", "CapPrm", "CapEff", "CapAmb"):
+            self.assertEqual(int(status[kind], 16), 0, kind)
+        self.assertEqual(status["Groups"].strip(), "")
+        self.assertEqual(status["NoNewPrivs"].strip(), "1")
+        for kind in ("Uid", "Gid"):
+            self.assertEqual(set(status[kind].split()), {user}, kind)
 
     def test_groups_are_dropped_where_it_is_not_root(self) -> None:
         Path(self.wires.folder).chmod(0o777)
         live = self.live("eth0", before=[
             "setpriv", "--reuid=1", "--regid=1", "--groups=4,24", "--inh-caps=+net_raw,+setgid",
             "--ambient-caps=+net_raw,+setgid"])
-        self.assertEqual(status_of(live.process.pid)["Groups"].strip(), "")
-        self.assertEqual(int(status_of(live.process.pid)["CapEff"], 16), 0)
+        status = status_of(live.process.pid)
+        self.assertEqual(status["Groups"].strip(), "")
+        for kind in ("CapInh", "CapPrm", "CapEff", "CapAmb"):
+            self.assertEqual(int(status[kind], 16), 0, kind)
+        self.peer().send(numbered(1))
+        self.assertTrue(eventually(live.neighbors))
 
     def test_no_other_process_of_its_user_reaches_into_it(self) -> None:
         Path(self.wires.folder).chmod(0o777)

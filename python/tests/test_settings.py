@@ -15,28 +15,34 @@ from patience import eventually
 from served import PROGRAM, numbered
 
 
+# lines, what the agent says of them, and the word that is wrong with what is allowed there
+REFUSED = (
+    ("configure lldp tx-interval 0", "out of range", "0 (seconds between frames, 1 to 3600)"),
+    ("configure lldp tx-hold x", "not a number",
+     "x (intervals that peers keep a frame, 1 to 100)"),
+    ("configure lldp max-neighbors 99", "out of range", "99 (1 to the number of --max-neighbors)"),
+    ("configure ports eth9 lldp status disabled", "no such port", "eth9 (a port of this agent)"),
+    ("configure ports eth0 lldp status on", "unknown command",
+     "on (rx-and-tx, rx-only, tx-only, disabled)"),
+    ("configure lldp", "unknown command",
+     "nothing follows (tx-interval or tx-hold or max-neighbors)"),
+    ("configure lldp tx-hold 4 5", "extra word", "5 (nothing follows)"),
+    ("configure system description \t", "unknown command",
+     "nothing follows (up to 255 printable characters, in quotes if it has spaces)"),
+    ('configure system hostname "a', "bad quote", ""))
+
+
+def whole(text: str, place: str) -> str:
+    """Returns what is said of a refused line."""
+    return f"{text}: {place}" if place else text
+
+
 class TestExplained(unittest.TestCase):
-    """Which word is wrong, and what is allowed there."""
+    """What lldpa-ctl says of a refused line."""
 
     def test_words_and_ranges(self) -> None:
-        for line, text, wanted in (
-                ("configure lldp tx-interval 0", "out of range",
-                 "out of range: 0 (seconds between frames, 1 to 3600)"),
-                ("configure lldp tx-hold x", "not a number",
-                 "not a number: x (intervals that peers keep a frame, 1 to 100)"),
-                ("configure lldp max-neighbors 99", "out of range",
-                 "out of range: 99 (1 to the number of --max-neighbors)"),
-                ("configure ports eth9 lldp status disabled", "no such port",
-                 "no such port: eth9 (a port of this agent)"),
-                ("configure ports eth0 lldp status on", "unknown command",
-                 "unknown command: on (rx-and-tx, rx-only, tx-only, disabled)"),
-                ("configure lldp", "unknown command",
-                 "unknown command: nothing follows (tx-interval or tx-hold or max-neighbors)"),
-                ("configure lldp tx-hold 4 5", "extra word", "extra word: 5 (nothing follows)"),
-                ("configure system description \t", "bad text", "bad text: nothing follows "
-                 "(up to 255 printable characters, in quotes if it has spaces)"),
-                ('configure system hostname "a', "bad quote", "bad quote")):
-            self.assertEqual(explained(line, text, PROGRAM), wanted)
+        for line, text, place in REFUSED:
+            self.assertEqual(explained(line, text, PROGRAM), whole(text, place))
         self.assertEqual(explained("configure lldp tx-hold x", "not a number", "/no/lldpa"),
                          "not a number")
 
@@ -97,27 +103,34 @@ class TestSettings(OnLinks):
         self.assertEqual(live.number("settings-refused"), 2)
         self.assertTrue(heard.hears("STATUS=no neighbors on 2 ports; 2 settings refused"))
 
-    def test_one_wrong_line_is_told_as_one(self) -> None:
-        self.file.write_text("configure lldp tx-hold 0\n")
-        live = self.live(*self.words(), "eth0")
-        self.assertIn("lldpa-live: 1 setting was not applied\n", live.errors())
+    def test_a_refusal_says_which_word_is_wrong_and_what_is_allowed(self) -> None:
+        self.file.write_text("".join(f"{line}\n" for line, _, _ in REFUSED))
+        said = self.live(*self.words(), "eth0").errors().splitlines()
+        for number, (_, text, place) in enumerate(REFUSED, 1):
+            front, end = f"lldpa-live: {self.file}:{number}: ", f": {whole(text, place)}"
+            self.assertTrue(said[number - 1].startswith(front), said)
+            self.assertTrue(said[number - 1].endswith(end), said)
 
     def test_a_line_for_a_port_that_is_not_there_waits_for_it(self) -> None:
         self.file.write_text("configure ports eth2 lldp status rx-only\n")
         live = self.live(*self.words(), "eth0", "eth1", "e*2")
         self.assertEqual((live.errors(), live.number("settings-refused")), ("", 0))
         self.wires.add_link(2)
-        self.assertTrue(eventually(lambda: "live.eth2.link=up" in live.ask("live")))
+        live.comes_to("live.eth2.link=up")
         self.assertIn("configuration.eth2.status=rx-only", live.ask("show configuration"))
         self.assertIn("lldp.eth2.sent=0", live.ask("show statistics"))
 
-    def test_wrong_lines_are_told_also_while_it_waits_for_an_interface(self) -> None:
-        self.file.write_text("configure lldp tx-hold 0\n")
+    def test_while_it_waits_for_an_interface_no_wrong_line_and_no_reload_is_lost(self) -> None:
+        self.file.write_text("configure lldp tx-interval 7\n")
         live = self.live(*self.words(), "eth7", awaits=False)
         self.assertTrue(live.says("eth7: no such interface yet"))
+        self.file.write_text("configure lldp tx-interval 8\nconfigure lldp tx-hold 0\n")
+        live.signal(signal.SIGHUP)
         self.wires.add_link(7)
         self.assertTrue(eventually(live.ask_quietly))
-        self.assertTrue(live.says("out of range: 0 (intervals that peers keep a frame, 1 to 100)"))
+        self.assertIn("configuration.tx-interval=8", live.ask("show configuration"))
+        self.assertTrue(live.says("out of range: 0 (intervals that peers keep a frame, 1 to 100)\n"
+                                  "lldpa-live: 1 setting was not applied\n"))
 
     def test_reload_takes_changes_without_a_frame_lost(self) -> None:
         self.file.write_text("configure lldp tx-interval 7\n")
@@ -129,9 +142,7 @@ class TestSettings(OnLinks):
             for number in range(10):
                 peer.send(numbered(number, 500))
             live.signal(signal.SIGHUP)
-            told = f"local-chassis.descr=d{round_}"
-            # pylint: disable-next=cell-var-from-loop
-            self.assertTrue(eventually(lambda: told in live.ask("show chassis")))
+            live.comes_to(f"local-chassis.descr=d{round_}", "show chassis")
         self.assertIn("lldp.eth0.received=200", live.ask("show statistics"))
         self.assertIn("configuration.tx-interval=29", live.ask("show configuration"))
         self.assertIn(f"{self.file}:2: configure lldp tx-hold 101: out of range: 101 "
@@ -188,17 +199,6 @@ class TestSettings(OnLinks):
                 self.assertTrue(live.ask_quietly())
         self.file.write_text("configure lldp tx-hold 5\n")
         live.signal(signal.SIGHUP)
-        self.assertTrue(eventually(lambda: "configuration.tx-hold=5"
-                                   in live.ask("show configuration")))
+        live.comes_to("configuration.tx-hold=5", "show configuration")
         self.assertEqual(set(live.errors().splitlines()),
                          {"lldpa-live: the settings were read again"})
-
-    def test_a_reload_before_the_agent_is_open_is_not_lost(self) -> None:
-        self.file.write_text("configure lldp tx-interval 7\n")
-        live = self.live(*self.words(), "eth7", awaits=False)
-        self.assertTrue(live.says("eth7: no such interface yet"))
-        self.file.write_text("configure lldp tx-interval 8\n")
-        live.signal(signal.SIGHUP)
-        self.wires.add_link(7)
-        self.assertTrue(eventually(live.ask_quietly))
-        self.assertIn("configuration.tx-interval=8", live.ask("show configuration"))

@@ -3,7 +3,6 @@
 from __future__ import annotations
 
 import time
-import unittest
 from typing import Dict
 
 from lldpa import read_show
@@ -17,18 +16,6 @@ from served import frame, numbered
 def id_of(number: int) -> str:
     """Returns the MSAP identifier of one of many neighbors."""
     return f"mac=02:00:00:00:00:{number:02x} ifname=p{number}"
-
-
-class Lines(unittest.TestCase):
-    """What a client reads."""
-
-    def test_lines_of_lldpa_live(self) -> None:
-        lines = ["live.began=2026-11-23T19:40:00Z", "live.eth0.kernel-drops=0",
-                 "live.eth0.since.1=2026-11-23T19:45:02Z mac=02:00:00:00:00:01 ifname=p1",
-                 "live.eth0.since.2=2026-11-23T19:46:02Z local=a ifname=b\\x20c"]
-        self.assertEqual(since_of(lines), {
-            ("eth0", id_of(1)): "2026-11-23T19:45:02Z",
-            ("eth0", "local=a ifname=b\\x20c"): "2026-11-23T19:46:02Z"})
 
 
 @on_links

@@ -71,18 +71,21 @@ class Wires:
         for name, end in ((self.here, f"eth{i}"), (self.there, f"peer{i}")):
             ip("-n", name, "link", "set", end, "up")
 
+    def side(self, end: str) -> str:
+        """Returns the namespace of an end."""
+        return self.there if end.startswith(("peer", "far")) else self.here
+
     def set_link(self, end: str, *words: str) -> None:
         """Changes an end: `set_link("eth0", "down")`."""
-        ip("-n", self.here if end.startswith("eth") else self.there, "link", "set", end, *words)
+        ip("-n", self.side(end), "link", "set", end, *words)
 
     def remove_link(self, end: str) -> None:
         """Removes a link."""
-        ip("-n", self.here if end.startswith("eth") else self.there, "link", "del", end)
+        ip("-n", self.side(end), "link", "del", end)
 
     def address(self, end: str) -> bytes:
         """Returns the address of an end."""
-        name = self.here if end.startswith("eth") else self.there
-        shown = subprocess.run(["ip", "-n", name, "-br", "link", "show", end], text=True,
+        shown = subprocess.run(["ip", "-n", self.side(end), "-br", "link", "show", end], text=True,
                                capture_output=True, check=True).stdout
         return bytes.fromhex(shown.split()[2].replace(":", ""))
 
@@ -121,7 +124,7 @@ class Peer:
     """Sends and receives LLDP frames at an end of a link."""
 
     def __init__(self, wires: Wires, end: str) -> None:
-        with inside(wires.here if end.startswith("eth") else wires.there):
+        with inside(wires.side(end)):
             self.socket = socket.socket(socket.AF_PACKET, socket.SOCK_RAW, socket.htons(0x88CC))
             self.socket.bind((end, 0x88CC))
 

@@ -1,7 +1,7 @@
-//! The agent, and each one that replaces it if it must have other ports or another management address: the new one
-//! is opened beside the old one and brought to its state, and only then the old one is closed. The lines that do so
-//! have the settings in force, and each neighbor's last LLDPDU with the seconds between them. Each later file of the
-//! log begins with them, and the state of one lldpa-live has those of the tables for the next.
+//! The agent, and the one that replaces it if the ports or the management address change. The new agent is opened
+//! beside the old one and brought to its state; only then the old one is closed. The lines that do so contain the
+//! settings in force, and each neighbor's last LLDPDU with the seconds between them. Each later file of the log begins
+//! with these lines, and a saved state contains those of the tables.
 
 use crate::links::Mac;
 use crate::options::AgentOptions;
@@ -50,8 +50,8 @@ pub fn set_status(port: &str, status: Status) -> Line {
     Line::Command(format!("configure ports {port} lldp status {status}"))
 }
 
-/// The status with which a port does the same, but sends nothing.
-pub fn without_sending(status: Status) -> Status {
+/// Returns the status with which a port does the same, except that it sends nothing.
+fn without_sending(status: Status) -> Status {
     match status {
         Status::RxAndTx => Status::RxOnly,
         Status::TxOnly => Status::Disabled,
@@ -59,12 +59,19 @@ pub fn without_sending(status: Status) -> Status {
     }
 }
 
-/// The line that sets the name or the description of the system, which have no double quote.
+/// Puts lines between those that keep ports from sending, and those that let them send again.
+pub fn unsent(names: &[String], status: impl Fn(&String) -> Status, lines: Vec<Line>) -> Vec<Line> {
+    let quiet = names.iter().map(|name| set_status(name, without_sending(status(name))));
+    let sends = names.iter().filter(|name| without_sending(status(name)) != status(name));
+    quiet.chain(lines).chain(sends.map(|name| set_status(name, status(name)))).collect()
+}
+
+/// Returns the line that sets the name or the description of the system. Neither may contain a double quote.
 pub fn set_text(what: &str, text: &str) -> Line {
     Line::Command(format!("configure system {what} \"{text}\""))
 }
 
-/// The line of a neighbor's LLDPDU.
+/// Returns the line of a neighbor's LLDPDU.
 fn frame(port: &str, octets: &[u8]) -> Line {
     let mut frame = [&FRONT[..], octets].concat();
     if frame.len() + END.len() <= LONGEST_FRAME {
@@ -73,7 +80,7 @@ fn frame(port: &str, octets: &[u8]) -> Line {
     Line::Frame(port.into(), frame)
 }
 
-/// The line of an LLDPDU with the two identifiers and a time to live alone.
+/// Returns the line of an LLDPDU that has only the two identifiers and a time to live.
 fn made(port: &str, msap: &Msap<'_>, ttl: u32) -> Line {
     let mut octets = Vec::new();
     for (kind, body) in [(1u16, msap.chassis), (2, msap.port), (3, &(ttl as u16).to_be_bytes()[..])] {
@@ -87,18 +94,20 @@ fn made(port: &str, msap: &Msap<'_>, ttl: u32) -> Line {
 pub struct Running {
     pub agent: Agent,
     pub names: Vec<String>,
-    mac: Mac,
-    hostname: String,
+    pub mac: Mac,
+    pub hostname: String,
     management: Option<Ipv4Addr>,
 }
 
 impl Running {
+    /// Opens an agent, and gives it these lines. What its ports send in them is not sent.
     pub fn open(
         options: &AgentOptions,
         names: Vec<String>,
         mac: Mac,
         hostname: String,
         management: Option<Ipv4Addr>,
+        head: &[Line],
     ) -> Result<Running, OpenFault> {
         let ports: Vec<&str> = names.iter().map(String::as_str).collect();
         let agent = Agent::open(&Options {
@@ -108,22 +117,11 @@ impl Running {
             management: management.map(|address| address.octets()),
             ..options.numbers
         })?;
-        Ok(Running { agent, names, mac, hostname, management })
-    }
-
-    /// Opens the agent that replaces this one, and gives it these lines. What its ports send in them is not sent.
-    pub fn replacement(
-        &self,
-        options: &AgentOptions,
-        names: Vec<String>,
-        management: Option<Ipv4Addr>,
-        head: &[Line],
-    ) -> Result<Running, OpenFault> {
-        let mut next = Running::open(options, names, self.mac, self.hostname.clone(), management)?;
+        let mut running = Running { agent, names, mac, hostname, management };
         for line in head {
-            next.take(line);
+            running.take(line);
         }
-        Ok(next)
+        Ok(running)
     }
 
     pub fn words(&self, options: &AgentOptions) -> String {
@@ -134,36 +132,34 @@ impl Running {
         self.names.iter().position(|port| port == name).map(|place| place as u8)
     }
 
-    /// Takes a line. What it refuses changes nothing. Returns which ports send.
+    /// Gives the agent a line. One that it refuses changes nothing. Returns which ports send.
     pub fn take(&mut self, line: &Line) -> Vec<Sent> {
+        let port = match line {
+            Line::Frame(name, _) | Line::Link(name, _) => self.number(name),
+            Line::Command(_) | Line::Ticks(_) => None,
+        };
+        let sent = match (line, port) {
+            (Line::Command(line), _) => self.agent.command(line).map(|done| done.sent).ok(),
+            (Line::Frame(_, octets), Some(port)) => self.agent.frame(port, octets).ok(),
+            (Line::Link(_, is_up), Some(port)) => self.agent.link(port, *is_up).ok(),
+            (Line::Ticks(count), _) => Some(self.pass(*count)),
+            (Line::Frame(..) | Line::Link(..), None) => None,
+        };
+        sent.unwrap_or_default()
+    }
+
+    /// Gives the agent so many seconds.
+    fn pass(&mut self, mut left: u32) -> Vec<Sent> {
         let mut sent = Vec::new();
-        match line {
-            Line::Command(line) => {
-                sent.extend(self.agent.command(line).into_iter().flat_map(|done| done.sent))
-            }
-            Line::Frame(name, octets) => {
-                let number = self.number(name);
-                sent.extend(
-                    number.and_then(|port| self.agent.frame(port, octets).ok()).into_iter().flatten(),
-                );
-            }
-            Line::Link(name, is_up) => {
-                let number = self.number(name);
-                sent.extend(number.and_then(|port| self.agent.link(port, *is_up).ok()).into_iter().flatten());
-            }
-            Line::Ticks(count) => {
-                let mut left = *count;
-                while left > 0 {
-                    let ticks = self.agent.ticks(left);
-                    left -= ticks.taken;
-                    sent.extend(ticks.sent);
-                }
-            }
+        while left > 0 {
+            let ticks = self.agent.ticks(left);
+            left -= ticks.taken;
+            sent.extend(ticks.sent);
         }
         sent
     }
 
-    /// The value of the line of `show chassis` with that key, as it was set.
+    /// Returns the value of a key in `show chassis`, as it was set.
     pub fn chassis(&self, key: &str) -> String {
         let show = self.agent.show(Show::Chassis);
         let front = format!("local-chassis.{key}=");
@@ -171,8 +167,8 @@ impl Running {
         value.replace("\\\\", "\\")
     }
 
-    /// The lines that lead to the tables of these ports, and how many seconds pass in them. First comes a short LLDPDU of
-    /// each neighbor, in the order of the tables; then the last ones, in the order in which they came.
+    /// The lines that lead to the tables of these ports, and how many seconds pass in them. First comes a short LLDPDU
+    /// of each neighbor, in the order of the tables; then the last ones, in the order in which they came.
     pub fn tables(&self, names: &[String]) -> (Vec<Line>, u32) {
         let (mut lines, mut last) = (Vec::new(), Vec::new());
         for (port, name) in self.names.iter().enumerate().filter(|one| names.contains(one.1)) {
@@ -195,15 +191,14 @@ impl Running {
         (lines, oldest)
     }
 
-    /// The lines that bring an agent of these ports, which sends nothing meanwhile, to the state of this one. `full` has
-    /// the ports that had no room for a neighbor, and how long it would have stayed; `downs` those without a link.
+    /// The lines that bring an agent of these ports, which sends nothing meanwhile, to the state of this one. `full`
+    /// has the ports that had no room for a neighbor, and how long it would have stayed; `downs` those without a link.
     pub fn head(&self, names: &[String], new: Status, full: &[(String, u32)], downs: &[String]) -> Vec<Line> {
         let told = self.agent.configuration();
         let status = |name: &String| self.number(name).map_or(new, |place| told.status[usize::from(place)]);
         let limit = |number: u32| Line::Command(format!("configure lldp max-neighbors {number}"));
         let (tables, oldest) = self.tables(names);
-        let mut lines: Vec<Line> =
-            names.iter().map(|name| set_status(name, without_sending(status(name)))).collect();
+        let mut lines = Vec::new();
         let name = Some(self.chassis("name")).filter(|name| !name.contains('"')); // no command could set such a one
         lines.extend(name.map(|name| set_text("hostname", &name)));
         lines.push(set_text("description", &self.chassis("descr")));
@@ -217,8 +212,7 @@ impl Running {
         }
         lines.push(limit(told.max_neighbors));
         lines.extend(tables);
-        let sends = |name: &&String| without_sending(status(name)) != status(name);
-        lines.extend(names.iter().filter(sends).map(|name| set_status(name, status(name))));
+        let mut lines = unsent(names, status, lines);
         lines.extend(downs.iter().map(|port| Line::Link(port.clone(), false)));
         lines
     }

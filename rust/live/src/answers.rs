@@ -1,33 +1,37 @@
-//! What is answered to questions, and the settings: lines that are refused do not keep the agent down.
+//! Answers questions and applies settings. The agent runs even if lines of settings are refused.
 
 use crate::clock::{self, SECOND};
+use crate::control::Control;
 use crate::live::Live;
 use crate::patterns;
 use crate::reports::{counted, notice, warn};
 use crate::settings::{self, explained, first_word, Setting, LONGEST_LINE};
 use crate::since;
+use lldpa::Status;
 
-/// How long clients are answered before all else has its turn.
+/// How long clients are answered before everything else has its turn.
 const MOST_AT_ONCE: i64 = SECOND / 10;
+/// Between looks for what nothing reports: on some systems a new name of the host, or a control socket that was
+/// removed.
+const BETWEEN_LOOKS: i64 = 10 * SECOND;
 const OF_THE_BRIDGE: [&str; 4] = ["tick", "rx", "up", "down"];
 const CHANGING: [&str; 2] = ["configure", "update"];
 
 impl Live {
-    /// Answers what clients have asked, each one question, and follows the host's name.
+    /// Answers one question of each client, and follows the host's name.
     pub fn serve(&mut self, is_asked: bool) {
-        self.next_look = clock::now() + SECOND;
+        self.next_look = clock::now() + BETWEEN_LOOKS;
         self.follow_name();
+        let begin = clock::now();
         if let Some(control) = &mut self.control {
-            control.turn(clock::now(), is_asked);
+            control.turn(begin, is_asked);
         }
-        let (mut from, begin) = (std::mem::take(&mut self.next_client), clock::now());
-        while let Some(question) = self.control.as_mut().and_then(|control| control.question(from)) {
+        while let Some(question) = self.control.as_mut().and_then(Control::question) {
             let answer = self.answer(&question.line, question.may_change);
             if let Some(control) = &mut self.control {
-                from = control.reply(&question, &answer, clock::now());
+                control.reply(&question, &answer, clock::now());
             }
             if clock::now() - begin > MOST_AT_ONCE {
-                self.next_client = from;
                 return;
             }
         }
@@ -45,6 +49,27 @@ impl Live {
             return format!("error: waiting for an interface: {}\n", self.awaited());
         }
         self.command(line).unwrap_or_else(|refusal| refusal + "\n")
+    }
+
+    /// Gives the agent a command as of now. Returns the answer, or why it is refused.
+    pub fn command(&mut self, line: impl AsRef<[u8]>) -> Result<String, String> {
+        let line = line.as_ref();
+        let running = self.running.as_mut().ok_or("error: waiting for an interface")?;
+        let done = running.agent.command(line).map_err(|fault| fault.line())?;
+        if let Some(show) = done.show {
+            return Ok(running.agent.show(show));
+        }
+        let told = running.agent.configuration().status;
+        for (port, status) in self.ports.all.iter_mut().zip(told) {
+            if !matches!(status, Status::RxAndTx | Status::RxOnly) {
+                port.full_until = 0; // its table was emptied
+            }
+        }
+        self.log.write(clock::now(), &String::from_utf8_lossy(line));
+        self.take_sent(&done.sent, clock::now());
+        self.note_gone();
+        self.send();
+        Ok(String::new())
     }
 
     fn about(&mut self) -> String {
@@ -90,7 +115,7 @@ impl Live {
             self.manager.reloading();
             self.catch_up();
             self.settle(false);
-            self.manager.ready();
+            self.manager.tell("READY=1");
         }
     }
 
@@ -104,7 +129,8 @@ impl Live {
         }
     }
 
-    /// Gives the agent a setting. Returns why it is refused. One of a port that a pattern may give waits for it.
+    /// Gives the agent a setting. Returns why it is refused. A setting of a port that a pattern may give waits for the
+    /// port.
     fn why_refused(&mut self, setting: &Setting) -> Option<String> {
         let word = first_word(&setting.line);
         if setting.line.len() > LONGEST_LINE {
@@ -120,8 +146,8 @@ impl Live {
     }
 }
 
-/// The answer to a line that goes to no agent: one that is too long, says nothing, is only for lldpa-live to say,
-/// changes the agent and may not, or is not a question.
+/// Returns the answer to a line that the agent does not get: it is too long or empty, only lldpa-live itself may give
+/// it, it would change the agent without permission, or it is not a question.
 pub fn refusal(line: &[u8], may_change: bool) -> Option<&'static str> {
     let word = first_word(line);
     let first = line.iter().find(|octet| !b" \t".contains(octet));

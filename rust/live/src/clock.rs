@@ -67,27 +67,17 @@ fn wall_clock_ahead() -> i64 {
     readings.iter().min().map_or(0, |reading| reading.1)
 }
 
-/// A time of the wall clock, in seconds since 1970: year, month, day, hour, minute, second.
-fn civil(seconds: i64) -> [i64; 6] {
+/// Returns a time of the wall clock, in seconds since 1970, as `2026-11-23T19:40:00Z`.
+pub fn written(seconds: i64) -> String {
     let (days, rest) = (seconds.div_euclid(86_400) + 719_468, seconds.rem_euclid(86_400));
     let (era, day) = (days.div_euclid(146_097), days.rem_euclid(146_097));
     let year = (day - day / 1460 + day / 36_524 - day / 146_096) / 365;
     let day = day - (365 * year + year / 4 - year / 100);
-    let month = (5 * day + 2) / 153;
+    let month = (5 * day + 2) / 153; // from March on
     let date = day - (153 * month + 2) / 5 + 1;
-    let month = if month < 10 { month + 3 } else { month - 9 };
-    [year + era * 400 + i64::from(month <= 2), month, date, rest / 3600, rest / 60 % 60, rest % 60]
-}
-
-/// As `2026-11-23T19:40:00Z`.
-pub fn written(seconds: i64) -> String {
-    let [year, month, day, hour, minute, second] = civil(seconds);
-    format!("{year:04}-{month:02}-{day:02}T{hour:02}:{minute:02}:{second:02}Z")
-}
-
-/// As `20261123T194000Z`, in names of files.
-pub fn short(seconds: i64) -> String {
-    written(seconds).replace(&['-', ':'][..], "")
+    let (year, month) = (year + era * 400 + month / 10, (month + 2) % 12 + 1);
+    let (hour, minute, second) = (rest / 3600, rest / 60 % 60, rest % 60);
+    format!("{year:04}-{month:02}-{date:02}T{hour:02}:{minute:02}:{second:02}Z")
 }
 
 #[cfg(test)]
@@ -98,6 +88,6 @@ mod tests {
     fn times_are_those_of_the_calendar() {
         assert_eq!(written(951_782_400), "2000-02-29T00:00:00Z");
         assert_eq!(written(4_107_542_399), "2100-02-28T23:59:59Z");
-        assert_eq!(short(4_107_542_400), "21000301T000000Z");
+        assert_eq!(written(4_107_542_400), "2100-03-01T00:00:00Z");
     }
 }

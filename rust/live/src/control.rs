@@ -4,10 +4,10 @@
 
 use crate::clock::SECOND;
 use crate::listening::{Listening, Peer};
+use crate::live::Polled;
 use crate::reports::warn;
 use crate::rights::text_of;
 use crate::settings::LONGEST_LINE;
-use crate::sys::Polled;
 use std::io::{ErrorKind, Read, Result, Write};
 use std::os::unix::net::UnixStream;
 
@@ -32,25 +32,30 @@ struct Client {
     is_at_end: bool,
     answer: Vec<u8>,
     sent: usize,
-    /// Since when its answer is not read whole, or nothing was asked.
+    /// Since when it has not read its whole answer, or has asked nothing.
     since: i64,
     is_served: bool,
     is_over: bool,
 }
 
 impl Client {
-    /// The next line. Of one that is too long, a part that is too long as well.
-    fn next_line(&mut self) -> Option<Vec<u8>> {
-        if !self.answer.is_empty() {
-            return None;
-        }
-        if let Some(end) = self.asked.iter().position(|octet| *octet == b'\n') {
-            let mut line: Vec<u8> = self.asked.drain(..=end).collect();
-            line.pop();
-            return Some(line);
-        }
-        let is_last = self.is_at_end && !self.asked.is_empty();
-        is_last.then(|| std::mem::take(&mut self.asked))
+    /// Whether a line can be answered. At the end of what is asked it may lack its line feed.
+    fn has_line(&self) -> bool {
+        let is_whole = self.asked.contains(&b'\n') || self.is_at_end && !self.asked.is_empty();
+        self.answer.is_empty() && is_whole
+    }
+
+    /// Whether it has ended its questions, and read all answers.
+    fn is_left(&self) -> bool {
+        self.is_at_end && self.asked.is_empty() && self.answer.is_empty()
+    }
+
+    /// Takes the next line. If it is too long, this is a part that is too long as well.
+    fn next_line(&mut self) -> Vec<u8> {
+        let end = self.asked.iter().position(|octet| *octet == b'\n').unwrap_or(self.asked.len());
+        let line = self.asked.drain(..end).collect();
+        self.asked.drain(..1.min(self.asked.len()));
+        line
     }
 
     /// Reads what has come, unless a whole line or an answer waits.
@@ -72,7 +77,7 @@ impl Client {
         }
     }
 
-    /// Takes octets; of a line that is too long it keeps no more than shows that.
+    /// Keeps octets that were read, but of a line that is too long only so many that this is seen.
     fn take(&mut self, octets: &[u8]) {
         let end = octets.iter().position(|octet| *octet == b'\n').unwrap_or(octets.len());
         let room = (LONGEST_LINE + 1).saturating_sub(self.asked.len());
@@ -99,9 +104,10 @@ impl Client {
 }
 
 pub struct Control {
-    path: String,
-    listening: Listening,
+    pub listening: Listening,
     clients: Vec<Client>,
+    /// The place of the client that is answered next.
+    next: usize,
     /// Until when no client is accepted.
     pause: i64,
     /// Whether the socket was removed, and could not be made again.
@@ -112,7 +118,7 @@ impl Control {
     /// Takes the path, while lldpa-live still has the right to.
     pub fn open(path: &str, group: Option<u32>) -> Result<Control> {
         let listening = Listening::open(path, group)?;
-        Ok(Control { path: path.into(), listening, clients: Vec::new(), pause: 0, is_lost: false })
+        Ok(Control { listening, clients: Vec::new(), next: 0, pause: 0, is_lost: false })
     }
 
     pub fn polled(&self, now: i64) -> Vec<Polled> {
@@ -140,15 +146,13 @@ impl Control {
             let was_lost = std::mem::replace(&mut self.is_lost, renewed.is_err());
             if let (Err(fault), false) = (renewed, was_lost) {
                 let what = "the control socket was removed, and cannot be made again";
-                warn(&format!("{}: {what}: {}", self.path, text_of(&fault)));
+                warn(&format!("{}: {what}: {}", self.listening.path, text_of(&fault)));
             }
         }
         for client in &mut self.clients {
             client.send();
             client.read();
-            let is_late = !client.answer.is_empty() && now - client.since >= TO_READ;
-            let is_left = client.is_at_end && client.asked.is_empty() && client.answer.is_empty();
-            client.is_over |= is_late || is_left;
+            client.is_over |= client.is_left() || !client.answer.is_empty() && now - client.since >= TO_READ;
         }
         self.clients.retain(|client| !client.is_over);
         if is_asked && now >= self.pause {
@@ -159,24 +163,21 @@ impl Control {
     fn accept(&mut self, now: i64) {
         for _ in 0..MOST_CLIENTS {
             match self.listening.socket.accept() {
-                Ok((stream, _)) => {
-                    if stream.set_nonblocking(true).is_ok() {
-                        self.admit(stream, now);
-                    }
-                }
-                Err(fault) if fault.kind() == ErrorKind::WouldBlock => return,
-                Err(_) => {
-                    self.pause = now + SECOND;
+                Ok((stream, _)) if stream.set_nonblocking(true).is_ok() => self.admit(stream, now),
+                Ok(_) => (),
+                Err(fault) => {
+                    self.pause = if fault.kind() == ErrorKind::WouldBlock { 0 } else { now + SECOND };
                     return;
                 }
             }
         }
     }
 
-    /// Gives a client its place, or answers that there is none. One that has been idle for a minute gives way.
+    /// Gives a client a place, if need be that of the client that has been idle longest, for a minute or more. If
+    /// there is none, the answer says so.
     fn admit(&mut self, stream: UnixStream, now: i64) {
         let peer = Peer::of(&stream);
-        let most = if peer.is_preferred(&self.path) { MOST_CLIENTS + KEPT } else { MOST_CLIENTS };
+        let most = if peer.is_preferred(&self.listening.path) { MOST_CLIENTS + KEPT } else { MOST_CLIENTS };
         let served = || self.clients.iter().filter(|client| client.is_served).count();
         let mut is_served = served() < most;
         if !is_served {
@@ -192,36 +193,36 @@ impl Control {
         let mut client = Client { stream, peer, asked, is_at_end, answer, sent, since, is_served, is_over };
         client.send();
         client.read();
-        let is_left = client.is_at_end && client.asked.is_empty() && client.answer.is_empty();
-        self.clients.extend(Some(client).filter(|_| !is_left));
+        self.clients.extend(Some(client).filter(|client| !client.is_left()));
     }
 
-    /// The next question of each client, from that place on.
-    pub fn question(&mut self, from: usize) -> Option<Question> {
-        let mut places = from..self.clients.len();
-        places.find_map(|place| {
-            let client = &mut self.clients[place];
-            let line = client.next_line()?;
-            Some(Question { place, line, may_change: client.peer.may_change(&self.path) })
+    /// Returns the next question: each client asks one in its turn.
+    pub fn question(&mut self) -> Option<Question> {
+        let first = std::mem::take(&mut self.next);
+        let place = (first..self.clients.len()).find(|place| self.clients[*place].has_line())?;
+        let client = &mut self.clients[place];
+        self.next = place + 1;
+        Some(Question {
+            place,
+            line: client.next_line(),
+            may_change: client.peer.may_change(&self.listening.path),
         })
     }
 
-    pub fn reply(&mut self, question: &Question, text: &str, now: i64) -> usize {
+    pub fn reply(&mut self, question: &Question, text: &str, now: i64) {
         let count = text.bytes().filter(|octet| *octet == b'\n').count();
         let client = &mut self.clients[question.place];
         client.answer = format!("={count}\n{text}").into_bytes();
         client.since = now;
         client.send();
         self.end_slowest();
-        question.place + 1
     }
 
     pub fn has_more(&self) -> bool {
-        let is_whole = |client: &Client| client.asked.contains(&b'\n') || client.is_at_end;
-        self.clients.iter().any(|client| client.answer.is_empty() && is_whole(client))
+        self.clients.iter().any(Client::has_line)
     }
 
-    /// Ends the connections that have waited longest, while too much waits to be read.
+    /// While too many octets wait for their readers, ends the connection that has waited longest.
     fn end_slowest(&mut self) {
         let left = |client: &Client| client.answer.len() - client.sent;
         while self.clients.iter().map(left).sum::<usize>() > MOST_UNREAD {
@@ -235,9 +236,5 @@ impl Control {
                 None => return,
             }
         }
-    }
-
-    pub fn close(&self) {
-        self.listening.close();
     }
 }

@@ -13,7 +13,7 @@ use std::path::Path;
 
 const O_DIRECTORY: i32 = if cfg!(target_arch = "aarch64") { 0o40_000 } else { 0o200_000 };
 pub const O_NOFOLLOW: i32 = if cfg!(target_arch = "aarch64") { 0o100_000 } else { 0o400_000 };
-const EBADF: i32 = 9;
+pub const EBADF: i32 = 9;
 const ENOSPC: i32 = 28;
 const OF_FULL_DISKS: [i32; 3] = [ENOSPC, 122, 27]; // EDQUOT, EFBIG
 const NO_ROOM: &str = "no room is left within --log-keep";
@@ -31,9 +31,9 @@ pub struct Files {
     others: Vec<(String, u64)>,
 }
 
-/// Enters a folder, and makes it if there is none, while there is the right to. If it has nothing but logs, if
-/// anything, it is given to that user, unless it is writable for all. A link is followed only if nobody but root
-/// and this user can put one there.
+/// Enters a folder, and makes it if it is missing. An empty folder, or one that contains only logs, is given to that
+/// user, unless everybody may write to it. A symbolic link is followed only if nobody but root and this user could
+/// have put it there.
 pub fn enter(path: &str, user: Option<User>) -> Result<()> {
     let above = Path::new(path).parent().unwrap_or_else(|| Path::new("/"));
     let name = Path::new(path).file_name().unwrap_or_default();
@@ -62,7 +62,7 @@ pub fn enter(path: &str, user: Option<User>) -> Result<()> {
     Ok(())
 }
 
-/// Says if this process may not make files in the folder. (Nothing is tried: the disk may hang.)
+/// Returns an error if this process may not make files in the folder. It makes none, since the disk may hang.
 pub fn check(path: &str) -> Result<()> {
     sys::may_write(".")
         .map_err(|fault| at(path)(Error::new(fault.kind(), "the log's user may not create files there")))
@@ -78,7 +78,7 @@ fn names() -> Result<Vec<String>> {
     Ok(names?.into_iter().map(|name| name.to_string_lossy().into_owned()).collect())
 }
 
-/// When the file of that name began, and the how manieth of that second it is. None if it is not a log.
+/// Returns the second when the file of that name began, and its number within it. None if it is not a log.
 fn place_of(name: &str) -> Option<(&str, u32)> {
     let is_number = |text: &str, lengths: RangeInclusive<usize>| {
         lengths.contains(&text.len()) && text.bytes().all(|octet| octet.is_ascii_digit())
@@ -111,9 +111,10 @@ impl Files {
         self.write(octets)
     }
 
-    /// Makes a file that was not there before, named by the present time in UTC, and behind all others.
+    /// Makes a new file, named after the present time in UTC, whose name sorts after all others.
     fn make(&mut self) -> Result<()> {
-        let second = clock::short(clock::wall().div_euclid(clock::SECOND));
+        let now = clock::written(clock::wall().div_euclid(clock::SECOND));
+        let second = now.replace(&['-', ':'][..], "");
         let before = self.others.iter().map(|one| &one.0[..]).chain([&self.name[..]]).filter_map(place_of);
         let last = before.filter(|place| place.0 == second).map(|place| place.1).max().unwrap_or(0);
         for number in last + 1..last + MOST_OF_A_SECOND {
@@ -131,15 +132,18 @@ impl Files {
         Err(ErrorKind::AlreadyExists.into())
     }
 
-    /// Adds octets to the file, all or none, and returns its path. If that fails, the file ends behind what was added
-    /// before.
+    /// Adds octets to the file, all or none, and returns its path. If that fails, the file keeps what it had, and
+    /// ends.
     pub fn write(&mut self, octets: &[u8]) -> Result<String> {
         let mut file = self.file.take().ok_or_else(|| Error::from_raw_os_error(EBADF))?;
-        let written = match file.metadata()?.nlink() {
-            0 => Err(Error::new(ErrorKind::NotFound, "its file was removed")),
-            _ => self.make_room(octets.len() as u64).and_then(|()| file.write(octets)),
-        };
-        match written {
+        let found = file.metadata()?;
+        if found.nlink() == 0 {
+            return Err(Error::new(ErrorKind::NotFound, "its file was removed"));
+        }
+        if found.len() != self.size {
+            return Err(Error::new(ErrorKind::Other, "its file was changed by another program"));
+        }
+        match self.make_room(octets.len() as u64).and_then(|()| file.write(octets)) {
             Ok(length) if length == octets.len() => {
                 self.size += length as u64;
                 self.file = Some(file);
@@ -152,7 +156,7 @@ impl Files {
         }
     }
 
-    /// Removes the oldest files until so many more octets have room, but never this one.
+    /// Removes the oldest files, but never this one, until there is room for so many more octets.
     fn make_room(&mut self, octets: u64) -> Result<()> {
         while self.others.iter().map(|one| one.1).sum::<u64>() + self.size + octets > self.keep {
             if self.others.is_empty() {
@@ -166,10 +170,6 @@ impl Files {
         }
         Ok(())
     }
-}
-
-pub fn has_ended_before(fault: &Error) -> bool {
-    fault.raw_os_error() == Some(EBADF)
 }
 
 pub fn is_of_a_full_disk(fault: &Error) -> bool {

@@ -1,10 +1,9 @@
 //! What changes under a running agent: interfaces that patterns give, the host's name and address, the file of the
 //! log, the state; and how the agent is replaced.
 
-use crate::agent::{lines_text, set_text, Line};
+use crate::agent::{lines_text, set_text, Line, Running};
 use crate::clock::{self, SECOND};
 use crate::identity::management_address;
-use crate::links::Link;
 use crate::live::Live;
 use crate::open::LOOK_AGAIN;
 use crate::options::is_text;
@@ -14,9 +13,10 @@ use crate::state;
 use lldpa::Status;
 use std::net::Ipv4Addr;
 
-/// How long another address must stay, and an interface that a pattern gave must be gone, before the agent is replaced.
+/// How long another address must stay, and an interface that a pattern gave must be gone, before the agent is
+/// replaced.
 const TO_STAY: i64 = 2 * SECOND;
-/// So that each minute of a log has a comment, and what nothing tells is seen.
+/// So that each minute of a log has a comment.
 const LONGEST_SLEEP: i64 = 30 * SECOND;
 const BETWEEN_STATES: i64 = 60 * SECOND;
 
@@ -34,7 +34,8 @@ impl Live {
         }
         self.log.turn();
         if self.log.wants_beginning() {
-            self.begin_log();
+            let lines = lines_text(&self.head(&self.ports.names()));
+            self.running.iter().for_each(|one| self.log.begin(&one.words(&self.given.agent), &lines));
         }
         if now >= self.next_state {
             self.next_state = now + BETWEEN_STATES;
@@ -42,13 +43,13 @@ impl Live {
         }
     }
 
-    /// When an interface has been gone, or another address has been there, for long enough.
+    /// Returns when an interface will have been gone for long enough, or another address will have stayed.
     pub fn next_change(&self) -> Option<i64> {
         let gone = self.ports.all.iter().filter(|port| !port.is_named).filter_map(|port| port.gone_since);
         gone.chain(self.other_management.map(|other| other.1)).min().map(|since| since + TO_STAY)
     }
 
-    /// Adds the ports that patterns give by now, and takes out those whose interfaces have gone.
+    /// Adds the ports that patterns give now, and removes those whose interfaces have gone.
     fn follow_ports(&mut self, now: i64) {
         let has_patterns =
             self.given.once.is_none() && self.given.parts.iter().any(|part| patterns::gives(part));
@@ -72,8 +73,7 @@ impl Live {
         }
         more.iter().for_each(|name| self.ports.add(name));
         self.settle_later(&more);
-        let known: Vec<Link> = self.links.all().cloned().collect();
-        self.take_links(&known);
+        self.take_known_links();
     }
 
     pub fn present_address(&self) -> Option<Ipv4Addr> {
@@ -107,25 +107,26 @@ impl Live {
 
     /// Replaces the agent by one of these ports and that address. If it cannot be opened, the one in use stays.
     fn replace(&mut self, names: Vec<String>, management: Option<Ipv4Addr>) -> bool {
-        let lines = self.head(&names);
-        let next =
-            self.running.as_ref().map(|one| one.replacement(&self.given.agent, names, management, &lines));
-        match next {
-            Some(Ok(next)) => {
-                self.log.begin(&next.words(&self.given.agent), &lines_text(&lines));
+        let (lines, options) = (self.head(&names), &self.given.agent);
+        let (mac, hostname) = match &self.running {
+            Some(running) => (running.mac, running.hostname.clone()),
+            None => return false,
+        };
+        match Running::open(options, names, mac, hostname, management, &lines) {
+            Ok(next) => {
+                self.log.begin(&next.words(options), &lines_text(&lines));
                 self.running = Some(next);
                 true
             }
-            Some(Err(fault)) => {
+            Err(fault) => {
                 let what = "another agent cannot be opened";
                 self.try_later(&format!("{what}: {fault}; this one stays, and it is tried again"));
                 false
             }
-            None => false,
         }
     }
 
-    /// What brings an agent of these ports to the state of this one.
+    /// Returns the lines that bring an agent of these ports to the state of this one.
     fn head(&self, names: &[String]) -> Vec<Line> {
         let new = if self.given.agent.numbers.receive_only { Status::RxOnly } else { Status::RxAndTx };
         let ours = || self.ports.all.iter().filter(|port| names.contains(&port.name));
@@ -134,13 +135,6 @@ impl Live {
         let full = ours().map(|port| (port.name.clone(), (port.full_until - self.clock.given).max(0) as u32));
         let full: Vec<_> = full.filter(|one| one.1 > 0).collect();
         self.running.as_ref().map_or(Vec::new(), |running| running.head(names, new, &full, &downs))
-    }
-
-    fn begin_log(&mut self) {
-        let lines = self.head(&self.ports.names());
-        if let Some(running) = &self.running {
-            self.log.begin(&running.words(&self.given.agent), &lines_text(&lines));
-        }
     }
 
     pub fn write_state(&mut self) {
@@ -181,13 +175,12 @@ impl Live {
         self.manager.turned(clock::now());
     }
 
-    /// When to turn again at the latest.
-    pub fn deadline(&self, now: i64) -> i64 {
-        let due = self.running.as_ref().and_then(|running| running.agent.due());
+    /// Returns when to turn again at the latest. `due` is when the agent next acts by itself.
+    pub fn deadline(&self, now: i64, due: Option<i64>) -> i64 {
         let of_agent = |moment: Option<i64>| moment.filter(|_| self.running.is_some());
         let is_refused = self.ports.all.iter().any(|port| port.is_refused());
         let deadlines = [
-            due.map(|seconds| self.clock.end_of(seconds)),
+            due,
             is_refused.then(|| now + SECOND),
             (self.followed != self.links.changes).then_some(self.next_try),
             of_agent(self.next_change()),

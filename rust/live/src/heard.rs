@@ -1,10 +1,13 @@
-//! What a frame does: the agent takes it, and its news are noted and reported.
+//! What frames and news of links do: the agent takes them, and what they change is noted and reported.
 
+use crate::agent::{set_status, Line};
+use crate::clock;
+use crate::links::Link;
 use crate::live::Live;
 use crate::port::Frame;
 use crate::said::{self, Hex};
 use crate::since::{self, Held};
-use lldpa::{Examined, Info, News};
+use lldpa::{Examined, Info, Msap, News, Status};
 
 impl Live {
     /// Gives the agent a frame, after the seconds before it.
@@ -13,25 +16,28 @@ impl Live {
         let port = &self.ports.all[frame.port];
         self.log.write(frame.moment, &format_args!("rx {} {}", port.name, Hex(&frame.octets)));
         let is_repeated = port.held.iter().any(|held| held.last_said == frame.digest);
-        let is_reported = self.events.are_wanted && !is_repeated;
-        let before = if is_reported { self.said_before(frame) } else { None };
+        let pdu = lldpa::frame_pdu(&frame.octets).filter(|_| !is_repeated);
+        let examined = pdu.and_then(|pdu| lldpa::examine(pdu).ok());
+        let before = match &examined {
+            Some(Examined::Info(info)) if self.events.are_wanted => self.said_before(frame.port, info.msap()),
+            _ => None,
+        };
         let (sent, news) = self.running.as_mut()?.agent.frame_news(frame.port as u8, &frame.octets).ok()?;
         self.take_sent(&sent, frame.moment);
-        match lldpa::examine(lldpa::frame_pdu(&frame.octets).filter(|_| !is_repeated)?).ok()? {
+        match examined? {
             Examined::Info(info) => self.take_news(frame, &news, &info, before),
             Examined::Shutdown(_) => self.note_gone(),
         }
     }
 
-    /// What a neighbor said before it says something else.
-    fn said_before(&self, frame: &Frame) -> Option<Vec<u8>> {
-        let wanted = lldpa::examine(lldpa::frame_pdu(&frame.octets)?).ok()?.msap();
-        let mut neighbors = self.running.as_ref()?.agent.neighbors(frame.port as u8).ok()?;
-        let same = neighbors.find(|one| one.info().map(|info| info.msap()) == Some(wanted))?;
+    /// Returns the LLDPDU that the agent holds of a neighbor.
+    fn said_before(&self, port: usize, msap: Msap<'_>) -> Option<Vec<u8>> {
+        let mut neighbors = self.running.as_ref()?.agent.neighbors(port as u8).ok()?;
+        let same = neighbors.find(|one| one.info().map(|info| info.msap()) == Some(msap))?;
         Some(same.octets().to_vec())
     }
 
-    /// Notes what a frame with that information has done.
+    /// Notes what a frame with that information has done, and reports what differs from before.
     fn take_news(
         &mut self,
         frame: &Frame,
@@ -52,12 +58,12 @@ impl Live {
                 let held = self.ports.all[frame.port].held.iter_mut().find(|held| held.msap() == msap)?;
                 held.last_said = frame.digest;
                 held.summary = summary;
-                if let Ok(Examined::Info(old)) = lldpa::examine(&before?) {
-                    let changes = said::changes(&old, info);
-                    if !changes.is_empty() {
-                        let text = format!("{name} changed: {}; {}", held.summary, changes.join("; "));
-                        self.events.tell(&name, &text);
-                    }
+                let changes = match lldpa::examine(&before?) {
+                    Ok(Examined::Info(old)) => said::changes(&old, info).join("; "),
+                    _ => String::new(),
+                };
+                if !changes.is_empty() {
+                    self.events.tell(&name, &format!("{name} changed: {}; {changes}", held.summary));
                 }
             }
             News::Dropped(_) => {
@@ -72,7 +78,45 @@ impl Live {
         Some(())
     }
 
-    /// The number of a chassis, which it has while any neighbor is of it.
+    pub fn take_known_links(&mut self) {
+        let known: Vec<Link> = self.links.all().cloned().collect();
+        self.take_links(&known);
+    }
+
+    pub fn take_links(&mut self, news: &[Link]) -> Vec<String> {
+        let (now, mut downs) = (clock::now(), Vec::new());
+        for one in news {
+            for place in 0..self.ports.all.len() {
+                for is_up in self.ports.all[place].take_link(&self.ports.sockets[place], one, now) {
+                    self.tell_link(place, is_up);
+                    downs.extend((!is_up).then(|| self.ports.all[place].name.clone()));
+                }
+            }
+        }
+        downs
+    }
+
+    pub fn tell_link(&mut self, port: usize, is_up: bool) -> Option<()> {
+        let (name, now) = (self.ports.all[port].name.clone(), clock::now());
+        let line = Line::Link(name.clone(), is_up);
+        self.log.write(now, &line);
+        self.events.tell(&name, &format!("{name}: the link is {}", if is_up { "up" } else { "down" }));
+        let sent = self.running.as_mut()?.take(&line);
+        self.take_sent(&sent, now);
+        Some(())
+    }
+
+    /// Empties the table of a port that went down: it is disabled for a moment.
+    pub fn forget(&mut self, name: &str) -> Option<()> {
+        let running = self.running.as_ref()?;
+        let status = running.agent.configuration().status[usize::from(running.number(name)?)];
+        for status in [Status::Disabled, status] {
+            let _ = self.command(set_status(name, status).to_string());
+        }
+        Some(())
+    }
+
+    /// Returns the number of a chassis, which it keeps while any neighbor belongs to it.
     pub fn number_of(&mut self, chassis: &[u8]) -> u32 {
         let same = self.held().find(|(_, held)| held.msap().chassis == chassis).map(|(_, held)| held.number);
         self.last_number += u32::from(same.is_none());
@@ -83,7 +127,7 @@ impl Live {
         self.ports.all.iter().flat_map(|port| port.held.iter().map(move |held| (&port.name[..], held)))
     }
 
-    /// Takes out the neighbors that the agent holds no more.
+    /// Removes the neighbors that the agent no longer holds.
     pub fn note_gone(&mut self) -> Option<()> {
         let agent = &self.running.as_ref()?.agent;
         for (place, port) in self.ports.all.iter_mut().enumerate() {

@@ -1,15 +1,14 @@
 //! Who this host is: its chassis ID, what it runs, and where it is managed.
 
-use crate::links::Links;
-use crate::links::{Link, Mac};
+use crate::links::{Link, Links, Mac};
 use std::net::Ipv4Addr;
 
 const OS_RELEASE: [&str; 2] = ["/etc/os-release", "/usr/lib/os-release"];
 const MOST_OF_A_DESCRIPTION: usize = 255;
 const MOST_ABOVE: usize = 8; // interfaces, as a bridge above a bond
 
-/// The address that names this host: the permanent one of the first port whose interface is hardware, else of the
-/// first hardware Ethernet interface, else the address of the first port that exists. None if there is none yet.
+/// Returns the address that names this host: the permanent one of the first port whose interface is hardware, else of
+/// the first hardware Ethernet interface, else the address of the first port that exists. None if there is none yet.
 pub fn chassis_address(ports: &[String], links: &Links) -> Option<Mac> {
     let has_address = |one: &&Link| one.is_ethernet && one.address.map_or(false, |mac| mac != [0; 6]);
     let ours = || ports.iter().filter_map(|name| links.named(name)).filter(has_address);
@@ -17,8 +16,8 @@ pub fn chassis_address(ports: &[String], links: &Links) -> Option<Mac> {
     hardware.and_then(|one| one.permanent.or(one.address)).or_else(|| ours().next()?.address)
 }
 
-/// The address under which this host is managed: the first global IPv4 address of a port, else of what is above a
-/// port, else of a hardware interface, else of any other, by their indices. None if there is none.
+/// Returns the address under which this host is managed: the first global IPv4 address of a port, else of what is
+/// above a port, else of a hardware interface, else of any other, by their indices. None if there is none.
 pub fn management_address(ports: &[String], links: &Links) -> Option<Ipv4Addr> {
     let ours = || ports.iter().filter_map(|name| links.named(name));
     let hardware = links.all().filter(|one| one.is_hardware && one.is_ethernet);
@@ -27,14 +26,14 @@ pub fn management_address(ports: &[String], links: &Links) -> Option<Ipv4Addr> {
         .map(|one| one.1)
 }
 
-/// The interfaces above one: the bond, team or bridge that it belongs to, and so on.
+/// Returns the interfaces above one: the bond, team or bridge that it belongs to, and so on.
 fn above<'a>(one: &'a Link, links: &'a Links) -> impl Iterator<Item = &'a Link> {
     std::iter::successors(Some(one), |one| links.known.get(&one.master).map(|one| &one.0))
         .skip(1)
         .take(MOST_ABOVE)
 }
 
-/// What this host runs: PRETTY_NAME of os-release as a text that a command can set, or None if that says nothing.
+/// Returns what this host runs: PRETTY_NAME of os-release, as a text that a command can set. None if it is empty.
 pub fn description() -> Option<String> {
     let text = OS_RELEASE.iter().find_map(|path| std::fs::read(path).ok())?;
     let text = String::from_utf8_lossy(&text).into_owned();
@@ -55,26 +54,19 @@ pub fn description() -> Option<String> {
 mod tests {
     use super::*;
 
-    /// Links of these interfaces: whether each is hardware.
+    /// Makes links of these interfaces, each hardware or not.
     fn links(kinds: &[(&str, bool)]) -> Links {
         let mut links = Links::over(std::fs::File::open("/dev/null").expect("a file"));
         for ((name, is_hardware), index) in kinds.iter().zip(1..) {
-            let (address, permanent) =
-                (Some([2, 0, 0, 0, 0, index]), is_hardware.then(|| [2, 0, 0, 0, 1, index]));
-            let (name, is_hardware, index) = (name.to_string(), *is_hardware, i32::from(index));
-            let (is_there, is_running, is_ethernet, master) = (true, true, true, 0);
             let one = Link {
-                index,
-                name,
-                is_there,
-                is_running,
-                is_ethernet,
-                is_hardware,
-                address,
-                permanent,
-                master,
+                name: name.to_string(),
+                is_ethernet: true,
+                is_hardware: *is_hardware,
+                address: Some([2, 0, 0, 0, 0, index]),
+                permanent: is_hardware.then(|| [2, 0, 0, 0, 1, index]),
+                ..Link::default()
             };
-            links.known.insert(index, (one, 0));
+            links.known.insert(index.into(), (one, 0));
         }
         links
     }

@@ -1,8 +1,9 @@
 //! The interfaces of this network namespace and their global IPv4 addresses, followed from those that exist at first.
-//! Listening needs no right, and any octets are taken: what is not well formed says nothing. (linux/netlink.h,
-//! linux/rtnetlink.h, linux/if_link.h, linux/if_addr.h)
+//! Listening needs no right, and messages that are not well formed are ignored. (linux/netlink.h, linux/rtnetlink.h,
+//! linux/if_link.h, linux/if_addr.h)
 
-use crate::sys::{self, Polled};
+use crate::live::Polled;
+use crate::sys;
 use std::collections::BTreeMap;
 use std::fs::File;
 use std::io::{ErrorKind, Read, Result, Write};
@@ -25,8 +26,8 @@ const AF_INET: u8 = 2;
 
 pub type Mac = [u8; 6];
 
-/// What is so of an interface, or was as it went.
-#[derive(Clone, Debug, PartialEq)]
+/// An interface as it is, or as it was when it went.
+#[derive(Clone, Debug, Default, PartialEq)]
 pub struct Link {
     pub index: i32,
     pub name: String,
@@ -41,7 +42,7 @@ pub struct Link {
     pub master: i32,
 }
 
-/// What is known, and in which list it was last named.
+/// What is known of each interface, and which list named it last.
 pub struct Links {
     pub socket: File,
     room: Vec<u8>,
@@ -52,7 +53,7 @@ pub struct Links {
     pub changes: u64,
     /// The number of the list that was asked for last.
     list: u64,
-    /// What is still to come: the list of interfaces, then that of addresses.
+    /// How many lists are still to come: that of interfaces, then that of addresses.
     lists_to_come: u8,
     is_stale: bool,
 }
@@ -105,10 +106,9 @@ impl Links {
                 Err(fault) if fault.raw_os_error() == Some(ENOBUFS) => self.is_stale = true,
                 Err(fault) => break Err(fault),
             }
-            if self.is_stale && self.lists_to_come == 0 {
-                if let Err(fault) = self.ask() {
-                    break Err(fault);
-                }
+            let asked = if self.is_stale && self.lists_to_come == 0 { self.ask() } else { Ok(()) };
+            if asked.is_err() {
+                break asked;
             }
         };
         self.room = room;
@@ -137,7 +137,7 @@ impl Links {
         }
     }
 
-    /// Ends a list: what it did not name is gone.
+    /// Ends a list. What it did not name is gone.
     fn end_list(&mut self, news: &mut Vec<Link>) {
         self.lists_to_come = if self.is_stale { 0 } else { self.lists_to_come.saturating_sub(1) };
         let list = self.list;
@@ -145,9 +145,8 @@ impl Links {
             return; // it may not be whole, and is asked for again
         }
         if self.lists_to_come > 0 {
-            let unseen: Vec<Link> =
-                self.known.values().filter(|one| one.1 < list).map(|one| one.0.clone()).collect();
-            for link in unseen {
+            let unseen = self.known.values().filter(|one| one.1 < list).map(|one| one.0.clone());
+            for link in unseen.collect::<Vec<_>>() {
                 let gone = Link { is_there: false, is_running: false, ..link };
                 self.note(&gone);
                 news.push(gone);
@@ -197,7 +196,7 @@ fn number(octets: &[u8], at: usize) -> Option<u32> {
     Some(u32::from_ne_bytes(octets.get(at..at + 4)?.try_into().ok()?))
 }
 
-/// Parts whose length stands at their beginning, each aligned to four octets; `length_of` reads it.
+/// Returns parts that begin with their length, which `length_of` reads. Each begins at a multiple of four octets.
 fn parts(octets: &[u8], least: usize, length_of: fn(&[u8]) -> Option<usize>) -> impl Iterator<Item = &[u8]> {
     let mut rest = octets;
     std::iter::from_fn(move || {
@@ -223,7 +222,7 @@ fn text(octets: &[u8]) -> String {
     String::from_utf8_lossy(octets.split(|octet| *octet == 0).next().unwrap_or(&[])).into_owned()
 }
 
-/// What a message says of an interface, or None if it is about its part in a bridge.
+/// Returns what a message says of an interface, or None if it is about its part in a bridge.
 fn link_of(body: &[u8], is_there: bool) -> Option<Link> {
     let attributes = body.get(16..).filter(|_| body[0] == 0)?;
     let mac = |kind| attribute(attributes, kind).and_then(|octets| Mac::try_from(octets).ok());
@@ -241,7 +240,7 @@ fn link_of(body: &[u8], is_there: bool) -> Option<Link> {
     })
 }
 
-/// The global IPv4 address of a message, behind the index of its interface.
+/// Returns the index of an interface and its global IPv4 address, as a message says.
 fn address_of(body: &[u8]) -> Option<(i32, Ipv4Addr)> {
     let attributes = body.get(8..).filter(|_| body[0] == AF_INET && body[3] == 0)?;
     let octets = attribute(attributes, 2).or_else(|| attribute(attributes, 1))?;

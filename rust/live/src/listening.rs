@@ -1,4 +1,4 @@
-//! The path of the control socket, taken by one process at a time, and who asks there.
+//! The path of the control socket, which one process uses at a time, and who asks there.
 
 use crate::files::O_NOFOLLOW;
 use crate::rights::at;
@@ -21,9 +21,9 @@ const SO_PEERCRED: i32 = 17;
 const SO_PEERGROUPS: i32 = 59;
 const MOST_GROUPS: usize = 256;
 
-/// A listening socket at a path, its own until it is dropped or the process ends.
+/// A listening socket at a path that no other process can use until it is dropped or the process ends.
 pub struct Listening {
-    path: String,
+    pub path: String,
     group: Option<u32>,
     lock: Option<File>,
     pub socket: UnixListener,
@@ -43,7 +43,7 @@ impl Listening {
         Ok(Listening { path: path.into(), group, lock: Some(lock), socket, watch: sys::watch(path).ok() })
     }
 
-    /// Whether the socket is there, as far as this user may look.
+    /// Whether the socket exists, as far as this user may look.
     pub fn is_there(&self) -> bool {
         !matches!(fs::symlink_metadata(&self.path), Err(fault) if fault.kind() == ErrorKind::NotFound)
     }

@@ -1,33 +1,57 @@
-//! The work: the agent is given what the interfaces receive, and each second at its place among the frames; what it
-//! sends is sent.
+//! The work: gives the agent what the interfaces receive, and each second at its place among the frames, and sends
+//! what it sends.
 
-use crate::agent::{set_status, Line, Running};
-use crate::clock::{self, Clock, INEXACT, SECOND};
+use crate::agent::{Line, Running};
+use crate::clock::{self, Clock, INEXACT, MILLISECOND, SECOND};
 use crate::control::Control;
-use crate::links::Link;
-use crate::links::Links;
+use crate::links::{Link, Links};
 use crate::log::Log;
 use crate::notify::Manager;
 use crate::ports::{ran_and_later, Ports};
 use crate::reports::Events;
 use crate::settings::Setting;
-use crate::sys::{self, Polled};
+use crate::sys;
 use crate::words::Given;
-use lldpa::{Sent, Status};
+use lldpa::Sent;
 use std::fs::File;
 use std::net::Ipv4Addr;
+use std::os::unix::io::AsRawFd;
 
 const MOST_TICKS: usize = 65535; // of one line
 
-/// What a port sends, and as of which moment.
+/// A descriptor to wait for, what for, and what has happened.
+#[repr(C)]
+pub struct Polled(pub i32, pub i16, pub i16);
+
+impl Polled {
+    pub const IN: i16 = 1;
+    pub const PRIORITY: i16 = 2;
+    pub const OUT: i16 = 4;
+
+    pub fn new(file: &impl AsRawFd, wanted: i16) -> Polled {
+        Polled(file.as_raw_fd(), wanted, 0)
+    }
+}
+
+/// A frame that a port sends, and when it should have.
 struct Outgoing {
     moment: i64,
     port: usize,
     frame: Vec<u8>,
 }
 
+/// What a turn found besides frames.
+pub struct Turn {
+    /// The agent was given everything up to this moment.
+    moment: i64,
+    pub has_signal: bool,
+    /// Whether there is something for [`Live::serve`].
+    pub is_asked: bool,
+}
+
 pub struct Live {
     pub given: Given,
+    pub signals: File,
     pub began: i64,
     pub clock: Clock,
     pub links: Links,
@@ -45,33 +69,32 @@ pub struct Live {
     pub settings: Vec<Setting>,
     pub not_taken: usize,
     pub host_name: String,
-    /// Tells that the host's name has changed, if the kernel can.
+    /// Becomes ready when the host's name has changed.
     pub name_file: Option<File>,
     /// The changes of interfaces that the ports have followed.
     pub followed: u64,
     /// When the state is written again, and an agent may be opened again.
     pub next_state: i64,
     pub next_try: i64,
-    /// When to look for what nothing tells: the host's name, and a control socket that was removed.
+    /// When to look at the host's name and for the control socket, since on some systems nothing reports a change.
     pub next_look: i64,
     /// Whether it was reported that there is no interface, and no address.
     pub is_awaiting: bool,
     pub was_missing: bool,
     pub last_number: u32,
-    /// The place of the client that is answered first.
-    pub next_client: usize,
     outgoing: Vec<Outgoing>,
 }
 
 impl Live {
-    pub fn new(given: Given, links: Links, ports: Ports, log: Log, control: Option<Control>) -> Live {
+    pub fn new(given: Given, signals: File, links: Links, ports: Ports, control: Option<Control>) -> Live {
         Live {
             began: clock::wall(),
             clock: Clock::new(),
             links,
             ports,
+            signals,
             running: None,
-            log,
+            log: Log::new(given.log.clone(), given.log_most, given.log_keep),
             control,
             manager: Manager::new(),
             events: Events::default(),
@@ -88,26 +111,43 @@ impl Live {
             is_awaiting: false,
             was_missing: false,
             last_number: 0,
-            next_client: 0,
             outgoing: Vec::new(),
             given,
         }
     }
 
-    /// Gives the agent what has come in: frames by their stamps, and each second at its place among them. Returns
-    /// the moment up to which it has given all. A link that came up is given before the frames, one that went down
-    /// after them, so that none is lost.
-    pub fn turn(&mut self, is_asked: bool) -> i64 {
-        let moment = clock::now();
-        let mut set = vec![Polled::new(&self.links.socket, Polled::IN)];
-        set.extend(self.ports.polled(if is_asked { i64::MAX } else { moment }));
-        sys::wait(&mut set, 0);
-        let news = if set[0].2 != 0 { self.links.read().unwrap_or_default() } else { Vec::new() };
-        if self.running.is_none() {
-            self.await_interface();
-            return clock::now();
+    /// Waits until something comes in or is due, up to that moment, and gives the agent what came in: frames by their
+    /// stamps, and each second at its place among them. A link that came up is given before the frames, one that
+    /// went down after them, so that none is lost. For a question it does not wait, and reads ports that rest, too.
+    pub fn turn(&mut self, last: i64, is_question: bool) -> Turn {
+        let before = clock::now();
+        let due = self.agent_due();
+        let mut set =
+            vec![Polled::new(&self.signals, Polled::IN), Polled::new(&self.links.socket, Polled::IN)];
+        set.extend(self.control.iter().flat_map(|control| control.polled(before)));
+        set.extend(self.name_file.iter().map(|file| Polled::new(file, Polled::PRIORITY)));
+        let ports = set.len();
+        if self.running.is_some() {
+            set.extend(self.ports.polled(if is_question { i64::MAX } else { before }));
         }
-        let moment = self.ports.read(&mut self.clock, moment, &set[1..]);
+        let wait = if is_question { 0 } else { self.deadline(before, due).min(last) - before };
+        sys::wait(&mut set, ((wait.max(0) + MILLISECOND - 1) / MILLISECOND) as i32);
+        let news = if set[1].2 != 0 { self.links.read().unwrap_or_default() } else { Vec::new() };
+        let left = self.ports.read(&mut self.clock, &set[ports..]);
+        // The agent acts in a second that is due. It is given once all frames before it are known to be read: if that
+        // second ended while this waited, at the next turn.
+        let now = clock::now();
+        let all = if due.map_or(false, |due| due <= now) { before } else { now };
+        let moment = left.map_or(all, |left| left.min(all));
+        self.give(news, moment);
+        Turn { moment, has_signal: set[0].2 != 0, is_asked: set[2..ports].iter().any(|one| one.2 != 0) }
+    }
+
+    /// Gives the agent news of links, and the frames and seconds up to a moment.
+    fn give(&mut self, news: Vec<Link>, moment: i64) {
+        if self.running.is_none() {
+            return self.await_interface();
+        }
         let (came, went) = ran_and_later(news);
         let mut downs = self.take_links(&came);
         for frame in self.ports.frames_until(moment) {
@@ -122,12 +162,17 @@ impl Live {
         }
         self.send(); // before ports may go
         self.follow();
-        moment
     }
 
+    /// Returns when the agent next acts by itself.
+    fn agent_due(&self) -> Option<i64> {
+        self.running.as_ref()?.agent.due().map(|seconds| self.clock.end_of(seconds))
+    }
+
+    /// Gives the agent all that came in before a question.
     pub fn catch_up(&mut self) {
         let moment = clock::now() + INEXACT;
-        while self.turn(true) < moment && self.ports.have_more() {}
+        while self.turn(0, true).moment < moment && self.ports.have_more() {}
     }
 
     /// Gives the agent each second that ends up to a moment, once.
@@ -149,92 +194,29 @@ impl Live {
             }
         }
         if self.ports.all.iter().any(|port| port.is_refused()) {
-            let known: Vec<Link> = self.links.all().cloned().collect();
-            self.take_links(&known);
+            self.take_known_links();
         }
         Some(())
     }
 
-    pub fn take_links(&mut self, news: &[Link]) -> Vec<String> {
-        let (now, mut downs) = (clock::now(), Vec::new());
-        for one in news {
-            for place in 0..self.ports.all.len() {
-                for is_up in self.ports.all[place].take_link(&self.ports.sockets[place], one, now) {
-                    self.tell_link(place, is_up);
-                    downs.extend((!is_up).then(|| self.ports.all[place].name.clone()));
-                }
-            }
-        }
-        downs
-    }
-
-    pub fn tell_link(&mut self, port: usize, is_up: bool) -> Option<()> {
-        let (name, now) = (self.ports.all[port].name.clone(), clock::now());
-        let line = Line::Link(name.clone(), is_up);
-        self.log.write(now, &line);
-        self.events.tell(&name, &format!("{name}: the link is {}", if is_up { "up" } else { "down" }));
-        let sent = self.running.as_mut()?.take(&line);
-        self.take_sent(&sent, now);
-        Some(())
-    }
-
-    /// Empties the table of a port that went down: it is disabled for a moment.
-    fn forget(&mut self, name: &str) -> Option<()> {
-        let running = self.running.as_ref()?;
-        let place = usize::from(running.number(name)?);
-        let status = *running.agent.configuration().status.get(place)?;
-        for status in [Status::Disabled, status] {
-            let _ = self.command(set_status(name, status).to_string());
-        }
-        Some(())
-    }
-
-    /// Gives the agent a command as of now. Returns the answer, or why it is refused.
-    pub fn command(&mut self, line: impl AsRef<[u8]>) -> Result<String, String> {
-        let line = line.as_ref();
-        let running = self.running.as_mut().ok_or("error: waiting for an interface")?;
-        let done = running.agent.command(line).map_err(|fault| fault.line())?;
-        if let Some(show) = done.show {
-            return Ok(running.agent.show(show));
-        }
-        let told = running.agent.configuration().status;
-        for (port, status) in self.ports.all.iter_mut().zip(told) {
-            if !matches!(status, Status::RxAndTx | Status::RxOnly) {
-                port.full_until = 0; // its table was emptied
-            }
-        }
-        self.log.write(clock::now(), &String::from_utf8_lossy(line));
-        self.take_sent(&done.sent, clock::now());
-        self.note_gone();
-        self.send();
-        Ok(String::new())
-    }
-
-    /// Takes what ports send as of a moment, as they are configured now. Of what a port would have sent in seconds that
-    /// were missed, the last is kept.
+    /// Takes what ports send as of a moment, as they are configured now. Of the frames that a port would have sent in
+    /// seconds that were missed, the last is kept.
     pub fn take_sent(&mut self, sent: &[Sent], moment: i64) {
-        let is_late = clock::now() - moment >= SECOND;
+        let now = clock::now();
         for one in sent {
             let port = usize::from(one.port);
             let frame =
                 self.running.as_ref().and_then(|running| running.agent.frame_of(one.port, one.mark).ok());
             let count = self.outgoing.len();
-            self.outgoing.retain(|other| !is_late || other.port != port);
+            self.outgoing.retain(|other| other.port != port || now - other.moment < SECOND);
             self.ports.all[port].left_out += (count - self.outgoing.len()) as u64;
             self.outgoing.extend(frame.map(|frame| Outgoing { moment, port, frame }));
         }
     }
 
-    /// Sends what ports send, but for what is late and followed by something else.
     pub fn send(&mut self) {
-        let (outgoing, now) = (std::mem::take(&mut self.outgoing), clock::now());
-        for (place, one) in outgoing.iter().enumerate() {
-            let has_later = outgoing[place + 1..].iter().any(|other| other.port == one.port);
-            if now - one.moment >= SECOND && has_later {
-                self.ports.all[one.port].left_out += 1;
-            } else {
-                self.ports.all[one.port].send(&self.ports.sockets[one.port], one.frame.clone());
-            }
+        for one in std::mem::take(&mut self.outgoing) {
+            self.ports.all[one.port].send(&self.ports.sockets[one.port], one.frame);
         }
     }
 }

@@ -1,7 +1,7 @@
 //! The log of a session: the trace that the agent is given, with the wall clock as comments, in files that a thread
-//! writes. lldpa-live never waits for it. What the disk does not take in time waits, within bounds; what finds no
-//! room is lost and counted, and then a new file has to begin, since a trace with a gap replays to something else.
-//! The thread also writes the state.
+//! writes. lldpa-live never waits for it. Lines wait for a slow disk, within bounds. If there is no room for a line,
+//! it is lost and counted, and a new file must begin, since a trace with a gap would replay to something else. The
+//! thread also writes the state.
 
 use crate::clock::{self, SECOND};
 use crate::files::{self, Files};
@@ -45,9 +45,8 @@ pub struct Log {
     trouble: &'static str,
     pub lost: u64,
     lost_told: u64,
-    /// Whether nothing was lost since a file began, and whether it has stalled since.
+    /// Whether nothing was lost since a file began.
     is_whole: bool,
-    has_stalled: bool,
     next_try: i64,
     /// The octets of the file, and with how many the next may follow; 0 before the first.
     size: u64,
@@ -78,7 +77,6 @@ impl Log {
             self.size = octets.len() as u64;
             self.least = self.most.max(self.size + self.most / 2);
             self.is_whole = true;
-            self.has_stalled = false;
             self.send(Job(octets.len(), 0, Box::new(move |files| files.begin(&octets))));
         }
     }
@@ -128,8 +126,8 @@ impl Log {
         let _ = jobs.send(job);
     }
 
-    /// Hands over what is kept, takes the answers that have come in, and notes that they are overdue. If this
-    /// process itself stood still, that counts as a second.
+    /// Hands over what is kept, handles the answers that have come in, and notes if one is overdue. If this process
+    /// itself stood still, that counts as a second.
     pub fn turn(&mut self) {
         self.hand_over();
         while let Some(done) = self.thread.as_ref().and_then(|thread| thread.1.try_recv().ok()) {
@@ -168,7 +166,9 @@ impl Log {
             Ok(path) if octets > 0 && !self.trouble.is_empty() => {
                 let lost = self.lost - self.lost_told;
                 warn(&format!("the log continues in {path}; {lost} lines were not written"));
-                self.has_stalled = self.is_whole && self.trouble == "stalled" && lines > 0;
+                if self.trouble == "stalled" && lines > 0 {
+                    self.size = self.least; // so that another file begins
+                }
                 self.lost_told = self.lost;
                 self.trouble = "";
             }
@@ -182,7 +182,7 @@ impl Log {
         if self.trouble.is_empty() {
             self.tell(&format!("stops, lldpa-live continues: {}", text_of(fault)));
         }
-        if !files::has_ended_before(fault) {
+        if fault.raw_os_error() != Some(files::EBADF) {
             self.trouble = if files::is_of_a_full_disk(fault) { "full" } else { "stalled" };
         }
     }
@@ -191,7 +191,7 @@ impl Log {
     pub fn wants_beginning(&self) -> bool {
         match self.least {
             0 => false,
-            least if self.is_whole => self.trouble.is_empty() && (self.has_stalled || self.size >= least),
+            least if self.is_whole => self.trouble.is_empty() && self.size >= least,
             _ => self.waiting_octets == 0 && clock::now() >= self.next_try,
         }
     }
@@ -209,7 +209,7 @@ impl Log {
         }
     }
 
-    /// Waits until all is written, at most so long.
+    /// Waits until everything is written, at most so long.
     pub fn close(&mut self, patience: i64) {
         self.turn();
         let last = clock::now() + patience;

@@ -1,5 +1,5 @@
 //! Reports the state of a service to systemd: datagrams to the socket that NOTIFY_SOCKET names, see sd_notify(3).
-//! One that is not taken at once is lost, so that reporting never waits.
+//! A datagram that cannot be sent at once is lost, so that reporting never waits.
 
 use crate::clock::SECOND;
 use crate::sys;
@@ -22,7 +22,7 @@ fn variable(name: &str) -> Option<String> {
     std::env::var(name).ok()
 }
 
-/// The nanoseconds after which this process is given up without a sign of life.
+/// Returns after how many nanoseconds without a sign of life systemd ends this process.
 fn watchdog_span() -> Option<i64> {
     let is_other = |pid: String| pid != std::process::id().to_string();
     if variable("WATCHDOG_PID").map_or(false, is_other) {
@@ -55,23 +55,16 @@ impl Manager {
         self.socket.is_some()
     }
 
-    fn tell(&self, lines: &str) {
-        if let Some((mut socket, address)) = self.socket.as_ref().map(|(socket, address)| (socket, address)) {
-            let _ = sys::name_socket(socket, address, true).and_then(|()| socket.write(lines.as_bytes()));
+    /// Reports lines, such as `READY=1`.
+    pub fn tell(&self, lines: &str) {
+        if let Some((socket, address)) = &self.socket {
+            let _ = sys::name_socket(socket, address, true).and_then(|()| { socket }.write(lines.as_bytes()));
         }
     }
 
-    pub fn ready(&self) {
-        self.tell("READY=1");
-    }
-
-    /// The service reads its settings again; `ready` follows.
+    /// Reports that the service reads its settings again; `READY=1` follows.
     pub fn reloading(&self) {
         self.tell(&format!("RELOADING=1\nMONOTONIC_USEC={}", sys::clock(1) / 1000));
-    }
-
-    pub fn stopping(&self) {
-        self.tell("STOPPING=1");
     }
 
     /// What `systemctl status` shows, if it differs from before.

@@ -1,10 +1,9 @@
-//! How an agent is opened: it needs a port and an interface that names this host, and gets the settings, the neighbors
-//! of an earlier lldpa-live, and the links.
+//! Opens the agent, as soon as there are a port and an interface that names this host, and gives it the settings, the
+//! neighbors of an earlier lldpa-live, and the links.
 
-use crate::agent::{set_status, set_text, without_sending, Line, Running};
+use crate::agent::{set_text, unsent, Line, Running};
 use crate::clock::{self, Clock, SECOND};
 use crate::identity::{chassis_address, description};
-use crate::links::Link;
 use crate::live::Live;
 use crate::options::is_text;
 use crate::reports::{notice, warn};
@@ -52,7 +51,7 @@ impl Live {
         self.management = self.present_address();
         let hostname = self.given.agent.hostname.clone().unwrap_or_else(|| self.host_name.clone());
         let hostname = if is_text(&hostname) { hostname } else { String::new() };
-        let running = Running::open(&self.given.agent, names, mac, hostname, self.management)?;
+        let running = Running::open(&self.given.agent, names, mac, hostname, self.management, &[])?;
         self.log.begin(&running.words(&self.given.agent), "");
         self.running = Some(running);
         self.clock = Clock::new();
@@ -60,14 +59,13 @@ impl Live {
         Ok(())
     }
 
-    /// Tells an agent that was just opened the settings, the neighbors of an earlier one, and the links.
+    /// Gives an agent that was just opened the settings, the neighbors of an earlier one, and the links.
     fn begin(&mut self, past: &Past) {
         let text = if self.given.no_description { Some(String::new()) } else { description() };
         text.map(|text| self.command(set_text("description", &text).to_string()));
         self.settle(true);
         self.restore(past);
-        let known: Vec<Link> = self.links.all().cloned().collect();
-        self.take_links(&known);
+        self.take_known_links();
         for place in 0..self.ports.all.len() {
             if let Some(is_up) = self.ports.all[place].await_missing() {
                 self.tell_link(place, is_up);
@@ -77,7 +75,7 @@ impl Live {
         self.events.are_wanted = self.given.events;
         self.followed = self.links.changes;
         self.report_address();
-        self.manager.ready();
+        self.manager.tell("READY=1");
     }
 
     pub fn report_awaited(&mut self) {
@@ -90,16 +88,17 @@ impl Live {
         notice(&format!(
             "{awaited}: no such interface yet; waiting for it, and until then there is no agent"
         ));
-        self.manager.ready(); // so that it does not hold up the start of the system
+        self.manager.tell("READY=1"); // so that it does not hold up the start of the system
         self.manager.show(format!("waiting for an interface: {awaited}"));
     }
 
+    /// Returns the names and patterns of which it awaits an interface.
     pub fn awaited(&self) -> String {
-        let names = self.ports.names();
-        if names.is_empty() { self.given.parts.clone() } else { names }.join(" ")
+        self.given.parts.join(" ")
     }
 
-    /// Gives the agent the neighbors of an earlier lldpa-live, while its ports do not send. They are no news.
+    /// Gives the agent the neighbors of an earlier lldpa-live, while its ports do not send. Nothing is reported of
+    /// them.
     fn restore(&mut self, past: &Past) -> Option<()> {
         let running = self.running.as_mut().filter(|_| !past.lines.is_empty())?;
         let is_able = |name: &String| {
@@ -112,13 +111,9 @@ impl Live {
             lines.push(Line::Ticks(past.seconds));
         }
         let told = running.agent.configuration().status;
-        let set = |change: fn(Status) -> Status| {
-            let ports =
-                running.names.iter().zip(&told).filter(|(_, status)| without_sending(**status) != **status);
-            ports.map(|(name, status)| set_status(name, change(*status))).collect::<Vec<_>>()
-        };
-        let lines = [set(without_sending), lines, set(|status| status)].concat();
-        for line in &lines {
+        let status =
+            |name: &String| running.number(name).map_or(Status::Disabled, |port| told[usize::from(port)]);
+        for line in &unsent(&running.names, status, lines) {
             self.log.write(clock::now(), line);
             running.take(line);
         }

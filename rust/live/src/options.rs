@@ -1,7 +1,7 @@
-//! The options of the agent, which stand behind `--`: those of lldpa(1).
+//! The options of the agent, which follow `--`: those of lldpa(1).
 
 use crate::links::Mac;
-use crate::words::number;
+use crate::words::{number, split};
 use lldpa::Role;
 use std::net::Ipv4Addr;
 
@@ -25,8 +25,7 @@ impl AgentOptions {
         while let Some(word) = rest.next() {
             let option =
                 word.strip_prefix("--").ok_or(format!("{word}: only options of lldpa may follow --"))?;
-            let (name, value) =
-                option.split_once('=').map_or((option, None), |(name, value)| (name, Some(value)));
+            let (name, value) = split(option);
             if given.contains(&name) {
                 return Err(format!("--{name} is given twice"));
             }
@@ -57,7 +56,14 @@ impl AgentOptions {
             "hostname" if is_text(value) => self.hostname = Some(value.into()),
             "hostname" => return Err(wrong("a text of at most 255 printable characters")),
             "management" => self.management = Some(value.parse().map_err(|_| wrong("an IPv4 address"))?),
-            "role" => self.numbers.role = role_of(value).ok_or_else(|| wrong("station, bridge or router"))?,
+            "role" => {
+                self.numbers.role = match value {
+                    "station" => Role::Station,
+                    "bridge" => Role::Bridge,
+                    "router" => Role::Router,
+                    _ => return Err(wrong("station, bridge or router")),
+                }
+            }
             "max-neighbors" => self.numbers.max_neighbors = number(128)?,
             "tx-credit-max" => self.numbers.credit_max = number(10)?,
             "tx-fast-init" => self.numbers.fast_init = number(8)?,
@@ -70,7 +76,7 @@ impl AgentOptions {
         Ok(())
     }
 
-    /// The words for an agent of that address, name and management address, as a shell takes them.
+    /// Returns the words for an agent of that address, name and management address, quoted for a shell.
     pub fn words(&self, mac: Mac, hostname: &str, management: Option<Ipv4Addr>, ports: &[String]) -> String {
         let mac = mac.map(|octet| format!("{octet:02x}")).join(":");
         let mut words = vec![format!("--mac={mac}"), format!("--hostname={hostname}")];
@@ -86,15 +92,6 @@ pub fn is_text(text: &str) -> bool {
     text.len() <= 255 && text.bytes().all(|octet| (b' '..=b'~').contains(&octet))
 }
 
-fn role_of(text: &str) -> Option<Role> {
-    match text {
-        "station" => Some(Role::Station),
-        "bridge" => Some(Role::Bridge),
-        "router" => Some(Role::Router),
-        _ => None,
-    }
-}
-
 /// Six pairs of hexadecimal digits, joined by `:`.
 fn mac_of(text: &str) -> Option<Mac> {
     let octets = crate::said::octets_of(&text.replace(':', ""))?;
@@ -104,7 +101,7 @@ fn mac_of(text: &str) -> Option<Mac> {
         .filter(|mac: &Mac| mac.map(|octet| format!("{octet:02x}")).join(":") == text.to_lowercase())
 }
 
-/// A word as a shell takes it.
+/// Quotes a word for a shell.
 fn quoted(word: &str) -> String {
     let is_plain = |octet: u8| octet.is_ascii_alphanumeric() || b"@%+=:,./_-".contains(&octet);
     if !word.is_empty() && word.bytes().all(is_plain) {

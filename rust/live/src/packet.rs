@@ -1,7 +1,7 @@
-//! The packet socket of a port. Opening it needs CAP_NET_RAW; all else needs no right: binding it to an interface,
-//! and again to one that came back, its groups, its stamps, reading and sending.
+//! The packet socket of a port. Opening it needs CAP_NET_RAW; everything else needs no right: binding it to an
+//! interface, and again to one that came back, its groups, its stamps, reading and sending.
 
-use crate::sys::{self, Step};
+use crate::sys;
 use std::fs::File;
 use std::io::Result;
 
@@ -15,7 +15,7 @@ const PACKET_STATISTICS: i32 = 6;
 const ETH_P_ALL: u16 = 3;
 const ETH_P_LLDP: u16 = 0x88cc;
 const LOOPBACK: i32 = 1;
-/// The last octets of the nearest bridge, the nearest bridge but for those of two ports, and the nearest customer.
+/// The last octets of the nearest bridge, the nearest non-TPMR bridge, and the nearest customer bridge.
 const GROUPS: [u8; 3] = [0x0e, 0x03, 0x00];
 const ROOM_IN_KERNEL: i32 = 1 << 20;
 pub const LONGEST_FRAME: usize = 1514;
@@ -23,6 +23,10 @@ pub const LONGEST_FRAME: usize = 1514;
 const OF_ANOTHER: u32 = 13;
 
 const LLDP: u32 = ETH_P_LLDP as u32;
+
+/// A step of a filter: what is done, how many steps are skipped if so and if not, and a number.
+#[repr(C)]
+pub struct Step(pub u16, pub u8, pub u8, pub u32);
 
 /// Lets through a whole LLDP frame that this host received, untagged, to the nearest bridge and of at most 1514
 /// octets; and the first 13 octets of another LLDP frame that an agent could keep. (linux/filter.h)
@@ -50,7 +54,7 @@ const FILTER: [Step; 21] = [
     Step(0x06, 0, 0, 0),          // 20: nothing
 ];
 
-/// Opens a socket that hears nothing yet, and whose filter nobody can remove or replace.
+/// Opens a socket that receives nothing yet, and whose filter nobody can remove or replace.
 pub fn open() -> Result<File> {
     let socket = sys::raw_socket(AF_PACKET.into())?;
     sys::set(&socket, SOL_SOCKET, SO_RCVBUF, &ROOM_IN_KERNEL.to_ne_bytes())?;
@@ -72,7 +76,7 @@ pub fn take(socket: &File, interface: i32) -> Result<()> {
     Ok(())
 }
 
-/// Lets a socket hear nothing any more, even if its interface still exists: on the loopback no LLDP frame comes.
+/// Lets a socket receive nothing more, even if its interface still exists: the loopback has no LLDP frames.
 pub fn release(socket: &File) {
     let _ = bind(socket, LOOPBACK, ETH_P_LLDP);
 }
@@ -85,7 +89,7 @@ fn bind(socket: &File, interface: i32, protocol: u16) -> Result<()> {
     sys::name_socket(socket, &address, false)
 }
 
-/// How many frames the kernel had no room for since it was last asked.
+/// Returns how many frames the kernel dropped since it was last asked.
 pub fn drops(socket: &File) -> u64 {
     sys::get::<2>(socket, SOL_PACKET, PACKET_STATISTICS).map_or(0, |(told, _)| told[1].into())
 }

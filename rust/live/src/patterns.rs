@@ -1,7 +1,6 @@
 //! Ports that are given by patterns, like those of lldpd's option -I.
 
-use crate::links::Link;
-use crate::links::Links;
+use crate::links::{Link, Links};
 
 const LONGEST_NAME: usize = 15;
 const LONGEST_PATTERN: usize = 64;
@@ -36,39 +35,40 @@ pub fn gives(part: &str) -> bool {
     is_pattern(part) && (!part.starts_with('!') || part.starts_with("!!"))
 }
 
-/// Whether nothing takes a name away, or something gives it all the same.
-fn is_wanted(name: &str, parts: &[String]) -> bool {
-    let matched = |part: &String, front: &str| {
-        part.strip_prefix(front).map_or(false, |rest| matches(rest.as_bytes(), name.as_bytes()))
-    };
-    let is_given = parts.iter().any(|part| matched(part, "!!"));
-    is_given || !parts.iter().any(|part| !part.starts_with("!!") && matched(part, "!"))
+/// Whether a pattern gives ports of that name.
+fn gives_name(part: &str, name: &str) -> bool {
+    gives(part) && matches(part.trim_start_matches('!').as_bytes(), name.as_bytes())
 }
 
-/// Whether a pattern matches an interface. It must be hardware, or also named, unless the pattern begins with a
-/// letter of a name, as `veth*`.
-fn gives_this(part: &str, one: &Link, parts: &[String]) -> bool {
-    let pattern = part.trim_start_matches('!');
-    let may_be_virtual = !pattern.starts_with(&['*', '?', '['][..]);
-    gives(part)
-        && matches(pattern.as_bytes(), one.name.as_bytes())
-        && (one.is_hardware || may_be_virtual || parts.contains(&one.name))
+/// Whether nothing takes a name away, or something gives it all the same.
+fn is_wanted(name: &str, parts: &[String]) -> bool {
+    let takes = |part: &&String| {
+        let rest = part.strip_prefix('!').filter(|rest| !rest.starts_with('!'));
+        rest.map_or(false, |rest| matches(rest.as_bytes(), name.as_bytes()))
+    };
+    let is_given = parts.iter().any(|part| part.starts_with("!!") && gives_name(part, name));
+    is_given || !parts.iter().any(|part| takes(&part))
+}
+
+/// Whether a pattern gives an interface. It must be hardware, or also named, unless the pattern begins with a letter
+/// of a name, as `veth*`.
+fn gives_interface(part: &str, one: &Link, parts: &[String]) -> bool {
+    let may_be_virtual = !part.trim_start_matches('!').starts_with(&['*', '?', '['][..]);
+    gives_name(part, &one.name) && (one.is_hardware || may_be_virtual || parts.contains(&one.name))
 }
 
 /// Whether a pattern could give an interface of that name.
 pub fn may_give(parts: &[String], name: &str) -> bool {
-    is_wanted(name, parts)
-        && parts
-            .iter()
-            .any(|part| gives(part) && matches(part.trim_start_matches('!').as_bytes(), name.as_bytes()))
+    is_wanted(name, parts) && parts.iter().any(|part| gives_name(part, name))
 }
 
 /// The ports that names and patterns give of these interfaces. A name is a port even if its interface does not exist.
 pub fn ports_of(parts: &[String], links: &Links) -> Vec<String> {
     let mut given: Vec<String> = Vec::new();
     for part in parts {
-        let matched =
-            links.all().filter(|one| one.is_ethernet && is_name(&one.name) && gives_this(part, one, parts));
+        let is_matched =
+            |one: &&Link| one.is_ethernet && is_name(&one.name) && gives_interface(part, one, parts);
+        let matched = links.all().filter(is_matched);
         let named = Some(part).filter(|part| !is_pattern(part)).cloned();
         for name in named.into_iter().chain(matched.map(|one| one.name.clone())) {
             if !given.contains(&name) && is_wanted(&name, parts) {

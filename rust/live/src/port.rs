@@ -1,15 +1,14 @@
-//! One port: it finds, keeps and loses the interface of its name, reads its frames and sends.
+//! One port: it finds, keeps and loses the interface of its name, limits what it receives, and sends.
 
-use crate::clock::{Clock, SECOND};
+use crate::clock::SECOND;
 use crate::links::{Link, Mac};
-use crate::packet::{self, LONGEST_FRAME};
+use crate::packet;
 use crate::reports::notice;
 use crate::rights::text_of;
 use crate::since::{digest, Held};
-use crate::sys;
 use std::collections::hash_map::RandomState;
 use std::fs::File;
-use std::io::{ErrorKind, Write};
+use std::io::Write;
 
 const LEAST_FRAME: usize = 14;
 const A_SECOND: i64 = 64; // frames that a port may receive
@@ -31,15 +30,15 @@ pub struct Port {
     /// The interface that it receives from, and its present address.
     pub index: Option<i32>,
     address: Option<Mac>,
-    /// Why it receives from none of its name.
+    /// Why it does not use the interface of its name.
     fault: String,
     /// Whether it was reported that its interface is missing.
     pub is_awaited: bool,
-    /// As the agent knows.
+    /// Its link as the agent was told.
     pub is_up: Option<bool>,
-    /// When its interface was gone, if it is.
+    /// When its interface went, if it is gone.
     pub gone_since: Option<i64>,
-    /// The moment since when what it may receive has grown from nothing.
+    /// The moment from which on the frames that it may receive have accumulated.
     allowed_since: i64,
     /// Whether frames were left in its socket, and the moment of the last that was read.
     pub has_more: bool,
@@ -54,7 +53,7 @@ pub struct Port {
     is_failing: bool,
     /// The neighbors that the agent holds.
     pub held: Vec<Held>,
-    /// The second up to which a neighbor would have stayed for which there was no room.
+    /// The second up to which a neighbor that found no room would have stayed.
     pub full_until: i64,
 }
 
@@ -63,7 +62,8 @@ impl Port {
         Port { name: name.into(), is_named, ..Port::default() }
     }
 
-    /// Takes the news of an interface. Returns whether the port is up then, each time that the agent does not know it.
+    /// Follows a change of an interface. Returns each change of the port's link, true for up, that the agent must be
+    /// given.
     pub fn take_link(&mut self, socket: &File, news: &Link, now: i64) -> Vec<bool> {
         let mut told = Vec::new();
         if news.is_there && news.name == self.name {
@@ -131,41 +131,29 @@ impl Port {
         self.told_link(false)
     }
 
-    /// Whether it should be tried again to take an interface that exists.
+    /// Whether its interface exists and could not be used, so that it must be tried again.
     pub fn is_refused(&self) -> bool {
         self.index.is_none() && !self.fault.is_empty()
     }
 
-    /// Reads at most so many frames. Those over the limit, and those that are not kept, are counted.
-    pub fn read(&mut self, socket: &File, most: usize, clock: &Clock, state: &RandomState) -> Vec<Frame> {
-        let (mut room, mut frames) = ([0u8; LONGEST_FRAME], Vec::new());
-        self.has_more = false;
-        for _ in 0..most {
-            let (length, stamp) = match sys::receive(socket, &mut room) {
-                Err(fault) if fault.kind() == ErrorKind::WouldBlock => return frames,
-                Err(_) => continue, // of an interface that went down, once; frames may follow
-                Ok(_) if self.index.is_none() => continue,
-                Ok(read) => read,
-            };
-            if length < LEAST_FRAME {
-                self.note_other();
-                continue;
-            }
-            let (octets, moment) = (&room[..length], clock.moment(stamp));
-            let digest = digest(state, octets);
-            self.read_to = moment;
-            if self.accepts(digest, moment) {
-                frames.push(Frame { moment, port: 0, digest, octets: octets.to_vec() });
-            } else {
-                self.limit_drops += 1;
-            }
+    /// Takes a frame that was read, unless its interface is gone, it is of another kind, or over the limit.
+    pub fn take(&mut self, port: usize, octets: &[u8], moment: i64, state: &RandomState) -> Option<Frame> {
+        self.read_to = moment;
+        self.index?;
+        if octets.len() < LEAST_FRAME {
+            self.note_other();
+            return None;
         }
-        self.has_more = true;
-        frames
+        let digest = digest(state, octets);
+        if !self.accepts(digest, moment) {
+            self.limit_drops += 1;
+            return None;
+        }
+        Some(Frame { moment, port, digest, octets: octets.to_vec() })
     }
 
-    /// Whether a frame is within the limit: what says of a neighbor what it said last is so once a second. Each other
-    /// frame takes one of those that are allowed; each second gives 64, up to 1,024.
+    /// Whether a frame is within the limit. A frame in which a neighbor repeats what it said last is, once a second.
+    /// Any other frame uses one of those allowed: 64 more each second, up to 1,024.
     fn accepts(&mut self, digest: u64, moment: i64) -> bool {
         let second = moment.div_euclid(SECOND);
         let repeated =

@@ -1,18 +1,20 @@
-//! All ports together: what they receive, in the order of its stamps.
+//! All ports together, and the frames that they received, in the order of their stamps.
 
 use crate::clock::{self, Clock, MILLISECOND, SECOND};
-use crate::links::Link;
-use crate::links::Links;
-use crate::packet;
+use crate::links::{Link, Links};
+use crate::live::Polled;
+use crate::packet::{self, LONGEST_FRAME};
 use crate::patterns;
 use crate::port::{Frame, Port};
 use crate::reports::{notice, warn};
-use crate::sys::Polled;
+use crate::sys;
 use std::collections::hash_map::RandomState;
 use std::fs::File;
+use std::io::ErrorKind;
 
 pub const MOST_PORTS: usize = 64;
 const MOST_AT_ONCE: usize = 1024; // frames that are read at a turn, of all ports together
+const ROOMS: usize = 16; // frames that one call reads
 const REST: i64 = 15 * MILLISECOND; // of ports that receive more than they may: all are read together then
 const BETWEEN_REPORTS: i64 = 60 * SECOND;
 
@@ -20,6 +22,7 @@ pub struct Ports {
     pub all: Vec<Port>,
     /// One for each port, in their order, and then those for ports that come later.
     pub sockets: Vec<File>,
+    rooms: Vec<[u8; LONGEST_FRAME]>,
     /// Frames that were read, by their moments.
     waiting: Vec<Frame>,
     /// What their LLDPDUs are digested with.
@@ -33,18 +36,18 @@ pub struct Ports {
 }
 
 impl Ports {
-    /// Opens the sockets of these ports, and if they may grow those of ports that may come later.
+    /// Opens the sockets of these ports, and if `may_grow`, also those of ports that may come later.
     pub fn open(names: &[String], parts: &[String], may_grow: bool) -> std::io::Result<Ports> {
         let count = if may_grow { MOST_PORTS } else { names.len() };
         let sockets = (0..count).map(|_| packet::open()).collect::<std::io::Result<Vec<_>>>()?;
         let all = names.iter().map(|name| Port::new(name, parts.contains(name))).collect();
-        let (waiting, refused) = (Vec::new(), Vec::new());
         Ok(Ports {
             all,
             sockets,
-            waiting,
+            rooms: vec![[0; LONGEST_FRAME]; ROOMS],
+            waiting: Vec::new(),
             state: RandomState::new(),
-            refused,
+            refused: Vec::new(),
             told: [(0, 0); 2],
             look_at: None,
         })
@@ -54,8 +57,8 @@ impl Ports {
         self.all.iter().map(|port| port.name.clone()).collect()
     }
 
-    /// The interfaces that patterns give by now and that are no ports, as many as there is room for. Those for
-    /// which there is none are reported, once each.
+    /// Returns the interfaces that patterns give now and that are not yet ports, as many as there is room for. Each of
+    /// the others is reported once.
     pub fn more(&mut self, parts: &[String], links: &Links) -> Vec<String> {
         let mut given = patterns::ports_of(parts, links);
         given.retain(|name| !self.all.iter().any(|port| port.name == *name));
@@ -74,7 +77,7 @@ impl Ports {
         self.all.push(port);
     }
 
-    /// The ports that only a pattern gave, and whose interfaces have been gone since before that moment.
+    /// Returns the ports that only a pattern gave, and whose interfaces have been gone since before that moment.
     pub fn gone(&self, before: i64) -> Vec<String> {
         let is_gone = |port: &&Port| !port.is_named && port.gone_since.map_or(false, |since| since <= before);
         self.all.iter().filter(is_gone).map(|port| port.name.clone()).collect()
@@ -90,8 +93,8 @@ impl Ports {
         }
     }
 
-    /// What to wait for. A port is not read while frames of it wait, so that few wait, however many come; nor while
-    /// it rests.
+    /// Returns what to wait for. A port is not read while frames of it wait, so that few wait, however many come; nor
+    /// while it rests.
     pub fn polled(&self, now: i64) -> Vec<Polled> {
         let is_waiting = |place: usize| self.waiting.iter().any(|frame| frame.port == place);
         let one = |(place, port): (usize, &Port)| match now < port.rests_until || is_waiting(place) {
@@ -101,9 +104,9 @@ impl Ports {
         self.all.iter().enumerate().map(one).collect()
     }
 
-    /// Reads some frames of the ports that are ready, as was seen behind a moment. Returns the moment up to which none
-    /// is left in any socket.
-    pub fn read(&mut self, clock: &mut Clock, moment: i64, set: &[Polled]) -> i64 {
+    /// Reads some frames of the ports that were found ready. Returns up to which moment all frames were read, if some
+    /// of those that came before may be left.
+    pub fn read(&mut self, clock: &mut Clock, set: &[Polled]) -> Option<i64> {
         let ready: Vec<usize> = (0..set.len()).filter(|place| set[*place].2 != 0).collect();
         if !ready.is_empty() {
             clock.note_wall_clock();
@@ -112,16 +115,29 @@ impl Ports {
             self.read_port(*place, (MOST_AT_ONCE / ready.len()).max(1), clock);
         }
         self.waiting.sort_by_key(|frame| frame.moment);
-        let is_left = |port: &&Port| port.has_more || port.rests_until > moment;
-        self.all.iter().filter(is_left).map(|port| port.read_to).fold(moment, i64::min)
+        let is_left = |(port, polled): &(&Port, &Polled)| port.has_more || polled.0 < 0;
+        self.all.iter().zip(set).filter(is_left).map(|(port, _)| port.read_to).min()
     }
 
-    /// Reads a port. If it receives more than it may, it rests then.
+    /// Reads a port, about so many frames at most. If it receives more than it may, it rests then.
     fn read_port(&mut self, place: usize, most: usize, clock: &Clock) {
-        let port = &mut self.all[place];
+        let (port, mut count) = (&mut self.all[place], 0);
         let before = port.limit_drops + port.other_frames;
-        let frames = port.read(&self.sockets[place], most, clock, &self.state);
-        self.waiting.extend(frames.into_iter().map(|frame| Frame { port: place, ..frame }));
+        port.has_more = true;
+        while port.has_more && count < most {
+            let read = match sys::receive(&self.sockets[place], &mut self.rooms) {
+                Err(fault) if fault.kind() != ErrorKind::WouldBlock => {
+                    count += 1; // its interface went down, which the kernel says once; frames may follow
+                    continue;
+                }
+                read => read.unwrap_or_default(),
+            };
+            port.has_more = read.len() == self.rooms.len();
+            count += read.len();
+            for ((length, stamp), room) in read.into_iter().zip(&self.rooms) {
+                self.waiting.extend(port.take(place, &room[..length], clock.moment(stamp), &self.state));
+            }
+        }
         let now = clock::now();
         let is_over = port.limit_drops + port.other_frames > before;
         if is_over {
@@ -142,7 +158,7 @@ impl Ports {
         !self.waiting.is_empty() || self.all.iter().any(|port| port.has_more)
     }
 
-    /// When to read again, if something is left.
+    /// Returns when to read again, if something is left.
     pub fn deadline(&self, now: i64) -> Option<i64> {
         let left = self.all.iter().filter(|port| port.has_more || port.rests_until > now);
         left.map(|port| port.rests_until).chain((!self.waiting.is_empty()).then_some(now)).min()
@@ -179,8 +195,8 @@ impl Ports {
     }
 }
 
-/// The news up to the last time that an interface of their name ran, and the others. The order holds for each name,
-/// whichever interfaces have it one after another.
+/// Divides news into those up to the last time that an interface of their name ran, and the others. Both keep the
+/// order of the news of a name, even if several interfaces had it one after another.
 pub fn ran_and_later(news: Vec<Link>) -> (Vec<Link>, Vec<Link>) {
     let last_run = |one: &Link| news.iter().rposition(|other| other.name == one.name && other.is_running);
     let ran: Vec<bool> = news.iter().enumerate().map(|(place, one)| last_run(one) >= Some(place)).collect();

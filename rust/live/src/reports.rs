@@ -1,8 +1,9 @@
 //! What lldpa-live reports to people on standard error: a line each, with its level if the journal reads it.
-//! A line is lost if nobody takes it.
+//! A line is lost if it cannot be written at once.
 
 use crate::clock::{self, SECOND};
-use crate::sys::{wait, Polled};
+use crate::live::Polled;
+use crate::sys::wait;
 use std::collections::BTreeMap;
 use std::fs::File;
 use std::io::Write;
@@ -56,7 +57,7 @@ fn is_shown(letter: char) -> bool {
     letter.is_ascii_graphic() || (!letter.is_ascii() && letter.is_alphanumeric() && !HIDDEN.contains(&letter))
 }
 
-/// A text of a stranger for people: letters and signs as they are, all else as `\x` and its octets.
+/// Makes a stranger's text readable: letters and signs stay, everything else becomes `\x` and its octets.
 pub fn readable(octets: &[u8]) -> String {
     let escaped = |octets: &[u8]| octets.iter().map(|octet| format!("\\x{octet:02x}")).collect::<String>();
     let one = |letter: char| match letter {
@@ -81,13 +82,13 @@ pub fn counted(count: usize, what: &str) -> String {
 pub struct Events {
     /// Whether somebody wants to know.
     pub are_wanted: bool,
-    /// Of each port, what was new in this minute.
+    /// How many events each port had in this minute.
     counts: BTreeMap<String, usize>,
     next_minute: i64,
 }
 
 impl Events {
-    /// Reports something of a port, unless it had its lines of this minute.
+    /// Reports an event of a port, unless the port has used up its lines of this minute.
     pub fn tell(&mut self, port: &str, text: &str) {
         if !self.are_wanted {
             return;
@@ -104,7 +105,7 @@ impl Events {
         }
     }
 
-    /// Reports at the end of a minute how much was left out.
+    /// Reports at the end of a minute how many events were left out.
     pub fn take_time(&mut self) {
         let now = clock::now();
         if now < self.next_minute {

@@ -32,12 +32,12 @@ fn entry(path: &str, name: &str) -> Option<Vec<String>> {
     text.lines().map(fields).find(|fields| fields[0] == name)
 }
 
-/// A number of a user or a group, but the one that stands for none.
+/// Returns a number of a user or a group, except the one that means none.
 fn number_of(name: &str) -> Option<u32> {
     name.parse().ok().filter(|number| *number != u32::MAX)
 }
 
-/// The user of that name in /etc/passwd, or of that number.
+/// Returns the user of that name in /etc/passwd, or of that number.
 pub fn user_of(name: &str) -> std::result::Result<User, String> {
     let field = |fields: &[String], place: usize| fields.get(place).and_then(|text| text.parse().ok());
     let fields = entry("/etc/passwd", name);
@@ -46,13 +46,13 @@ pub fn user_of(name: &str) -> std::result::Result<User, String> {
     found.or_else(of_number).ok_or(format!("user {name} does not exist"))
 }
 
-/// The group of that name in /etc/group, or of that number.
+/// Returns the group of that name in /etc/group, or of that number.
 pub fn group_of(name: &str) -> std::result::Result<u32, String> {
     let found = entry("/etc/group", name).and_then(|fields| fields.get(2)?.parse().ok());
     found.or_else(|| number_of(name)).ok_or(format!("group {name} does not exist"))
 }
 
-/// The user that `give_up` becomes: as root the one of that name, `nobody` unless given. None if it becomes none.
+/// Returns which user `give_up` should become: for root the one of that name, or `nobody`. None if it stays the same.
 pub fn user_to_be(name: Option<&str>) -> std::result::Result<Option<User>, String> {
     if own_user() != 0 {
         return name.map_or(Ok(None), |_| Err("--user: only root can become another user".into()));
@@ -66,12 +66,12 @@ pub fn give_up(user: Option<User>) -> Result<()> {
     sys::keep_no_right(user.map(|user| (user.user, user.group)), KEYCTL)
 }
 
-/// A fault with its path in front.
+/// Puts a path before a fault.
 pub fn at(path: &str) -> impl Fn(Error) -> Error + '_ {
     move |fault| Error::new(fault.kind(), format!("{path}: {}", text_of(&fault)))
 }
 
-/// A fault in the words of the system, without its number.
+/// Returns what the system says of a fault, without its number.
 pub fn text_of(fault: &Error) -> String {
     let text = fault.to_string();
     text.split(" (os error").next().unwrap_or(&text).into()

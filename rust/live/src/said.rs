@@ -1,4 +1,4 @@
-//! What a neighbor says, as texts: its identifiers as the agent shows them, and what has changed for people.
+//! What a neighbor says, as texts: its identifiers as the agent shows them, and its changes as people read them.
 
 use crate::reports::readable;
 use lldpa::{tlv_text, Info, Msap, Tlv};
@@ -36,7 +36,7 @@ fn shown(kind: u8, body: &[u8]) -> (String, String) {
     (key.into(), value.into())
 }
 
-/// A Chassis ID as in an MSAP identifier.
+/// Returns a Chassis ID as in an MSAP identifier.
 pub fn chassis_id(body: &[u8]) -> String {
     identifier(CHASSIS_ID, body)
 }
@@ -46,12 +46,12 @@ fn identifier(kind: u8, body: &[u8]) -> String {
     format!("{}={}", key.rsplit('.').next().unwrap_or(&key), value.replace(' ', "\\x20"))
 }
 
-/// The MSAP identifier: Chassis ID and Port ID.
+/// Returns the MSAP identifier: Chassis ID and Port ID.
 pub fn id(msap: &Msap<'_>) -> String {
     format!("{} {}", chassis_id(msap.chassis), identifier(PORT_ID, msap.port))
 }
 
-/// An identifier or an address for people, and its kind.
+/// Returns an identifier or an address as people read it, and its kind.
 fn name_of(kind: u8, body: &[u8]) -> (String, String) {
     let (key, value) = shown(kind, body);
     let name = match key.rsplit('.').next() {
@@ -65,7 +65,7 @@ fn name_of(kind: u8, body: &[u8]) -> (String, String) {
     (name, key)
 }
 
-/// A neighbor, its port and its management address in one line for people.
+/// Returns a neighbor, its port and its management address in one line.
 pub fn summary(info: &Info<'_>) -> String {
     let first = |kind| info.kept().find(|tlv| tlv.kind == kind && !tlv.body.is_empty()).map(|tlv| tlv.body);
     let msap = info.msap();
@@ -76,7 +76,7 @@ pub fn summary(info: &Info<'_>) -> String {
     format!("{name} {} {management}", described.map_or(port, readable)).trim_end().into()
 }
 
-/// What a TLV says, behind its key.
+/// Returns the key of a TLV, and what it says.
 fn row(tlv: &Tlv<'_>) -> (String, String) {
     let (key, value) = shown(tlv.kind, tlv.body);
     match tlv.kind {
@@ -101,7 +101,7 @@ fn rows(info: &Info<'_>) -> Vec<(String, String)> {
     rows
 }
 
-/// What a neighbor says now and did not before, and the other way round.
+/// Returns what a neighbor says now and did not say before, and the reverse.
 pub fn changes(old: &Info<'_>, new: &Info<'_>) -> Vec<String> {
     let (was, now) = (rows(old), rows(new));
     let text = |rows: &[(String, String)], key: &str| {

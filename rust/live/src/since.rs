@@ -1,4 +1,4 @@
-//! The neighbors of a port: when each came, and what it said last, by what the agent tells of each frame.
+//! The neighbors of a port: when each came, and what it said last, as the agent reports for each frame.
 
 use crate::clock::{self, MILLISECOND};
 use crate::said;
@@ -33,14 +33,14 @@ impl Held {
     }
 }
 
-/// The digest of a frame's LLDPDU. Nobody can know of two with the same one.
+/// Returns the digest of a frame's LLDPDU. It is keyed, so nobody can make two with the same digest.
 pub fn digest(state: &RandomState, frame: &[u8]) -> u64 {
     let mut hasher = state.build_hasher();
     hasher.write(frame.get(14..).unwrap_or(&[]));
     hasher.finish()
 }
 
-/// Takes out those that the agent holds no more.
+/// Removes and returns those that the agent no longer holds.
 pub fn take_gone(held: &mut Vec<Held>, agent: &Agent, port: u8) -> Vec<Held> {
     if agent.neighbors(port).map_or(0, |all| all.len()) == held.len() {
         return Vec::new();

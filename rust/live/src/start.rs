@@ -1,23 +1,20 @@
-//! The life of lldpa-live: it opens what needs rights, gives them up, works, and takes leave of its peers.
+//! The life of lldpa-live: it opens what needs rights, gives them up, works, and sends shutdown frames at the end.
 
-use crate::clock::{self, MILLISECOND, SECOND};
+use crate::clock::{self, SECOND};
 use crate::control::Control;
 use crate::files;
 use crate::links::Links;
 use crate::live::Live;
-use crate::log::Log;
 use crate::patterns;
 use crate::ports::{Ports, MOST_PORTS};
 use crate::reports::{report, warn, ERROR};
 use crate::rights::{self, give_up, group_of, text_of, user_to_be};
 use crate::state;
-use crate::sys::{self, Polled};
+use crate::sys;
 use crate::words::Given;
 use crate::{agent::set_status, ask, wrong_words};
 use lldpa::{Show, Status};
-use std::fs::File;
 use std::io::{Error, ErrorKind, Read, Result, Write};
-use std::os::unix::io::AsRawFd;
 use std::panic::{catch_unwind, AssertUnwindSafe};
 
 const FOR_THE_LOG: i64 = SECOND; // at the end
@@ -32,7 +29,7 @@ pub fn run(given: Given) -> i32 {
     match users {
         Err(why) => wrong_words(&why),
         Ok((user, group)) => match begun(given, user, group) {
-            Ok((live, signals)) => work(live, &signals),
+            Ok(live) => work(live),
             Err(fault) => fail(&fault),
         },
     }
@@ -44,7 +41,7 @@ fn fail(fault: &Error) -> i32 {
 }
 
 /// Opens what needs rights, gives them up, and opens the agent if it can be.
-fn begun(mut given: Given, user: Option<rights::User>, group: Option<u32>) -> Result<(Live, File)> {
+fn begun(mut given: Given, user: Option<rights::User>, group: Option<u32>) -> Result<Live> {
     given.control = absolute(&given.control);
     given.state = given.state.as_deref().map(absolute);
     given.log = given.log.as_deref().map(absolute);
@@ -59,14 +56,13 @@ fn begun(mut given: Given, user: Option<rights::User>, group: Option<u32>) -> Re
     give_up(user)?;
     given.log.as_deref().map_or(Ok(()), files::check)?;
     let signals = sys::signals()?;
-    let log = Log::new(given.log.clone(), given.log_most, given.log_keep);
     let past = past.unwrap_or_else(|why| {
         warn(&format!("{}: the state is not used: {why}", given.state.as_deref().unwrap_or("")));
         state::Past::default()
     });
-    let mut live = Live::new(given, links, ports, log, control);
+    let mut live = Live::new(given, signals, links, ports, control);
     live.open(past).map_err(|fault| Error::new(ErrorKind::Other, fault.to_string()))?;
-    Ok((live, signals))
+    Ok(live)
 }
 
 fn absolute(path: &str) -> String {
@@ -78,7 +74,8 @@ fn needs_a_right(fault: Error) -> Error {
     Error::new(fault.kind(), if fault.kind() == ErrorKind::PermissionDenied { text } else { text_of(&fault) })
 }
 
-/// The ports that names and patterns give at the start, of patterns no more than there is room for.
+/// Returns the ports that names and patterns give at the start. If there are too many, those that are named come
+/// first.
 fn first_ports(given: &Given, links: &Links, may_wait: bool) -> Result<Vec<String>> {
     let wrong = |what: String| Err(Error::new(ErrorKind::Other, what));
     let mut names = patterns::ports_of(&given.parts, links);
@@ -99,16 +96,16 @@ fn first_ports(given: &Given, links: &Links, may_wait: bool) -> Result<Vec<Strin
     Ok(names)
 }
 
-/// Works until a signal or a fault, and takes leave.
-fn work(mut live: Live, signals: &File) -> i32 {
+/// Works until a signal or a fault, and ends in order.
+fn work(mut live: Live) -> i32 {
     let worked = catch_unwind(AssertUnwindSafe(|| match live.given.once {
-        Some(seconds) => once(&mut live, signals, seconds),
+        Some(seconds) => once(&mut live, seconds),
         None => {
-            while !turn(&mut live, signals, i64::MAX) {}
+            while !turn(&mut live, i64::MAX) {}
             0
         }
     }));
-    while { signals }.read(&mut [0u8; 128]).is_ok() {}
+    while live.signals.read(&mut [0u8; 128]).is_ok() {}
     sys::block_signals(1); // no more: a second one ends it at once
     live.end();
     drop(live); // so that nothing is held if the disk hangs, and the thread of the log with it
@@ -118,35 +115,17 @@ fn work(mut live: Live, signals: &File) -> i32 {
     })
 }
 
-impl Polled {
-    pub const IN: i16 = 1;
-    pub const PRIORITY: i16 = 2;
-    pub const OUT: i16 = 4;
-
-    pub fn new(file: &impl AsRawFd, wanted: i16) -> Polled {
-        Polled(file.as_raw_fd(), wanted, 0)
-    }
-}
-
-/// Waits until something comes in or is due, and takes it. Returns whether it is to end.
-fn turn(live: &mut Live, mut signals: &File, last: i64) -> bool {
-    let now = clock::now();
-    let mut set = vec![Polled::new(signals, Polled::IN), Polled::new(&live.links.socket, Polled::IN)];
-    set.extend(live.control.iter().flat_map(|control| control.polled(now)));
-    set.extend(live.name_file.iter().map(|file| Polled::new(file, Polled::PRIORITY)));
-    let controls = set.len();
-    set.extend(live.ports.polled(now).into_iter().filter(|_| live.running.is_some()));
+/// Waits until something comes in or is due, up to that moment, and handles it. Returns whether it is to end.
+fn turn(live: &mut Live, last: i64) -> bool {
     let has_more = live.control.as_ref().map_or(false, Control::has_more);
-    let wait = if has_more { 0 } else { live.deadline(now).min(last) - now };
-    sys::wait(&mut set, ((wait.max(0) + MILLISECOND - 1) / MILLISECOND) as i32);
-    let is_asked = has_more || set[2..controls].iter().any(|one| one.2 != 0);
-    live.turn(false);
+    let turn = live.turn(if has_more { 0 } else { last }, false);
+    let is_asked = has_more || turn.is_asked;
     if is_asked || clock::now() >= live.next_look {
         live.serve(is_asked);
     }
     live.report_state();
     let mut room = [0u8; 128];
-    while let Ok(128) = if set[0].2 == 0 { Ok(0) } else { signals.read(&mut room) } {
+    while let Ok(128) = if turn.has_signal { live.signals.read(&mut room) } else { Ok(0) } {
         if room[0] != SIGHUP {
             return true;
         }
@@ -156,12 +135,12 @@ fn turn(live: &mut Live, mut signals: &File, last: i64) -> bool {
 }
 
 /// Waits until each port has a neighbor, at most so long, prints what is shown, and returns whether each has one.
-fn once(live: &mut Live, signals: &File, seconds: u64) -> i32 {
+fn once(live: &mut Live, seconds: u64) -> i32 {
     let last = clock::now() + seconds as i64 * SECOND;
     let are_complete =
         |live: &Live| live.running.is_some() && live.ports.all.iter().all(|port| !port.held.is_empty());
     while !are_complete(live) && clock::now() < last {
-        if turn(live, signals, last) {
+        if turn(live, last) {
             return 0;
         }
     }
@@ -173,7 +152,7 @@ fn once(live: &mut Live, signals: &File, seconds: u64) -> i32 {
 impl Live {
     /// Leaves the state to the next lldpa-live, and disables each port, so that its shutdown frame is sent.
     fn end(&mut self) {
-        self.manager.stopping();
+        self.manager.tell("STOPPING=1");
         self.write_state();
         if let Some(running) = &mut self.running {
             let sent = running.agent.leave();
@@ -184,7 +163,7 @@ impl Live {
         }
         self.send();
         if let Some(control) = &self.control {
-            control.close();
+            control.listening.close();
         }
         self.log.close(FOR_THE_LOG);
     }

@@ -1,10 +1,12 @@
-//! What `std` lacks: packet, netlink and signal sockets, poll, clocks, locks, who asks, and giving up rights.
-//! All `unsafe` of the program is here, over functions of the C library. Reading and writing go through `File`.
+//! What `std` lacks, over functions of the C library, with all `unsafe` of the program: packet, netlink and signal
+//! sockets, poll, clocks, locks, who asks, and giving up rights. Reading and writing go through `File`.
 
+use crate::live::Polled;
+use crate::packet::Step;
 use std::ffi::{c_void, CString};
 use std::fs::File;
-use std::io::{Error, IoSliceMut, Result};
-use std::os::raw::{c_char, c_int, c_long, c_short, c_uint, c_ulong};
+use std::io::{Error, Result};
+use std::os::raw::{c_char, c_int, c_long, c_uint, c_ulong};
 use std::os::unix::io::{AsRawFd, FromRawFd, RawFd};
 use std::ptr::{null, null_mut};
 
@@ -13,7 +15,7 @@ extern "C" {
     fn connect(fd: c_int, address: *const c_void, length: u32) -> c_int;
     fn setsockopt(fd: c_int, level: c_int, name: c_int, value: *const c_void, length: u32) -> c_int;
     fn getsockopt(fd: c_int, level: c_int, name: c_int, value: *mut c_void, length: *mut u32) -> c_int;
-    fn recvmsg(fd: c_int, message: *mut Message, flags: c_int) -> isize;
+    fn recvmmsg(fd: c_int, messages: *mut Received, count: c_uint, flags: c_int, time: *mut c_void) -> c_int;
     fn poll(fds: *mut Polled, count: c_ulong, milliseconds: c_int) -> c_int;
     fn sigaction(number: c_int, new: *const c_void, old: *mut [u64; 19]) -> c_int;
     fn sigprocmask(how: c_int, set: *const [u64; 16], old: *mut [u64; 16]) -> c_int;
@@ -83,17 +85,11 @@ pub fn set(file: &File, level: c_int, name: c_int, value: &[u8]) -> Result<()> {
     checked(set).map(drop)
 }
 
-/// A step of a filter: what is done, how many steps are skipped if so and if not, and a number.
-#[repr(C)]
-pub struct Step(pub u16, pub u8, pub u8, pub u32);
-#[repr(C)]
-struct Program(u16, *const Step);
-
 pub fn set_filter(file: &File, steps: &[Step]) -> Result<()> {
-    let program = Program(steps.len() as u16, steps.as_ptr());
-    let start = (&program as *const Program).cast();
-    // SAFETY: the program has 16 octets, and as many steps as it tells; the kernel copies them.
-    checked(unsafe { setsockopt(file.as_raw_fd(), SOL_SOCKET, SO_ATTACH_FILTER, start, 16) }).map(drop)
+    let program = [steps.len() as u64, steps.as_ptr() as u64];
+    let (number, start) = (file.as_raw_fd(), program.as_ptr().cast());
+    // SAFETY: the program has 16 octets, whose first 2 are the number of steps; the kernel copies them.
+    checked(unsafe { setsockopt(number, SOL_SOCKET, SO_ATTACH_FILTER, start, 16) }).map(drop)
 }
 
 /// The numbers of an option, and how many.
@@ -105,22 +101,27 @@ pub fn get<const N: usize>(file: &impl AsRawFd, level: c_int, name: c_int) -> Re
 }
 
 #[repr(C)]
-struct Message<'a>(*mut c_void, u32, *mut IoSliceMut<'a>, usize, *mut [u64; 4], usize, c_int);
-
-/// Reads a frame, and when it came by the wall clock in nanoseconds, if the kernel tells.
-pub fn receive(file: &File, room: &mut [u8]) -> Result<(usize, Option<i64>)> {
-    let (mut piece, mut note) = (IoSliceMut::new(room), [0u64; 4]);
-    let mut message = Message(null_mut(), 0, &mut piece, 1, &mut note, 32, 0);
-    // SAFETY: the room and the note are there for the call, and as long as is told.
-    let length = unsafe { recvmsg(file.as_raw_fd(), (&mut message as *mut Message).cast(), 0) };
-    checked(length as c_int)?;
-    let is_stamp = note[1] == (SO_TIMESTAMPNS as u64) << 32 | SOL_SOCKET as u64;
-    Ok((length as usize, is_stamp.then(|| note[2] as i64 * 1_000_000_000 + note[3] as i64)))
-}
-
-/// A descriptor that is waited for: for what, and what is so.
+struct Message(*mut c_void, u32, *const [usize; 2], usize, *mut [u64; 4], usize, c_int);
 #[repr(C)]
-pub struct Polled(pub RawFd, pub c_short, pub c_short);
+struct Received(Message, c_uint);
+
+/// Reads as many frames as there are, each into a room. Returns for each how long it is, and when it came by the wall
+/// clock in nanoseconds, if the kernel says so.
+pub fn receive<const N: usize>(file: &File, rooms: &mut [[u8; N]]) -> Result<Vec<(usize, Option<i64>)>> {
+    let pieces: Vec<[usize; 2]> = rooms.iter_mut().map(|room| [room.as_mut_ptr() as usize, N]).collect();
+    let mut notes = vec![[0u64; 4]; rooms.len()];
+    let mut messages: Vec<_> = (pieces.iter().zip(&mut notes))
+        .map(|(piece, note)| Received(Message(null_mut(), 0, piece, 1, note, 32, 0), 0))
+        .collect();
+    let (start, most) = (messages.as_mut_ptr(), messages.len() as c_uint);
+    // SAFETY: each room and each note exists during the call, and is as long as its message says.
+    let count = checked(unsafe { recvmmsg(file.as_raw_fd(), start, most, 0, null_mut()) })?;
+    let frame = |(message, note): (&Received, &[u64; 4])| {
+        let is_stamp = note[1] == (SO_TIMESTAMPNS as u64) << 32 | SOL_SOCKET as u64;
+        (message.1 as usize, is_stamp.then(|| note[2] as i64 * 1_000_000_000 + note[3] as i64))
+    };
+    Ok(messages.iter().zip(&notes).take(count as usize).map(frame).collect())
+}
 
 pub fn wait(set: &mut [Polled], milliseconds: i32) {
     // SAFETY: the set is as long as is told.
@@ -176,8 +177,7 @@ pub fn may_write(path: &str) -> Result<()> {
 
 pub fn host_name() -> String {
     let mut room = [0u8; 256];
-    // SAFETY: the room is as long as is told, and its last octet stays 0.
-    unsafe { gethostname(room.as_mut_ptr(), 255) };
+    unsafe { gethostname(room.as_mut_ptr(), 255) }; // SAFETY: the room is as long as is said; its last octet stays 0
     String::from_utf8_lossy(room.split(|octet| *octet == 0).next().unwrap_or(&[])).into_owned()
 }
 

@@ -97,40 +97,40 @@ pub fn read(words: &[String]) -> Result<Wanted, String> {
 
 impl Given {
     fn take(&mut self, word: &str, rest: &mut std::slice::Iter<'_, String>) -> Result<(), String> {
-        match word {
-            "--events" => self.events = true,
-            "--forget-on-down" => self.forget_on_down = true,
-            "--no-description" => self.no_description = true,
-            "--no-management" => self.no_management = true,
-            "--only-existing" => self.only_existing = true,
-            _ if ALWAYS_SO.contains(&word) => (),
-            _ => return self.take_value(word, rest),
-        }
-        Ok(())
-    }
-
-    fn take_value(&mut self, word: &str, rest: &mut std::slice::Iter<'_, String>) -> Result<(), String> {
-        let (name, value) =
-            word.split_once('=').map_or((word, None), |(name, value)| (name, Some(value.into())));
-        let value = || value.or_else(|| rest.next().cloned()).ok_or(format!("{name}: a value is required"));
+        let (name, given) = split(word);
+        let mut value = || {
+            let value = given.or_else(|| rest.next().map(|next| &next[..]));
+            value.map(String::from).ok_or(format!("{name}: a value is required"))
+        };
         let number = |text: String, last: u64| {
             number(&text, last).ok_or(format!("{name}: {text} is not a number from 1 to {last}"))
         };
-        match name {
-            "--ask" => self.ask = Some(value()?),
-            "--config" => self.config.push(value()?),
-            "--control" => self.control = value()?,
-            "--control-group" => self.control_group = Some(value()?),
-            "--user" => self.user = Some(value()?),
-            "--state" => self.state = Some(value()?),
-            "--log" => self.log = Some(value()?),
-            "--log-most" => self.log_most = number(value()?, 1_000_000)?,
-            "--log-keep" => self.log_keep = number(value()?, 1_000_000)?,
-            "--once" => self.once = Some(number(value()?, 86_400)?),
+        match (name, given) {
+            _ if ALWAYS_SO.contains(&word) => (),
+            ("--events", None) => self.events = true,
+            ("--forget-on-down", None) => self.forget_on_down = true,
+            ("--no-description", None) => self.no_description = true,
+            ("--no-management", None) => self.no_management = true,
+            ("--only-existing", None) => self.only_existing = true,
+            ("--ask", _) => self.ask = Some(value()?),
+            ("--config", _) => self.config.push(value()?),
+            ("--control", _) => self.control = value()?,
+            ("--control-group", _) => self.control_group = Some(value()?),
+            ("--user", _) => self.user = Some(value()?),
+            ("--state", _) => self.state = Some(value()?),
+            ("--log", _) => self.log = Some(value()?),
+            ("--log-most", _) => self.log_most = number(value()?, 1_000_000)?,
+            ("--log-keep", _) => self.log_keep = number(value()?, 1_000_000)?,
+            ("--once", _) => self.once = Some(number(value()?, 86_400)?),
             _ => return Err(format!("unknown option: {word}")),
         }
         Ok(())
     }
+}
+
+/// Returns the name of an option, and its value if it follows in the same word.
+pub fn split(word: &str) -> (&str, Option<&str>) {
+    word.split_once('=').map_or((word, None), |(name, value)| (name, Some(value)))
 }
 
 pub fn number(text: &str, last: u64) -> Option<u64> {
