@@ -1,33 +1,35 @@
 /*
  * lldpa: the proved LLDP reader, transmit machine and agent (IEEE 802.1AB-2009), for C and for languages that call C.
  *
- * Link with liblldpa.so.1 (`pkg-config --cflags --libs lldpa`), or with liblldpa.a (`-l:liblldpa.a` instead of `-llldpa`).
- * The library allocates memory by malloc and frees it by free. The header is C99 and C++.
+ * Link with liblldpa.so.1 (`pkg-config --cflags --libs lldpa`), or with liblldpa.a (`-l:liblldpa.a` instead of
+ * `-llldpa`). The library allocates memory by malloc and frees it by free. The header is C99 and C++.
  *
  * Rules for the caller, for every function:
- *  - A pointer that is not NULL points to existing, aligned memory of its type. Memory that a call reads is initialized;
- *    memory that it only writes need not be. A pointer and the length behind it belong together: there are so many
- *    elements. No length is over SIZE_MAX / 2.
- *  - Memory that a call writes does not overlap its other arguments, and nobody else reads or writes it during the call.
- *    A call writes nothing behind a pointer to const.
+ *  - A pointer that is not NULL points to existing, aligned memory of its type. Memory that a call reads is
+ *    initialized; memory that it only writes need not be. If a length follows a pointer in the list of parameters,
+ *    or in a struct, the pointer has at least that many elements. No length is over SIZE_MAX / 2.
+ *  - Memory that a call writes does not overlap its other arguments, and nobody else reads or writes it during the
+ *    call. A call writes nothing to memory that it gets by a pointer to const.
  *  - A bool is 0 or 1.
- * A number or a place that is out of its range is reported, and nothing is done.
+ * If a number or an index is out of its range, a function returns an error and changes nothing.
  *
- * NULL is allowed. With a length of 0 it means no elements, even in a struct. As `news` it omits that result. Elsewhere
- * the answer is LLDPA_NULL, or false if a function answers a bool, whatever the other arguments are; nothing is written,
- * and lldpa_close does nothing.
+ * NULL is safe. With a length of 0 it is an empty array, also inside a struct. A NULL `news` of lldpa_frame means
+ * that you do not want the news. With any other NULL a function writes nothing and returns LLDPA_NULL, or false if
+ * it returns a bool; lldpa_close does nothing. This check comes first, except that lldpa_open looks at `size` before
+ * it looks at the pointers in the options.
  *
  * Stack: a call needs at most 12 KB.
  *
- * Memory: only lldpa_open allocates memory, and only lldpa_close frees it. A call keeps nothing that it was given. Places
- * are offsets in the octets that the caller gave.
+ * Memory: only lldpa_open allocates memory, and only lldpa_close frees it. A call keeps no pointer that it was
+ * given. Texts that a function writes do not end in a 0.
  *
  * Threads: no function has state of its own, waits, or starts a thread. Calls on different memory may run at the same
- * time. Two calls on the same lldpa_machine or lldpa_agent may not. Use and close an agent on the thread that opened it.
- * Call no function of an agent from a signal handler, or in the child of a fork of a process with threads.
+ * time. Two calls on the same lldpa_machine or lldpa_agent may not. Use and close an agent on the thread that opened
+ * it. Call no function of an agent from a signal handler, or in the child of a fork of a process with threads.
  *
- * Within 1.x functions, arguments, numbers and the fields of structs stay. Only lldpa_options may grow, at its end: its
- * `size` says which one the caller has.
+ * ABI: in all releases 1.x, existing functions, parameters, numbers and fields of structs stay. New functions and new
+ * numbers of faults may come, so treat a number that you do not know as a fault. Only lldpa_options may get new
+ * fields, at its end: its `size` tells the library which ones you have.
  */
 #ifndef LLDPA_H
 #define LLDPA_H
@@ -40,15 +42,15 @@
 extern "C" {
 #endif
 
-/* The version of this header, 10000 times the first number, 100 times the second and the third. */
+/* The version of this header, major * 10000 + minor * 100 + patch: 10000 is 1.0.0. */
 #define LLDPA_VERSION 10000
 
-/* The version of the library, as LLDPA_VERSION. */
+/* Returns the version of the library, in the form of LLDPA_VERSION. */
 uint32_t lldpa_version(void);
 
 /*
- * ---- Answers. 0 means success. Each kind of fault has its own numbers, listed at the function that returns them: 1 to 8
- * for LLDPDUs, 11 to 13 for TLVs that are built, 21 to 26 for openings, 31 to 38 for commands.
+ * ---- Answers. 0 means success. Each kind of fault has its own numbers, listed at the function that returns them: 1
+ * to 8 for LLDPDUs, 11 to 13 for TLVs that are built, 21 to 26 for openings, 31 to 38 for commands.
  */
 
 #define LLDPA_OK 0
@@ -60,11 +62,10 @@ uint32_t lldpa_version(void);
 #define LLDPA_NULL 105         /* a pointer that must not be NULL is NULL */
 
 /*
- * What a fault or a misuse is, in words, as "the first TLV is not a Chassis ID". The line that the program writes of a
- * refused command is "error: " and these words.
- *   fault   an answer other than 0: a number that stands in this header at a fault, or one of those above
- *   length  how many octets it has, at most LLDPA_FAULT_ROOM
- * Answers 0, LLDPA_OUT_OF_RANGE or LLDPA_NO_ROOM; only if it is 0 anything is written.
+ * Writes what a fault or a misuse is, in words, such as "the first TLV is not a Chassis ID".
+ *   fault   an answer other than 0: the number of a fault in this header, or one of those above
+ *   length  the number of octets written, at most LLDPA_FAULT_ROOM
+ * Returns 0, LLDPA_OUT_OF_RANGE or LLDPA_NO_ROOM. Nothing is written unless it returns 0.
  */
 uint8_t lldpa_fault_text(uint32_t fault, uint8_t *room, size_t room_length, size_t *length);
 
@@ -79,17 +80,17 @@ uint8_t lldpa_fault_text(uint32_t fault, uint8_t *room, size_t room_length, size
 
 /* ---- Reading ---------------------------------------------------------------------------------------------------- */
 
-/* Some of the octets that the caller gave: how many precede them, and how many there are. */
+/* A range of octets in a buffer: its offset, and its length. */
 typedef struct lldpa_place {
     size_t start;
     size_t length;
 } lldpa_place;
 
 /*
- * Where the LLDPDU of an Ethernet frame lies.
+ * Finds the LLDPDU in an Ethernet frame.
  *   frame, length  the frame from its destination address on, without a VLAN tag and without the check sequence
  *   pdu            written if the answer is true: what follows the EtherType, at most 1500 octets
- * True exactly for an LLDP frame: 14 to 1514 octets, to 01-80-C2-00-00-0E, of EtherType 88-CC.
+ * Returns true exactly for an LLDP frame: 14 to 1514 octets, to 01-80-C2-00-00-0E, of EtherType 88-CC.
  */
 bool lldpa_frame_pdu(const uint8_t *frame, size_t length, lldpa_place *pdu);
 
@@ -101,58 +102,61 @@ bool lldpa_frame_pdu(const uint8_t *frame, size_t length, lldpa_place *pdu);
 #define LLDPA_PORT_LENGTH 5    /* the Port ID does not have 2 to 256 octets */
 #define LLDPA_NO_TTL 6         /* the third TLV is not a Time To Live */
 #define LLDPA_TTL_LENGTH 7     /* the Time To Live has fewer than 2 octets */
-#define LLDPA_REPEATED 8       /* a mandatory TLV is repeated after the third */
+#define LLDPA_REPEATED 8       /* a TLV after the third is of type 1, 2 or 3 again */
 
-/* What a sound LLDPDU says. */
+/*
+ * What a sound LLDPDU says. *Kept* TLVs are those after the three mandatory ones that are well formed for their type
+ * and, if the type is 4 to 7, the first of it.
+ */
 typedef struct lldpa_examined {
     lldpa_place chassis; /* the body of the Chassis ID, 2 to 256 octets, its subtype first */
     lldpa_place port;    /* the body of the Port ID, in the same form */
-    size_t extent;       /* how many octets count, from the first: those before the End Of LLDPDU */
+    size_t extent;       /* the octets up to the End Of LLDPDU, or up to a TLV that is not complete */
     size_t discarded;    /* how many TLVs are discarded, including an incomplete one at the end */
     size_t unrecognized; /* how many kept TLVs are of the types 9 to 127 */
-    uint16_t ttl;        /* the time to live in seconds; 0: the neighbor is gone, and the three above are 0 */
+    uint16_t ttl;        /* the time to live in seconds; 0: the neighbor is gone, and the three numbers above are 0 */
 } lldpa_examined;
 
 /*
  * Examines an LLDPDU of any length.
  *   told  written if the answer is 0
- * Answers 0, or the number of the first fault, 1 to 8.
+ * Returns 0, or the number of the first fault, 1 to 8.
  */
 uint8_t lldpa_examine(const uint8_t *pdu, size_t length, lldpa_examined *told);
 
-/* A walk over the kept TLVs. Begin with LLDPA_KEPT_INIT, which is all 0. */
+/* A walk over the kept TLVs, for lldpa_next_kept. Begin with LLDPA_KEPT_INIT, which is all 0. */
 typedef struct lldpa_kept {
-    size_t next;      /* where the walk continues; 0: at the first TLV behind the three mandatory ones */
-    lldpa_place body; /* the body of the TLV that was given last */
-    bool met[4];      /* of which of the types 4 to 7 a well-formed TLV was met */
-    uint8_t kind;     /* the type of the TLV that was given last, 4 to 127 */
+    size_t next;      /* where the walk continues; 0: at the first TLV after the three mandatory ones */
+    lldpa_place body; /* the body of the TLV that was found last */
+    bool met[4];      /* whether a well-formed TLV of type 4, 5, 6, 7 was found */
+    uint8_t kind;     /* the type of the TLV that was found last, 4 to 127 */
 } lldpa_kept;
 
 #define LLDPA_KEPT_INIT { 0, { 0, 0 }, { false, false, false, false }, 0 }
 
 /*
- * The next kept TLV of an extent: well formed for its type, and the first of its type if that is 4 to 7.
- *   extent, length  the first `extent` octets of an LLDPDU for which lldpa_examine answered 0, with a TTL above 0;
- *                   the same ones for a whole walk
- *   walk            gets the TLV, and is advanced; it is unchanged if no TLV is left
- * True with the next TLV, false if none is left. For other octets the result is some TLV in them, or none.
+ * Finds the next kept TLV.
+ *   extent, length  an LLDPDU for which lldpa_examine returned 0, with a TTL above 0, and its lldpa_examined.extent
+ *                   as the length; the same in every call of a walk
+ *   walk            is advanced to the TLV; it is unchanged if no TLV is left
+ * Returns whether there is one. For other octets it finds some TLV in them, or none.
  */
 bool lldpa_next_kept(const uint8_t *extent, size_t length, lldpa_kept *walk);
 
-/* What a System Capabilities TLV (type 7) says, each a sum of the standard's bits. */
+/* What a System Capabilities TLV (type 7) says: two sets of bits, as in table 8-4 of the standard. */
 typedef struct lldpa_capabilities {
     uint16_t available;
     uint16_t enabled;
 } lldpa_capabilities;
 
 /*
- * The fields of the body of a System Capabilities TLV.
+ * Reads the body of a System Capabilities TLV.
  *   told  written if the answer is true
- * True exactly if the body is well formed: four octets, and no bit enabled that is not available.
+ * Returns true exactly if the body is well formed: four octets, and no bit enabled that is not available.
  */
 bool lldpa_caps(const uint8_t *body, size_t length, lldpa_capabilities *told);
 
-/* What a Management Address TLV (type 8) says. Both places are in its body. */
+/* What a Management Address TLV (type 8) says. Address and oid are ranges of its body. */
 typedef struct lldpa_management {
     lldpa_place address; /* 1 to 31 octets */
     lldpa_place oid;     /* 0 to 128 octets */
@@ -162,31 +166,31 @@ typedef struct lldpa_management {
 } lldpa_management;
 
 /*
- * The fields of the body of a Management Address TLV.
+ * Reads the body of a Management Address TLV.
  *   told  written if the answer is true
- * True exactly if the body is well formed.
+ * Returns true exactly if the body is well formed.
  */
 bool lldpa_mgmt(const uint8_t *body, size_t length, lldpa_management *told);
 
 /*
- * What `show neighbors` writes of a TLV behind "lldp.PORT.N.": "chassis.mac=00:11:22:33:44:55", "port.ifname=eth0",
+ * Writes a TLV as text, as the command `show neighbors` does: "chassis.mac=00:11:22:33:44:55", "port.ifname=eth0",
  * "chassis.mgmt=192.0.2.1,2,3,". The value is what follows the first '='. Texts are escaped as by lldpa_escape.
  *   kind    the type of the TLV: 1 for a Chassis ID, 2 for a Port ID, or 4 to 127
  *   body    its body, which must be well formed for the type and have at most 511 octets
  *   room    LLDPA_VALUE_ROOM octets are always enough
- *   length  how many octets were written, if the answer is 0
- * Answers the first of these: LLDPA_OUT_OF_RANGE for the type or the body, LLDPA_NO_ROOM; else 0.
+ *   length  the number of octets written, if the answer is 0
+ * Returns the first of these that applies: LLDPA_OUT_OF_RANGE for the type or the body, LLDPA_NO_ROOM; otherwise 0.
  */
 uint8_t lldpa_tlv_text(uint32_t kind, const uint8_t *body, size_t body_length, uint8_t *room, size_t room_length,
                        size_t *length);
 
 /*
- * Escapes a text that came from a neighbor, so that it can be printed: a backslash is written twice, an octet that is not
- * printable ASCII as a backslash, an x and two hexadecimal digits, and any other octet as it is.
+ * Escapes a text that came from a neighbor, so that you can print it: replaces each backslash by two, and each octet
+ * that is not printable ASCII by a backslash, an x and two hexadecimal digits.
  *   text    at most 511 octets
  *   room    four times as many octets are always enough
- *   length  how many octets were written, if the answer is 0
- * Answers the first of these: LLDPA_OUT_OF_RANGE for the length of the text, LLDPA_NO_ROOM; else 0.
+ *   length  the number of octets written, if the answer is 0
+ * Returns the first of these that applies: LLDPA_OUT_OF_RANGE for the length of the text, LLDPA_NO_ROOM; otherwise 0.
  */
 uint8_t lldpa_escape(const uint8_t *text, size_t text_length, uint8_t *room, size_t room_length, size_t *length);
 
@@ -199,7 +203,7 @@ typedef struct lldpa_tlv {
     uint8_t kind;
 } lldpa_tlv;
 
-/* Why a TLV is left out. The checks come in the order Kind, Body, Full. */
+/* Why a TLV is left out. The checks come in the order KIND, BODY, FULL. */
 #define LLDPA_FULL 11 /* it and the End Of LLDPDU do not fit in 1500 octets */
 #define LLDPA_KIND 12 /* its type is not 4 to 127, or is one of 4 to 7 and was put before; or the TTL is 0 */
 #define LLDPA_BODY 13 /* its body is over 511 octets, or not well formed for its type */
@@ -209,12 +213,12 @@ typedef struct lldpa_tlv {
  *   chassis, port  the bodies of the Chassis ID and the Port ID, their subtypes first, 2 to 256 octets each
  *   ttl            in seconds; 0 makes a shutdown LLDPDU, which has no other TLVs
  *   tlvs           the TLVs to put, in their order, any number
- *   faults         one for each TLV (as many as tlvs has): 0 if it was put, else 11 to 13, and it is left out
+ *   faults         one for each TLV (as many as tlvs has): 0 if it was put; 11 to 13 if it is left out
  *   room           LLDPA_PDU_ROOM octets are always enough
- *   length         how many octets the LLDPDU has, its End Of LLDPDU included
- * Answers the first of these: LLDPA_OUT_OF_RANGE for the length of an identifier; LLDPA_NO_ROOM if faults has fewer
- * elements than tlvs; LLDPA_NO_ROOM if the LLDPDU is longer than the room, and faults are written; else 0. If it is not
- * 0, no more than that is written.
+ *   length         the number of octets of the LLDPDU, its End Of LLDPDU included
+ * Returns the first of these that applies: LLDPA_OUT_OF_RANGE for the length of an identifier; LLDPA_NO_ROOM if
+ * faults has fewer elements than tlvs; LLDPA_NO_ROOM if the LLDPDU is longer than the room, and only then faults are
+ * written; otherwise 0. Unless it returns 0, room and length are not written.
  */
 uint8_t lldpa_build(const uint8_t *chassis, size_t chassis_length, const uint8_t *port, size_t port_length,
                     uint16_t ttl, const lldpa_tlv *tlvs, size_t tlv_count, uint8_t *faults, size_t fault_count,
@@ -230,14 +234,14 @@ typedef struct lldpa_machine {
     uint8_t reinit;     /* reinitDelay, in seconds */
     uint8_t credit;     /* ordinary frames that may be sent before the next tick, 0 to credit_max */
     uint8_t wait;       /* ticks until the port may start again */
-    uint8_t left;       /* signals left in the burst */
-    bool waiting;       /* a signal has had no frame yet */
-    bool active;
+    uint8_t left;       /* txFast: frames left of a fast transmission */
+    bool waiting;       /* a frame is wanted and was not sent yet */
+    bool active;        /* it has started, and since then has neither stopped nor lost its link */
     bool allowed; /* the port may transmit */
     bool up;      /* its link is up */
 } lldpa_machine;
 
-/* What an event is for a port. */
+/* What happened, for lldpa_transmit_event. */
 #define LLDPA_CAUSE_TICK 0     /* one second has passed */
 #define LLDPA_CAUSE_CHANGE 1   /* something in the local system has changed */
 #define LLDPA_CAUSE_NEIGHBOR 2 /* a new neighbor was stored */
@@ -253,35 +257,35 @@ typedef struct lldpa_machine {
 #define LLDPA_SHUTDOWN 2 /* one with a time to live of 0 */
 
 /*
- * A machine with full credit, on a port whose link is up and that is not active.
+ * Makes a machine with full credit, on a port whose link is up and that is not active.
  *   credit_max  txCreditMax, 1 to 10
  *   fast_init   txFastInit, 1 to 8
  *   reinit      reinitDelay in seconds, 1 to 10
  *   allowed     whether the port may transmit from the start
- * Answers 0; or LLDPA_OUT_OF_RANGE, and the machine stays as it was.
+ * Returns 0; or LLDPA_OUT_OF_RANGE, and the machine stays as it was.
  */
 uint8_t lldpa_transmit_new(lldpa_machine *machine, uint32_t credit_max, uint32_t fast_init, uint32_t reinit,
                            bool allowed);
 
 /*
- * Takes one event, and writes which frame to send.
+ * Applies one event, and writes which frame to send.
  *   cause     LLDPA_CAUSE_TICK to LLDPA_CAUSE_NOTHING
  *   interval  the tx-interval in force after the event, 1 to 3600 seconds
  *   mark      LLDPA_QUIET, LLDPA_ORDINARY or LLDPA_SHUTDOWN
- * Answers 0; or LLDPA_OUT_OF_RANGE for a cause or an interval, or for a machine whose credit is above its credit_max,
- * and nothing is written.
+ * Returns 0; or LLDPA_OUT_OF_RANGE for a cause or an interval, or for a machine whose credit is above its
+ * credit_max, and writes nothing.
  */
 uint8_t lldpa_transmit_event(lldpa_machine *machine, uint32_t cause, uint32_t interval, uint8_t *mark);
 
 /* ---- The agent -------------------------------------------------------------------------------------------------- */
 
-/* A text: octets, which no 0 ends. */
+/* A text. It does not end in a 0. */
 typedef struct lldpa_text {
     const uint8_t *octets;
     size_t length;
 } lldpa_text;
 
-/* What a station is. */
+/* What the agent says it is, in its System Capabilities. */
 #define LLDPA_STATION 0
 #define LLDPA_BRIDGE 1
 #define LLDPA_ROUTER 2
@@ -294,7 +298,7 @@ typedef struct lldpa_options {
     lldpa_text hostname;     /* at most 255 octets, printable ASCII */
     uint8_t mac[6];          /* the source address and the chassis ID of every frame */
     uint8_t management[4];   /* the IPv4 address under which the agent can be managed */
-    bool managed;            /* whether there is one; if not, management may hold anything */
+    bool managed;            /* whether there is one; if not, management is not read */
     bool receive_only;       /* whether each port begins with the status rx-only */
     uint32_t role;           /* LLDPA_STATION, LLDPA_BRIDGE or LLDPA_ROUTER */
     uint32_t max_neighbors;  /* how many neighbors each port may hold, 1 to 128 */
@@ -303,14 +307,14 @@ typedef struct lldpa_options {
     uint32_t reinit;         /* reinitDelay in seconds, 1 to 10 */
 } lldpa_options;
 
-/* Begin with these: no ports, no hostname, the MAC address 00:00:00:00:00:00, and the program's defaults. */
+/* Begin with these: no ports, no hostname, the MAC address 00:00:00:00:00:00, and the defaults of the program lldpa. */
 #define LLDPA_OPTIONS_INIT                                                                                              \
     { sizeof(lldpa_options), NULL, 0, { NULL, 0 }, { 0, 0, 0, 0, 0, 0 }, { 0, 0, 0, 0 }, false, false, LLDPA_STATION,   \
       32, 5, 4, 2 }
 
 /*
- * A handle. Begin with one that is all 0: lldpa_agent agent = {0}. Do not read or change its fields, and do not copy it
- * while it is open.
+ * A handle of an agent. Begin with one that is all 0: lldpa_agent agent = {0}. Do not read or change its fields, and
+ * do not copy it while it is open. After lldpa_close you may open it again.
  */
 typedef struct lldpa_agent {
     void *held;
@@ -327,50 +331,52 @@ typedef struct lldpa_agent {
 
 /*
  * Opens an agent, and allocates all memory that it will ever need: about 1.6 KB for each of max_neighbors on each port.
- * Answers the first of these: LLDPA_OUT_OF_RANGE for another size; LLDPA_IS_OPEN; LLDPA_OUT_OF_RANGE for role, one of the
- * four numbers, or a text that is not UTF-8; the first fault, 22 to 26; LLDPA_MEMORY; else 0, and the agent is open. If it
- * is not 0, the handle stays as it was. Of more than 65 names only the first 65 are looked at.
+ * The link of each port is up. Returns the first of these that applies: LLDPA_OUT_OF_RANGE if the library does not
+ * know an lldpa_options of this `size`; LLDPA_IS_OPEN; LLDPA_OUT_OF_RANGE for role, max_neighbors, credit_max,
+ * fast_init or reinit, or for a text that is not UTF-8; the first fault, 22 to 26; LLDPA_MEMORY; otherwise 0, and
+ * the agent is open. Unless it returns 0, the handle stays as it was. With more than 64 names the call fails, and
+ * names after the 65th are not read.
  */
 uint8_t lldpa_open(const lldpa_options *options, lldpa_agent *agent);
 
-/* A port that sends, and what. */
+/* A frame that you must send: lldpa_frame_of writes it. */
 typedef struct lldpa_mark {
     uint8_t port; /* its number, from 0, in the order of the options */
     uint8_t mark; /* LLDPA_ORDINARY or LLDPA_SHUTDOWN */
 } lldpa_mark;
 
-/* Which ports send: the first `count` items, in ascending order. */
+/* The frames that you must send now: the first `count` items, by ascending port. */
 typedef struct lldpa_marks {
     lldpa_mark items[64];
     uint8_t count;
 } lldpa_marks;
 
-/* What several ticks did. */
+/* What lldpa_ticks did. A tick is one second. */
 typedef struct lldpa_ticks_taken {
-    uint32_t taken;    /* how many were taken */
-    uint32_t aged_out; /* how many neighbors aged out at the last of them */
+    uint32_t taken;    /* the number of seconds that were counted */
+    uint32_t aged_out; /* the number of neighbors that aged out at the last of them */
 } lldpa_ticks_taken;
 
 /*
- * Up to `count` seconds have passed: takes as many ticks, but stops after the first at which a port sends or a neighbor
- * ages out. Answers 0 or LLDPA_NOT_OPEN.
- *   count  no more than the seconds that passed: LLDPA_NEVER would be 4,294,967,295 ticks, which need minutes
- *   marks  which ports send at the last tick, if the answer is 0
- *   told   written if the answer is 0. If fewer were taken than count, send the frames of marks and call it again for the
- *          others. The neighbors that age out at a tick are those that had 1 second left before it.
+ * Tells the agent that `count` seconds have passed. It stops early, after the first second at which a port sends or a
+ * neighbor ages out. Returns 0 or LLDPA_NOT_OPEN.
+ *   count  the seconds that passed; do not give LLDPA_NEVER, which would take minutes
+ *   marks  the frames to send at the last second, if the answer is 0
+ *   told   written if the answer is 0. Send the frames of marks; then, if told->taken is less than count, call it again
+ *          for the remaining seconds. The neighbors that age out are those that had 1 second left.
  */
 uint8_t lldpa_ticks(lldpa_agent *agent, uint32_t count, lldpa_marks *marks, lldpa_ticks_taken *told);
 
-#define LLDPA_NEVER UINT32_MAX /* at no tick */
+#define LLDPA_NEVER UINT32_MAX /* nothing is due */
 
 /*
- * At which tick, from 1, a port sends or a neighbor ages out, if no other call comes before it. Answers 0 or
+ * Writes the number of seconds until a port sends or a neighbor ages out, if you make no other call first. Returns 0 or
  * LLDPA_NOT_OPEN.
  *   seconds  1 to 65535, or LLDPA_NEVER, if the answer is 0
- * You may sleep so many seconds, and then give all of them to lldpa_ticks, which stops only after the last of them.
- * At the ticks before that one only clocks go on: seconds that are left, the credit of a port, what shows tell of these.
- * Any other call may bring it nearer or put it off, so ask again after it.
- * If you wake for something else, such as a frame, give the seconds that passed first, and then the frame.
+ * You may sleep that long, and then give all these seconds to lldpa_ticks, which stops only after the last of them.
+ * Until then only the seconds left of neighbors and the credit of ports change. Any other call may change the
+ * number, so ask again after it. If you wake for something else, such as a frame, first give the seconds that
+ * passed, and then the frame.
  */
 uint8_t lldpa_due(const lldpa_agent *agent, uint32_t *seconds);
 
@@ -380,59 +386,62 @@ uint8_t lldpa_due(const lldpa_agent *agent, uint32_t *seconds);
 #define LLDPA_NEWS_REFUSED 3  /* its LLDPDU has a fault */
 #define LLDPA_NEWS_NEW 4      /* a neighbor that was not held is stored */
 #define LLDPA_NEWS_CHANGED 5  /* a neighbor that is held says something else, which is stored */
-#define LLDPA_NEWS_SAME 6     /* a neighbor that is held says the same again; its time begins anew */
+#define LLDPA_NEWS_SAME 6     /* a neighbor that is held says the same again; its time to live starts again */
 #define LLDPA_NEWS_DROPPED 7  /* there is no room for a neighbor that is not held */
 #define LLDPA_NEWS_GONE 8     /* a neighbor that was held leaves */
 #define LLDPA_NEWS_UNKNOWN 9  /* a neighbor that is not held leaves */
 
 /*
- * What a frame did. The two places together are the key of the neighbor: no two neighbors of a port have the same
- * octets there.
+ * What a frame did. The octets of both ranges together are the key of the neighbor: no two neighbors of a port have the
+ * same ones.
  */
 typedef struct lldpa_news {
-    lldpa_place chassis; /* in the frame: the body of the Chassis ID, from LLDPA_NEWS_NEW on; else 0 and 0 */
+    lldpa_place chassis; /* in the frame: the body of the Chassis ID, if what is LLDPA_NEWS_NEW or above; otherwise 0 and 0 */
     lldpa_place port;    /* in the frame: the body of the Port ID, in the same form */
     uint32_t what;       /* LLDPA_NEWS_NOT_LLDP to LLDPA_NEWS_UNKNOWN */
-    uint32_t fault;      /* of LLDPA_NEWS_REFUSED the fault of the LLDPDU, 1 to 8; else 0 */
+    uint32_t fault;      /* for LLDPA_NEWS_REFUSED the fault of the LLDPDU, 1 to 8; otherwise 0 */
 } lldpa_news;
 
 /*
- * A frame came on a port: any octets; if they are not an LLDP frame, nothing changes. Answers 0, LLDPA_NOT_OPEN or
- * LLDPA_NO_PORT. First give the seconds that passed before the frame came: its time to live begins at this call, and a
- * second that you give later counts against it.
+ * Gives the agent a frame that a port received: any octets; if they are not an LLDP frame, nothing changes. Returns 0,
+ * LLDPA_NOT_OPEN or LLDPA_NO_PORT. First give the seconds that passed before the frame came (lldpa_ticks): its time
+ * to live begins at this call, and a second that you give later counts against it. A full table stores no new
+ * neighbor, but what it holds is still refreshed.
  *   port   its number, from 0, in the order of the options
- *   marks  which ports send, if the answer is 0
+ *   marks  the frames to send, if the answer is 0
  *   news   what the frame did, if the answer is 0; or NULL
  */
 uint8_t lldpa_frame(lldpa_agent *agent, uint32_t port, const uint8_t *octets, size_t length, lldpa_marks *marks,
                     lldpa_news *news);
 
-/* The link of a port came up, or went down. The rest is as for lldpa_frame. */
+/* Tells the agent that the link of a port came up or went down. Port, marks and answers are as for lldpa_frame. */
 uint8_t lldpa_link(lldpa_agent *agent, uint32_t port, bool up, lldpa_marks *marks);
 
 /*
- * Disables every port, as at the end of a program. Answers 0 or LLDPA_NOT_OPEN.
- *   marks  which ports send, if the answer is 0: a shutdown frame on each port that was active, and nothing else
+ * Disables every port, as at the end of a program. Returns 0 or LLDPA_NOT_OPEN. Send the frames of marks before you
+ * close the agent; lldpa_close sends none.
+ *   marks  if the answer is 0: a shutdown frame on each port that was active, and nothing else
  */
 uint8_t lldpa_leave(lldpa_agent *agent, lldpa_marks *marks);
 
-/* How many neighbors a port holds. Answers 0, LLDPA_NOT_OPEN or LLDPA_NO_PORT; count is written if it is 0. */
+/* Writes how many neighbors a port holds. Returns 0, LLDPA_NOT_OPEN or LLDPA_NO_PORT; count is written if it is 0. */
 uint8_t lldpa_neighbor_count(const lldpa_agent *agent, uint32_t port, uint32_t *count);
 
 /* A neighbor that a port holds. */
 typedef struct lldpa_held {
-    lldpa_examined pdu; /* what its last stored LLDPDU says; its places are in the octets that were written. An
+    lldpa_examined pdu; /* what its last stored LLDPDU says; its ranges are in the octets that were written. An
                            incomplete TLV at its end is not stored, and `discarded` does not count it here */
     uint32_t left;      /* seconds until it ages out */
 } lldpa_held;
 
 /*
- * A neighbor of a port, in the order in which they were last new. lldpa_next_kept reads its TLVs from the octets.
- *   index  its place, from 0
+ * Writes a neighbor of a port. lldpa_next_kept reads its TLVs from the octets.
+ *   index  from 0, in the order in which neighbors were last LLDPA_NEWS_NEW. If one leaves, later ones move up
  *   room   told->pdu.extent octets are written to its front: the neighbor's LLDPDU without the End Of LLDPDU.
  *          LLDPA_NEIGHBOR_ROOM octets are always enough
  *   told   written if the answer is 0
- * Answers the first of these: LLDPA_NOT_OPEN, LLDPA_NO_PORT, LLDPA_OUT_OF_RANGE for the index, LLDPA_NO_ROOM; else 0.
+ * Returns the first of these that applies: LLDPA_NOT_OPEN, LLDPA_NO_PORT, LLDPA_OUT_OF_RANGE for the index,
+ * LLDPA_NO_ROOM; otherwise 0.
  */
 uint8_t lldpa_neighbor(const lldpa_agent *agent, uint32_t port, uint32_t index, uint8_t *room, size_t room_length,
                        lldpa_held *told);
@@ -447,10 +456,10 @@ typedef struct lldpa_statistics_told {
     uint32_t tlvs_discarded; /* TLVs that were discarded */
     uint32_t unrecognized;   /* kept TLVs of the types 9 to 127 */
     uint32_t ageouts;        /* neighbors that aged out */
-    uint32_t drops;          /* LLDPDUs that were dropped since there was no room */
+    uint32_t drops;          /* LLDPDUs that were dropped because there was no room */
 } lldpa_statistics_told;
 
-/* What a port counted. Answers 0, LLDPA_NOT_OPEN or LLDPA_NO_PORT; told is written if it is 0. */
+/* Writes what a port counted. Returns 0, LLDPA_NOT_OPEN or LLDPA_NO_PORT; told is written if it is 0. */
 uint8_t lldpa_statistics(const lldpa_agent *agent, uint32_t port, lldpa_statistics_told *told);
 
 /* What a port may do. */
@@ -459,7 +468,7 @@ uint8_t lldpa_statistics(const lldpa_agent *agent, uint32_t port, lldpa_statisti
 #define LLDPA_TX_ONLY 2
 #define LLDPA_DISABLED 3
 
-/* How an agent is configured: each by the last command that set it, or as it was opened. */
+/* How an agent is configured: as it was opened, or by the last command that changed it. */
 typedef struct lldpa_configuration_told {
     uint32_t interval;      /* tx-interval, in seconds */
     uint32_t hold;          /* tx-hold */
@@ -472,7 +481,7 @@ typedef struct lldpa_configuration_told {
     uint8_t status[64];     /* LLDPA_RX_AND_TX to LLDPA_DISABLED for each port; 0 after the last port */
 } lldpa_configuration_told;
 
-/* How an agent is configured. Answers 0 or LLDPA_NOT_OPEN; told is written if it is 0. */
+/* Writes how an agent is configured. Returns 0 or LLDPA_NOT_OPEN; told is written if it is 0. */
 uint8_t lldpa_configuration(const lldpa_agent *agent, lldpa_configuration_told *told);
 
 /* What a command shows. */
@@ -482,51 +491,53 @@ uint8_t lldpa_configuration(const lldpa_agent *agent, lldpa_configuration_told *
 #define LLDPA_SHOW_CHASSIS 3
 #define LLDPA_SHOW_CONFIGURATION 4
 
-/* Why a command is refused: the first in reading order. */
-#define LLDPA_UNKNOWN 31      /* a word is missing, or no form has it there */
+/* Why a command is refused: the leftmost error. */
+#define LLDPA_UNKNOWN 31      /* a word is missing, or is not known at its position */
 #define LLDPA_NO_SUCH_PORT 32 /* no port has that name */
 #define LLDPA_NUMBER 33       /* a word is not one or more decimal digits */
 #define LLDPA_RANGE 34        /* a number is not in its range */
 #define LLDPA_BAD_TEXT 35     /* a text is over 255 octets, or has one that is not printable */
 #define LLDPA_EXTRA 36        /* a word follows a complete command */
-#define LLDPA_QUOTE 37        /* a quote is wrong */
+#define LLDPA_QUOTE 37        /* a double quote is inside a word, or is not closed */
 #define LLDPA_IN_USE 38       /* some port holds more neighbors than the limit */
 
 /*
- * Runs the line of a command, "configure ..", "update" or "show ..", without its line feed. A show is only read:
- * lldpa_show_lines writes its lines.
- *   show   LLDPA_SHOW_NOTHING, or which show it is, if the answer is 0
- *   marks  which ports send, if the answer is 0
- * Answers 0; or 31 to 38 or LLDPA_NOT_OPEN, and then nothing is changed.
+ * Runs a command, "configure ..", "update" or "show ..", without a line feed; lldpa(1) describes the commands. A show
+ * command changes nothing: give its number to lldpa_show_lines.
+ *   show   LLDPA_SHOW_NOTHING, or the number of the show, if the answer is 0
+ *   marks  the frames to send, if the answer is 0
+ * Returns 0; or 31 to 38 or LLDPA_NOT_OPEN, and then changes nothing.
  */
 uint8_t lldpa_command(lldpa_agent *agent, const uint8_t *line, size_t length, uint32_t *show, lldpa_marks *marks);
 
 /* What was written of a show. */
 typedef struct lldpa_lines {
-    size_t length; /* how many octets, each line with its line feed */
+    size_t length; /* the number of octets, each line with its line feed */
     uint32_t next; /* the line to continue with; if no line is left, the number of lines, or `from` if it is greater */
     bool done;     /* whether no line is left */
 } lldpa_lines;
 
 /*
- * Lines of a show: as many whole ones as fit, from one of them on.
+ * Writes lines of a show: as many whole lines as fit, starting with line `from`.
  *   show  LLDPA_SHOW_NEIGHBORS to LLDPA_SHOW_CONFIGURATION
- *   from  the first line that is wanted, from 0
- *   room  of LLDPA_LINE_ROOM octets each line fits
+ *   from  the first line that you want, from 0
+ *   room  LLDPA_LINE_ROOM octets hold any line
  *   told  written if the answer is 0
- * Answers the first of these: LLDPA_OUT_OF_RANGE for the show, LLDPA_NOT_OPEN, LLDPA_NO_ROOM if not even the first line
- * fits; else 0. If it is not 0, nothing is written. To get all lines, continue with `next`, and give the agent nothing in
- * between. A call also goes through the lines before `from`, so a room for the whole show costs least.
+ * Returns the first of these that applies: LLDPA_OUT_OF_RANGE for the show, LLDPA_NOT_OPEN, LLDPA_NO_ROOM if not
+ * even the first line fits; otherwise 0. Unless it returns 0, nothing is written. To get all lines, continue with
+ * `next`, and make no other call of the agent in between. A call also goes through the lines before `from`, so a
+ * room for the whole show costs least.
  */
 uint8_t lldpa_show_lines(const lldpa_agent *agent, uint32_t show, uint32_t from, uint8_t *room, size_t room_length,
                          lldpa_lines *told);
 
 /*
- * The frame that a port sends, with the present configuration.
+ * Writes the frame of a mark, with the present configuration. Send it on the port of the mark.
  *   mark    LLDPA_ORDINARY or LLDPA_SHUTDOWN
  *   room    LLDPA_FRAME_ROOM octets are always enough
- *   length  how many octets it has, if the answer is 0
- * Answers the first of these: LLDPA_OUT_OF_RANGE for the mark, LLDPA_NOT_OPEN, LLDPA_NO_PORT, LLDPA_NO_ROOM; else 0.
+ *   length  the number of octets of the frame, if the answer is 0
+ * Returns the first of these that applies: LLDPA_OUT_OF_RANGE for the mark, LLDPA_NOT_OPEN, LLDPA_NO_PORT,
+ * LLDPA_NO_ROOM; otherwise 0.
  */
 uint8_t lldpa_frame_of(const lldpa_agent *agent, uint32_t port, uint32_t mark, uint8_t *room, size_t room_length,
                        size_t *length);

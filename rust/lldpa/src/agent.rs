@@ -12,8 +12,8 @@ use alloc::vec::Vec;
 use core::mem::size_of;
 use core::ptr;
 
-/// An open agent. Only [`Agent::open`] allocates its memory, and dropping it frees it. A call that names a port fails if
-/// the agent has no such port.
+/// An open agent. [`Agent::open`] allocates all its memory, and dropping it frees it; it sends no shutdown frames. Lists
+/// and texts that a call returns are allocated by the call. A call that names a port fails if the agent has no such port.
 ///
 /// It stays on the thread that opened it, and is neither `Send` nor `Sync`: its memory is behind a raw pointer, and no
 /// proof says that another thread may use it and free it.
@@ -55,8 +55,11 @@ fn text_of(text: &str) -> sys::lldpa_text {
 }
 
 impl Agent {
-    /// Opens an agent, which needs about 1.6 KB for each of `max_neighbors` on each port. Or returns the first fault of
-    /// the options, a lack of memory, or an archive of another version.
+    /// Opens an agent, which needs about 1.6 KB for each of `max_neighbors` on each port.
+    ///
+    /// # Errors
+    ///
+    /// The first fault of the options; `Memory`; or `Version` if the archive is of another version.
     pub fn open(options: &Options<'_>) -> Result<Agent, OpenFault> {
         if !crate::is_of_this_version() {
             return Err(OpenFault::Version);
@@ -85,15 +88,16 @@ impl Agent {
         Ok(Agent { handle, ports })
     }
 
-    /// One second has passed. Returns which ports send, in ascending order.
-    #[must_use = "the frames that go"]
+    /// Tells the agent that one second has passed. Returns the frames to send, by ascending port: [`Agent::frame_of`]
+    /// writes each.
+    #[must_use = "send the frames that it lists"]
     pub fn tick(&mut self) -> Vec<Sent> {
         self.ticks(1).sent
     }
 
-    /// Up to `count` seconds have passed: takes as many ticks, but stops after the first at which a port sends or a
-    /// neighbor ages out. Call it again for the others. `count` is no more than the seconds that passed.
-    #[must_use = "the frames that go"]
+    /// Tells the agent that `count` seconds have passed. It stops early, after the first second at which a port sends or
+    /// a neighbor ages out: send the frames, and call it again for the remaining seconds.
+    #[must_use = "send the frames that it lists"]
     pub fn ticks(&mut self, count: u32) -> Ticks {
         let (mut marks, mut told) = (sys::lldpa_marks::default(), sys::lldpa_ticks_taken::default());
         // SAFETY: the handle is open, and the others are values of their own.
@@ -101,9 +105,9 @@ impl Agent {
         Ticks { taken: told.taken, aged_out: told.aged_out, sent: sent(&marks) }
     }
 
-    /// At which tick, from 1, a port sends or a neighbor ages out, if no other call comes before it; None if at none. You
-    /// may sleep so many seconds and then give them all to [`Agent::ticks`]. If you wake for a frame, give the seconds
-    /// that passed first, and then the frame.
+    /// Returns the number of seconds until a port sends or a neighbor ages out, if you make no other call first; None if
+    /// nothing is due. You may sleep that long, and then give all these seconds to [`Agent::ticks`]. If you wake for a
+    /// frame, first give the seconds that passed, and then the frame.
     #[must_use]
     pub fn due(&self) -> Option<u32> {
         let mut seconds = sys::LLDPA_NEVER;
@@ -129,13 +133,13 @@ impl Agent {
         Configuration::of(&told)
     }
 
-    /// Takes a frame that a port received: any octets; if they are not an LLDP frame, nothing changes. Returns which
-    /// ports send.
+    /// Gives the agent a frame that a port received: any octets; if they are not an LLDP frame, nothing changes. First
+    /// give the seconds that passed before it came. Returns the frames to send.
     pub fn frame(&mut self, port: u8, octets: &[u8]) -> Result<Vec<Sent>, PortFault> {
         self.hear(port, octets, ptr::null_mut())
     }
 
-    /// Takes a frame as [`Agent::frame`] does. Returns what it did, too.
+    /// Gives the agent a frame as [`Agent::frame`] does, and also returns what it did.
     pub fn frame_news<'f>(&mut self, port: u8, octets: &'f [u8]) -> Result<(Vec<Sent>, News<'f>), PortFault> {
         let mut news = sys::lldpa_news::default();
         let sent = self.hear(port, octets, &mut news)?;
@@ -151,7 +155,7 @@ impl Agent {
         Ok(sent(&marks))
     }
 
-    /// Returns the neighbors of a port, in the order in which they were last new.
+    /// Returns the neighbors of a port, in the order in which they were last [`News::New`].
     pub fn neighbors(&self, port: u8) -> Result<Neighbors<'_>, PortFault> {
         let mut count = 0;
         // SAFETY: the handle is open, and the count is a value of its own.
@@ -159,7 +163,7 @@ impl Agent {
         Ok(Neighbors::new(self, port, count))
     }
 
-    /// The link of a port came up, or went down. Returns which ports send.
+    /// Tells the agent that the link of a port came up or went down. Returns the frames to send.
     pub fn link(&mut self, port: u8, up: bool) -> Result<Vec<Sent>, PortFault> {
         let mut marks = sys::lldpa_marks::default();
         // SAFETY: the handle is open, and the marks are a value of their own.
@@ -167,8 +171,8 @@ impl Agent {
         Ok(sent(&marks))
     }
 
-    /// Runs a command, `configure ..`, `update` or `show ..`, without its line feed. A show is only read:
-    /// [`Agent::show`] writes it. Or returns the first fault of the command, and nothing is changed.
+    /// Runs a command, `configure ..`, `update` or `show ..`, without its line feed. A show command changes nothing:
+    /// [`Agent::show`] writes its lines. Fails with the first fault of the command, and then changes nothing.
     pub fn command(&mut self, line: impl AsRef<[u8]>) -> Result<Commanded, CommandFault> {
         let line = line.as_ref();
         let (mut marks, mut show) = (sys::lldpa_marks::default(), 0);
@@ -180,8 +184,8 @@ impl Agent {
         Ok(Commanded { show: (show != 0).then(|| Show::of(show)), sent: sent(&marks) })
     }
 
-    /// Disables every port. Returns a shutdown frame for each port that was active, and nothing else.
-    #[must_use = "the frames that go"]
+    /// Disables every port. Returns the shutdown frames to send, one for each port that was active.
+    #[must_use = "send the frames that it lists"]
     pub fn leave(&mut self) -> Vec<Sent> {
         let mut marks = sys::lldpa_marks::default();
         // SAFETY: the handle is open, and the marks are a value of their own.
@@ -189,7 +193,7 @@ impl Agent {
         sent(&marks)
     }
 
-    /// Returns the frame that a port sends, with the present configuration: at most 1514 octets.
+    /// Returns a frame to send, with the present configuration: at most 1514 octets.
     pub fn frame_of(&self, port: u8, mark: Mark) -> Result<Vec<u8>, PortFault> {
         let mut frame = vec![0u8; sys::LLDPA_FRAME_ROOM as usize];
         let (at, room, mut length) = (frame.as_mut_ptr(), frame.len(), 0);

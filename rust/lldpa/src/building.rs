@@ -6,7 +6,7 @@ use crate::sys;
 use alloc::vec;
 use alloc::vec::Vec;
 
-/// Gathers what an LLDPDU is to have.
+/// Builds an LLDPDU TLV by TLV.
 ///
 /// ```
 /// let built = lldpa::Builder::new(b"\x04\x02\0\0\0\0\x01", b"\x05eth0", 120)

@@ -12,7 +12,7 @@ macro_rules! faults {
         #[derive(Clone, Copy, Debug, PartialEq, Eq, Hash)]
         pub enum $name {
             $($(#[$case_about])* #[doc = concat!("The text is \"", $text, "\".")] $case = $number,)*
-            /// The archive answered a number that this crate does not know: it is of another version.
+            /// A number that this crate does not know. An archive that fits never returns it.
             Unexpected = 255,
         }
 
@@ -47,7 +47,7 @@ macro_rules! faults {
 }
 
 faults! {
-    /// What is wrong with an LLDPDU, in the order in which it is looked for.
+    /// What is wrong with an LLDPDU, in the order of the checks.
     PduFault {
         Truncated = 1, "no complete TLV where a mandatory one belongs";
         NoChassis = 2, "the first TLV is not a Chassis ID";
@@ -73,7 +73,7 @@ faults! {
 }
 
 faults! {
-    /// Why an agent is not opened, in the order of the checks.
+    /// Why an agent is not opened.
     OpenFault {
         Memory = 21, "there was no memory";
         NoPorts = 22, "no port was named";
@@ -88,9 +88,9 @@ faults! {
 }
 
 faults! {
-    /// Why a command is refused: the first fault in reading order.
+    /// Why a command is refused: the leftmost error.
     CommandFault {
-        /// A word is missing, or no form has it there.
+        /// A word is missing, or is not known at its position.
         Unknown = 31, "unknown command";
         NoSuchPort = 32, "no such port";
         /// A word is not one or more decimal digits.
@@ -107,7 +107,7 @@ faults! {
 }
 
 impl CommandFault {
-    /// Returns the line that the program writes of the fault, as `error: unknown command`.
+    /// Returns the line with which the program reports the fault, such as `error: unknown command`.
     pub fn line(self) -> String {
         format!("error: {self}")
     }
@@ -126,7 +126,7 @@ pub(crate) fn text_written(
     }
 }
 
-/// Returns the words of the fault or the misuse of that number in `lldpa.h`, or None if none has it.
+/// Returns the description of an error number of `lldpa.h`, or None if there is no such number.
 #[must_use]
 pub fn fault_text(number: u32) -> Option<String> {
     // SAFETY: the room has as many octets as its length says, and the length is a value of its own.
@@ -136,7 +136,7 @@ pub fn fault_text(number: u32) -> Option<String> {
 }
 
 faults! {
-    /// Why an LLDPDU is not built, or a machine not made or told of an event.
+    /// Why an LLDPDU is not built, or a machine refuses its settings or an event.
     RangeFault {
         OutOfRange = 100, "a number or a length is not in its range";
         Version = 254, "the archive is of another version than this crate";
@@ -144,17 +144,17 @@ faults! {
 }
 
 faults! {
-    /// Why a call of an agent is refused that names a port.
+    /// Why a call with a port number fails.
     PortFault {
         NoPort = 103, "the agent has no port of that number";
     }
 }
 
-/// Ends a call that has no fault, if the archive answers a number that this crate does not know.
+/// Ends a call without an error result, if the archive returns a number that this crate does not know.
 ///
 /// # Panics
 ///
-/// Always: an archive of this version does not do so.
+/// Always. An archive that fits does not return such a number.
 #[cold]
 pub(crate) fn unexpected(answer: impl fmt::Display) -> ! {
     panic!("liblldpa answered {answer}, which this crate does not know")

@@ -5,11 +5,11 @@
 //! - The transmit machine of one port: [`Machine`].
 //! - A whole agent on up to 64 ports: [`Agent`].
 //!
-//! What the library itself is proved to do, `docs/LIBRARY.md` of lldpa's repository says; this crate over it is tested.
-//! `build.rs` looks for the archive in the folder that `LLDPA_LIB_DIR` names, then where `tools/library/library.sh`
-//! writes it, then where pkg-config knows it.
+//! `docs/LIBRARY.md` of lldpa's repository says what is proved of the library. This crate over it is only tested.
+//! `build.rs` takes the archive from the folder that `LLDPA_LIB_DIR` names or, if that is not set, from where
+//! `tools/library/library.sh` writes it, or else from where pkg-config finds it.
 //!
-//! Without the feature `std` the crate needs `alloc` alone.
+//! Without the feature `std` the crate needs only `alloc`.
 //!
 //! All but an [`Agent`] and its [`Neighbors`] is `Send` and `Sync`:
 //!
@@ -52,8 +52,8 @@ pub use reading::{
 };
 pub use told::{Commanded, Configuration, Sent, Show, Statistics, Status, Ticks};
 
-/// The version of the archive: 10000 times the first number, 100 times the second and the third. The build,
-/// [`Agent::open`] and [`Machine::new`] accept only an archive whose first two numbers are those of this crate.
+/// Returns the version of the archive, major * 10000 + minor * 100 + patch. The build, [`Agent::open`] and
+/// [`Machine::new`] accept only an archive of the major and minor version of this crate.
 #[must_use]
 pub fn version() -> u32 {
     // SAFETY: nothing is lent.

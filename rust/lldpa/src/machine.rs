@@ -4,7 +4,7 @@ use crate::fault::RangeFault;
 use crate::numbers::numbered;
 use crate::sys;
 
-/// What an event is for a port.
+/// What happened to a port.
 #[derive(Clone, Copy, Debug, PartialEq, Eq, Hash)]
 pub enum Cause {
     /// One second has passed.
@@ -26,7 +26,7 @@ pub enum Cause {
 }
 
 numbered! {
-    /// Which frame goes.
+    /// Which frame to send.
     Mark {
         /// One with the whole configuration.
         Ordinary = 1,
@@ -35,7 +35,7 @@ numbered! {
     }
 }
 
-/// The machine.
+/// The transmit state machine of one port (IEEE 802.1AB-2009, clause 9).
 ///
 /// ```
 /// use lldpa::{Cause, Machine, Mark};
@@ -66,7 +66,7 @@ impl Machine {
         Ok(Machine { held })
     }
 
-    /// Takes one event, with the tx-interval in force after it, 1 to 3600 seconds, and returns which frame to send. If the
+    /// Applies one event, with the tx-interval in force after it, 1 to 3600 seconds, and returns which frame to send. If the
     /// interval is not in its range, the machine stays as it was.
     pub fn event(&mut self, cause: Cause, interval: u16) -> Result<Option<Mark>, RangeFault> {
         let mut mark = 0;

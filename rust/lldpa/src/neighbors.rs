@@ -20,7 +20,7 @@ pub enum News<'f> {
     New(Msap<'f>),
     /// A neighbor that is held says something else, which is stored.
     Changed(Msap<'f>),
-    /// A neighbor that is held says the same again.
+    /// A neighbor that is held says the same again; its time to live starts again.
     Same(Msap<'f>),
     /// There is no room for a neighbor that is not held.
     Dropped(Msap<'f>),
@@ -28,12 +28,12 @@ pub enum News<'f> {
     Gone(Msap<'f>),
     /// A neighbor that is not held leaves.
     Unknown(Msap<'f>),
-    /// What the archive says is not known to this crate: it is of another version.
+    /// Something that this crate does not know. An archive that fits never returns it.
     Unexpected,
 }
 
 impl<'f> News<'f> {
-    /// The news that were told of a frame.
+    /// Returns the news of a frame.
     pub(crate) fn of(told: &sys::lldpa_news, frame: &'f [u8]) -> News<'f> {
         let at = |place: sys::lldpa_place| &frame[place.start..][..place.length];
         let msap = Msap { chassis: at(told.chassis), port: at(told.port) };
@@ -73,7 +73,7 @@ impl Neighbor {
         self.left
     }
 
-    /// What its LLDPDU tells. None only if the archive is of another version.
+    /// Returns what its LLDPDU says. None only if the archive does not fit the crate.
     pub fn info(&self) -> Option<Info<'_>> {
         match examine(&self.octets) {
             Ok(Examined::Info(info)) => Some(info),

@@ -1,6 +1,6 @@
 //! What an agent is opened with.
 
-/// What a station is.
+/// What the agent says it is, in its System Capabilities.
 #[derive(Clone, Copy, Debug, PartialEq, Eq, Hash)]
 pub enum Role {
     /// An end station.
@@ -24,7 +24,7 @@ pub struct Options<'a> {
     pub management: Option<[u8; 4]>,
     /// Whether each port begins with the status rx-only.
     pub receive_only: bool,
-    /// What the station is.
+    /// What the agent says it is.
     pub role: Role,
     /// How many neighbors each port may hold, 1 to 128.
     pub max_neighbors: u8,
@@ -37,7 +37,7 @@ pub struct Options<'a> {
 }
 
 impl Default for Options<'_> {
-    /// What the program takes without options, and no port.
+    /// Returns the defaults of the program lldpa, with no ports.
     fn default() -> Self {
         Options {
             ports: &[],

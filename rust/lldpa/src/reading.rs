@@ -5,12 +5,12 @@ use crate::sys;
 use alloc::string::String;
 use alloc::vec;
 
-/// The octets at a place.
+/// Returns the octets of a range.
 fn at(octets: &[u8], place: sys::lldpa_place) -> &[u8] {
     &octets[place.start..][..place.length]
 }
 
-/// The LLDPDU of an Ethernet frame, which begins with its destination address and has no VLAN tag and no check
+/// Returns the LLDPDU of an Ethernet frame, which begins with its destination address and has no VLAN tag and no check
 /// sequence. None if it is not an LLDP frame: 14 to 1514 octets, to 01-80-C2-00-00-0E, of EtherType 88-CC.
 #[must_use]
 pub fn frame_pdu(frame: &[u8]) -> Option<&[u8]> {
@@ -64,7 +64,7 @@ impl<'a> Info<'a> {
         self.msap
     }
 
-    /// The octets that count: those before the End Of LLDPDU.
+    /// Returns the octets up to the End Of LLDPDU, or up to a TLV that is not complete.
     pub fn octets(&self) -> &'a [u8] {
         self.octets
     }
@@ -74,17 +74,17 @@ impl<'a> Info<'a> {
         self.ttl
     }
 
-    /// How many TLVs are discarded, one that is not complete among them.
+    /// Returns how many TLVs are discarded, including an incomplete one at the end.
     pub fn discarded(&self) -> usize {
         self.discarded
     }
 
-    /// How many kept TLVs are of the types 9 to 127.
+    /// Returns how many kept TLVs are of the types 9 to 127.
     pub fn unrecognized(&self) -> usize {
         self.unrecognized
     }
 
-    /// The kept TLVs in their order: well formed, and the first of its type if that is 4 to 7.
+    /// Returns the kept TLVs in their order: those that are well formed and, for types 4 to 7, the first of their type.
     pub fn kept(&self) -> Kept<'a> {
         Kept { extent: self.octets, walk: sys::lldpa_kept::default() }
     }
@@ -150,17 +150,17 @@ impl<'a> Iterator for Kept<'a> {
 
 impl core::iter::FusedIterator for Kept<'_> {}
 
-/// What a System Capabilities TLV (type 7) says, each a sum of the standard's bits.
+/// What a System Capabilities TLV (type 7) says: two sets of the standard's bits.
 #[derive(Clone, Copy, Debug, PartialEq, Eq, Hash)]
 pub struct Capabilities {
-    /// What the system can be.
+    /// The functions that the system has.
     pub available: u16,
-    /// What it is.
+    /// Those that are enabled.
     pub enabled: u16,
 }
 
-/// The fields of the body of a System Capabilities TLV. None if it is not well formed: four octets, and no bit
-/// enabled that is not available.
+/// Reads the body of a System Capabilities TLV. None if it is not well formed: four octets, and no bit enabled that is
+/// not available.
 #[must_use]
 pub fn caps(body: &[u8]) -> Option<Capabilities> {
     let mut told = sys::lldpa_capabilities::default();
@@ -184,7 +184,7 @@ pub struct Management<'a> {
     pub oid: &'a [u8],
 }
 
-/// The fields of the body of a Management Address TLV. None if it is not well formed.
+/// Reads the body of a Management Address TLV. None if it is not well formed.
 #[must_use]
 pub fn mgmt(body: &[u8]) -> Option<Management<'_>> {
     let mut told = sys::lldpa_management::default();
@@ -199,8 +199,8 @@ pub fn mgmt(body: &[u8]) -> Option<Management<'_>> {
     })
 }
 
-/// What `show neighbors` writes of a TLV behind `lldp.PORT.N.`, as `chassis.mac=00:11:22:33:44:55`: of a Chassis ID
-/// (type 1), a Port ID (2), or one of the types 4 to 127. None if the body is not well formed for the type.
+/// Returns a TLV as text, as the command `show neighbors` writes it: `chassis.mac=00:11:22:33:44:55`. The type is 1 for a
+/// Chassis ID, 2 for a Port ID, or 4 to 127. None if the body is not well formed for the type.
 ///
 /// ```
 /// assert_eq!(lldpa::tlv_text(2, b"\x05eth0").as_deref(), Some("port.ifname=eth0"));
@@ -214,8 +214,8 @@ pub fn tlv_text(kind: u8, body: &[u8]) -> Option<String> {
     })
 }
 
-/// A text that came from a neighbor, so that it can be printed: with each backslash doubled, and each octet that is not
-/// printable ASCII as `\x` and two digits. None if it has more than 511 octets.
+/// Escapes a text that came from a neighbor, so that you can print it: doubles each backslash, and replaces each octet
+/// that is not printable ASCII by `\x` and two digits. None if it has more than 511 octets.
 ///
 /// ```
 /// assert_eq!(lldpa::escape(b"sw1\x1b").as_deref(), Some("sw1\\x1b"));

@@ -18,7 +18,7 @@ impl Agent {
         SHOW_ROOM + SHOW_ROOM_OF_NEIGHBOR * held
     }
 
-    /// All lines of a show, each with its line feed.
+    /// Returns all lines of a show, each with its line feed.
     #[must_use]
     pub fn show(&self, show: Show) -> String {
         let mut text = String::new();
@@ -33,7 +33,7 @@ impl Agent {
         text
     }
 
-    /// One line of a show, from 0, without its line feed. None behind the last.
+    /// Returns one line of a show, from 0, without its line feed. None after the last.
     #[must_use]
     pub fn show_line(&self, show: Show, line: u32) -> Option<String> {
         let mut room = [0u8; sys::LLDPA_LINE_ROOM as usize];

@@ -5,12 +5,12 @@ use crate::numbers::numbered;
 use crate::sys;
 use alloc::vec::Vec;
 
-/// A port that sends, by its number from 0 in the order of the options, and what it sends.
+/// A frame to send, by the port's number from 0 in the order of the options.
 #[derive(Clone, Copy, Debug, PartialEq, Eq, Hash)]
 pub struct Sent {
     /// The number of the port.
     pub port: u8,
-    /// What it sends.
+    /// The kind of the frame.
     pub mark: Mark,
 }
 
@@ -28,23 +28,23 @@ numbered! {
     }
 }
 
-/// What a command gave: a show that [`Agent::show`] writes, or which ports send.
+/// What a command did: a show that [`crate::Agent::show`] writes, or frames to send.
 #[derive(Clone, Debug, PartialEq, Eq)]
 pub struct Commanded {
-    /// Which show was asked for, or None if something was changed.
+    /// The show that was asked for, or None if something was changed.
     pub show: Option<Show>,
-    /// Which ports send.
+    /// The frames to send.
     pub sent: Vec<Sent>,
 }
 
-/// What several ticks did.
+/// What several seconds did.
 #[derive(Clone, Debug, PartialEq, Eq)]
 pub struct Ticks {
-    /// How many were taken.
+    /// The number of seconds that were counted.
     pub taken: u32,
-    /// How many neighbors aged out at the last of them.
+    /// The number of neighbors that aged out at the last of them.
     pub aged_out: u32,
-    /// Which ports send at the last of them.
+    /// The frames to send at the last of them.
     pub sent: Vec<Sent>,
 }
 
@@ -67,7 +67,7 @@ pub struct Statistics {
     pub unrecognized: u32,
     /// Neighbors that aged out.
     pub ageouts: u32,
-    /// LLDPDUs that were dropped for want of room.
+    /// LLDPDUs that were dropped because there was no room.
     pub drops: u32,
 }
 
@@ -101,7 +101,7 @@ numbered! {
     }
 }
 
-/// How an agent is configured: each by the last command that set it, else as it was opened.
+/// How an agent is configured: as it was opened, or by the last command that changed it.
 #[derive(Clone, Debug, PartialEq, Eq, Hash)]
 pub struct Configuration {
     /// The tx-interval in seconds.
