@@ -1,7 +1,7 @@
 //! Gives events to an agent, and writes what the program lldpa writes. The words and the lines of standard input are
 //! those of tools/library/c/transcript.c. At each show the structs of the agent are compared with its lines.
 
-use lldpa::{Agent, CommandFault, Neighbor, News, Options, Role, Sent, Show};
+use lldpa::{Agent, CommandFault, Neighbor, News, Options, Role, Sent, Show, Statistics};
 use std::io::{stdin, BufRead};
 use std::str::from_utf8;
 
@@ -43,20 +43,21 @@ fn write(agent: &Agent, ports: &[&str], sent: &[Sent]) {
     }
 }
 
+/// Returns the lines that a port's counters have in `show statistics`. The `Debug` form has their names and numbers.
+fn counter_lines(port: &str, told: &Statistics) -> String {
+    let text = format!("{told:?}").replace('_', "-").replace(": ", "=");
+    let fields = text.trim_start_matches("Statistics { ").trim_end_matches(" }").split(", ");
+    fields.map(|field| format!("lldp.{port}.{field}\n")).collect()
+}
+
 /// Checks that the structs of an agent say what its shows do.
 fn see_structs(agent: &Agent, ports: &[&str]) {
-    let (counters, settings) = (agent.show(Show::Statistics), agent.show(Show::Configuration));
+    let mut counters = String::new();
     for (port, name) in ports.iter().enumerate() {
-        let told = agent.statistics(port as u8).expect("a port");
-        let lines = format!(
-            "lldp.{name}.sent={}\nlldp.{name}.shutdowns={}\nlldp.{name}.received={}\nlldp.{name}.discarded={}\n\
-            lldp.{name}.errors={}\nlldp.{name}.tlvs-discarded={}\nlldp.{name}.unrecognized={}\n\
-            lldp.{name}.ageouts={}\nlldp.{name}.drops={}\n",
-            told.sent, told.shutdowns, told.received, told.discarded, told.errors, told.tlvs_discarded,
-            told.unrecognized, told.ageouts, told.drops
-        );
-        assert!(counters.contains(&lines));
+        counters += &counter_lines(name, &agent.statistics(port as u8).expect("a port"));
     }
+    assert_eq!(agent.show(Show::Statistics), counters);
+    let settings = agent.show(Show::Configuration);
     let told = agent.configuration();
     assert_eq!(told.status.len(), ports.len());
     let lines = format!(

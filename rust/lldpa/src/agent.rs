@@ -4,8 +4,8 @@ use crate::fault::{expect_ok, CommandFault, OpenFault, PortFault};
 use crate::machine::Mark;
 use crate::neighbors::{Neighbors, News};
 use crate::options::Options;
-use crate::sys;
-use crate::told::{Commanded, Configuration, Sent, Show, Statistics, Ticks};
+use crate::sys::{self, Statistics};
+use crate::told::{Commanded, Configuration, Sent, Show, Ticks};
 use alloc::boxed::Box;
 use alloc::vec;
 use alloc::vec::Vec;
@@ -118,10 +118,10 @@ impl Agent {
 
     /// Returns what a port counted.
     pub fn statistics(&self, port: u8) -> Result<Statistics, PortFault> {
-        let mut told = sys::lldpa_statistics_told::default();
+        let mut told = Statistics::default();
         // SAFETY: the handle is open, and what is told is a value of its own.
         PortFault::check(unsafe { sys::lldpa_statistics(&*self.handle, port.into(), &mut told) })?;
-        Ok(Statistics::of(&told))
+        Ok(told)
     }
 
     /// Returns how the agent is configured.

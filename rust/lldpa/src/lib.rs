@@ -50,7 +50,8 @@ pub use reading::{
     caps, escape, examine, frame_pdu, mgmt, tlv_text, Capabilities, Examined, Info, Kept, Management, Msap,
     Tlv,
 };
-pub use told::{Commanded, Configuration, Sent, Show, Statistics, Status, Ticks};
+pub use sys::Statistics;
+pub use told::{Commanded, Configuration, Sent, Show, Status, Ticks};
 
 /// Returns the version of the archive, major * 10000 + minor * 100 + patch. The build, [`Agent::open`] and
 /// [`Machine::new`] accept only an archive of the major and minor version of this crate.

@@ -73,9 +73,14 @@ pub const LLDPA_EXTRA: u8 = 36;
 pub const LLDPA_QUOTE: u8 = 37;
 pub const LLDPA_IN_USE: u8 = 38;
 extern "C" {
+    #[doc = " Returns the version of the library, in the form of LLDPA_VERSION."]
     pub fn lldpa_version() -> u32;
 }
 extern "C" {
+    #[doc = " Writes what a fault or a misuse is, in words, such as \"the first TLV is not a Chassis ID\"."]
+    #[doc = "   fault   an answer other than 0: the number of a fault in this header, or one of those above"]
+    #[doc = "   length  the number of octets written, at most LLDPA_FAULT_ROOM"]
+    #[doc = " Returns 0, LLDPA_OUT_OF_RANGE or LLDPA_NO_ROOM. Nothing is written unless it returns 0."]
     pub fn lldpa_fault_text(
         fault: u32,
         room: *mut u8,
@@ -83,61 +88,107 @@ extern "C" {
         length: *mut usize,
     ) -> u8;
 }
+#[doc = " A range of octets in a buffer: its offset, and its length."]
 #[repr(C)]
-#[derive(Debug, Default, Copy, Clone)]
+#[derive(Debug, Default, Copy, Clone, Hash, PartialEq, Eq)]
 pub struct lldpa_place {
     pub start: usize,
     pub length: usize,
 }
 extern "C" {
+    #[doc = " Finds the LLDPDU in an Ethernet frame."]
+    #[doc = "   frame, length  the frame from its destination address on, without a VLAN tag and without the check sequence"]
+    #[doc = "   pdu            written if the answer is true: what follows the EtherType, at most 1500 octets"]
+    #[doc = " Returns true exactly for an LLDP frame: 14 to 1514 octets, to 01-80-C2-00-00-0E, of EtherType 88-CC."]
     pub fn lldpa_frame_pdu(frame: *const u8, length: usize, pdu: *mut lldpa_place) -> bool;
 }
+#[doc = " What a sound LLDPDU says. *Kept* TLVs are those after the three mandatory ones that are well formed for their type"]
+#[doc = " and, if the type is 4 to 7, the first of it."]
 #[repr(C)]
-#[derive(Debug, Default, Copy, Clone)]
+#[derive(Debug, Default, Copy, Clone, Hash, PartialEq, Eq)]
 pub struct lldpa_examined {
+    #[doc = " the body of the Chassis ID, 2 to 256 octets, its subtype first"]
     pub chassis: lldpa_place,
+    #[doc = " the body of the Port ID, in the same form"]
     pub port: lldpa_place,
+    #[doc = " the octets up to the End Of LLDPDU, or up to a TLV that is not complete"]
     pub extent: usize,
+    #[doc = " how many TLVs are discarded, including an incomplete one at the end"]
     pub discarded: usize,
+    #[doc = " how many kept TLVs are of the types 9 to 127"]
     pub unrecognized: usize,
+    #[doc = " the time to live in seconds; 0: the neighbor is gone, and the three numbers above are 0"]
     pub ttl: u16,
 }
 extern "C" {
+    #[doc = " Examines an LLDPDU of any length."]
+    #[doc = "   told  written if the answer is 0"]
+    #[doc = " Returns 0, or the number of the first fault, 1 to 8."]
     pub fn lldpa_examine(pdu: *const u8, length: usize, told: *mut lldpa_examined) -> u8;
 }
+#[doc = " A walk over the kept TLVs, for lldpa_next_kept. Begin with LLDPA_KEPT_INIT, which is all 0."]
 #[repr(C)]
-#[derive(Debug, Default, Copy, Clone)]
+#[derive(Debug, Default, Copy, Clone, Hash, PartialEq, Eq)]
 pub struct lldpa_kept {
+    #[doc = " where the walk continues; 0: at the first TLV after the three mandatory ones"]
     pub next: usize,
+    #[doc = " the body of the TLV that was found last"]
     pub body: lldpa_place,
+    #[doc = " whether a well-formed TLV of type 4, 5, 6, 7 was found"]
     pub met: [bool; 4usize],
+    #[doc = " the type of the TLV that was found last, 4 to 127"]
     pub kind: u8,
 }
 extern "C" {
+    #[doc = " Finds the next kept TLV."]
+    #[doc = "   extent, length  an LLDPDU for which lldpa_examine returned 0, with a TTL above 0, and its lldpa_examined.extent"]
+    #[doc = "                   as the length; the same in every call of a walk"]
+    #[doc = "   walk            is advanced to the TLV; it is unchanged if no TLV is left"]
+    #[doc = " Returns whether there is one. For other octets it finds some TLV in them, or none."]
     pub fn lldpa_next_kept(extent: *const u8, length: usize, walk: *mut lldpa_kept) -> bool;
 }
+#[doc = " What a System Capabilities TLV (type 7) says: two sets of bits, as in table 8-4 of the standard."]
 #[repr(C)]
-#[derive(Debug, Default, Copy, Clone)]
+#[derive(Debug, Default, Copy, Clone, Hash, PartialEq, Eq)]
 pub struct lldpa_capabilities {
     pub available: u16,
     pub enabled: u16,
 }
 extern "C" {
+    #[doc = " Reads the body of a System Capabilities TLV."]
+    #[doc = "   told  written if the answer is true"]
+    #[doc = " Returns true exactly if the body is well formed: four octets, and no bit enabled that is not available."]
     pub fn lldpa_caps(body: *const u8, length: usize, told: *mut lldpa_capabilities) -> bool;
 }
+#[doc = " What a Management Address TLV (type 8) says. Address and oid are ranges of its body."]
 #[repr(C)]
-#[derive(Debug, Default, Copy, Clone)]
+#[derive(Debug, Default, Copy, Clone, Hash, PartialEq, Eq)]
 pub struct lldpa_management {
+    #[doc = " 1 to 31 octets"]
     pub address: lldpa_place,
+    #[doc = " 0 to 128 octets"]
     pub oid: lldpa_place,
+    #[doc = " the interface number"]
     pub interface: u32,
+    #[doc = " the address's family: 1 IPv4, 2 IPv6, 6 all 802 media, .."]
     pub family: u8,
+    #[doc = " the interface numbering subtype"]
     pub numbering: u8,
 }
 extern "C" {
+    #[doc = " Reads the body of a Management Address TLV."]
+    #[doc = "   told  written if the answer is true"]
+    #[doc = " Returns true exactly if the body is well formed."]
     pub fn lldpa_mgmt(body: *const u8, length: usize, told: *mut lldpa_management) -> bool;
 }
 extern "C" {
+    #[doc = " Writes a TLV as text, as the command `show neighbors` does: \"chassis.mac=00:11:22:33:44:55\", \"port.ifname=eth0\","]
+    #[doc = " \"chassis.mgmt=192.0.2.1,2,3,\". The value is what follows the first '='. Texts are escaped as by lldpa_escape."]
+    #[doc = "   kind    the type of the TLV: 1 for a Chassis ID, 2 for a Port ID, or 4 to 127"]
+    #[doc = "   body    its body, which must be well formed for the type and have at most 511 octets"]
+    #[doc = "   room    LLDPA_VALUE_ROOM octets are always enough"]
+    #[doc = "   length  the number of octets written, if the answer is 0"]
+    #[doc = " Returns the first of these that applies: LLDPA_OUT_OF_RANGE for the type or the body, LLDPA_NO_ROOM; otherwise 0."]
     pub fn lldpa_tlv_text(
         kind: u32,
         body: *const u8,
@@ -148,6 +199,12 @@ extern "C" {
     ) -> u8;
 }
 extern "C" {
+    #[doc = " Escapes a text that came from a neighbor, so that you can print it: replaces each backslash by two, and each octet"]
+    #[doc = " that is not printable ASCII by a backslash, an x and two hexadecimal digits."]
+    #[doc = "   text    at most 511 octets"]
+    #[doc = "   room    four times as many octets are always enough"]
+    #[doc = "   length  the number of octets written, if the answer is 0"]
+    #[doc = " Returns the first of these that applies: LLDPA_OUT_OF_RANGE for the length of the text, LLDPA_NO_ROOM; otherwise 0."]
     pub fn lldpa_escape(
         text: *const u8,
         text_length: usize,
@@ -156,8 +213,9 @@ extern "C" {
         length: *mut usize,
     ) -> u8;
 }
+#[doc = " A TLV to build: its body, and its type."]
 #[repr(C)]
-#[derive(Debug, Copy, Clone)]
+#[derive(Debug, Copy, Clone, Hash, PartialEq, Eq)]
 pub struct lldpa_tlv {
     pub body: *const u8,
     pub length: usize,
@@ -173,6 +231,16 @@ impl Default for lldpa_tlv {
     }
 }
 extern "C" {
+    #[doc = " Builds an LLDPDU in the caller's room."]
+    #[doc = "   chassis, port  the bodies of the Chassis ID and the Port ID, their subtypes first, 2 to 256 octets each"]
+    #[doc = "   ttl            in seconds; 0 makes a shutdown LLDPDU, which has no other TLVs"]
+    #[doc = "   tlvs           the TLVs to put, in their order, any number"]
+    #[doc = "   faults         one for each TLV (as many as tlvs has): 0 if it was put; 11 to 13 if it is left out"]
+    #[doc = "   room           LLDPA_PDU_ROOM octets are always enough"]
+    #[doc = "   length         the number of octets of the LLDPDU, its End Of LLDPDU included"]
+    #[doc = " Returns the first of these that applies: LLDPA_OUT_OF_RANGE for the length of an identifier; LLDPA_NO_ROOM if"]
+    #[doc = " faults has fewer elements than tlvs; LLDPA_NO_ROOM if the LLDPDU is longer than the room, and only then faults are"]
+    #[doc = " written; otherwise 0. Unless it returns 0, room and length are not written."]
     pub fn lldpa_build(
         chassis: *const u8,
         chassis_length: usize,
@@ -188,22 +256,40 @@ extern "C" {
         length: *mut usize,
     ) -> u8;
 }
+#[doc = " The machine. lldpa_transmit_new makes it. The caller may copy it and read its fields, but not change them."]
 #[repr(C)]
-#[derive(Debug, Default, Copy, Clone)]
+#[derive(Debug, Default, Copy, Clone, Hash, PartialEq, Eq)]
 pub struct lldpa_machine {
+    #[doc = " ticks until the timer ends"]
     pub timer: u16,
+    #[doc = " txCreditMax"]
     pub credit_max: u8,
+    #[doc = " txFastInit"]
     pub fast_init: u8,
+    #[doc = " reinitDelay, in seconds"]
     pub reinit: u8,
+    #[doc = " ordinary frames that may be sent before the next tick, 0 to credit_max"]
     pub credit: u8,
+    #[doc = " ticks until the port may start again"]
     pub wait: u8,
+    #[doc = " txFast: frames left of a fast transmission"]
     pub left: u8,
+    #[doc = " a frame is wanted and was not sent yet"]
     pub waiting: bool,
+    #[doc = " it has started, and since then has neither stopped nor lost its link"]
     pub active: bool,
+    #[doc = " the port may transmit"]
     pub allowed: bool,
+    #[doc = " its link is up"]
     pub up: bool,
 }
 extern "C" {
+    #[doc = " Makes a machine with full credit, on a port whose link is up and that is not active."]
+    #[doc = "   credit_max  txCreditMax, 1 to 10"]
+    #[doc = "   fast_init   txFastInit, 1 to 8"]
+    #[doc = "   reinit      reinitDelay in seconds, 1 to 10"]
+    #[doc = "   allowed     whether the port may transmit from the start"]
+    #[doc = " Returns 0; or LLDPA_OUT_OF_RANGE, and the machine stays as it was."]
     pub fn lldpa_transmit_new(
         machine: *mut lldpa_machine,
         credit_max: u32,
@@ -213,6 +299,12 @@ extern "C" {
     ) -> u8;
 }
 extern "C" {
+    #[doc = " Applies one event, and writes which frame to send."]
+    #[doc = "   cause     LLDPA_CAUSE_TICK to LLDPA_CAUSE_NOTHING"]
+    #[doc = "   interval  the tx-interval in force after the event, 1 to 3600 seconds"]
+    #[doc = "   mark      LLDPA_QUIET, LLDPA_ORDINARY or LLDPA_SHUTDOWN"]
+    #[doc = " Returns 0; or LLDPA_OUT_OF_RANGE for a cause or an interval, or for a machine whose credit is above its"]
+    #[doc = " credit_max, and writes nothing."]
     pub fn lldpa_transmit_event(
         machine: *mut lldpa_machine,
         cause: u32,
@@ -220,8 +312,9 @@ extern "C" {
         mark: *mut u8,
     ) -> u8;
 }
+#[doc = " A text. It does not end in a 0."]
 #[repr(C)]
-#[derive(Debug, Copy, Clone)]
+#[derive(Debug, Copy, Clone, Hash, PartialEq, Eq)]
 pub struct lldpa_text {
     pub octets: *const u8,
     pub length: usize,
@@ -235,21 +328,35 @@ impl Default for lldpa_text {
         }
     }
 }
+#[doc = " What an agent is opened with."]
 #[repr(C)]
-#[derive(Debug, Copy, Clone)]
+#[derive(Debug, Copy, Clone, Hash, PartialEq, Eq)]
 pub struct lldpa_options {
+    #[doc = " sizeof(lldpa_options)"]
     pub size: usize,
+    #[doc = " the names of the ports in order: 1 to 15 letters, digits, '-', '_', '/' and ':'"]
     pub ports: *const lldpa_text,
+    #[doc = " 1 to 64"]
     pub port_count: usize,
+    #[doc = " at most 255 octets, printable ASCII"]
     pub hostname: lldpa_text,
+    #[doc = " the source address and the chassis ID of every frame"]
     pub mac: [u8; 6usize],
+    #[doc = " the IPv4 address under which the agent can be managed"]
     pub management: [u8; 4usize],
+    #[doc = " whether there is one; if not, management is not read"]
     pub managed: bool,
+    #[doc = " whether each port begins with the status rx-only"]
     pub receive_only: bool,
+    #[doc = " LLDPA_STATION, LLDPA_BRIDGE or LLDPA_ROUTER"]
     pub role: u32,
+    #[doc = " how many neighbors each port may hold, 1 to 128"]
     pub max_neighbors: u32,
+    #[doc = " txCreditMax, 1 to 10"]
     pub credit_max: u32,
+    #[doc = " txFastInit, 1 to 8"]
     pub fast_init: u32,
+    #[doc = " reinitDelay in seconds, 1 to 10"]
     pub reinit: u32,
 }
 impl Default for lldpa_options {
@@ -261,8 +368,10 @@ impl Default for lldpa_options {
         }
     }
 }
+#[doc = " A handle of an agent. Begin with one that is all 0: lldpa_agent agent = {0}. Do not read or change its fields, and"]
+#[doc = " do not copy it while it is open. After lldpa_close you may open it again."]
 #[repr(C)]
-#[derive(Debug, Copy, Clone)]
+#[derive(Debug, Copy, Clone, Hash, PartialEq, Eq)]
 pub struct lldpa_agent {
     pub held: *mut ::core::ffi::c_void,
     pub open: bool,
@@ -277,16 +386,26 @@ impl Default for lldpa_agent {
     }
 }
 extern "C" {
+    #[doc = " Opens an agent, and allocates all memory that it will ever need: about 1.6 KB for each of max_neighbors on each port."]
+    #[doc = " The link of each port is up. Returns the first of these that applies: LLDPA_OUT_OF_RANGE if the library does not"]
+    #[doc = " know an lldpa_options of this `size`; LLDPA_IS_OPEN; LLDPA_OUT_OF_RANGE for role, max_neighbors, credit_max,"]
+    #[doc = " fast_init or reinit, or for a text that is not UTF-8; the first fault, 22 to 26; LLDPA_MEMORY; otherwise 0, and"]
+    #[doc = " the agent is open. Unless it returns 0, the handle stays as it was. With more than 64 names the call fails, and"]
+    #[doc = " names after the 65th are not read."]
     pub fn lldpa_open(options: *const lldpa_options, agent: *mut lldpa_agent) -> u8;
 }
+#[doc = " A frame that you must send: lldpa_frame_of writes it."]
 #[repr(C)]
-#[derive(Debug, Default, Copy, Clone)]
+#[derive(Debug, Default, Copy, Clone, Hash, PartialEq, Eq)]
 pub struct lldpa_mark {
+    #[doc = " its number, from 0, in the order of the options"]
     pub port: u8,
+    #[doc = " LLDPA_ORDINARY or LLDPA_SHUTDOWN"]
     pub mark: u8,
 }
+#[doc = " The frames that you must send now: the first `count` items, by ascending port."]
 #[repr(C)]
-#[derive(Debug, Copy, Clone)]
+#[derive(Debug, Copy, Clone, Hash, PartialEq, Eq)]
 pub struct lldpa_marks {
     pub items: [lldpa_mark; 64usize],
     pub count: u8,
@@ -300,13 +419,22 @@ impl Default for lldpa_marks {
         }
     }
 }
+#[doc = " What lldpa_ticks did. A tick is one second."]
 #[repr(C)]
-#[derive(Debug, Default, Copy, Clone)]
+#[derive(Debug, Default, Copy, Clone, Hash, PartialEq, Eq)]
 pub struct lldpa_ticks_taken {
+    #[doc = " the number of seconds that were counted"]
     pub taken: u32,
+    #[doc = " the number of neighbors that aged out at the last of them"]
     pub aged_out: u32,
 }
 extern "C" {
+    #[doc = " Tells the agent that `count` seconds have passed. It stops early, after the first second at which a port sends or a"]
+    #[doc = " neighbor ages out. Returns 0 or LLDPA_NOT_OPEN."]
+    #[doc = "   count  the seconds that passed; do not give LLDPA_NEVER, which would take minutes"]
+    #[doc = "   marks  the frames to send at the last second, if the answer is 0"]
+    #[doc = "   told   written if the answer is 0. Send the frames of marks; then, if told->taken is less than count, call it again"]
+    #[doc = "          for the remaining seconds. The neighbors that age out are those that had 1 second left."]
     pub fn lldpa_ticks(
         agent: *mut lldpa_agent,
         count: u32,
@@ -315,17 +443,37 @@ extern "C" {
     ) -> u8;
 }
 extern "C" {
+    #[doc = " Writes the number of seconds until a port sends or a neighbor ages out, if you make no other call first. Returns 0 or"]
+    #[doc = " LLDPA_NOT_OPEN."]
+    #[doc = "   seconds  1 to 65535, or LLDPA_NEVER, if the answer is 0"]
+    #[doc = " You may sleep that long, and then give all these seconds to lldpa_ticks, which stops only after the last of them."]
+    #[doc = " Until then only the seconds left of neighbors and the credit of ports change. Any other call may change the"]
+    #[doc = " number, so ask again after it. If you wake for something else, such as a frame, first give the seconds that"]
+    #[doc = " passed, and then the frame."]
     pub fn lldpa_due(agent: *const lldpa_agent, seconds: *mut u32) -> u8;
 }
+#[doc = " What a frame did. The octets of both ranges together are the key of the neighbor: no two neighbors of a port have the"]
+#[doc = " same ones."]
 #[repr(C)]
-#[derive(Debug, Default, Copy, Clone)]
+#[derive(Debug, Default, Copy, Clone, Hash, PartialEq, Eq)]
 pub struct lldpa_news {
+    #[doc = " in the frame: the body of the Chassis ID, if what is LLDPA_NEWS_NEW or above; otherwise 0 and 0"]
     pub chassis: lldpa_place,
+    #[doc = " in the frame: the body of the Port ID, in the same form"]
     pub port: lldpa_place,
+    #[doc = " LLDPA_NEWS_NOT_LLDP to LLDPA_NEWS_UNKNOWN"]
     pub what: u32,
+    #[doc = " for LLDPA_NEWS_REFUSED the fault of the LLDPDU, 1 to 8; otherwise 0"]
     pub fault: u32,
 }
 extern "C" {
+    #[doc = " Gives the agent a frame that a port received: any octets; if they are not an LLDP frame, nothing changes. Returns 0,"]
+    #[doc = " LLDPA_NOT_OPEN or LLDPA_NO_PORT. First give the seconds that passed before the frame came (lldpa_ticks): its time"]
+    #[doc = " to live begins at this call, and a second that you give later counts against it. A full table stores no new"]
+    #[doc = " neighbor, but what it holds is still refreshed."]
+    #[doc = "   port   its number, from 0, in the order of the options"]
+    #[doc = "   marks  the frames to send, if the answer is 0"]
+    #[doc = "   news   what the frame did, if the answer is 0; or NULL"]
     pub fn lldpa_frame(
         agent: *mut lldpa_agent,
         port: u32,
@@ -336,21 +484,37 @@ extern "C" {
     ) -> u8;
 }
 extern "C" {
+    #[doc = " Tells the agent that the link of a port came up or went down. Port, marks and answers are as for lldpa_frame."]
     pub fn lldpa_link(agent: *mut lldpa_agent, port: u32, up: bool, marks: *mut lldpa_marks) -> u8;
 }
 extern "C" {
+    #[doc = " Disables every port, as at the end of a program. Returns 0 or LLDPA_NOT_OPEN. Send the frames of marks before you"]
+    #[doc = " close the agent; lldpa_close sends none."]
+    #[doc = "   marks  if the answer is 0: a shutdown frame on each port that was active, and nothing else"]
     pub fn lldpa_leave(agent: *mut lldpa_agent, marks: *mut lldpa_marks) -> u8;
 }
 extern "C" {
+    #[doc = " Writes how many neighbors a port holds. Returns 0, LLDPA_NOT_OPEN or LLDPA_NO_PORT; count is written if it is 0."]
     pub fn lldpa_neighbor_count(agent: *const lldpa_agent, port: u32, count: *mut u32) -> u8;
 }
+#[doc = " A neighbor that a port holds."]
 #[repr(C)]
-#[derive(Debug, Default, Copy, Clone)]
+#[derive(Debug, Default, Copy, Clone, Hash, PartialEq, Eq)]
 pub struct lldpa_held {
+    #[doc = " what its last stored LLDPDU says; its ranges are in the octets that were written. An"]
+    #[doc = "incomplete TLV at its end is not stored, and `discarded` does not count it here"]
     pub pdu: lldpa_examined,
+    #[doc = " seconds until it ages out"]
     pub left: u32,
 }
 extern "C" {
+    #[doc = " Writes a neighbor of a port. lldpa_next_kept reads its TLVs from the octets."]
+    #[doc = "   index  from 0, in the order in which neighbors were last LLDPA_NEWS_NEW. If one leaves, later ones move up"]
+    #[doc = "   room   told->pdu.extent octets are written to its front: the neighbor's LLDPDU without the End Of LLDPDU."]
+    #[doc = "          LLDPA_NEIGHBOR_ROOM octets are always enough"]
+    #[doc = "   told   written if the answer is 0"]
+    #[doc = " Returns the first of these that applies: LLDPA_NOT_OPEN, LLDPA_NO_PORT, LLDPA_OUT_OF_RANGE for the index,"]
+    #[doc = " LLDPA_NO_ROOM; otherwise 0."]
     pub fn lldpa_neighbor(
         agent: *const lldpa_agent,
         port: u32,
@@ -360,37 +524,58 @@ extern "C" {
         told: *mut lldpa_held,
     ) -> u8;
 }
+#[doc = " What a port counted, each modulo 2^32. Nothing resets them."]
 #[repr(C)]
-#[derive(Debug, Default, Copy, Clone)]
-pub struct lldpa_statistics_told {
+#[derive(Debug, Default, Copy, Clone, Hash, PartialEq, Eq)]
+pub struct Statistics {
+    #[doc = " ordinary frames sent"]
     pub sent: u32,
+    #[doc = " shutdown frames sent"]
     pub shutdowns: u32,
+    #[doc = " LLDP frames that came while the port received and its link was up"]
     pub received: u32,
+    #[doc = " LLDPDUs that were refused"]
     pub discarded: u32,
+    #[doc = " LLDPDUs that were refused or had a TLV discarded"]
     pub errors: u32,
+    #[doc = " TLVs that were discarded"]
     pub tlvs_discarded: u32,
+    #[doc = " kept TLVs of the types 9 to 127"]
     pub unrecognized: u32,
+    #[doc = " neighbors that aged out"]
     pub ageouts: u32,
+    #[doc = " LLDPDUs that were dropped because there was no room"]
     pub drops: u32,
 }
 extern "C" {
+    #[doc = " Writes what a port counted. Returns 0, LLDPA_NOT_OPEN or LLDPA_NO_PORT; told is written if it is 0."]
     pub fn lldpa_statistics(
         agent: *const lldpa_agent,
         port: u32,
-        told: *mut lldpa_statistics_told,
+        told: *mut Statistics,
     ) -> u8;
 }
+#[doc = " How an agent is configured: as it was opened, or by the last command that changed it."]
 #[repr(C)]
-#[derive(Debug, Copy, Clone)]
+#[derive(Debug, Copy, Clone, Hash, PartialEq, Eq)]
 pub struct lldpa_configuration_told {
+    #[doc = " tx-interval, in seconds"]
     pub interval: u32,
+    #[doc = " tx-hold"]
     pub hold: u32,
+    #[doc = " the time to live of an ordinary frame, in seconds"]
     pub ttl: u32,
+    #[doc = " reinitDelay, in seconds"]
     pub reinit: u32,
+    #[doc = " txFastInit"]
     pub fast_init: u32,
+    #[doc = " txCreditMax"]
     pub credit_max: u32,
+    #[doc = " the limit in force"]
     pub max_neighbors: u32,
+    #[doc = " how many ports there are"]
     pub ports: u32,
+    #[doc = " LLDPA_RX_AND_TX to LLDPA_DISABLED for each port; 0 after the last port"]
     pub status: [u8; 64usize],
 }
 impl Default for lldpa_configuration_told {
@@ -403,12 +588,18 @@ impl Default for lldpa_configuration_told {
     }
 }
 extern "C" {
+    #[doc = " Writes how an agent is configured. Returns 0 or LLDPA_NOT_OPEN; told is written if it is 0."]
     pub fn lldpa_configuration(
         agent: *const lldpa_agent,
         told: *mut lldpa_configuration_told,
     ) -> u8;
 }
 extern "C" {
+    #[doc = " Runs a command, \"configure ..\", \"update\" or \"show ..\", without a line feed; lldpa(1) describes the commands. A show"]
+    #[doc = " command changes nothing: give its number to lldpa_show_lines."]
+    #[doc = "   show   LLDPA_SHOW_NOTHING, or the number of the show, if the answer is 0"]
+    #[doc = "   marks  the frames to send, if the answer is 0"]
+    #[doc = " Returns 0; or 31 to 38 or LLDPA_NOT_OPEN, and then changes nothing."]
     pub fn lldpa_command(
         agent: *mut lldpa_agent,
         line: *const u8,
@@ -417,14 +608,27 @@ extern "C" {
         marks: *mut lldpa_marks,
     ) -> u8;
 }
+#[doc = " What was written of a show."]
 #[repr(C)]
-#[derive(Debug, Default, Copy, Clone)]
+#[derive(Debug, Default, Copy, Clone, Hash, PartialEq, Eq)]
 pub struct lldpa_lines {
+    #[doc = " the number of octets, each line with its line feed"]
     pub length: usize,
+    #[doc = " the line to continue with; if no line is left, the number of lines, or `from` if it is greater"]
     pub next: u32,
+    #[doc = " whether no line is left"]
     pub done: bool,
 }
 extern "C" {
+    #[doc = " Writes lines of a show: as many whole lines as fit, starting with line `from`."]
+    #[doc = "   show  LLDPA_SHOW_NEIGHBORS to LLDPA_SHOW_CONFIGURATION"]
+    #[doc = "   from  the first line that you want, from 0"]
+    #[doc = "   room  LLDPA_LINE_ROOM octets hold any line"]
+    #[doc = "   told  written if the answer is 0"]
+    #[doc = " Returns the first of these that applies: LLDPA_OUT_OF_RANGE for the show, LLDPA_NOT_OPEN, LLDPA_NO_ROOM if not"]
+    #[doc = " even the first line fits; otherwise 0. Unless it returns 0, nothing is written. To get all lines, continue with"]
+    #[doc = " `next`, and make no other call of the agent in between. A call also goes through the lines before `from`, so a"]
+    #[doc = " room for the whole show costs least."]
     pub fn lldpa_show_lines(
         agent: *const lldpa_agent,
         show: u32,
@@ -435,6 +639,12 @@ extern "C" {
     ) -> u8;
 }
 extern "C" {
+    #[doc = " Writes the frame of a mark, with the present configuration. Send it on the port of the mark."]
+    #[doc = "   mark    LLDPA_ORDINARY or LLDPA_SHUTDOWN"]
+    #[doc = "   room    LLDPA_FRAME_ROOM octets are always enough"]
+    #[doc = "   length  the number of octets of the frame, if the answer is 0"]
+    #[doc = " Returns the first of these that applies: LLDPA_OUT_OF_RANGE for the mark, LLDPA_NOT_OPEN, LLDPA_NO_PORT,"]
+    #[doc = " LLDPA_NO_ROOM; otherwise 0."]
     pub fn lldpa_frame_of(
         agent: *const lldpa_agent,
         port: u32,
@@ -445,5 +655,6 @@ extern "C" {
     ) -> u8;
 }
 extern "C" {
+    #[doc = " Closes an agent, and frees its memory. Does nothing if it is not open."]
     pub fn lldpa_close(agent: *mut lldpa_agent);
 }

@@ -48,45 +48,6 @@ pub struct Ticks {
     pub sent: Vec<Sent>,
 }
 
-/// What a port counted, each modulo 2^32.
-#[derive(Clone, Copy, Debug, PartialEq, Eq, Hash)]
-pub struct Statistics {
-    /// Ordinary frames sent.
-    pub sent: u32,
-    /// Shutdown frames sent.
-    pub shutdowns: u32,
-    /// LLDP frames that came while the port received and its link was up.
-    pub received: u32,
-    /// LLDPDUs that were refused.
-    pub discarded: u32,
-    /// LLDPDUs that were refused or had a TLV discarded.
-    pub errors: u32,
-    /// TLVs that were discarded.
-    pub tlvs_discarded: u32,
-    /// Kept TLVs of the types 9 to 127.
-    pub unrecognized: u32,
-    /// Neighbors that aged out.
-    pub ageouts: u32,
-    /// LLDPDUs that were dropped because there was no room.
-    pub drops: u32,
-}
-
-impl Statistics {
-    pub(crate) fn of(told: &sys::lldpa_statistics_told) -> Statistics {
-        Statistics {
-            sent: told.sent,
-            shutdowns: told.shutdowns,
-            received: told.received,
-            discarded: told.discarded,
-            errors: told.errors,
-            tlvs_discarded: told.tlvs_discarded,
-            unrecognized: told.unrecognized,
-            ageouts: told.ageouts,
-            drops: told.drops,
-        }
-    }
-}
-
 numbered! {
     /// What a port may do.
     Status {

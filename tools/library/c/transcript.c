@@ -86,45 +86,44 @@ static void see_line(uint32_t show, uint32_t line, const char *wanted, size_t le
     free(room.at);
 }
 
-/* Lines of a show from one on have these keys and numbers. */
-static void see_numbers(uint32_t show, uint32_t line, const char *front, const char *const *keys,
-                        const uint32_t *numbers, uint32_t count)
+/*
+ * Lines of a show from one on have the numbers of a struct, in the order of its fields. The names of the fields are
+ * compared with the keys of the lines by rust/lldpa/examples/transcript.rs.
+ */
+static void see_numbers(uint32_t show, uint32_t line, const uint32_t *numbers, uint32_t count)
 {
+    static char room[LLDPA_LINE_ROOM];
+    lldpa_lines lines;
     char wanted[80];
     for (uint32_t at = 0; at < count; at++) {
-        int length = snprintf(wanted, sizeof wanted, "%s.%s=%lu\n", front, keys[at], (unsigned long)numbers[at]);
+        uint8_t answer = lldpa_show_lines(&agent, show, line + at, (uint8_t *)room, sizeof room, &lines);
+        must(answer == LLDPA_OK && lines.length > 0, "a show has fewer lines");
+        int length = snprintf(wanted, sizeof wanted, "%.*s=%lu\n", (int)strcspn(room, "="), room,
+                              (unsigned long)numbers[at]);
         see_line(show, line + at, wanted, (size_t)length);
     }
 }
 
 static void see_statistics(uint32_t port)
 {
-    static const char *const keys[] = {"sent", "shutdowns", "received", "discarded", "errors", "tlvs-discarded",
-                                       "unrecognized", "ageouts", "drops"};
+    const uint32_t count = sizeof(lldpa_statistics_told) / sizeof(uint32_t);
     lldpa_statistics_told told;
-    char front[32];
     must(lldpa_statistics(&agent, port, &told) == LLDPA_OK, "the statistics of a port");
-    const uint32_t numbers[] = {told.sent, told.shutdowns, told.received, told.discarded, told.errors,
-                                told.tlvs_discarded, told.unrecognized, told.ageouts, told.drops};
-    snprintf(front, sizeof front, "lldp.%.*s", (int)names[port].length, (const char *)names[port].octets);
-    see_numbers(LLDPA_SHOW_STATISTICS, 9 * port, front, keys, numbers, 9);
+    see_numbers(LLDPA_SHOW_STATISTICS, count * port, (const uint32_t *)&told, count);
 }
 
 static void see_configuration(void)
 {
-    static const char *const keys[] = {"tx-interval", "tx-hold", "ttl", "reinit-delay", "tx-fast-init",
-                                       "tx-credit-max", "max-neighbors", "ports"};
     static const char *const words[] = {"rx-and-tx", "rx-only", "tx-only", "disabled"};
+    const uint32_t count = offsetof(lldpa_configuration_told, status) / sizeof(uint32_t);
     lldpa_configuration_told told;
     char wanted[64];
     must(lldpa_configuration(&agent, &told) == LLDPA_OK, "the configuration");
-    const uint32_t numbers[] = {told.interval, told.hold, told.ttl, told.reinit, told.fast_init, told.credit_max,
-                                told.max_neighbors, told.ports};
-    see_numbers(LLDPA_SHOW_CONFIGURATION, 0, "configuration", keys, numbers, 8);
+    see_numbers(LLDPA_SHOW_CONFIGURATION, 0, (const uint32_t *)&told, count);
     for (uint32_t port = 0; port < port_count; port++) {
         int length = snprintf(wanted, sizeof wanted, "configuration.%.*s.status=%s\n", (int)names[port].length,
                               (const char *)names[port].octets, words[told.status[port] & 3]);
-        see_line(LLDPA_SHOW_CONFIGURATION, 8 + port, wanted, (size_t)length);
+        see_line(LLDPA_SHOW_CONFIGURATION, count + port, wanted, (size_t)length);
     }
     for (uint32_t port = port_count; port < 64; port++) {
         must(told.status[port] == 0, "a status after the last port");
