@@ -42,8 +42,7 @@ def resident(words: list[str]) -> int:
 
 
 def by_turns(row: Row, room: Path, sides: list[list[str]], times: int) -> list[float]:
-    """Runs each of some programs so many times, by turns, and returns the least nanoseconds of each for one thing of
-    the row."""
+    """Runs programs by turns. Returns the least nanoseconds of each for one thing of the row."""
     whole, begin, things = row.traces(room, row.lines)
     best = [[float("inf"), float("inf")] for _ in sides]
     for _ in range(times):
@@ -66,13 +65,12 @@ def start(program: str, room: Path) -> list[str]:
 def columns(figures: list[float], unit: str = "") -> str:
     """Returns the columns of the figures of a row: ours, C's, the ratio, and C's by vectors."""
     shown = [f"{value:.0f}{unit}" for value in figures]
-    ratio = [f"{figures[0] / figures[1]:.2f}"] if len(figures) > 1 else []
-    told = shown[:2] + ratio + shown[2:]
-    return "".join(f"{column:>11}" for column in told + [""] * (len(HEADS) - len(told)))
+    if len(figures) > 1:
+        shown.insert(2, f"{figures[0] / figures[1]:.2f}")
+    return "".join(f"{column:>11}" for column in shown).ljust(11 * len(HEADS))
 
 
 def machine() -> str:
-    """Returns the processor and the system."""
     found = re.search(r"model name\s*:\s*(.*)", Path("/proc/cpuinfo").read_text())
     return f"{found.group(1) if found else platform.processor()}, {platform.system()} {platform.release()}"
 
@@ -84,58 +82,41 @@ def compiled(room: Path) -> str:
     return yardstick
 
 
-def table(options: argparse.Namespace, room: Path, count: bool) -> list[dict[str, Any]]:
-    """Returns the rows, printed as they come, with or without the instructions counted."""
+def table(options: argparse.Namespace, room: Path, saved: dict[str, list[float]],
+          count: bool) -> list[dict[str, Any]]:
+    """Returns the rows, printed as they come, each with saved times or measured."""
     heads = HEADS + [f"# {head}" for head in HEADS] if count else HEADS
     print(" " * 48 + "".join(f"{head:>11}" for head in heads))
     yardstick, told = compiled(room), []
     for row in rows(options.program, room):
         if options.only in row.title:
             sides = row.sides(options.program, yardstick)
-            spent = by_turns(row, room, sides, options.times)
+            spent = saved.get(row.title) or by_turns(row, room, sides, options.times)
             ran = counted(row, room, sides) if count else []
             print(f"{row.title:48}{columns(spent, ' ns')}{columns(ran) if count else ''}", flush=True)
             told.append({"title": row.title, "time": spent, "instructions": ran})
     return told
 
 
-def measured(options: argparse.Namespace, room: Path) -> dict[str, Any]:
-    """Returns the table as it is saved and drawn."""
-    count = bool(shutil.which("valgrind"))
-    print(f"machine: {machine()}")
-    told: dict[str, Any] = {"machine": machine(), "rows": table(options, room, count)}
+def measure(options: argparse.Namespace, room: Path, told: dict[str, Any]) -> None:
+    """Measures into a table. Of a saved one only the instructions are counted again."""
+    is_saved, count = bool(told), bool(shutil.which("valgrind"))
+    told.setdefault("machine", machine())
+    print(f"machine: {told['machine']}")
+    saved = {row["title"]: row["time"] for row in told.get("rows", [])}
+    told["rows"] = table(options, room, saved, count)
     if count:
         told["start_instructions"], told["library"] = counted_start(options.program, room), library()
+    if is_saved:
+        return
     told["start"], told["others"] = start(options.program, room), other_readers(room, options.times)
     told["captures"] = capture_rows(room, options.times)
     if options.only in AUDIT:
         told["others"] += audit_of_cabling(room)
     print("\n".join(told["start"] + told["others"] + told["captures"]))
-    return told
-
-
-def counted_anew(options: argparse.Namespace, room: Path, told: dict[str, Any]) -> None:
-    """Counts the instructions in a saved table again."""
-    yardstick = compiled(room)
-    kept = {row["title"]: row for row in told["rows"]}
-    for row in rows(options.program, room):
-        ran = counted(row, room, row.sides(options.program, yardstick))
-        kept[row.title]["instructions"] = ran
-        print(f"{row.title:48}{columns(ran)}", flush=True)
-    told["start_instructions"], told["library"] = counted_start(options.program, room), library()
-    print(f"start with 64 ports: {told['start_instructions']}")
-
-
-def kept(options: argparse.Namespace, room: Path) -> dict[str, Any]:
-    """Returns the saved table, with the instructions counted again if that is asked for."""
-    told: dict[str, Any] = json.loads(Path(options.saved).read_text())
-    if options.counts:
-        counted_anew(options, room, told)
-    return told
 
 
 def read_options() -> argparse.Namespace:
-    """Returns the options of the command line."""
     parser = argparse.ArgumentParser(description=(__doc__ or "").splitlines()[0])
     add = parser.add_argument
     add("--program", default=str(TOP / "crates/lldpa/out/lldpa"), help="the built program")
@@ -149,10 +130,11 @@ def read_options() -> argparse.Namespace:
 
 
 def main() -> None:
-    """Measures, or reads what was saved; saves and draws it."""
     options = read_options()
-    with tempfile.TemporaryDirectory() as folder:
-        told = (kept if options.saved else measured)(options, Path(folder))
+    told = json.loads(Path(options.saved).read_text()) if options.saved else {}
+    if options.counts or not told:
+        with tempfile.TemporaryDirectory() as folder:
+            measure(options, Path(folder), told)
     if options.save:
         Path(options.save).write_text(json.dumps(told, indent=1) + "\n")
     if options.svg:

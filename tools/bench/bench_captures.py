@@ -10,7 +10,7 @@ import subprocess
 import sys
 import time
 from pathlib import Path
-from typing import BinaryIO, Callable
+from typing import Callable, Iterator, Tuple
 
 TOP = Path(__file__).resolve().parents[2]
 sys.path.append(str(TOP / "audit" / "tools"))
@@ -18,6 +18,7 @@ import cabling  # noqa: E402
 from bench_rows import mix  # noqa: E402
 
 AUDIT = "an audit of 100,000 links from neighbor lists of 2,000 hosts"
+Packets = Iterator[Tuple[bytes, int]]  # each with its time in milliseconds
 PCAP = bytes.fromhex("d4c3b2a1020004000000000000000000ffff000001000000")
 
 
@@ -40,42 +41,32 @@ def spent(words: list[str], trace: Path = Path(os.devnull)) -> tuple[float, floa
     return usage.ru_utime + usage.ru_stime, int(kilobytes[-1]) / 1024
 
 
-def put_record(file: BinaryIO, octets: bytes, at: int, micros: int) -> None:
-    """Writes the record of a packet in a capture, with its time in seconds and microseconds."""
-    file.write(struct.pack("<IIII", at, micros, len(octets), len(octets)) + octets)
-
-
-def write_mix(path: Path, frames: list[bytes], times: int) -> None:
-    """Writes frames so many times as a capture."""
+def write_capture(path: Path, packets: Packets) -> None:
+    """Writes packets as a capture."""
     with path.open("wb") as file:
         file.write(PCAP)
-        for octets in frames * times:
-            put_record(file, octets, 0, 0)
+        for octets, at in packets:
+            head = struct.pack("<IIII", at // 1000, at % 1000 * 1000, len(octets), len(octets))
+            file.write(head + octets)
 
 
-def write_small_frames(path: Path) -> None:
-    """Writes 200 MB of small frames that are not LLDP's, a thousand a second."""
+def small_frames() -> Packets:
+    """Returns 200 MB of small frames that are not LLDP's, a thousand a second."""
     rng = random.Random(3)
     octets = [rng.randbytes(127) for _ in range(100)]
-    with path.open("wb") as file:
-        file.write(PCAP)
-        for i in range(1_400_000):
-            put_record(file, octets[i % 100], i // 1000, i % 1000 * 1000)
+    return ((octets[i % 100], i) for i in range(1_400_000))
 
 
-def write_lldp_frames(path: Path) -> None:
-    """Writes 100,000 LLDP frames of the mix, a hundred a second."""
+def lldp_frames() -> Packets:
+    """Returns 100,000 LLDP frames of the mix, a hundred a second."""
     frames = mix(992, 32)
-    with path.open("wb") as file:
-        file.write(PCAP)
-        for i in range(100_000):
-            put_record(file, frames[i % len(frames)], i // 100, i % 100 * 10_000)
+    return ((frames[i % len(frames)], 10 * i) for i in range(100_000))
 
 
 def other_readers(room: Path, times: int) -> list[str]:
     """Runs each tool that prints what it reads of the mix so many times, and returns a line on each."""
     frames, capture = mix(992, 32), room / "mix.pcap"
-    write_mix(capture, frames, 20)
+    write_capture(capture, ((octets, 0) for octets in frames * 20))
     lines = []
     for tool, words in (("tcpdump", ["-nnv", "-r"]), ("tshark", ["-V", "-r"])):
         if shutil.which(tool):
@@ -84,9 +75,9 @@ def other_readers(room: Path, times: int) -> list[str]:
     return lines
 
 
-CAPTURES: tuple[tuple[str, Callable[[Path], None]], ...] = (
-    ("a capture of 1.4 million small frames, none LLDP's", write_small_frames),
-    ("a capture of 100,000 LLDP frames", write_lldp_frames))
+CAPTURES: tuple[tuple[str, Callable[[], Packets]], ...] = (
+    ("a capture of 1.4 million small frames, none LLDP's", small_frames),
+    ("a capture of 100,000 LLDP frames", lldp_frames))
 CAPTURE_READERS = (("lldpa-capture", [sys.executable, str(TOP / "bin/lldpa-capture")]),
                    ("tcpdump", ["tcpdump", "-nnv", "ether proto 0x88cc", "-r"]),
                    ("tshark", ["tshark", "-V", "-Y", "lldp", "-r"]))
@@ -104,11 +95,10 @@ def capture_row(title: str, capture: Path, times: int) -> str:
 
 
 def capture_rows(room: Path, times: int) -> list[str]:
-    """Runs each reader so many times, and returns a line on each capture."""
     lines = []
-    for title, write in CAPTURES:
+    for title, packets in CAPTURES:
         capture = room / "capture.pcap"
-        write(capture)
+        write_capture(capture, packets())
         lines.append(capture_row(title, capture, times))
     return lines
 

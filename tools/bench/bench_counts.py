@@ -19,7 +19,6 @@ import subprocess
 import sys
 import tempfile
 from pathlib import Path
-from typing import Any
 
 from bench_rows import MANY, PORTS, Row, rows
 
@@ -67,21 +66,13 @@ def counted_start(program: str, room: Path) -> int:
     return instructions([program, *MANY, *PORTS], empty)
 
 
-def saved_counts(told: dict[str, Any]) -> dict[str, float]:
-    """Returns the saved instructions of each row by its title."""
-    counts = {row["title"]: row["instructions"][0] for row in told["rows"] if row["instructions"]}
-    return {**counts, START: told["start_instructions"]}
-
-
 def counts(program: str, room: Path) -> dict[str, float]:
-    """Returns the instructions of each row that is compared, by its title."""
     held = [row for row in rows(program, room) if row.title in HELD]
     found = {row.title: counted(row, room, [[program, *row.words]])[0] for row in held}
     return {**found, START: counted_start(program, room)}
 
 
 def main() -> int:
-    """Compares, prints a line for each row, and returns the exit status."""
     parser = argparse.ArgumentParser(description=(__doc__ or "").splitlines()[0])
     parser.add_argument("--program", default=str(TOP / "crates/lldpa/out/lldpa"), help="the built program")
     program = parser.parse_args().program
@@ -89,7 +80,9 @@ def main() -> int:
         print("skipped: counts of instructions, which need valgrind")
         return 3
     told = json.loads((TOP / "docs/bench.json").read_text())
-    saved, most = saved_counts(told), MOST if told["library"] == library() else MOST_ELSEWHERE
+    saved = {row["title"]: row["instructions"][0] for row in told["rows"] if row["instructions"]}
+    saved[START] = told["start_instructions"]
+    most = MOST if told["library"] == library() else MOST_ELSEWHERE
     judged = Counts()
     with tempfile.TemporaryDirectory() as folder:
         now = counts(program, Path(folder))

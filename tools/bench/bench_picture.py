@@ -15,12 +15,6 @@ def high(row: dict[str, Any]) -> int:
     return BAR * len(row["time"]) + 10
 
 
-def scale_of(rows: list[dict[str, Any]]) -> float:
-    """Returns the length of C's bar with which the longest bar of all still fits."""
-    ratios: list[float] = [max(row["time"]) / row["time"][1] for row in rows]
-    return WIDEST / max(ratios)
-
-
 def bars(row: dict[str, Any], y: float, scale: float) -> list[str]:
     """Returns the lines of a row in the picture, by its place and the length of C's bar."""
     ours, theirs = row["time"][:2]
@@ -51,7 +45,9 @@ def picture(told: dict[str, Any]) -> str:
     end = TOP + sum(high(row) for row in rows_of_c)
     foot = [f"{row['title']}: {row['time'][0]:.0f} ns" for row in others] + told["start"] + told["others"]
     foot += told.get("captures", [])
-    out, y, scale = head(told, end + 34 + 19 * len(foot)), TOP, scale_of(rows_of_c)
+    # the length of C's bar with which the longest bar of all still fits
+    scale = WIDEST / max(max(row["time"]) / row["time"][1] for row in rows_of_c)
+    out, y = head(told, end + 34 + 19 * len(foot)), TOP
     for row in rows_of_c:
         out += bars(row, y, scale)
         y += high(row)

@@ -14,10 +14,7 @@ ONE_PORT = ["--receive-only", "eth0"]
 MANY = ["--receive-only", "--max-neighbors=128"]
 
 
-# Frames
-
 def tlv(kind: int, body: bytes) -> bytes:
-    """Returns the octets of a TLV."""
     return (kind << 9 | len(body)).to_bytes(2, "big") + body
 
 
@@ -82,8 +79,6 @@ def own_tags() -> list[bytes]:
     return [frame(b"\x07" + rng.randbytes(28), b"\x05swp1", []) for _ in range(128)]
 
 
-# Traces
-
 def received(frames: list[bytes], port: str = "eth0") -> str:
     """Returns the trace in which a port receives these frames."""
     return "".join(f"rx {port} {octets.hex()}\n" for octets in frames)
@@ -94,8 +89,6 @@ def held_everywhere() -> str:
     frames = mix(128, 128)
     return LONG + "".join(received(frames, port) for port in PORTS)
 
-
-# Rows
 
 @dataclass
 class Row:
@@ -110,8 +103,7 @@ class Row:
     per: int = 1
 
     def traces(self, room: Path, lines: int) -> tuple[Path, Path, int]:
-        """Writes the trace with so many lines, and that of its beginning alone; returns both, and how many things the
-        first one has."""
+        """Writes the trace and its beginning. Returns both, and how many things the first has."""
         whole, begin = room / "trace", room / "begin"
         repeats = max(1, lines // self.line.count("\n"))
         begin.write_text(self.before)

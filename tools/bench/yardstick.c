@@ -119,7 +119,6 @@ static int decode_by_vectors(const char *digits, int count, uint8_t *octets)
     return _mm_movemask_epi8(good) == 0xffff ? count / 2 : -1;
 }
 
-/* Returns whether the first 16 octets are the same. */
 static int may_be_same(const uint8_t *a, const uint8_t *b)
 {
     __m128i same = _mm_cmpeq_epi8(_mm_loadu_si128((const __m128i *)a), _mm_loadu_si128((const __m128i *)b));

@@ -60,7 +60,6 @@ def take(peer, moments, folder, number, sent):
 
 
 def compare(given, wires):
-    """Floods and compares."""
     folder = pathlib.Path(wires.folder, "log")
     live = Live(wires, "--log", str(folder), "--log-most", str(MOST), "--log-keep", str(KEEP),
                 "eth0", "eth1", "--", "--receive-only")
@@ -86,7 +85,6 @@ def compare(given, wires):
 
 
 def disturb(given, wires):
-    """Does everything at once."""
     unrest = Unrest(wires)
     try:
         unrest.run(60 * given.minutes)
@@ -97,7 +95,6 @@ def disturb(given, wires):
 
 
 def main():
-    """Runs the flood, or everything at once."""
     parser = argparse.ArgumentParser(description=__doc__,
                                      formatter_class=argparse.RawDescriptionHelpFormatter)
     parser.add_argument("--frames", type=int, default=3_000_000)

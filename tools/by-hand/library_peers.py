@@ -36,21 +36,6 @@ class Frame:
         return self.told is not None and self.told.ttl == 0
 
 
-def has_odd_subtype(frame: Frame) -> bool:
-    """Returns whether an identifier has a reserved subtype."""
-    return any(not 1 <= tlv.body[0] <= 7 for tlv in frame.inside[:2] if tlv.body)
-
-
-def has_address_that_is_none(frame: Frame) -> bool:
-    """Returns whether a Management Address has more than 16 octets of an address, or is not one of IP."""
-    return any(body[:1] > b"\x11" or body[1:2] not in (b"\1", b"\2") for body in frame.optional(8))
-
-
-def has_read_organization(frame: Frame) -> bool:
-    """Returns whether a peer reads what is in an organizationally specific TLV."""
-    return any(body[:3] in OUIS_READ for body in frame.optional(127))
-
-
 LLDPD, SD_LLDP, BOTH = {"lldpd"}, {"sd-lldp"}, {"lldpd", "sd-lldp"}
 
 # The words of a rule, the peers that differ, and whether a frame is what the rule is about.
@@ -61,15 +46,19 @@ TAKEN: list[Reason] = [
     ("it may be missing", BOTH, lambda frame: frame.end is None),
     ("one with a length above 0 ends the LLDPDU too", BOTH,
      lambda frame: frame.end is not None and frame.end.body != b""),
-    ("a reserved subtype is accepted", LLDPD, has_odd_subtype),
+    ("a reserved subtype is accepted", LLDPD,
+     lambda frame: any(not 1 <= tlv.body[0] <= 7 for tlv in frame.inside[:2] if tlv.body)),
     ("only the first two octets of a longer one are read", SD_LLDP,
      lambda frame: len(frame.inside[2].body) > 2),
     ("A TLV in error is discarded and counted; the others are used", BOTH,
      lambda frame: frame.told is not None and frame.told.ttl > 0 and frame.told.discarded > 0),
     ("A TTL of 0 deletes the sender's entry; the rest of the LLDPDU does not matter", BOTH,
      Frame.is_shutdown),
-    ("Their organization defines what they mean", LLDPD, has_read_organization),
-    ("1 to 31 octets of address", LLDPD, has_address_that_is_none),
+    ("Their organization defines what they mean", LLDPD,
+     lambda frame: any(body[:3] in OUIS_READ for body in frame.optional(127))),
+    ("1 to 31 octets of address", LLDPD,  # more than 16, or not of IP
+     lambda frame: any(body[:1] > b"\x11" or body[1:2] not in (b"\1", b"\2")
+                       for body in frame.optional(8))),
 ]
 
 # Why a peer accepts a frame that the library refuses, or does not regard as an LLDP frame.
@@ -97,14 +86,8 @@ class Told:
 
 
 def verdicts(command: list[str]) -> list[Told]:
-    """Returns what a peer says of each frame."""
     ran = subprocess.run(command, capture_output=True, text=True, check=True)
     return [Told(line) for line in ran.stdout.splitlines()]
-
-
-def rule_for(reasons: list[Reason], peer: str, frame: Frame) -> str | None:
-    """Returns the rule that says why there is a difference, or None."""
-    return next((rule for rule, peers, holds in reasons if peer in peers and holds(frame)), None)
 
 
 def plain(body: bytes) -> bool:
@@ -126,8 +109,10 @@ def compared(peer: str, frame: Frame, theirs: Told) -> str:
     """Returns "the same", the rule by which they differ, or `?` and how they differ."""
     ours = frame.told
     if (ours is not None) != theirs.is_accepted:
-        rule = rule_for(REFUSED if ours is None else TAKEN, peer, frame)
-        return rule or f"? the library {'refuses' if ours is None else 'accepts'} it"
+        rules = [rule for rule, peers, holds in (REFUSED if ours is None else TAKEN)
+                 if peer in peers and holds(frame)]
+        answer = "refuses" if ours is None else "accepts"
+        return rules[0] if rules else f"? the library {answer} it"
     if ours is None:
         return "the same"
     if ours.name != theirs.identifiers() or ours.ttl != int(theirs.fields["ttl"]):

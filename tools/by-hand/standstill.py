@@ -27,7 +27,6 @@ def freeze(is_frozen: bool) -> None:
 
 
 def main() -> int:
-    """Runs the command in a group of its own."""
     GROUP.mkdir()
     with subprocess.Popen(["sh", "-c", f'echo $$ > {GROUP}/cgroup.procs && exec "$@"', "sh", *sys.argv[1:]]) as command:
         while command.poll() is None:

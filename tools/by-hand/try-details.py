@@ -99,7 +99,6 @@ def shown_by_tshark(frames, room):
 
 
 def shown_by_lldpcli(frames, wires):
-    """Returns what lldpcli shows of each frame."""
     receiver = Lldpd(wires.here, wires.folder, "-r", "-M", "4", "-I", "eth0")
     sending = Peer(wires, "peer0")
     try:
@@ -141,12 +140,10 @@ def has_odd_text(tlv):
 
 
 def tlv_of(kind, octets):
-    """Returns the TLV of a kind."""
     return tlv(127, bytes.fromhex(kind[0]) + bytes([kind[1]]) + octets)
 
 
 def run(given, wires):
-    """Compares."""
     saved = json.loads(JUDGED.read_text()) if JUDGED.exists() else []
     frames = {one["name"]: bytes.fromhex(one["frame"]) for one in saved if one["name"].startswith("real-")}
     frames.update(sent_by_lldpd(wires))
@@ -162,7 +159,6 @@ def run(given, wires):
 
 
 def main():
-    """Runs the comparison, and cleans up."""
     parser = argparse.ArgumentParser(description=__doc__, formatter_class=argparse.RawDescriptionHelpFormatter)
     parser.add_argument("--save", metavar="FILE")
     parser.add_argument("--octets", action="store_true")

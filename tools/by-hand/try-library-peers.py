@@ -26,7 +26,7 @@ TOP = pathlib.Path(__file__).resolve().parents[2]
 sys.path += [str(TOP / name) for name in ("tools/library", "tools/model", "tools/gate", "python")]
 import fuzz  # noqa: E402
 from lldpa.capture.packets import packets_of  # noqa: E402
-from library_parts import Library  # noqa: E402
+from library_parts import Counts, Library  # noqa: E402
 from library_peers import Frame, Told, compared, verdicts  # noqa: E402
 from library_transcripts import row_of, written_rows  # noqa: E402
 
@@ -69,46 +69,35 @@ def nanoseconds(command: list[str]) -> float:
 
 
 def print_times(programs: dict[str, list[str]], files: dict[str, pathlib.Path]) -> None:
-    """Prints the time for a frame of each program over each file."""
     for of_what, path in files.items():
         for name, command in programs.items():
             took = nanoseconds([*command, str(path), "600000"])
             print(f"{of_what}, {name}: {took:.1f} ns a frame")
 
 
-def judge(peer: str, frames: list[Frame], told: list[Told]) -> tuple[int, int]:
-    """Compares all that a peer said, and prints how it differs. Returns how many held, and how many
-    did not."""
+def judge(peer: str, frames: list[Frame], told: list[Told], counts: Counts) -> None:
+    """Compares all that a peer said, and prints how it differs."""
     assert len(told) == len(frames), f"{peer} reports other frames"
-    counts: collections.Counter[str] = collections.Counter()
+    answers: collections.Counter[str] = collections.Counter()
     for frame, theirs in zip(frames, told):
         found = compared(peer, frame, theirs)
-        counts[found] += 1
-        if found.startswith("?") and counts[found] <= 3:
-            print(f"FAILED: {peer}: {found[2:]}: {frame.octets.hex()}")
+        answers[found] += 1
+        counts.judge(found[2:] if found.startswith("?") else None, f"{peer}, {frame.octets.hex()}")
     page = STANDARD.read_text()
-    failed = sum(count for found, count in counts.items() if found.startswith("?"))
-    unsaid = [found for found in counts if found != "the same" and found not in page]
-    for found, count in counts.most_common():
+    for found, count in answers.most_common():
         print(f"{peer}: {count} {found}")
-    for found in unsaid:
-        print(f"FAILED: docs/STANDARD.md does not say: {found}")
-    return len(frames) - failed, failed + len(unsaid)
+        if found != "the same" and not found.startswith("?"):
+            counts.that(f"docs/STANDARD.md says: {found}", found in page)
 
 
-def judge_library(program: str, frames: list[Frame], room: pathlib.Path) -> tuple[int, int]:
-    """Compares what the library says of the LLDPDUs of frames with the model, as `judge`."""
+def judge_library(program: str, frames: list[Frame], room: pathlib.Path, counts: Counts) -> None:
+    """Compares what the library says of the LLDPDUs of frames with the model."""
     rows = [row_of(frame.pdu) for frame in frames if frame.is_ours]
-    found = written_rows([program], rows, room)
-    differing = [row for row, other in zip(rows, found) if row != other]
-    for row in differing[:3]:
-        print(f"FAILED: the library has another row than {row}")
-    print(f"the library: {len(rows) - len(differing)} LLDPDUs as the model has them")
-    return len(rows) - len(differing), len(differing)
+    for row, found in zip(rows, written_rows([program], rows, room)):
+        counts.that(f"the library has the row {row}", row == found)
 
 
 def read_arguments() -> argparse.Namespace:
-    """Reads the words of the command line."""
     parser = argparse.ArgumentParser(description=(__doc__ or "").splitlines()[0])
     parser.add_argument("--peers", type=pathlib.Path, required=True)
     parser.add_argument("--library", type=pathlib.Path)
@@ -118,23 +107,14 @@ def read_arguments() -> argparse.Namespace:
 
 
 def built(library: pathlib.Path, name: str, room: pathlib.Path) -> str:
-    """Returns a program over the library, built."""
     fault = Library(library, room).compiled(SOURCES / f"{name}.c", name)
     if fault is not None:
         sys.exit(fault)
     return str(room / name)
 
 
-def library_in(room: pathlib.Path) -> pathlib.Path:
-    """Builds the library, and returns its folder."""
-    subprocess.run([TOP / "tools" / "library" / "library.sh", room / "lib"], check=True,
-                   stdout=subprocess.DEVNULL)
-    return room / "lib"
-
-
 def main() -> int:
-    """Makes the frames, asks each program, and compares."""
-    words = read_arguments()
+    words, counts = read_arguments(), Counts()
     corpora = {"frames of captures": captured_frames([*sorted((TOP / "docs").rglob("*.pcap")), *words.frames]),
                "frames of traces": captured_frames(sorted((TOP / "examples").glob("*.trace")))}
     captured = list(dict.fromkeys(frame for found in corpora.values() for frame in found))
@@ -147,20 +127,21 @@ def main() -> int:
         files = {of_what: room / of_what.replace(" ", "-") for of_what in corpora}
         for of_what, path in files.items():
             path.write_text("".join(f"{frame.hex()}\n" for frame in corpora[of_what]))
-        library = words.library or library_in(room)
-        passed, failed = judge_library(built(library, "vectors", room), frames, room)
+        library = words.library or room / "lib"
+        if words.library is None:
+            subprocess.run([TOP / "tools/library/library.sh", library], check=True,
+                           stdout=subprocess.DEVNULL)
+        judge_library(built(library, "vectors", room), frames, room, counts)
         peers = {"lldpd": str(words.peers / "lldpd_decode"),
                  "sd-lldp": str(words.peers / "sd_decode")}
         for peer, program in peers.items():
             told = verdicts([program, "verdict", str(files["all frames"])])
-            held, not_held = judge(peer, frames, told)
-            passed, failed = passed + held, failed + not_held
+            judge(peer, frames, told, counts)
         readings = built(library, "readings", room)
         timed = {"the library, without a walk": [readings, "examine"],
                  "the library": [readings, "bench"]}
         print_times(timed | {peer: [program, "bench"] for peer, program in peers.items()}, files)
-    print(f"{passed} passed, {failed} failed")
-    return 1 if failed or not passed else 0
+    return counts.end()
 
 
 if __name__ == "__main__":

@@ -1,13 +1,13 @@
 #!/usr/bin/env python3
 """Compares what lldpctl prints of lldpa-live with what lldpcli prints of an lldpd beside it, on the same two links.
 
-    tools/by-hand/try-lldpctl.py [--verbose]
+    tools/by-hand/try-lldpctl.py
 
 At the far end an lldpd sends what it is configured to: TLVs of IEEE 802.1 and 802.3, LLDP-MED and custom ones. Then
 frames of real senders and made ones (python/tests/judged.json) are sent, and texts with every octet. At the near end
 run `lldpd -r` and lldpa-live, which receive the same. Each command is asked in each of the forms plain, keyvalue, json
 and json0, and each key and each value except the age is compared. A difference is a failure unless docs/LLDPD.md lists
-it; --verbose prints those that it lists. It needs Linux, root, and Debian's packages lldpd and iproute2. The last line
+it. It needs Linux, root, and Debian's packages lldpd and iproute2. The last line
 is `N passed, M failed`.
 """
 import collections
@@ -21,7 +21,8 @@ import subprocess
 import sys
 
 TOP = pathlib.Path(__file__).resolve().parents[2]
-sys.path[:0] = [str(TOP / "python"), str(TOP / "python" / "tests")]
+sys.path[:0] = [str(TOP / "python"), str(TOP / "python" / "tests"), str(TOP / "tools" / "gate")]
+from counts import Counts  # noqa: E402
 from running_live import Live  # noqa: E402
 from judges import flat, sender_of_frame  # noqa: E402
 from lldpa.lldpcli_forms.writing import LINE, one_line, shortened  # noqa: E402
@@ -57,35 +58,29 @@ ALIKE = ("configure lldp portidsubtype ifname", "configure system description al
 class Comparison:
     """Counts what is equal, what is listed, and what is neither."""
 
-    def __init__(self, is_verbose):
-        self.is_verbose = is_verbose
-        self.equal = 0
+    def __init__(self):
+        self.counts = Counts()
         self.listed = collections.Counter()
-        self.failed = []
         self.rows = listed_keys(PAGE.read_text())
 
     def compare(self, where, theirs, ours):
-        """Compares the blocks of two answers: pairs of keys and values, by the neighbor or port that they are about."""
         for name in dict.fromkeys([*theirs, *ours]):
             of_theirs, of_ours = by_key(theirs.get(name, [])), by_key(ours.get(name, []))
             for key in dict.fromkeys([*of_theirs, *of_ours]):
                 self.compare_values(where, name, key, of_theirs.get(key, []), of_ours.get(key, []))
             common = [key for key in dict.fromkeys(key for key, _ in theirs.get(name, [])) if key in of_ours]
             if common != [key for key in of_ours if key in of_theirs]:
-                self.failed.append(f"{where}: {name}: the order of its keys")
+                self.counts.judge("another order of keys", f"{where}: {name}")
 
     def compare_values(self, where, name, key, theirs, ours):
-        """Compares the values of one key."""
         if theirs == ours:
-            self.equal += len(ours)
+            self.counts.passed += len(ours)
             return
         row = self.row_of(where, key, theirs, ours)
         if row is None:
-            self.failed.append(f"{where}: {name}: {key}: lldpcli {theirs}, lldpctl {ours}")
-            return
-        self.listed[row] += max(len(theirs), len(ours))
-        if self.is_verbose:
-            print(f"listed: {where}: {name}: {key}: lldpcli {theirs}, lldpctl {ours}")
+            self.counts.judge(f"lldpcli {theirs}, lldpctl {ours}", f"{where}: {name}: {key}")
+        else:
+            self.listed[row] += max(len(theirs), len(ours))
 
     def row_of(self, where, key, theirs, ours):
         """Returns the row of the page that lists a difference, or None if none does."""
@@ -111,7 +106,6 @@ def escaped_alike(values):
 
 
 def by_key(pairs):
-    """Returns the values of each key, in their order."""
     found = {}
     for key, value in pairs:
         found.setdefault(key, []).append(value)
@@ -149,7 +143,6 @@ def plain_blocks(text):
 
 
 def keyvalue_blocks(text):
-    """Reads the form keyvalue."""
     blocks = []
     for line in text.split("\n")[:-1]:
         key, _, value = line.partition("=")
@@ -163,7 +156,6 @@ def keyvalue_blocks(text):
 
 
 def json_blocks(told):
-    """Reads both forms of JSON."""
     (root, inner), = told.items()
     inner = inner[0] if isinstance(inner, list) else inner
     some = inner.get("interface", inner)
@@ -203,7 +195,6 @@ class Lab:
                 one.bind((f"peer{number}", 0))
 
     def lldpctl(self, form, command, name="lldpcli"):
-        """Returns what lldpctl prints."""
         done = subprocess.run([str(TOP / "bin" / name), "-u", self.live.control, "-f", form, *command.split()],
                               capture_output=True, check=False)
         if done.returncode or done.stderr:
@@ -211,7 +202,6 @@ class Lab:
         return done.stdout
 
     def compare(self, comparison, where, commands):
-        """Compares the answers to commands."""
         for command in commands:
             for form in FORMS:
                 theirs, ours = self.both(form, command)
@@ -259,7 +249,6 @@ class Lab:
         return before == self.last and self.keys() == [2, 2]
 
     def close(self):
-        """Ends both."""
         for one in self.sending:
             one.close()
         self.live.close()
@@ -268,7 +257,6 @@ class Lab:
 
 
 def configured(lab, comparison):
-    """Compares senders that are lldpds."""
     for name, commands in {**SENDERS, "a plain host": PLAIN_HOST}.items():
         with lab.hearing(name, commands):
             lab.compare(comparison, name, COMMANDS)
@@ -301,7 +289,6 @@ def judged_frames():
 
 
 def place_of(degrees, resolution):
-    """Returns coordinates with that latitude, longitude and altitude."""
     value, altitude = round(degrees * (1 << 25)), round(degrees * 256)
     bits = (resolution << 122 | (value & (1 << 34) - 1) << 88 | resolution << 82 | (value & (1 << 34) - 1) << 48
             | (resolution % 4) << 44 | min(resolution, 30) << 38 | (altitude & (1 << 30) - 1) << 8 | resolution % 5)
@@ -328,9 +315,8 @@ def odd_frames():
 
 
 def main():
-    """Runs the comparison, and cleans up."""
     os.makedirs("/run/lldpd", exist_ok=True)
-    comparison, lab = Comparison(sys.argv[1:] == ["--verbose"]), Lab()
+    comparison, lab = Comparison(), Lab()
     try:
         configured(lab, comparison)
         sent(lab, comparison, "judged", list(judged_frames()))
@@ -339,10 +325,7 @@ def main():
         lab.close()
     for row, count in comparison.listed.items():
         print(f"{count} differences that the page lists: {row}")
-    for text in comparison.failed:
-        print(f"FAILED: {text}")
-    print(f"{comparison.equal} passed, {len(comparison.failed)} failed")
-    return 1 if comparison.failed or not comparison.equal else 0
+    return comparison.counts.end()
 
 
 if __name__ == "__main__":

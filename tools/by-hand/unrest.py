@@ -40,11 +40,6 @@ def hostile_frames(choice: random.Random) -> list[bytes]:
     return frames
 
 
-def resident(number: int) -> int:
-    """Returns the resident set of a process in KiB."""
-    return int(Path(f"/proc/{number}/status").read_text().split("VmRSS:")[1].split()[0])
-
-
 def ids_of(frames: list[bytes]) -> set[str]:
     """Returns the neighbors that an agent keeps of each of these frames alone."""
     found = set()
@@ -104,8 +99,7 @@ class Unrest:
             self.wrong.append(f"{seconds:.0f} s: {self.told}, not {self.expected}")
 
     def is_as_sent(self) -> bool:
-        """Returns whether the quiet port has the last words of its neighbors, and no other port a
-        false one."""
+        """Returns whether what is shown was sent, and last sent by the quiet neighbors."""
         try:
             ports = read_show(self.live.ask("show neighbors")).ports
         except Refused as refused:
@@ -116,7 +110,6 @@ class Unrest:
                 and len(self.told["eth2"]) <= self.is_there)
 
     def act(self) -> None:
-        """Does something."""
         what: Callable[[], None] = self.choice.choice(
             [self.reload, self.question, self.configure, self.address, self.come_or_go,
              self.stand_still, self.link])
@@ -127,14 +120,12 @@ class Unrest:
             self.done[f"refused: {refused.text}"] += 1
 
     def reload(self) -> None:
-        """Has other settings read."""
         self.settings.write_text(f"configure lldp tx-interval {self.choice.randrange(5, 60)}\n"
                                  f"configure lldp tx-hold {self.choice.choice([0, 4, 9])}\n")
         for _ in range(self.choice.choice([1, 300])):
             self.live.signal(signal.SIGHUP)
 
     def question(self) -> None:
-        """Asks what is answered, and what is refused."""
         for what in ("live", "show statistics", "show chassis", "show configuration"):
             self.live.ask(what)
         for line in REFUSED:
@@ -142,7 +133,6 @@ class Unrest:
                 self.wrong.append(f"not refused: {line[:40]}")
 
     def configure(self) -> None:
-        """Sets something by the control socket, and has the present state sent."""
         for line in (f"configure system description d{self.choice.randrange(99)}", "update",
                      f"configure lldp tx-hold {self.choice.randrange(2, 9)}"):
             self.live.ask(line)
@@ -164,13 +154,11 @@ class Unrest:
             self.far.send(numbered(77, 600))
 
     def go(self) -> None:
-        """Takes the interface away."""
         self.far.close()
         self.wires.remove_link("eth2")
         self.is_there = False
 
     def come(self) -> None:
-        """Makes the interface anew."""
         self.wires.add_link(2)
         self.far = Peer(self.wires, "peer2")
         self.is_there = True
@@ -185,20 +173,18 @@ class Unrest:
         self.live.signal(signal.SIGCONT)
 
     def link(self) -> None:
-        """Takes the carrier of the interface away for a while."""
         if self.is_there:
             for state in ("down", "up"):
                 self.wires.set_link("peer2", state)
                 time.sleep(self.choice.random() / 2)
 
     def measure(self) -> None:
-        """Notes what lldpa-live takes."""
-        number = self.live.process.pid
-        descriptors = len(os.listdir(f"/proc/{number}/fd"))
-        self.figures.append((time.monotonic() - self.began, resident(number), descriptors))
+        process = Path(f"/proc/{self.live.process.pid}")
+        resident = process.joinpath("status").read_text().split("VmRSS:")[1].split()[0]
+        descriptors = len(os.listdir(process / "fd"))
+        self.figures.append((time.monotonic() - self.began, int(resident), descriptors))
 
     def run(self, seconds: float) -> None:
-        """Goes on for so long."""
         threading.Thread(target=self.flood, daemon=True).start()
         for _ in range(QUIET):
             self.speak()
@@ -215,7 +201,6 @@ class Unrest:
         self.is_over.set()
 
     def quiet_since(self) -> dict[tuple[str, str], str]:
-        """Returns since when the quiet neighbors are there."""
         since = since_of(self.live.ask("live"))
         return {key: came for key, came in since.items() if key[0] == "eth1"}
 

@@ -45,7 +45,6 @@ FOLDERS_OF_A_CRATE = ("specs", "proofs", "src", "must-fail")
 
 
 def without_code(text):
-    """Returns the text without blocks of code."""
     return re.sub(r"^```.*?^```$", "", text, flags=re.M | re.S)
 
 
@@ -60,7 +59,6 @@ def anchors(page):
 
 
 def fault_of_link(page, target):
-    """Returns what is wrong with a link, or None."""
     name, _, anchor = target.partition("#")
     file = (page.parent / name).resolve() if name else page
     if not file.exists():
@@ -77,8 +75,7 @@ def links(text):
 
 
 def is_there(name):
-    """Returns whether a file of the repository has this name: from the top, in a crate, or within some crate, with or
-    without its ending."""
+    """Returns whether a file has this name, from the top or in a crate, or with an ending."""
     folders = [TOP, TOP / "crates"]
     if name.split("/")[0] in FOLDERS_OF_A_CRATE:
         folders += [TOP / "crates" / crate for crate in CRATES]
@@ -87,8 +84,7 @@ def is_there(name):
 
 
 def file_names(text):
-    """Returns the names of files in backticks: of a folder of the repository, without a place that the reader fills
-    in."""
+    """Returns the names of files in backticks, if they have no place that the reader fills in."""
     tops = {path.name for path in TOP.iterdir()} | set(FOLDERS_OF_A_CRATE) | set(CRATES)
     for name in re.findall(r"`([\w.*/-]+)`", text):
         is_path = "/" in name and name.split("/")[0] in tops and "out" not in name.split("/")
@@ -96,27 +92,10 @@ def file_names(text):
             yield name
 
 
-def calls(text):
-    """Returns the calls in backticks that are named with their type."""
-    found = re.findall(r"`(?:\w+::)*([A-Z]\w*)::(\w+)(?:\([^`]*\))?`", text)
-    return [(owner, call) for owner, call in found if call != "default"]
-
-
-def names(text):
-    """Returns the names in backticks: of a clause, a definition, a lemma, a call or a file."""
-    return re.findall(r"`([A-Za-z]\w*(?:-\w+)*)`", text)
-
-
 def excerpts(text):
     """Returns the lines of the sources that a page shows, block by block, in blocks that say their language."""
     for block in re.findall(r"^```(?:rust|antt)\n(.*?)^```$", text, re.M | re.S):
         yield [line.strip() for line in block.splitlines() if line.strip()]
-
-
-def begins_something(before):
-    """Returns whether a line after this one begins an item or a clause: it is empty, a comment, an attribute, or opens
-    a block."""
-    return re.match(r"\s*(//|--|#\[|$)", before) is not None or before.endswith("{")
 
 
 def lines_of_sources():
@@ -126,16 +105,16 @@ def lines_of_sources():
             if path.suffix in (".rt", ".antt"):
                 lines = path.read_text().splitlines()
                 pairs = zip(["", *lines], lines)
-                kept = [(line.strip(), begins_something(before)) for before, line in pairs if line.strip()]
-                yield [line for line, _ in kept], [begins for _, begins in kept]
+                kept = [(line.strip(), before) for before, line in pairs if line.strip()]
+                begins = re.compile(r"\s*(//|--|#\[|$)|.*\{$").match
+                yield [line for line, _ in kept], [begins(before) for _, before in kept]
 
 
 LINES = list(lines_of_sources())
 
 
 def is_shown(lines):
-    """Returns whether these lines are consecutive lines of a source, from the beginning of something on, with each
-    bracket closed."""
+    """Returns whether these are lines of a source from an item's or a clause's beginning on."""
     shown = "\n".join(lines)
     are_closed = all(shown.count(one) == shown.count(other) for one, other in ("()", "{}", "[]"))
     return are_closed and any(
@@ -151,43 +130,34 @@ def large_numbers(text):
             yield number.replace(",", "")
 
 
-class Checks(Counts):
-    """Counts what was looked up, by its fault or None."""
-
-    def see(self, page, what, fault):
-        self.judge(fault, f"{page}: {what}")
-
-
-def check_page(checks, page):
-    text, name = without_code(page.read_text()), page.relative_to(TOP)
+def faults_of_page(page):
+    """Yields what a page names, each with what is wrong with it, or None."""
+    text = without_code(page.read_text())
     for line in text.splitlines():
         if len(line) > 120 and not line.startswith("|"):
-            checks.see(name, line[:50], "a line of more than 120 columns")
+            yield line[:50], "a line of more than 120 columns"
     for words in re.findall(r"\b(?:the|another) bridge\b", text, re.I):
-        checks.see(name, words, "lldpa-live has a name")
+        yield words, "lldpa-live has a name"
     for target in links(text):
-        checks.see(name, target, fault_of_link(page, target))
+        yield target, fault_of_link(page, target)
     for file in file_names(text):
-        near = page.parent / file
-        checks.see(name, file, None if is_there(file) or near.exists() else "no such file")
-    for owner, call in calls(text):
-        known = owner in FUNCTIONS and call in FUNCTIONS or owner not in SOURCE
-        checks.see(name, f"{owner}::{call}", None if known else "no such call")
+        yield file, None if is_there(file) or (page.parent / file).exists() else "no such file"
+    for owner, call in re.findall(r"`(?:\w+::)*([A-Z]\w*)::(\w+)(?:\([^`]*\))?`", text):
+        known = {owner, call} <= FUNCTIONS | {"default"} or owner not in SOURCE
+        yield f"{owner}::{call}", None if known else "no such call"
     if page.name in ABOUT_PROOFS:
-        for word in names(text):
-            checks.see(name, word, None if word in NAMES else "no such name in the sources")
+        for word in re.findall(r"`([A-Za-z]\w*(?:-\w+)*)`", text):
+            yield word, None if word in NAMES else "no such name in the sources"
         for number in large_numbers(text):
-            known = number in NUMBERS_OF_SOURCES
-            checks.see(name, number, None if known else "no such number in the sources")
+            yield number, None if number in NUMBERS_OF_SOURCES else "no such number in the sources"
     for option in re.findall(r"(?<![\w-])--[a-z][a-z-]*[a-z]", page.read_text()):
-        checks.see(name, option, None if option in OPTIONS else "no such option")
+        yield option, None if option in OPTIONS else "no such option"
     for lines in excerpts(page.read_text()):
-        checks.see(name, lines[0], None if is_shown(lines) else "these are not consecutive lines of a source")
+        yield lines[0], None if is_shown(lines) else "these are not consecutive lines of a source"
 
 
 def is_shown_by(name):
-    """Returns whether there is such a script, test of the Python package (test_file.test_name), or law or call of the
-    crates."""
+    """Returns whether there is such a script, test (test_file.test_name), law or call."""
     module, _, test = name.partition(".")
     if name.startswith("tools/"):
         return (TOP / name).is_file()
@@ -197,40 +167,40 @@ def is_shown_by(name):
     return re.search(rf"\bpub fn {name}\b", SOURCE) is not None
 
 
-def check_security(checks):
-    """Checks that each row of SECURITY.md below a head that ends with `Shown by` names what shows it."""
-    page, is_claimed = "SECURITY.md", False
-    for line in (TOP / page).read_text().splitlines():
+def faults_of_security():
+    """Yields the rows of SECURITY.md that must say what shows them, and what they name."""
+    is_claimed = False
+    for line in (TOP / "SECURITY.md").read_text().splitlines():
         if not line.startswith("|"):
             is_claimed = False
         elif line.endswith("| Shown by |"):
             is_claimed = True
         elif is_claimed and not line.startswith("|---"):
             named = re.findall(r"`([^`]+)`", line.split("|")[-2])
-            checks.see(page, line[:50], None if named else "names nothing that shows it")
+            yield line[:50], None if named else "names nothing that shows it"
             for name in named:
-                checks.see(page, name, None if is_shown_by(name) else "no such law, call, test or script")
+                yield name, None if is_shown_by(name) else "no such law, call, test or script"
 
 
-def check_installed(checks, folder):
-    """Checks that each link of an installed page leads to an installed file in the folder."""
-    for page in sorted(folder.rglob("*.md")):
-        for target in links(without_code(page.read_text())):
-            is_inside = (page.parent / target.partition("#")[0]).resolve().is_relative_to(folder)
-            fault = fault_of_link(page, target) if is_inside else "it leads out of the folder"
-            checks.see(page.relative_to(folder), target, fault)
+def faults_of_installed(page, folder):
+    """Yields the links of an installed page, each of which must lead to an installed file."""
+    for target in links(without_code(page.read_text())):
+        is_inside = (page.parent / target.partition("#")[0]).resolve().is_relative_to(folder)
+        yield target, fault_of_link(page, target) if is_inside else "it leads out of the folder"
 
 
 def main():
-    """Looks up all."""
-    checks = Checks()
     if sys.argv[1:2] == ["--installed"]:
-        check_installed(checks, pathlib.Path(sys.argv[2]).resolve())
-        return checks.end()
-    for page in PAGES:
-        check_page(checks, page)
-    check_security(checks)
-    return checks.end()
+        folder = pathlib.Path(sys.argv[2]).resolve()
+        found = {page: faults_of_installed(page, folder) for page in sorted(folder.rglob("*.md"))}
+    else:
+        found = {page.relative_to(TOP): faults_of_page(page) for page in PAGES}
+        found["rows of SECURITY.md"] = faults_of_security()
+    counts = Counts()
+    for page, faults in found.items():
+        for what, fault in faults:
+            counts.judge(fault, f"{page}: {what}")
+    return counts.end()
 
 
 if __name__ == "__main__":

@@ -36,42 +36,43 @@ ROOM_HAS = "{\n    items: Vec<T, A>,\n}"
 TAKES_MEMORY = r"\b(?:Vec|VecDeque|Box|String|Rc|Arc|HashMap|BTreeMap|vec!|format!|dyn)\b"
 ALLOCATOR = r"\b(\w+): (?:&(?:'\w+ )?)?(?:mut )?(?:A|Global|impl Allocator)\b"
 HOLDS_A_ROOM = r"\b(?:Room<\w+(?:<A>)?, A>|Table<A>|Port<A>)"
-OPENING_CALLS = ("open", "open_ports")
+LIBRARY_OPENS = "lldpa_c/src/open.rt"
 # Each call that an allocator is passed to, and the one module that makes it, once.
-HANDED_ON = (
-    ("Room::open(alloc, limit as usize)", "lldp_table/src/table.rt"),
-    ("Table::open(alloc, options.max_neighbors)", "lldp_engine/src/port.rt"),
-    ("Room::open(alloc.clone()?, options.ports.len())", "lldp_engine/src/agent/ports.rt"),
-    ("Port::open(alloc.clone()?, name.as_bytes(), options)", "lldp_engine/src/agent/ports.rt"),
-    ("open_ports(alloc, options)", "lldp_engine/src/agent.rt"),
-    ("Agent::open(alloc, &options)", "lldp_program/src/program.rt"),
-    ("run_matches(rt, alloc, &matches,", "lldp_program/src/program.rt"),
-    ("parse(alloc, words)", "lldp_program/src/program.rt"),
-)
-NO_HANDING_ON = r"\balloc: (?:A|Global)\b|\bstd::alloc\b"
+HANDED_ON = {
+    "Room::open(alloc, limit as usize)": "lldp_table/src/table.rt",
+    "Table::open(alloc, options.max_neighbors)": "lldp_engine/src/port.rt",
+    "Room::open(alloc.clone()?, options.ports.len())": "lldp_engine/src/agent/ports.rt",
+    "Port::open(alloc.clone()?, name.as_bytes(), options)": "lldp_engine/src/agent/ports.rt",
+    "open_ports(alloc, options)": "lldp_engine/src/agent.rt",
+    "Agent::open(alloc, &options)": "lldp_program/src/program.rt",
+    "run_matches(rt, alloc, &matches,": "lldp_program/src/program.rt",
+    "parse(alloc, words)": "lldp_program/src/program.rt",
+    "Agent::open(alloc, &given)": LIBRARY_OPENS,
+    "Box::new(alloc, agent)": LIBRARY_OPENS,
+}
 PROGRAM = "lldp_program/src/program.rt"
 READ_THE_WORDS = ("lldpa/src/main.rt", "lldp_program/src/program.rt", "lldp_program/src/arguments.rt")
-LIBRARY_OPENS = "lldpa_c/src/open.rt"
-LIBRARY_TAKES = ("Agent::open(alloc, &given)", "Box::new(alloc, agent)")
 HANDLES = "lldpa_c/proofs/handle/"
 WALKS = ("count/Count/add/Proof.antt", "count/Count/new/Proof.antt")
-# What may be reached how often, and from which modules of lldp_table only.
-REACHED: tuple[tuple[str, dict[str, int]], ...] = (
-    (r"\bself\.each\b", {"times.rt": 3}),
-    (r"\bself\.each\[slot as usize\]", {"times.rt": 3}),
-    (r"\bTimes \{", {"times.rt": 4}),
-    (r"\blook\b", {"times.rt": 1}),
-    (r"\blefts_in\(", {"queue.rt": 1}),
-    (r"(?:\.|::)lefts\b", {"table.rt": 2}),
-    (r"\.(?:entries|entry)\(|::(?:entries|entry)\b(?!::)", {}),
-    (r"\bEntries \{", {"table.rt": 1}),
-    (r"\bCount::new\(", {"times.rt": 1}),
-    (r"\bTimes::new\(", {"queue.rt": 1}),
-    (r"\bQueue::new\(", {"table.rt": 1}),
-)
-# What looks at all times uncounted, and where those above the table may.
+TABLE = "lldp_table/src/"
+ABOVE_THE_TABLE = ("lldp_engine", "lldp_program", "lldpa/")
 LOOKS = r"\.(?:entries|entry)\(|::(?:entries|entry)\b(?!::)"
-LOOKING = {"lldp_engine/src/show/neighbor_lines.rt": 1}
+# What may be reached how often, in which crates, and from which modules only.
+REACHED = (
+    (r"\bself\.each\b", TABLE, {TABLE + "times.rt": 3}),
+    (r"\bself\.each\[slot as usize\]", TABLE, {TABLE + "times.rt": 3}),
+    (r"\bTimes \{", TABLE, {TABLE + "times.rt": 4}),
+    (r"\blook\b", TABLE, {TABLE + "times.rt": 1}),
+    (r"\blefts_in\(", TABLE, {TABLE + "queue.rt": 1}),
+    (r"(?:\.|::)lefts\b", TABLE, {TABLE + "table.rt": 2}),
+    (LOOKS, TABLE, {}),
+    (r"\bEntries \{", TABLE, {TABLE + "table.rt": 1}),
+    (r"\bCount::new\(", TABLE, {TABLE + "times.rt": 1}),
+    (r"\bTimes::new\(", TABLE, {TABLE + "queue.rt": 1}),
+    (r"\bQueue::new\(", TABLE, {TABLE + "table.rt": 1}),
+    (LOOKS, ABOVE_THE_TABLE, {"lldp_engine/src/show/neighbor_lines.rt": 1}),
+    *((re.escape(call), "", {module: 1}) for call, module in HANDED_ON.items()),
+)
 COUNTING = ("count.rt", "times.rt", "queue.rt")
 # The fields of what a table is made of.
 HOLDS = {"Count": "number", "Times": "each count", "Queue": "slots last times",
@@ -80,7 +81,6 @@ FIELD = r"(?:^|[{,])\s*(?:pub(?:\(crate\))? )?(?:ghost )?(\w+):"
 
 
 def without_comments(text: str) -> str:
-    """Returns the code alone."""
     return re.sub(r"//.*", "", text)
 
 
@@ -96,8 +96,7 @@ class Sources:
             if "/tests" not in name and not name.startswith("lldp_tests/"):
                 self.texts[name] = path.read_text()
 
-    def code(self, *crates: str) -> dict[str, str]:
-        """Returns the code of some crates."""
+    def code(self, crates: str | tuple[str, ...]) -> dict[str, str]:
         texts = self.texts.items()
         return {name: without_comments(text) for name, text in texts if name.startswith(crates)}
 
@@ -114,17 +113,41 @@ def counts_of(pattern: str, texts: dict[str, str]) -> dict[str, int]:
     return {name: count for name, count in counts.items() if count > 0}
 
 
-def functions_handed(code: str) -> list[str]:
+def functions_handed(code: str) -> str:
     """Returns the functions that are given an allocator, by name. One that does not call it `alloc` is reported too."""
     heads = re.findall(r"\bfn (\w+)(?:<[^(]*>)?\(([^{;]*?)\)", code)
     taken = [(name, one) for name, all_taken in heads for one in re.findall(ALLOCATOR, all_taken)]
-    return [name if one == "alloc" else f"{name} ({one})" for name, one in taken]
+    return "\n".join(name if one == "alloc" else f"{name} ({one})" for name, one in taken)
 
 
-def fields(code: str) -> list[str]:
+def fields(code: str) -> str:
     """Returns the fields of structs and enums, a line for each."""
     bodies = re.findall(r"\b(?:struct|enum) \w+[^{;]*\{(.*?)\n\}", code, re.S)
-    return [line.strip() for body in bodies for line in body.splitlines()]
+    return "\n".join(bodies)
+
+
+# What no code has: the crates, what is looked at of their code, what is left out of that, what is
+# sought in the rest, the modules that may have it, and what it does. So only `Room` has a field
+# with an allocator, and other types have rooms.
+FORBIDDEN = (
+    ((*BELOW_THE_PROGRAM, "lldp_program"), str, None, TAKES_MEMORY, (ROOM,),
+     "names a type that takes memory"),
+    (BELOW_THE_PROGRAM, str, None, r"\b(?!A:)\w+: [\w +]*\bAllocator\b", (),
+     "has an allocator of a type that is not A"),
+    ((*BELOW_THE_PROGRAM, PROGRAM), str,
+     "|".join([r"\balloc: (?:A|Global)\b|\bstd::alloc\b", *map(re.escape, HANDED_ON)]),
+     r"\balloc(?:ator)?\b", (ROOM,), "passes an allocator elsewhere"),
+    (("lldp_", "lldpa/"), str, r"(?ms:^use .*?;)|: Global\b[,)]|<A: Allocator = Global>",
+     r"\bGlobal\b", (), "makes a Global of its own"),
+    (("lldpa/", "lldp_program"), str, None, r": Global\b|\bHostRuntime\b|\.alloc\(\)",
+     READ_THE_WORDS, "is given an allocator"),
+    ("lldpa_c/", str,
+     r"\bspecs\.Box\b|\bBox<\w+(?:, A)?>|\bBox::(?:new\(alloc, agent\)|into_raw|from_raw)",
+     TAKES_MEMORY, (), "names a type that takes memory"),
+    (BELOW_THE_PROGRAM, fields, HOLDS_A_ROOM, r"\b(?:A|Global)\b", (ROOM,), "has an allocator"),
+    (BELOW_THE_PROGRAM, functions_handed, r"(?m:^(?:open|open_ports)$)", r"\w+", (),
+     "gives a call an allocator"),
+)
 
 
 def see_room(sources: Sources) -> None:
@@ -138,81 +161,23 @@ def see_room(sources: Sources) -> None:
     sources.see(ROOM_TAKES in code, f"{ROOM}: takes something else")
     is_kept = ROOM_HAS in code and code.count("Vec") == 2
     sources.see(is_kept, f"{ROOM}: does not keep its Vec to itself")
-    for name, other in sources.code(*BELOW_THE_PROGRAM, "lldp_program").items():
-        takes = re.search(TAKES_MEMORY, other) is not None
-        sources.see(name == ROOM or not takes, f"{name}: names a type that takes memory")
 
 
-def see_fields(sources: Sources) -> None:
-    """Checks that only `Room` has a field with an allocator; other types have rooms, or what has them."""
-    for name, code in sources.code(*BELOW_THE_PROGRAM).items():
-        for field in fields(code):
-            rest = re.sub(HOLDS_A_ROOM, "", field)
-            is_held = re.search(r"\b(?:A|Global)\b", rest) is not None
-            sources.see(name == ROOM or not is_held, f"{name}: has an allocator: {field}")
-
-
-def see_handed(sources: Sources) -> None:
-    """Checks that only opening calls are given an allocator, under one name, and pass it on to them only."""
-    for name, code in sources.code(*BELOW_THE_PROGRAM).items():
-        for function in functions_handed(code):
-            is_opening = function in OPENING_CALLS
-            sources.see(is_opening, f"{name}: {function} is handed an allocator")
-        bounded = set(re.findall(r"\b(\w+): [\w +]*\bAllocator\b", code))
-        sources.see(bounded <= {"A"}, f"{name}: an allocator of a type that is not A")
-    for name, code in sources.code(*BELOW_THE_PROGRAM, PROGRAM).items():
-        rest = re.sub(NO_HANDING_ON, "", code)
-        for call, _ in HANDED_ON:
-            rest = rest.replace(call, "")
-        goes_on = re.search(r"\balloc(?:ator)?\b", rest) is not None
-        sources.see(name == ROOM or not goes_on, f"{name}: an allocator goes elsewhere")
-
-
-def see_handed_on(sources: Sources) -> None:
-    """Checks that each call that an allocator is passed to occurs once."""
-    code = sources.code("")
-    for call, module in HANDED_ON:
-        found = counts_of(re.escape(call), code)
-        sources.see(found == {module: 1}, f"{call} is found in {found}")
-
-
-def see_global(sources: Sources) -> None:
-    """Checks that `Global` is named only as a type, and given only to those that read the words."""
-    for name, code in sources.code("lldp_", "lldpa/").items():
-        rest = re.sub(r"^use .*?;", "", code, flags=re.M | re.S)
-        rest = re.sub(r": Global\b[,)]|<A: Allocator = Global>", "", rest)
-        is_made = re.search(r"\bGlobal\b", rest) is not None
-        sources.see(not is_made, f"{name}: makes a Global of its own")
-    for name, code in sources.code("lldpa/", "lldp_program").items():
-        is_handed = re.search(r": Global\b|\bHostRuntime\b|\.alloc\(\)", code) is not None
-        sources.see(name in READ_THE_WORDS or not is_handed, f"{name}: is handed an allocator")
-
-
-def see_library(sources: Sources) -> None:
-    """Checks that the library for C allocates memory only when it opens an agent, for the agent and for the box behind a
-    handle."""
-    code = sources.code("lldpa_c/")
-    for call in LIBRARY_TAKES:
-        found = counts_of(re.escape(call), code)
-        sources.see(found == {LIBRARY_OPENS: 1}, f"{call} is found in {found}")
-    for name, text in code.items():
-        rest = re.sub(r"\bspecs\.Box\b|\bBox<\w+(?:, A)?>|\bBox::(?:new\(alloc, agent\)|into_raw|from_raw)", "", text)
-        takes = re.search(TAKES_MEMORY, rest) is not None
-        sources.see(not takes, f"{name}: names a type that takes memory")
+def see_forbidden(sources: Sources) -> None:
+    for crates, part, left_out, sought, allowed, fault in FORBIDDEN:
+        for name, code in sources.code(crates).items():
+            rest = re.sub(left_out, "", part(code)) if left_out else part(code)
+            found = re.search(sought, rest)
+            sources.see(found is None or name in allowed, f"{name}: {fault}: {found}")
 
 
 def see_reached(sources: Sources) -> None:
-    """Checks that stored times are reached by what is counted, or from `Table::entries` and `entry`, and are not
-    copied."""
-    code = sources.code("lldp_table")
-    for pattern, modules in REACHED:
-        found = counts_of(pattern, code)
-        wanted = {f"lldp_table/src/{module}": times for module, times in modules.items()}
-        sources.see(found == wanted, f"{pattern} is reached from {found}")
-    found = counts_of(LOOKS, sources.code("lldp_engine", "lldp_program", "lldpa/"))
-    sources.see(found == LOOKING, f"all times are looked at from {found}")
+    """Checks how often storage and stored times are reached, and that no time can be copied."""
+    for pattern, crates, modules in REACHED:
+        found = counts_of(pattern, sources.code(crates))
+        sources.see(found == modules, f"{pattern} is reached from {found}")
     for module in COUNTING:
-        text = code[f"lldp_table/src/{module}"]
+        text = without_comments(sources.texts[TABLE + module])
         derived = set(re.findall(r"#\[derive\((.*?)\)\]", text))
         given = set(re.findall(r"^impl(?:<.*?>)? (\w+)(?:<.*?>)? for\b", text, re.M))
         is_so = derived == {"Drop"} and given == {"Model"}
@@ -221,7 +186,7 @@ def see_reached(sources: Sources) -> None:
 
 def see_stores(sources: Sources) -> None:
     """Checks that what a table is made of has only these fields: one more could store times that no clause counts."""
-    code = "\n".join(sources.code("lldp_table").values())
+    code = "\n".join(sources.code(TABLE).values())
     for name, held in HOLDS.items():
         body = re.search(rf"\bstruct {name}\b[^{{;]*\{{(.*?)\n\}}", code, re.S)
         found = re.findall(FIELD, body[1]) if body else []
@@ -229,13 +194,8 @@ def see_stores(sources: Sources) -> None:
 
 
 def see_all(sources: Sources) -> None:
-    """Checks all rules that the sources have to keep."""
     see_room(sources)
-    see_fields(sources)
-    see_handed(sources)
-    see_handed_on(sources)
-    see_global(sources)
-    see_library(sources)
+    see_forbidden(sources)
     see_reached(sources)
     see_stores(sources)
 
@@ -260,7 +220,6 @@ def is_seen(name: str, change: tuple[str, ...]) -> bool:
 
 
 def main() -> int:
-    """Looks at all, and then at each mutant."""
     sources = Sources()
     see_all(sources)
     see_walks(sources)

@@ -29,13 +29,11 @@ TEST_OF_ROWS = {"examine": "pdu::vectors::octets_read", "caps": "pdu::vectors::o
 
 
 def fault_of_transcript(name: str) -> str | None:
-    """Returns what is wrong with a named transcript, or None."""
     missing = [end for end in ("args", "trace", "expect") if not (TOP / "examples" / f"{name}.{end}").is_file()]
     return f"examples/{name}.{missing[0]} is missing" if missing else fault_of_script("tools/gate/examples.py")
 
 
 def fault_of_counters(name: str) -> str | None:
-    """Returns what is wrong with a named row of counters, or None."""
     rows = (TOP / "examples" / "receive-counters.rows").read_text().splitlines()[1:]
     return None if name in [row.split()[0] for row in rows] else f"no row of counters is named {name}"
 
@@ -66,8 +64,7 @@ def asserts(function: str, passed: frozenset[str] = frozenset()) -> bool:
 
 
 def fault_of_test(place: str) -> str | None:
-    """Returns what is wrong with a named test, with or without a row. Each of its modules is declared in the one above
-    it."""
+    """Returns what is wrong with a named test and its row, if it names one, or None."""
     path, _, row = place.partition(": ")
     *modules, function = path.split("::")
     file = TESTS / "lib.rt"
@@ -90,7 +87,6 @@ def fault_of_shell(command: str) -> str | None:
 
 
 def fault_of_script(name: str) -> str | None:
-    """Returns what is wrong with a named script, or None."""
     if not (TOP / name).is_file():
         return f"{name} is missing"
     return None if name in CHECK.split() else f"tools/gate/check.sh does not call {name}"
@@ -101,19 +97,11 @@ PLACES = {"transcript": fault_of_transcript, "counters": fault_of_counters, "vec
 
 
 def fault_of_place(place: str) -> str | None:
-    """Returns what is wrong with one place, or None."""
     kind, _, rest = place.partition(" ")
     return PLACES[kind](rest) if kind in PLACES else f"{place} is not a place that tries something"
 
 
-def places(text: str) -> list[str]:
-    """Returns the places of a line. A command for the shell may hold a comma, as a name may."""
-    kinds = "|".join(PLACES)
-    return re.split(rf", (?=(?:{kinds}) )", text)
-
-
 def fault_of_body(text: str) -> str | None:
-    """Returns what is wrong with a named mutant, by crate and name, or None."""
     crate, name = text.split(":")[0].split()
     edit = TOP / "crates" / crate / "must-fail" / f"{name}.edit"
     if not edit.is_file():
@@ -122,18 +110,17 @@ def fault_of_body(text: str) -> str | None:
 
 
 def fault_of(kind: str, text: str) -> str | None:
-    """Returns what is wrong with a line of the list, or None."""
     if kind == "body":
         return fault_of_body(text)
     name, sign, where = text.partition(" = ")
     if not sign or not name:
         return "it does not say where it is tried"
-    faults = [fault for fault in map(fault_of_place, places(where)) if fault is not None]
-    return faults[0] if faults else None
+    # A command for the shell may hold a comma, as a name may.
+    places = re.split(rf", (?=(?:{'|'.join(PLACES)}) )", where)
+    return next(filter(None, map(fault_of_place, places)), None)
 
 
 def main() -> int:
-    """Reads the list, and counts its lines."""
     lines = [line for line in NAMED.read_text().splitlines() if line and not line.startswith("#")]
     counts = Counts()
     for line in lines:

@@ -31,6 +31,15 @@ install_into() {
     check "tools/release/install.sh $*" env "DESTDIR=$tree" tools/release/install.sh "$@"
 }
 
+# says PATTERN COMMAND..: a command writes a line of this pattern.
+says() {
+    wanted=$1
+    shift
+    "$@" > "$room/out" 2>&1
+    grep -q "$wanted" "$room/out"
+    judge $? "$*: $(cat "$room/out")"
+}
+
 # Lists the files that are left in a tree.
 left_in() {
     [ -z "$(find "$1" ! -type d -o -name lldpa.d | tee /dev/stderr)" ]
@@ -84,31 +93,22 @@ for path in "$room"/package/usr/bin/* "$room/package/usr/lib/lldpa/bin/lldpctl";
     for file in man/man$section/$name.$section.gz bash-completion/completions/$name zsh/vendor-completions/_lldpa; do
         check "$name has no usr/share/$file" [ -f "$room/package/usr/share/$file" ]
     done
-    "$path" --help > "$room/out" 2>&1 && grep -q "$name" "$room/out"
-    judge $? "$name --help of the package: $(head -c 200 "$room/out")"
-    said=$("$path" --version)
-    check "$name --version of the package says $said" [ "$said" = "$name ${version%-*}" ]
+    says "$name" "$path" --help
+    says "^$name ${version%-*}$" "$path" --version
 done
 for name in lldpctl lldpcli; do
     check "the package has lldpd's $name in usr/bin" [ ! -e "$room/package/usr/bin/$name" ]
 done
-"$room/package/usr/lib/lldpa/bin/lldpcli" -u "$room/none" show chassis > "$room/out" 2>&1
-grep -q "^lldpcli: nobody answers at $room/none" "$room/out"
-judge $? "lldpcli of the package: $(cat "$room/out")"
+says "^lldpcli: nobody answers at $room/none" "$room/package/usr/lib/lldpa/bin/lldpcli" -u "$room/none" show chassis
 check "the package has no py.typed" [ -f "$room/package/usr/lib/lldpa/python/lldpa/py.typed" ]
-(cd / && PYTHONDONTWRITEBYTECODE=1 PYTHONPATH=$room/package/usr/lib/python3/dist-packages \
-    /usr/bin/python3 -c 'import lldpa; print(lldpa.__file__)') > "$room/out" 2>&1
-[ "$(cat "$room/out")" = "$room/package/usr/lib/python3/dist-packages/lldpa/__init__.py" ]
-judge $? "import lldpa: $(cat "$room/out")"
-(cd / && PYTHONDONTWRITEBYTECODE=1 PYTHONPATH=$room/package/usr/lib/python3/dist-packages \
-    /usr/bin/python3 -m lldpa_audit --version) > "$room/out" 2>&1
-grep -q "^lldpa-audit " "$room/out"
-judge $? "python3 -m lldpa_audit: $(cat "$room/out")"
+path=$room/package/usr/lib/python3/dist-packages
+says "^$path/lldpa/__init__.py$" env --chdir / "PYTHONPATH=$path" /usr/bin/python3 -c 'import lldpa; print(lldpa.__file__)'
+says "^lldpa-audit " env --chdir / "PYTHONPATH=$path" /usr/bin/python3 -m lldpa_audit --version
 # The pages are those for operators, and each of their links leads to something that is installed.
-(cd "$room/package/usr/share/doc/lldpa" && find . -name '*.md' | LC_ALL=C sort | xargs) > "$room/out"
-[ "$(cat "$room/out")" = "./README.md ./SECURITY.md ./audit/README.md ./docs/CAPTURES.md ./docs/LLDPD.md \
-./docs/OPERATORS.md ./docs/PROGRAMS.md" ]
-judge $? "the package has other pages: $(cat "$room/out")"
+pages=$(cd "$room/package/usr/share/doc/lldpa" && find . -name '*.md' | LC_ALL=C sort | xargs)
+[ "$pages" = "./README.md ./SECURITY.md ./audit/README.md ./docs/CAPTURES.md ./docs/LLDPD.md ./docs/OPERATORS.md \
+./docs/PROGRAMS.md" ]
+judge $? "the package has the pages $pages"
 check "links of installed pages" python3 tools/gate/check-links.py --installed "$room/package/usr/share/doc/lldpa"
 ! dpkg-deb --info "$package" conffiles | grep /etc/default/lldpa
 judge $? "/etc/default/lldpa is a configuration file of the package, about which an upgrade could ask"

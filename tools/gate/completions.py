@@ -37,12 +37,10 @@ printf '%s\\n' "${{COMPREPLY[@]}}"
 
 
 def written(*command: str | Path) -> str:
-    """Returns what a command writes."""
     return subprocess.run(command, stdout=subprocess.PIPE, text=True, check=True).stdout
 
 
 def help_of(program: str) -> str:
-    """Returns what a program says of itself."""
     if program == "lldpa":
         return (TOP / "examples" / "help.txt").read_text()
     return written(TOP / "bin" / program, "--help")
@@ -54,7 +52,6 @@ def offered(program: str, begun: str) -> set[str]:
 
 
 def main() -> int:
-    """Compares all of it."""
     counts = Counts()
     os.environ["PATH"] = f"{TOP / 'bin'}{os.pathsep}{os.environ['PATH']}"
     links = set(os.listdir("/sys/class/net"))

@@ -4,16 +4,12 @@
     python3 tools/gate/examples.py PROGRAM [NAME ...]
     python3 tools/gate/examples.py --as-root
 
-The transcripts are in examples/: NAME.args has the words, one a line, and NAME.trace the input. NAME.expect shows each
-line of the input behind `> `, a long one by its first octets and `...`, and below it what it writes. The last line of
-NAME.args may be a filter, `| grep TEXT` or `| grep -e TEXT -e TEXT`, as in a shell: only lines with one of the texts
-are shown. A text has small letters and hyphens, and some line that is shown has it; a filter of another form is a
-failure.
-Each is run four ways: its first lines, one more each time; without its last LF, which changes nothing; octet by octet;
-and in two pieces, cut at every place (except inputs of more than 10,000 octets). A piece is written when the program
-has read the one before it. Each run must end with status 0 and write nothing on standard error.
-receive-counters.rows names counters of eth0 in its first line. Each row has the name of a transcript and the values of
-these counters, which `show statistics` behind its lines must show; other counters are ignored.
+The transcripts are in examples/, whose README says what their files are. A filter has texts of small letters and
+hyphens, and some line that is shown has each. Each transcript is run four ways: its first lines, one more each time;
+without its last LF, which changes nothing; octet by octet; and in two pieces, cut at every place (except inputs of more
+than 10,000 octets). A piece is written when the program has read the one before it. Each run must end with status 0 and
+write nothing on standard error. receive-counters.rows has transcripts and the values of some counters of eth0, which
+`show statistics` after their lines must show.
 
 The examples of the pages and of the manual page are blocks whose first line begins with `$ `. Each such line is a
 command; if it ends with <<'EOF' or <<EOF, its input follows up to the line EOF. Below is what it writes, up to the next
@@ -85,8 +81,7 @@ def difference(written, wanted):
 
 
 def words_and_filter(args):
-    """Returns the words of a file of arguments, and the texts of its filter: none without one, None if it cannot be
-    read."""
+    """Returns the words and the texts of the filter, or None if the filter cannot be read."""
     words = args.splitlines()
     if not words or not words[-1].startswith("|"):
         return words, []
@@ -139,8 +134,7 @@ def steps_of(trace, shown):
 
 
 def ways(trace, steps):
-    """Returns the ways in which an input is fed: the name of each, and its runs, each with its pieces and what it
-    writes."""
+    """Returns the name of each way to feed an input, and its runs: pieces and the output."""
     fronts, texts = [b""], [b""]
     for line, written in steps:
         fronts.append(trace[:len(fronts[-1]) + len(line) + 1])
@@ -156,7 +150,6 @@ def ways(trace, steps):
 
 
 def fault_of_filter(texts, steps):
-    """Returns what is wrong with the texts of a filter, or None."""
     if texts is None:
         return "its filter is not of the form | grep TEXT or | grep -e TEXT -e TEXT"
     lines = b"".join(line for _, written in steps for line in written)
@@ -188,8 +181,7 @@ def run_transcripts(program, only):
 
 
 def rows(only):
-    """Returns the name of each row, its counters with their values, and its transcript, or a text that says what is
-    wrong."""
+    """Returns each row's name, its counters, and its transcript or what is wrong."""
     counters, *table = [line.split() for line in ROWS.read_text().splitlines()]
     shown = {one[0]: one for one in transcripts([])}
     for name, *values in table:
@@ -225,16 +217,7 @@ def blocks():
 
 
 def commands(lines):
-    """Returns the lines of a block that are commands."""
     return [line for line in lines if line.startswith("$ ")]
-
-
-def list_as_root():
-    """Prints each command that needs root, without sudo, in the order of the pages."""
-    for _, lines in blocks():
-        for command in commands(lines):
-            if command.startswith(AS_ROOT):
-                print(command.removeprefix(AS_ROOT))
 
 
 def script_and_output(lines):
@@ -268,8 +251,7 @@ def free_port(number):
 
 
 def ended(ran):
-    """Returns what a script wrote on both streams, or a text that says that it took too long; all that it started is
-    then ended."""
+    """Returns what a script wrote on both streams, or that it took too long, and ends it."""
     try:
         return ran.communicate(timeout=SECONDS)
     except subprocess.TimeoutExpired:
@@ -281,7 +263,6 @@ def ended(ran):
 
 
 def fault_of_block(lines, folder):
-    """Returns what is wrong with a block, or None."""
     script, wanted = (with_free_ports(text, script_and_output(lines)[0]) for text in script_and_output(lines))
     ran = subprocess.Popen(["sh", "-c", f'PATH="{folder}:$PATH"\n{script}'], stdin=subprocess.DEVNULL, cwd=TOP, text=True,
                            stdout=subprocess.PIPE, stderr=subprocess.PIPE, start_new_session=True)
@@ -299,7 +280,6 @@ def fault_of_block(lines, folder):
 
 
 def run_blocks(program):
-    """Runs each block. Yields the name of each, and what is wrong, or None."""
     with tempfile.TemporaryDirectory() as folder:
         (pathlib.Path(folder) / "lldpa").symlink_to(program)
         for name, lines in blocks():
@@ -312,9 +292,9 @@ def run_blocks(program):
 
 
 def main():
-    """Runs them all."""
     if sys.argv[1:] == ["--as-root"]:
-        list_as_root()
+        shown = (command for _, lines in blocks() for command in commands(lines))
+        print(*(one.removeprefix(AS_ROOT) for one in shown if one.startswith(AS_ROOT)), sep="\n")
         return 0
     program, only = pathlib.Path(sys.argv[1]).resolve(), sys.argv[2:]
     counts = Counts()

@@ -45,7 +45,6 @@ def imported_by(module: tuple[str, ...]) -> Iterator[tuple[str, ...]]:
 
 
 def main() -> int:
-    """Computes what the parts of each folder import of one another, and counts."""
     counts = Counts()
     pairs = {(module, module_of(name)) for module in MODULES for name in imported_by(module)}
     graphs: Dict[str, DefaultDict[str, Set[str]]] = collections.defaultdict(

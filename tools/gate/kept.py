@@ -54,7 +54,6 @@ def run(command: list[str]) -> tuple[int, list[str]]:
 
 
 def main() -> int:
-    """Runs the command, or prints its count again."""
     name, *command = sys.argv[1:]
     state, note = state_of(READ, "".join(map(written_by, COMPILERS))), KEPT / name
     kept, passed = note.read_text().split() if note.exists() else ("", "0")

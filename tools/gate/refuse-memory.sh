@@ -45,8 +45,7 @@ refuse_each() {
     requests=$(cat "$room/requests" 2> /dev/null || echo 0)
     [ "$requests" -gt 0 ]
     judge_run $? "no request was seen: is the program linked to the C library?"
-    number=1
-    while [ "$number" -le "$requests" ]; do
+    for number in $(seq "$requests"); do
         REFUSE_AT=$number REFUSE_LATER=1 run "$@"
         says_no_memory
         judge_run $? "request $number and all later ones refused"
@@ -54,7 +53,6 @@ refuse_each() {
         if survives; then survived=$((survived + 1)); fi
         says_no_memory || survives
         judge_run $? "request $number refused"
-        number=$((number + 1))
     done
     echo "$requests requests for memory refused, of which $survived were survived alone"
     survived=0
@@ -67,10 +65,8 @@ cp crates/lldpa/stdout "$room/want"
 refuse_each "$@"
 
 set -- --hostname sw1 --mac 00:00:5e:00:53:01 --management 192.0.2.1 --role bridge --max-neighbors 128
-number=1
-while [ "$number" -le 64 ]; do
+for number in $(seq 64); do
     set -- "$@" "port$number"
-    number=$((number + 1))
 done
 echo "show chassis" > "$room/in"
 printf 'local-chassis.%s\n' mac=00:00:5e:00:53:01 name=sw1 descr=lldpa caps=Bridge:on mgmt=192.0.2.1,1,0, \

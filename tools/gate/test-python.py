@@ -43,7 +43,6 @@ def prepare():
 
 
 def run_module(name):
-    """Runs the tests of a module."""
     said = io.StringIO()
     tests = unittest.defaultTestLoader.loadTestsFromName(name)
     result = unittest.TextTestRunner(stream=said, verbosity=0).run(tests)
@@ -64,7 +63,6 @@ def run_all(names):
 
 
 def main():
-    """Runs them all."""
     if len(sys.argv) > 1:
         os.environ["LLDPA"] = str(pathlib.Path(sys.argv[1]).resolve())
     passed = failed = 0

@@ -1,22 +1,20 @@
-# Reads the words `[--arch amd64|arm64] [--cpu CPU] [FOLDER]`, for tools/library/library.sh and tools/release/build.sh.
-# Sets `arch`, `cpu` and `folder` to what is given, and `tools` to what the names of the compiler and of binutils begin
-# with, if the architecture is not this machine's. The script that reads this file has a function `fail`.
+# Reads the words `[--arch amd64|arm64] [FOLDER]`, for tools/library/library.sh and tools/release/build.sh. Sets `arch` and
+# `folder` to what is given, `target` to what the toolchain calls the architecture, and `tools` to what the names of the
+# compiler and of binutils begin with, if it is not this machine's. The script that reads this file has a function `fail`.
 here=$(uname -m | sed 's/x86_64/amd64/; s/aarch64/arm64/')
 arch=$here
-cpu=
 folder=
 while [ $# -gt 0 ]; do
     case $1 in
         --arch) arch=$2 && shift ;;
-        --cpu) cpu=$2 && shift ;;
         -*) fail "there is no option $1" ;;
         *) folder=$1 ;;
     esac
     shift
 done
 case $arch in
-    amd64) triple=x86_64-linux-gnu cpu=${cpu:-x86-64} ;;
-    arm64) triple=aarch64-linux-gnu ;;
+    amd64) triple=x86_64-linux-gnu target='x86_64-unknown-linux-gnu --cpu=x86-64' ;;
+    arm64) triple=aarch64-linux-gnu target=aarch64-unknown-linux-gnu ;;
     *) fail "nothing can be built for $arch" ;;
 esac
 tools=

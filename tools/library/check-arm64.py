@@ -105,7 +105,6 @@ def check_packages(folder: pathlib.Path, room: pathlib.Path, counts: Counts) -> 
 
 
 def main() -> int:
-    """Runs them all."""
     for command in (COMPILER, QEMU[0]):
         if shutil.which(command) is None:
             skip(f"arm64, since there is no {command}")

@@ -52,8 +52,7 @@ def check_header(library: Library, counts: Counts) -> None:
 
 
 def check_functions(library: Library, counts: Counts) -> None:
-    """Checks that the library defines the functions that the header declares and no other name, and that the manual
-    page names them."""
+    """Checks that header, archive and manual page have the same functions."""
     header = (library.folder / "lldpa.h").read_text()
     declared = set(re.findall(r"^\w+ (lldpa_\w+)\(", header, re.M))
     defined = ran(["nm", "--defined-only", "--extern-only", library.folder / "liblldpa.a"]).stdout
@@ -151,15 +150,6 @@ CHECKS = (check_programs, check_rust, check_front, check_refused, check_receive,
           check_page, check_who, check_sd_lldp_rx)
 
 
-def made(room: pathlib.Path) -> pathlib.Path | None:
-    """Returns the folder that tools/library/library.sh makes, or None if it cannot."""
-    ended = ran([TOP / "tools" / "library" / "library.sh", room / "lib"])
-    if ended.returncode != 0:
-        skip(f"the library: {ended.stderr.strip()}")
-        return None
-    return room / "lib"
-
-
 def in_own_room(check: Callable[[Library, Counts], None], folder: pathlib.Path,
                 room: pathlib.Path) -> Callable[[Counts], None]:
     """Returns a check of the library in a folder, which has a room of its own."""
@@ -169,15 +159,16 @@ def in_own_room(check: Callable[[Library, Counts], None], folder: pathlib.Path,
 
 
 def main() -> int:
-    """Runs them all."""
     if shutil.which("cc") is None:
         skip("the library, since there is no cc")
         return 3
     counts = Counts()
     with tempfile.TemporaryDirectory() as name:
         room = pathlib.Path(name)
-        folder = pathlib.Path(sys.argv[1]).resolve() if sys.argv[1:] else made(room)
-        if folder is None:
+        folder = pathlib.Path(sys.argv[1]).resolve() if sys.argv[1:] else room / "lib"
+        fault = None if sys.argv[1:] else fault_of([TOP / "tools/library/library.sh", folder])
+        if fault is not None:
+            skip(f"the library: {fault}")
             return 3
         side_by_side([in_own_room(check, folder, room) for check in CHECKS], counts)
     return counts.end()

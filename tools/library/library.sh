@@ -1,8 +1,8 @@
 #!/bin/sh
 # Makes the library that programs link: liblldpa.a, liblldpa.so.1 and lldpa.h, in a folder.
-#     tools/library/library.sh [--arch amd64|arm64] [--cpu CPU] [FOLDER]
+#     tools/library/library.sh [--arch amd64|arm64] [FOLDER]
 # FOLDER is crates/lldpa_c/out/lib unless given. The architecture is that of this machine unless given; for another one
-# it needs a C compiler and binutils, such as the package gcc-aarch64-linux-gnu. CPU is x86-64 for amd64 unless given.
+# it needs a C compiler and binutils, such as the package gcc-aarch64-linux-gnu. For amd64 it is for any processor.
 #
 # The functions of the archive that `rt lib` builds are renamed to begin with `proved_`. Programs call those of
 # crates/lldpa_c/front, which handle NULL and ask malloc for memory. Each group of calls below is one object of
@@ -32,7 +32,7 @@ groups() {
 for command in "${tools}gcc" "${tools}ar" "${tools}ld" "${tools}nm" "${tools}objcopy" rt sha256sum; do
     command -v "$command" > /dev/null || fail "there is no $command"
 done
-kept=crates/lldpa_c/out/$arch${cpu:+-$cpu}
+kept=crates/lldpa_c/out/$arch
 folder=$(realpath -m -- "${folder:-crates/lldpa_c/out/lib}")
 room=$(mktemp -d)
 trap 'rm -rf "$room"' EXIT
@@ -49,10 +49,9 @@ state() {
 
 if [ "$(cat "$kept/stamp" 2> /dev/null)" != "$(state)" ]; then
     rm -rf "$kept"
-    set -- --target "$(echo $triple | sed 's/-linux/-unknown-linux/')"
-    [ -z "$cpu" ] || set -- "$@" "--cpu=$cpu"
     before=$(state)
-    (cd crates/lldpa_c && rt lib "$@") > "$room/said" 2>&1 || fail "rt lib: $(tail -n 5 "$room/said")"
+    # shellcheck disable=SC2086 # the target is several words
+    (cd crates/lldpa_c && rt lib --target $target) > "$room/said" 2>&1 || fail "rt lib: $(tail -n 5 "$room/said")"
     mkdir -p "$kept"
     cp crates/lldpa_c/out/liblldpa_c.a "$kept/"
     echo "$before" > "$kept/stamp"

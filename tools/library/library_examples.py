@@ -50,17 +50,11 @@ def frame_of(pdu: str) -> bytes:
 
 def check_example(name: str, command: Sequence[object], wanted: str, counts: Counts,
                   cwd: pathlib.Path | None = None, env: Mapping[str, str] | None = None) -> None:
-    """Checks that an example writes what it must."""
     ended = ran(command, cwd, env)
     if ended.returncode != 0 or ended.stderr:
         counts.judge(f"status {ended.returncode}, {ended.stderr[-1500:]}", name)
     else:
         counts.judge(None if ended.stdout == wanted else f"it writes {ended.stdout}", name)
-
-
-def programs_of_page() -> list[tuple[str, str]]:
-    """Returns the programs of the page in C, each with what it writes."""
-    return re.findall(r"^```c\n(.*?)^```\n\n```text\n(.*?)^```$", PAGE.read_text(), re.M | re.S)
 
 
 def loading(library: Library) -> dict[str, str]:
@@ -70,7 +64,8 @@ def loading(library: Library) -> dict[str, str]:
 
 def check_page(library: Library, counts: Counts) -> None:
     """Runs the programs of docs/LIBRARY.md in C; those in Rust are tests of the crate."""
-    for at, (text, wanted) in enumerate(programs_of_page()):
+    programs = re.findall(r"^```c\n(.*?)^```\n\n```text\n(.*?)^```$", PAGE.read_text(), re.M | re.S)
+    for at, (text, wanted) in enumerate(programs):
         source = library.room / f"page-{at}.c"
         source.write_text(text)
         counts.judge(library.compiled(source, f"page-{at}"), f"building docs/LIBRARY.md, {at}")
@@ -99,8 +94,7 @@ def follow(heard: subprocess.Popen[bytes], send: Callable[[bytes], object]) -> b
 
 
 def hear(command: list[str]) -> int:
-    """Returns 0 if a receive loop reports what happens to a neighbor on a link, and ends when it is asked to, or else
-    1."""
+    """Returns 0 if a receive loop reports what happens, and ends when asked, else 1."""
     for words in LINK:
         subprocess.run(["ip", *words.split()], check=True)
     with socket.socket(socket.AF_PACKET, socket.SOCK_RAW) as sender, \
@@ -112,8 +106,7 @@ def hear(command: list[str]) -> int:
 
 
 def check_sd_lldp_rx(library: Library, counts: Counts) -> None:
-    """Checks that the sketch of sd_lldp_rx reports each neighbor that is added, updated, refreshed and removed, and
-    when one is due."""
+    """Checks that the sketch of sd_lldp_rx reports each event, and when one is due."""
     source = EXAMPLES / "c" / "sd_lldp_rx.c"
     counts.judge(library.compiled(source, "sd_lldp_rx"), "building examples/c/sd_lldp_rx.c")
     lines = [given if " " in given else f"rx {frame_of(given).hex()}" for given, _, _ in PLAYED]

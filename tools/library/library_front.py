@@ -51,6 +51,5 @@ def fault_of_edit(library: Library, old: str, new: str) -> str | None:
 
 
 def check_front(library: Library, counts: Counts) -> None:
-    """Checks that each wrong front is seen."""
     for what, old, new in EDITS:
         counts.judge(fault_of_edit(library, old, new), f"a wrong front: {what}")

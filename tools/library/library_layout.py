@@ -26,7 +26,6 @@ Lists = dict[str, list[str]]
 
 
 def plain(name: str) -> str:
-    """Returns a type's own name."""
     name = re.sub(r"<'.*>$", "", name.strip()).lower().removeprefix("lldpa_").removeprefix("lldpa")
     return TYPES.get(name, name)
 
@@ -56,7 +55,6 @@ def of_rust(declared: str) -> list[str]:
 
 
 def split(text: str, mark: str) -> list[str]:
-    """Returns the parts of a list that a mark separates."""
     return [part.strip() for part in text.split(mark) if part.strip()]
 
 
@@ -81,7 +79,6 @@ def fields_of_rust(body: str) -> list[str]:
 
 
 def header_lists(text: str) -> Lists:
-    """Returns the structs and the functions of the header."""
     found = {plain(name): fields_of_c(body) for body, name in STRUCT.findall(text)}
     for answer, name, body in re.findall(r"^(\w+) (lldpa_\w+)\((.*?)\);", text, re.M | re.S):
         found[name] = [*(of_c(one) for one in split(body, ",") if one != "void"), plain(answer)]
@@ -89,7 +86,6 @@ def header_lists(text: str) -> Lists:
 
 
 def rust_lists(text: str) -> Lists:
-    """Returns the structs for C and the functions of a source of Rattle."""
     text = re.sub(r"//[^\n]*", "", text)
     found: Lists = {}
     for name, body in re.findall(r"#\[repr\(C\)\].*?struct (\w+)(?:<'a>)? \{(.*?)\n\}", text, re.S):

@@ -19,7 +19,6 @@ SECONDS = 1800
 
 
 def skip(what: str) -> None:
-    """Says that something is not tried."""
     print(f"skipped: {what}")
 
 

@@ -31,11 +31,12 @@ def strange_archive(library: Library) -> pathlib.Path:
     return library.room
 
 
-def cargo(words: list[str], folder: pathlib.Path, library: Library) -> subprocess.CompletedProcess[str]:
+def cargo(words: list[str], folder: pathlib.Path, library: Library, program: str = "cargo",
+          **more: str) -> subprocess.CompletedProcess[str]:
     """Runs cargo in the crate over the archive in a folder. A warning is an error."""
     settings = os.environ | {"LLDPA_LIB_DIR": str(folder), "RUSTFLAGS": "-D warnings",
-                             "CARGO_TARGET_DIR": str(library.room / "target")}
-    return ran(["cargo", words[0], "--offline", "--locked", "--quiet", *words[1:]], CRATE, settings)
+                             "CARGO_TARGET_DIR": str(library.room / "target"), **more}
+    return ran([program, words[0], "--offline", "--locked", "--quiet", *words[1:]], CRATE, settings)
 
 
 def check_crate(words: list[str], folder: pathlib.Path, library: Library, counts: Counts) -> None:
@@ -94,15 +95,13 @@ def check_oldest(library: Library, counts: Counts) -> None:
     if not pathlib.Path("/usr/bin/rustc").exists() or not pathlib.Path("/usr/bin/cargo").exists():
         skip("the crate for Rust by the system's compiler, since there is none")
         return
-    settings = os.environ | {"LLDPA_LIB_DIR": str(library.folder), "RUSTC": "/usr/bin/rustc", "RUSTFLAGS": "-D warnings",
-                             "CARGO_TARGET_DIR": str(library.room / "oldest")}
-    ended = ran(["/usr/bin/cargo", "build", "--offline", "--locked", "--quiet", "--all-targets"], CRATE, settings)
+    ended = cargo(["build", "--all-targets"], library.folder, library, "/usr/bin/cargo",
+                  RUSTC="/usr/bin/rustc", CARGO_TARGET_DIR=str(library.room / "oldest"))
     counts.judge(ended.stderr[-1500:] if ended.returncode else None, "the crate for Rust by the system's compiler")
 
 
 def check_rust(library: Library, counts: Counts) -> None:
-    """Checks the crate for Rust: its tests and examples, also over an archive that answers what no library does; clippy;
-    and that its build says what is missing."""
+    """Checks the crate's tests, examples and lints, also over a wrong archive."""
     if shutil.which("cargo") is None:
         skip("the crate for Rust, since there is no cargo")
         return

@@ -83,8 +83,7 @@ def written_by(agent: model.Agent, line: bytes) -> list[bytes]:
 
 
 def leaving(agent: model.Agent, lines: Iterable[bytes]) -> Steps:
-    """Returns the events by which an agent leaves after some lines, as if each port were disabled.
-    Leaving a second time does nothing."""
+    """Returns the events by which an agent leaves after lines, as if disabled, and again."""
     for line in lines:
         written_by(agent, line)
     disable = [f"configure ports {port.name} lldp status disabled" for port in agent.ports]
@@ -104,8 +103,7 @@ def check_transcripts(command: Sequence[str], counts: Counts) -> None:
 
 
 def whole_shows(ports: int, neighbors: int) -> tuple[list[str], Steps]:
-    """Returns words and lines with which each port holds so many neighbors, all except one send,
-    and everything is shown, and what the model writes."""
+    """Returns words and lines with many neighbors at each port, and what the model writes."""
     names = [f"p{port}" for port in range(ports)]
     frames = [FRAMES.frame_of(number, 120).hex() for number in range(neighbors)]
     lines = [f"rx {name} {frame}" for name in names for frame in frames]
@@ -116,13 +114,13 @@ def whole_shows(ports: int, neighbors: int) -> tuple[list[str], Steps]:
 
 
 def check_rows(command: Sequence[str], room: pathlib.Path, counts: Counts) -> None:
-    """Compares the rows of examples/vectors.rows, one of every cause, and cut and altered LLDPDUs
-    beside the model."""
+    """Compares vectors.rows, every cause, and cut and altered LLDPDUs beside the model."""
     rows = [line for line in ROWS.read_text().splitlines() if not line.startswith("#")]
     rows.append(row_of_causes())
     for row, found in zip_longest(rows, written_rows(command, rows, room)):
         counts.judge(None if found == row else f"{found}", row)
-    counts.judge(fault_of_rows(command, map(row_of, altered()), room), "cut and altered LLDPDUs")
+    altered = [b"", *(pdu for whole in FRAMES.LLDPDUS for pdu in FRAMES.altered(whole))]
+    counts.judge(fault_of_rows(command, map(row_of, altered), room), "cut and altered LLDPDUs")
 
 
 def row_of_causes() -> str:
@@ -147,11 +145,6 @@ def fault_of_rows(command: Sequence[str], rows: Iterable[str], room: pathlib.Pat
     wanted = list(rows)
     pairs = zip_longest(wanted, written_rows(command, wanted, room))
     return next((f"{found}, not {row}" for row, found in pairs if found != row), None)
-
-
-def altered() -> list[bytes]:
-    """Returns each front of the LLDPDUs of check-frames.py, and each with one octet changed."""
-    return [b"", *(pdu for whole in FRAMES.LLDPDUS for pdu in FRAMES.altered(whole))]
 
 
 def row_of(pdu: bytes) -> str:

@@ -56,12 +56,10 @@ def altered(frame):
 
 
 def heard(frame):
-    """Returns the line with which a frame comes."""
     return b"rx eth0 " + frame.hex().encode()
 
 
 def frame_of(number, ttl):
-    """Returns a frame of the neighbor with this number."""
     return HEADER + CHASSIS + spelled(2, bytes([7, number])) + spelled(3, ttl.to_bytes(2, "big")) + END
 
 

@@ -74,8 +74,7 @@ def late_by_the_program(client):
 
 
 def serves_the_most():
-    """Returns whether a program asked to serve as many connections as it can be answers some clients, and waits for the
-    next."""
+    """Returns whether a program that may serve the most connections answers some, and waits."""
     number = free_port()
     words = [sys.argv[1], "--listen", number, "--connections", "65535", "--receive-only", "eth0"]
     with subprocess.Popen(words, stdin=subprocess.DEVNULL) as program:

@@ -37,7 +37,6 @@ def lines_of(form):
 
 
 def fault_of(form):
-    """Returns what differs for a form, or None."""
     for words in (WORDS, SENDING):
         lines = lines_of(form)
         if compare.difference(sys.argv[1], words, lines) is not None:
@@ -47,14 +46,12 @@ def fault_of(form):
 
 
 def roles():
-    """Returns the arguments with a role that does not exist."""
     words = [*near.WORDS, *(other for role in model.ROLES for other in near.near(role)), ""]
     wrong = [word for word in dict.fromkeys(words) if word not in model.ROLES and not word.startswith("-")]
     return [["--role", word, "eth0"] for word in wrong]
 
 
 def options():
-    """Returns the arguments with an option that does not exist, long or short."""
     words = [*near.WORDS, *(other for option in OPTIONS for other in near.misspelled(option))]
     names = [word for word in dict.fromkeys(words) if word.partition("=")[0] not in OPTIONS and word]
     shorts = [f"-{letter}" for letter in string.ascii_letters + string.digits if letter not in SHORT]

@@ -30,8 +30,7 @@ WRONG_WORDS = (
 
 
 def free_port():
-    """Returns a port of this host at which nobody listens: one of this process's hundred, none of which the kernel gives
-    to a connection."""
+    """Returns a free port of this process's hundred, which the kernel gives to nobody."""
     first = 10000 + os.getpid() % 200 * 100
     for number in itertools.cycle(range(first, first + 100)):
         with socket.socket() as one, contextlib.suppress(OSError):
@@ -113,8 +112,7 @@ def answer_of_program(program, words, trace):
 
 
 def is_told(complaint, words):
-    """Returns whether the message about wrong words has a form of the table in docs/TRACE.md, and names what is
-    wrong."""
+    """Returns whether a message has a form of docs/TRACE.md, and names what is wrong."""
     first = complaint.split("\n")[0]
     found = next(filter(None, (re.fullmatch(form, first) for form in WRONG_WORDS)), None)
     if found is None:
@@ -155,17 +153,12 @@ def difference(program, words, lines):
     return f"output line {place + 1}: {got[place:place + 1]}, the model says {want[place:place + 1]}"
 
 
-def is_run(words):
-    """Returns whether the words open an agent over standard input."""
+def judged(program, words, lines):
+    """Returns what the judge finds wrong, or None if nothing or if no trace is run."""
     try:
         model.opened(words)
     except model.NoRun:
-        return False
-    return not any(FREE_PORT in word for word in words)
-
-
-def judged(program, words, lines):
-    """Returns what the judge of the windows finds wrong, or None."""
-    if not is_run(words):
+        return None
+    if any(FREE_PORT in word for word in words):
         return None
     return judge.judged(lambda words, trace: answer_of_program(program, words, trace)[1], words, lines)

@@ -236,7 +236,6 @@ def altered_line(dice, line):
 
 
 def line_of(dice, ports):
-    """Returns a line of a trace."""
     if dice.happens(40):
         return dice.choice([b"", b" ", b"\t \t", b"# a b", b"  #\"", b"\r", dice.octets(dice.randrange(30))])
     line = good_line(dice, ports)
@@ -358,16 +357,12 @@ def new_trace(dice):
     return words, lines + [b"show neighbors", b"show statistics", b"show configuration"]
 
 
-def near_trace(dice):
-    """Returns lines that are nearly right, one after another."""
-    return [*dice.choice([[], ["--receive-only"]]), "eth0"], [near_line(dice) for _ in range(dice.choice([20, 200]))]
-
-
 def case(seed):
     """Returns the words and the lines of a trace; joined by LF the lines are the input."""
     dice = Dice(seed)
     if dice.happens(10):
-        words, lines = near_trace(dice)
+        words = [*dice.choice([[], ["--receive-only"]]), "eth0"]
+        lines = [near_line(dice) for _ in range(dice.choice([20, 200]))]
     elif dice.happens(8):
         words, lines = altered_example(dice, *dice.choice(examples()))
     else:
@@ -428,19 +423,13 @@ def as_command(program, words, lines):
 
 
 # -------------------------------------------------------------------------------------------------- main
-def options():
-    """Reads the options of the command line."""
+def main():
     parser = argparse.ArgumentParser(description=__doc__.splitlines()[0])
     parser.add_argument("--program", type=pathlib.Path, default=TOP / "crates" / "lldpa" / "out" / "lldpa")
     parser.add_argument("--seed", type=int, default=random.randrange(10 ** 9))
     parser.add_argument("--seconds", type=float)
     parser.add_argument("--traces", type=int)
-    return parser.parse_args()
-
-
-def main():
-    """Runs the traces, on all processors."""
-    given = options()
+    given = parser.parse_args()
     seconds = given.seconds or (30 if given.traces is None else float("inf"))
     print(f"seeds from {given.seed}", flush=True)
     begin, ran, most = time.monotonic(), 0, given.traces or sys.maxsize

@@ -8,6 +8,7 @@ and no table here: each question goes back over the events.
 """
 import functools
 import re
+from itertools import accumulate
 from typing import NamedTuple, Optional
 
 import model
@@ -63,14 +64,8 @@ def single_seconds(lines):
 
 def answers(output):
     """Returns the lines before each mark's answer."""
-    found, held = [], []
-    for line in output.split(b"\n"):
-        if line == MARK_ANSWER:
-            found.append(held)
-            held = []
-        else:
-            held.append(line)
-    return found
+    parts = re.split(rb"(?m)^%s\n" % MARK_ANSWER, output)[:-1]
+    return [part.split(b"\n")[:-1] for part in parts]
 
 
 class Port:
@@ -82,11 +77,8 @@ class Port:
         self.options = options
         self.events = events
         self.sent = sent
-        self.ticks_to = [0]
-        self.sent_to = [0]
-        for k, event in enumerate(events):
-            self.ticks_to.append(self.ticks_to[-1] + (event.kind == "tick"))
-            self.sent_to.append(self.sent_to[-1] + (k in sent))
+        self.ticks_to = [0, *accumulate(event.kind == "tick" for event in events)]
+        self.sent_to = [0, *accumulate(k in sent for k in range(len(events)))]
         for question in ("active", "stops", "starts", "learned", "stored", "live", "left", "signal"):
             setattr(self, question, functools.lru_cache(None)(getattr(self, question)))
 
@@ -138,8 +130,7 @@ class Port:
         return heard.name in live or len(live) < limit
 
     def live(self, name, k):
-        """Returns whether the last event up to k that says something of this neighbor stored it, and has not run
-        out."""
+        """Returns whether the last event about this neighbor stored it, and it has not run out."""
         for p in range(k, -1, -1):
             heard = self.learned(p)
             if self.purges(p) or heard is not None and heard.name == name and heard.ttl == 0:
@@ -214,7 +205,6 @@ class Port:
         return all(self.sent_to[k] - self.sent_to[i] + 1 <= most + self.ticks(i + 1, k) for i in range(k + 1))
 
     def fault(self, k, shut_down):
-        """Returns what is wrong with what was sent at k, or None."""
         if shut_down != self.stops(k):
             return "a shutdown frame is sent though the port does not stop, or is missing though it does"
         if (k in self.sent) != (self.is_due(k) and self.is_open(k)):
@@ -252,8 +242,7 @@ def fault_of(words, lines, said):
 
 
 def judged(run, words, lines):
-    """Returns what is wrong with what a program does with words and lines, or None. `run` returns its output for an
-    input."""
+    """Returns what is wrong with what a program does, or None. `run` returns its output."""
     single = single_seconds(lines)
     if single is None:
         return None

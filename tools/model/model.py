@@ -208,7 +208,6 @@ class Port:
         self.counters = dict.fromkeys(COUNTERS, 0)
 
     def tick(self):
-        """Takes a second."""
         self.counters["ageouts"] += self.table.age(self.agent.now)
         return self.transmitter.tick(self.status in TRANSMITTING and self.is_up)
 
@@ -235,13 +234,11 @@ class Port:
         return self.transmitter.new_neighbor() if learned == "new" else None
 
     def link(self, is_up):
-        """Takes a link that comes up or goes down."""
         self.is_up = is_up
         if not is_up:
             self.transmitter.fall_silent()
 
     def set_status(self, status):
-        """Handles a status command. If the port may not receive any more, its table is emptied."""
         if self.status in RECEIVING and status not in RECEIVING:
             self.table = Table()
         self.status = status
@@ -280,7 +277,6 @@ class Agent:
         self.ports = [Port(name, self) for name in names]
 
     def ttl(self):
-        """Returns the TTL of an ordinary frame."""
         return min(65535, self.tx_interval * self.tx_hold + 1)
 
     def capabilities(self):
@@ -315,7 +311,6 @@ class Agent:
         return lines
 
     def tick(self):
-        """Takes a second for all."""
         self.now += 1
         return self.meet(self.ports, Port.tick)
 
@@ -400,7 +395,6 @@ def show_statistics(agent):
         yield from (f"lldp.{port.name}.{name}={port.counters[name] % 2 ** 32}" for name in COUNTERS)
 
 def show_chassis(agent):
-    """Returns what the agent says of itself."""
     yield f"local-chassis.mac={agent.mac.hex(':')}"
     yield f"local-chassis.name={escaped(agent.hostname)}"
     yield f"local-chassis.descr={escaped(agent.description)}"
@@ -462,7 +456,6 @@ class Words:
         return value
 
     def port(self, agent):
-        """Takes the next word as the name of a port."""
         name = self.next()
         for port in agent.ports:
             if port.name == name:
@@ -496,7 +489,6 @@ def obey(agent, words):
     return agent.local_change()
 
 def set_text(agent, words):
-    """Sets the hostname or the description."""
     name = words.next(("hostname", "description"))
     setattr(agent, name, words.end(words.spelled(TEXT, "bad text")).encode())
     return agent.local_change()
@@ -513,7 +505,6 @@ def set_number(agent, words):
     return agent.local_change()
 
 def set_status(agent, words):
-    """Sets the status of a port."""
     port = words.port(agent)
     words.next(("lldp",))
     words.next(("status",))
@@ -609,7 +600,6 @@ def run(words, trace):
     return 0, "".join(f"{written}\n" for line in lines for written in answer(agent, line)), ""
 
 def main():
-    """Runs the model as a program."""
     status, output, complaint = run(sys.argv[1:], sys.stdin.buffer.read())
     sys.stdout.write(output)
     if complaint != "":

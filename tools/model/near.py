@@ -92,30 +92,24 @@ def longer_names(name):
             yield name + filling * count
 
 
-def near(word):
-    """Returns each word that is nearly one, in a fixed order, none twice and not the word itself."""
-    found = list(WORDS) + list(otherwise_written(word))
+def slips(word):
+    """Returns what may be written for a word by a slip, in a fixed order."""
+    found = list(otherwise_written(word))
     if len(word) < len(FRAME):
         found += misspelled(word)
     if word.isdigit():
         found += numbers(word)
-    if word == PORT:
-        found += longer_names(word)
-    return [other for other in dict.fromkeys(found) if other != word]
+    return found + list(longer_names(word)) if word == PORT else found
+
+
+def near(word):
+    """Returns each word that is nearly one, none twice and not the word itself."""
+    return [other for other in dict.fromkeys([*WORDS, *slips(word)]) if other != word]
 
 
 def some_near(dice, word):
-    """Returns one of them. Most words of the lists are as likely as all slips together."""
-    if dice.happens(2):
-        return dice.choice(WORDS)
-    slips = list(otherwise_written(word))
-    if len(word) < len(FRAME):
-        slips += misspelled(word)
-    if word.isdigit():
-        slips += numbers(word)
-    if word == PORT:
-        slips += longer_names(word)
-    return dice.choice(slips)
+    """Returns one of them. The words of the list are together as likely as all slips."""
+    return dice.choice(WORDS if dice.happens(2) else slips(word))
 
 
 def lines_near(words):

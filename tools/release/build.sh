@@ -1,8 +1,8 @@
 #!/bin/sh
 # Builds the program and the library for an architecture, in a folder.
-#     tools/release/build.sh [--arch amd64|arm64] [--cpu CPU] [FOLDER]
+#     tools/release/build.sh [--arch amd64|arm64] [FOLDER]
 # FOLDER is crates/lldpa/out/ARCH unless given. The architecture is that of this machine unless given; another one needs
-# its gcc and binutils, such as the package gcc-aarch64-linux-gnu. CPU is x86-64, any processor of amd64, unless given.
+# its gcc and binutils, such as the package gcc-aarch64-linux-gnu. What is built for amd64 runs on any processor of it.
 # In FOLDER are then
 #     lldpa          the program, linked to the GNU C library of the system, 2.34 or later
 #     lldpa-static   the same with all that it needs, for any Linux: it runs in an empty folder. It contains the GNU C
@@ -56,16 +56,13 @@ compile_program() {
         set -- "$@" -L "dependency=$PWD/crates/$crate/out/rlib"
     done
     set -- "$@" --antt-project "$kit/rattle/logic/antt-project.json" --logic-built "$kit/logic_built" --links lldpa= \
-        --incremental out/incremental --toolchain "$kit/toolchain" --backend llvm -o "$folder/lldpa.o" \
-        --target "$(echo $triple | sed 's/-linux/-unknown-linux/')"
-    [ -z "$cpu" ] || set -- "$@" "--cpu=$cpu"
-    (cd crates/lldpa && "$kit/bin/rattle" build "$@")
+        --incremental out/incremental --toolchain "$kit/toolchain" --backend llvm -o "$folder/lldpa.o"
+    # shellcheck disable=SC2086 # the target is several words
+    (cd crates/lldpa && "$kit/bin/rattle" build "$@" --target $target)
 }
 
 # The library is built beside the program. It says by itself why it is not.
-set -- --arch "$arch"
-[ -z "$cpu" ] || set -- "$@" --cpu "$cpu"
-tools/library/library.sh "$@" "$folder/lib" > /dev/null &
+tools/library/library.sh --arch "$arch" "$folder/lib" > /dev/null &
 library=$!
 compile_program > "$room/said" 2>&1 || {
     wait "$library" || true

@@ -64,17 +64,24 @@ others=$(for file in docs/*.md; do
     case " $pages " in *" $file "*) ;; *) basename "$file" .md ;; esac
 done | paste -sd '|')
 
+# Lists files that are installed in one way into one folder.
+each() {
+    way=$1 into=$2
+    shift 2
+    for file; do
+        echo "$way $file $into/${file##*/}"
+    done
+}
+
 # Lists the files of the library for C.
 library_files() {
-    echo "plain $built/lldpa.h $prefix/include/lldpa.h"
-    echo "plain $built/liblldpa.a $archives/liblldpa.a"
-    echo "plain $built/liblldpa.so.1 $archives/liblldpa.so.1"
-    echo "told share/pkgconfig/lldpa.pc $archives/pkgconfig/lldpa.pc"
+    each plain "$prefix/include" "$built/lldpa.h"
+    each plain "$archives" "$built/liblldpa.a" "$built/liblldpa.so.1"
+    each told "$archives/pkgconfig" share/pkgconfig/lldpa.pc
     echo "packed crates/lldpa_c/include/lldpa.3 $prefix/share/man/man3/lldpa.3.gz"
-    echo "plain docs/LIBRARY.md $documents-dev/LIBRARY.md"
-    for file in examples/c/*.c examples/python/*.py; do
-        echo "plain $file $documents-dev/$file"
-    done
+    each plain "$documents-dev" docs/LIBRARY.md
+    each plain "$documents-dev/examples/c" examples/c/*.c
+    each plain "$documents-dev/examples/python" examples/python/*.py
 }
 
 # Lists each file: how it is installed, its source and its place. The programs of bin/ stay beside their package.
@@ -97,19 +104,13 @@ files() {
     for name in lldpa lldpa-live lldpa-ctl lldpctl lldpa-audit lldpa-capture; do
         echo "plain share/bash-completion/lldpa $prefix/share/bash-completion/completions/$name"
     done
-    for file in share/zsh/*; do
-        echo "plain $file $prefix/share/zsh/$zsh/${file##*/}"
-    done
-    for file in share/systemd/*; do
-        echo "unit $file $prefix/lib/systemd/system/${file##*/}"
-    done
-    for file in share/prometheus/*; do
-        echo "plain $file $prefix/share/lldpa/${file##*/}"
-    done
-    echo "plain share/tmpfiles.d/lldpa.conf $prefix/lib/tmpfiles.d/lldpa.conf"
-    echo "configuration share/default/lldpa $etc/default/lldpa"
-    echo "configuration share/settings/lldpa.conf $etc/lldpa.conf"
-    echo "configuration share/settings/README $etc/lldpa.d/README"
+    each plain "$prefix/share/zsh/$zsh" share/zsh/*
+    each unit "$prefix/lib/systemd/system" share/systemd/*
+    each plain "$prefix/share/lldpa" share/prometheus/*
+    each plain "$prefix/lib/tmpfiles.d" share/tmpfiles.d/lldpa.conf
+    each configuration "$etc/default" share/default/lldpa
+    each configuration "$etc" share/settings/lldpa.conf
+    each configuration "$etc/lldpa.d" share/settings/README
     for file in $pages; do
         echo "page $file $documents/$file"
     done
@@ -135,52 +136,32 @@ links() {
     done
 }
 
-# Installs a file in its way.
-put() {
-    mkdir -p "$(dirname "$3")"
+mode_of() {
+    case $1 in program | script) echo 755 ;; *) echo 644 ;; esac
+}
+
+# Writes what is installed of a file.
+written() {
     case $1 in
-        program) install -m 755 "$2" "$3" ;;
-        script)
-            sed "1s,.*,#!$interpreter," "$2" > "$3"
-            chmod 755 "$3"
-            ;;
-        plain) install -m 644 "$2" "$3" ;;
+        script) sed "1s,.*,#!$interpreter," "$2" ;;
         page) # a link to a page that is not installed becomes its name; of other links only the text stays
             sed -zE "s,\[([^]]*)\]\((\.\./)?(docs/)?($others)\.md[^)]*\),\1 (docs/\4.md in the sources),g
                 s,\[([^]]*)\]\((\.\./)?(crates|examples|man|tools|share|python|CONTRIBUTING|CHANGELOG|lldpa-audit\.1)[^)]*\),\1,g" \
-                "$2" > "$3"
-            chmod 644 "$3"
+                "$2"
             ;;
-        packed)
-            gzip -9nc "$2" > "$3"
-            chmod 644 "$3"
-            ;;
-        unit)
-            sed "s,/usr/local/,$prefix/,g; s,/etc/default/,$etc/default/,g; s,/etc/lldpa,$etc/lldpa,g" "$2" > "$3"
-            chmod 644 "$3"
-            ;;
+        packed) gzip -9nc "$2" ;;
+        unit) sed "s,/usr/local/,$prefix/,g; s,/etc/default/,$etc/default/,g; s,/etc/lldpa,$etc/lldpa,g" "$2" ;;
         told)
             version=$(sed -n 's/^## \([0-9][0-9.]*\)$/\1/p' CHANGELOG.md | head -n 1)
-            sed "s,@prefix@,$prefix,; s,@libdir@,$archives,; s,@version@,$version," "$2" > "$3"
-            chmod 644 "$3"
+            sed "s,@prefix@,$prefix,; s,@libdir@,$archives,; s,@version@,$version," "$2"
             ;;
-        configuration)
-            if [ -e "$3" ]; then
-                cmp -s "$2" "$3" || echo "$3 is left as it is"
-            else
-                install -m 644 "$2" "$3"
-            fi
-            ;;
+        *) cat "$2" ;;
     esac
 }
 
-# Removes a file; a configuration that was changed stays.
-take_away() {
-    if [ "$1" = configuration ] && [ -e "$3" ] && ! cmp -s "$2" "$3"; then
-        echo "$3 was changed, and stays"
-    else
-        rm -f "$3"
-    fi
+# Whether a file is a configuration that is there already.
+is_kept() {
+    [ "$1" = configuration ] && [ -e "$2" ]
 }
 
 if [ -z "$looks" ]; then
@@ -189,8 +170,7 @@ if [ -z "$looks" ]; then
 fi
 if [ -n "$list" ]; then
     files | while read -r way source name; do
-        case $way in program | script) mode=755 ;; *) mode=644 ;; esac
-        echo "$mode $name ${source#"$PWD/"}"
+        echo "$(mode_of "$way") $name ${source#"$PWD/"}"
     done
     links | while read -r target name; do
         echo "link $name $target"
@@ -199,18 +179,21 @@ if [ -n "$list" ]; then
 fi
 if [ -n "$uninstall" ]; then
     files | while read -r way source name; do
-        take_away "$way" "$source" "$root$name"
+        if is_kept "$way" "$root$name" && ! cmp -s "$source" "$root$name"; then
+            echo "$root$name was changed, and stays"
+        else
+            rm -f "$root$name"
+        fi
     done
     links | while read -r _ name; do
         rm -f "$root$name"
     done
     if [ -n "$library" ]; then
         rm -rf "$root$documents-dev"
-        echo "uninstalled from $root$prefix"
-        exit
+    else
+        rm -rf "$root$prefix/lib/lldpa" "$root$prefix/share/lldpa" "$root$documents"
+        [ ! -d "$root$etc/lldpa.d" ] || rmdir --ignore-fail-on-non-empty "$root$etc/lldpa.d"
     fi
-    rm -rf "$root$prefix/lib/lldpa" "$root$prefix/share/lldpa" "$root$documents"
-    [ ! -d "$root$etc/lldpa.d" ] || rmdir --ignore-fail-on-non-empty "$root$etc/lldpa.d"
     echo "uninstalled from $root$prefix"
     exit
 fi
@@ -222,7 +205,14 @@ else
     [ -f "$live" ] || { echo "no $live: tools/release/live.sh builds it" >&2; exit 1; }
 fi
 files | while read -r way source name; do
-    put "$way" "$source" "$root$name"
+    if is_kept "$way" "$root$name"; then
+        cmp -s "$source" "$root$name" || echo "$root$name is left as it is"
+        continue
+    fi
+    mkdir -p "$(dirname "$root$name")"
+    written "$way" "$source" > "$root$name.new"
+    chmod "$(mode_of "$way")" "$root$name.new"
+    mv "$root$name.new" "$root$name"
 done
 links | while read -r target name; do
     mkdir -p "$(dirname "$root$name")"

@@ -77,8 +77,8 @@ c_library() {
     "${tools}objdump" -T "$@" | grep -o 'GLIBC_[0-9.]*' | sort -uV | tail -n 1 | sed 's/GLIBC_//'
 }
 
-# What each package says of itself first.
-head_of_control() {
+# What the package says of itself.
+control() {
     cat << END
 Package: $name
 Version: $version
@@ -87,10 +87,8 @@ Maintainer: $maker
 Installed-Size: $(du -sk --apparent-size "$tree" | cut -f 1)
 Priority: optional
 END
-}
-
-control() {
-    cat << END
+    case $name in
+        lldpa) cat << END ;;
 Depends: libc6 (>= $(c_library "$program" "$LLDPA_LIVE")), libgcc-s1, python3:any (>= 3.9)
 Suggests: graphviz
 Section: net
@@ -103,11 +101,7 @@ Description: agent for the Link Layer Discovery Protocol (LLDP)
  of the cabling with the neighbors. These are tested, not proved. A package
  for Python is included.
 END
-}
-
-# The package of the library for C.
-library_control() {
-    cat << END
+        lldpa-dev) cat << END ;;
 Depends: libc6-dev, lldpa1 (= $version)
 Section: libdevel
 Description: agent for the Link Layer Discovery Protocol (LLDP) - library for C
@@ -116,11 +110,7 @@ Description: agent for the Link Layer Discovery Protocol (LLDP) - library for C
  formally verified. The package has a header, a static archive, a file for
  pkg-config and examples.
 END
-}
-
-# The package of the shared object.
-shared_control() {
-    cat << END
+        lldpa1) cat << END ;;
 Multi-Arch: same
 Depends: libc6 (>= $(c_library "$(find "$tree" -name liblldpa.so.1)"))
 Section: libs
@@ -129,6 +119,7 @@ Description: agent for the Link Layer Discovery Protocol (LLDP) - shared library
  They read and build LLDPDUs, or run an agent of their own. Each call of the
  library is formally verified.
 END
+    esac
 }
 
 changelog() {
@@ -168,17 +159,13 @@ install -m 644 share/debian/copyright "$tree/usr/share/doc/$name/copyright"
 mkdir -p "$tree/usr/share/lintian/overrides"
 sed "s/^lldpa:/$name:/; /^lldpa1:/{/^$name:/!d}" share/debian/lintian-overrides > "$tree/usr/share/lintian/overrides/$name"
 mkdir "$room/DEBIAN"
-head_of_control > "$room/DEBIAN/control"
+control > "$room/DEBIAN/control"
 if [ "$name" = lldpa ]; then
-    control >> "$room/DEBIAN/control"
     printf '%s\n' /etc/lldpa.conf /etc/lldpa.d/README > "$room/DEBIAN/conffiles"
     install -m 755 share/debian/postinst share/debian/prerm share/debian/postrm "$room/DEBIAN"
 elif [ "$name" = lldpa1 ]; then
-    shared_control >> "$room/DEBIAN/control"
     echo "liblldpa 1 lldpa1 (>= ${version%-*})" > "$room/DEBIAN/shlibs"
     echo "activate-noawait ldconfig" > "$room/DEBIAN/triggers"
-else
-    library_control >> "$room/DEBIAN/control"
 fi
 (cd "$tree" && find usr -type f -exec md5sum {} + | LC_ALL=C sort -k 2) > "$room/DEBIAN/md5sums"
 mv "$room/DEBIAN" "$tree/DEBIAN"

@@ -26,7 +26,6 @@ WRITTEN_BY = {
 
 
 def fault_of(file: str, command: str, written: pathlib.Path) -> str | None:
-    """Returns what is wrong with a file, or None."""
     ran = subprocess.run([sys.executable, "-B", *command.split(), written], cwd=TOP,
                          stdout=subprocess.DEVNULL, check=False)
     if ran.returncode != 0:
@@ -36,7 +35,6 @@ def fault_of(file: str, command: str, written: pathlib.Path) -> str | None:
 
 
 def main() -> int:
-    """Compares all of them."""
     counts = Counts()
     with tempfile.TemporaryDirectory() as folder:
         for file, command in WRITTEN_BY.items():

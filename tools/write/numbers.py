@@ -27,7 +27,7 @@ TOP = pathlib.Path(__file__).resolve().parents[2]
 sys.path.append(str(TOP / "tools" / "gate"))
 from counts import Counts  # noqa: E402
 
-WRITTEN = ("*/Transcripts.antt", "*/Rows.antt", "*/rows.rt", "*/bench.json", "*.svg",
+WRITTEN = ("*/Transcripts.antt", "*/Vectors/Rows.antt", "*/rows.rt", "*/bench.json", "*.svg",
            "*.expect", "*.pcap", "*/Cargo.lock", "*/judged.json", "*/tests/lldpd/*", "*/leaf1.json",
            "*/host01.json", "*.walk", "*/lines.txt", "rust/lldpa/src/sys.rs")
 PARTS = (("proved code", "crates/*/src/*"), ("definitions", "crates/*/specs/*"),
@@ -44,10 +44,15 @@ IMPORT, IMPORTS, SUM = "use ", "imports of .antt besides", "in all"
 FUNCTION = r"^\s*(?:pub(?:\(\w+\))? )?(?:const )?fn \w+"
 
 
+def is_written(name):
+    """Returns whether a script or a program wrote a file."""
+    return any(fnmatch.fnmatch(name, pattern) for pattern in WRITTEN)
+
+
 def files(pattern, without="lldp_tests"):
-    """Returns the files of the crates with that pattern whose paths do not contain the other text."""
-    found = sorted(CRATES.glob(pattern))
-    return [path for path in found if without not in path.relative_to(CRATES).as_posix()]
+    """Returns the files kept by hand with that pattern whose paths lack the other text."""
+    found = [path.relative_to(CRATES).as_posix() for path in sorted(CRATES.glob(pattern))]
+    return [CRATES / name for name in found if without not in name and not is_written(name)]
 
 
 def lines(paths):
@@ -56,38 +61,32 @@ def lines(paths):
 
 
 def occurrences(pattern, paths):
-    """Returns how often the pattern occurs in the files."""
     return sum(len(re.findall(pattern, path.read_text(), re.M)) for path in paths)
-
-
-def traces_of_fixed_seeds():
-    """Returns how many traces the gate compares each time, by the call in tools/gate/check.sh."""
-    return int(re.search(r"fuzz\.py .*--traces (\d+)", (TOP / "tools" / "gate" / "check.sh").read_text())[1])
 
 
 def numbers():
     """Returns what is counted, and how much it is."""
     sources = files("*/src/**/*.rt")
     tests = sorted([*TOP.glob("python/tests/test_*.py"), *TOP.glob("audit/tests/test_*.py")])
+    traces = re.search(r"fuzz\.py .*--traces (\d+)", (TOP / "tools/gate/check.sh").read_text())[1]
     return {
         "lines that people keep by hand, without imports of proofs": sum_of(kept_by_hand(TOP)),
         "lines of proved code, contracts and comments among them": lines(sources),
         "functions written in it, each proved to meet its contract": occurrences(FUNCTION, sources),
         "lines of definitions that contracts cite (`specs`, without `specs/Code`)":
             lines(files("*/specs/**/*.antt", "/Code")),
-        "lines of proofs, without those that a script writes": lines(files("*/proofs/**/*.antt", "Transcripts")),
+        "lines of proofs, without those that a script writes": lines(files("*/proofs/**/*.antt")),
         "mutants that the prover refuses in each run of the gate (`must-fail`)":
             len(files("*/must-fail/*.edit")),
         "transcripts, each run in one piece, in two and octet by octet": len(list((TOP / "examples").glob("*.args"))),
         "tests of the crates on the built code (`lldp_tests`)":
             occurrences(r"^\s*#\[test\]", sorted(CRATES.glob("lldp_tests/src/**/*.rt"))),
         "tests of the Python programs, with real sockets, links and peers": occurrences(r"^    (?:async )?def test_", tests),
-        "traces of fixed seeds beside an independent model, besides 20 seconds of random ones": traces_of_fixed_seeds(),
+        "traces of fixed seeds beside an independent model, besides 20 seconds of random ones": int(traces),
     }
 
 
 def part_of(name):
-    """Returns the part that a file belongs to."""
     if "lldp_tests" in name:
         return "tests of the crates"
     return next(part for part, pattern in PARTS if fnmatch.fnmatch(name, pattern))
@@ -99,8 +98,8 @@ def kept_by_hand(top):
                            check=True).stdout
     found = collections.Counter()
     for name in filter(None, names.split("\0")):
-        path, is_written = pathlib.Path(top, name), any(fnmatch.fnmatch(name, one) for one in WRITTEN)
-        if path.is_file() and not path.is_symlink() and not is_written:
+        path = pathlib.Path(top, name)
+        if path.is_file() and not path.is_symlink() and not is_written(name):
             imports = occurrences(f"^{IMPORT}", [path]) if path.suffix == ".antt" else 0
             found[IMPORTS] += imports
             found[part_of(name)] += lines([path]) - imports
@@ -132,14 +131,7 @@ def judge_lines(counts):
         print(f"{-more} lines fewer: keep it so by tools/write/numbers.py --parts > tools/write/lines.txt")
 
 
-def said():
-    """Returns the numbers of the page by what they count."""
-    rows = re.findall(r"^\| ([\d,]+) \| (.*) \|$", (TOP / "docs" / "TESTING.md").read_text(), re.M)
-    return {what: int(number.replace(",", "")) for number, what in rows}
-
-
 def main():
-    """Prints or checks the table."""
     if sys.argv[1:2] == ["--parts"]:
         print_parts(*(sys.argv[2:] or [TOP]))
         return 0
@@ -149,7 +141,8 @@ def main():
         for what, number in counted.items():
             print(f"| {number:,} | {what} |")
         return 0
-    told, counts = said(), Counts()
+    rows = re.findall(r"^\| ([\d,]+) \| (.*) \|$", (TOP / "docs" / "TESTING.md").read_text(), re.M)
+    told, counts = {what: int(number.replace(",", "")) for number, what in rows}, Counts()
     for what, number in counted.items():
         is_near = what in told and abs(told[what] - number) * 20 <= number
         counts.judge(None if is_near else f"{told.get(what, 'missing')}, counted {number}", f"docs/TESTING.md: {what}")

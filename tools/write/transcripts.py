@@ -165,7 +165,6 @@ def codes(line):
 
 
 def joined(lines):
-    """Joins lines into one text."""
     return packed(" ++ ", map(codes, lines)) or "[]"
 
 
@@ -178,11 +177,6 @@ def packed(between, terms):
         else:
             rows.append(term)
     return f"\n   {between}".join(rows)
-
-
-def written_by(lines):
-    """Returns what a line writes; several lines are below one another."""
-    return f"({joined(lines)})" if len(lines) > 1 else joined(lines)
 
 
 # How the fields of the options are written, except numbers.
@@ -207,13 +201,11 @@ def options(words):
 
 
 def listed(texts):
-    """Returns texts as a list."""
     return "".join(codes(text) + " ∷ " for text in texts) + "[]"
 
 
 def asked(name, words):
-    """Returns a theorem that the words ask for their options: all is computed but the digits of a management
-    address."""
+    """Returns a theorem that the words ask for their options."""
     given, management = options(words)
     dotted = "refl"
     if management:
@@ -233,7 +225,6 @@ unfolding clap_on_literals decode_pairs digits
 
 
 def list_of_words(words):
-    """Returns the program's name and its words as antt has them."""
     return f"({listed([b'lldpa', *(word.encode() for word in words)])})"
 
 
@@ -242,13 +233,13 @@ def theorem(name, words, sought, trace, steps, asks):
     if isinstance(steps, str):
         sys.exit(f"{name}: {steps}")
     lines = re.findall(rb"[^\n]*\n|[^\n]+", trace)
-    texts = packed(" ∷ ", [*(written_by(written) for _, written in steps), "[]"])
+    texts = [f"({joined(written)})" if len(written) > 1 else joined(written) for _, written in steps]
     stated = f"Shows ({listed(text.encode() for text in sought)})" if sought else "Writes"
     return f"""
 {name} : {stated}
     {list_of_words(words)}
     ({joined(lines)})
-    ({texts})
+    ({packed(" ∷ ", [*texts, "[]"])})
 unfolding computed
 {name} = record {{ options = {options(words)[0]}; asked = {asks}; sound = refl; written = refl }}
 """
@@ -273,13 +264,9 @@ def theorems_of_rows():
         if isinstance(found, str):
             sys.exit(f"{name} in {ROWS.name}: {found}")
         if ticks(found[3]) <= MOST_TICKS:
-            yield theorem_of_row(name.replace("-", "_"), [value for _, value in values])
-
-
-def theorem_of_row(name, values):
-    """Returns a row as a theorem and its proof."""
-    return f"""
-counters_of_{name} : counted {name} ≡ valued counters ({octets(values)})
+            name = name.replace("-", "_")
+            yield f"""
+counters_of_{name} : counted {name} ≡ valued counters ({octets(value for _, value in values)})
 unfolding computed {name}
 counters_of_{name} = refl
 """

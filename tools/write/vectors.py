@@ -41,7 +41,6 @@ use Rattle.lldp_pdu.proofs.Vectors.Parts.{Gives, Tells, ShutsDown, tlv, begun, a
 
 
 def all_rows() -> list[str]:
-    """Returns the rows."""
     return [line for line in ROWS.read_text().splitlines() if not line.startswith("#")]
 
 
@@ -65,12 +64,10 @@ def listed(digits: str) -> str:
 
 
 def chained(items: list[str]) -> str:
-    """Writes a list of its items."""
     return "".join(f"{item} ∷ " for item in items) + "[]"
 
 
 def tlvs_of(fields: list[str]) -> str:
-    """Writes the list of TLVs that fields KIND:BODY say."""
     pairs = [field.split(":")[:2] for field in fields]
     return chained([f"tlv {kind} ({listed(body)})" for kind, body in pairs])
 
@@ -87,14 +84,12 @@ def table_of(name: str, function: str, rows: list[tuple[str, str, str]]) -> str:
 
 
 def faults_theorem() -> str:
-    """Writes the LLDPDUs that are refused."""
     rows = [(row[0], listed(row[1]), f"Some {FAULTS[int(row[3]) - 1]}") for row in rows_of("examine")
             if row[2] == "fault"]
     return table_of("faults", "fault_of", rows) + f"unfolding {UNFOLDED}\nfaults = refl\n"
 
 
 def told_theorem(row: list[str]) -> str:
-    """Writes what a sound LLDPDU tells."""
     name, lldpdu, _, ttl, chassis, port, extent, discarded, unrecognized, *kept = row
     msap = f"(record {{ chassis = {listed(chassis)}; port = {listed(port)} }})"
     known = name_of("told", name)
@@ -106,7 +101,6 @@ def told_theorem(row: list[str]) -> str:
 
 
 def bodies_theorems() -> str:
-    """Writes the bodies of System Capabilities and Management Addresses."""
     caps = [(name, listed(body), f"Some (record {{ available = {told[0]}; enabled = {told[1]} }})" if told else "None")
             for name, body, *told in rows_of("caps")]
     addresses = []
@@ -122,7 +116,6 @@ def bodies_theorems() -> str:
 
 
 def built_theorem(row: list[str]) -> str:
-    """Writes what a builder answers and gives."""
     name, ttl, chassis, port, length, lldpdu, *puts = row
     draft = f"(begun (record {{ chassis = {listed(chassis)}; port = {listed(port)} }}) {ttl}) ({tlvs_of(puts)})"
     wanted = chained([put.split(":")[2] for put in puts])
@@ -134,14 +127,12 @@ def built_theorem(row: list[str]) -> str:
 
 
 def proofs() -> str:
-    """Returns the theorems."""
     told = [told_theorem(row) for row in rows_of("examine") if row[2] == "told"]
     built = [built_theorem(row) for row in rows_of("build")]
     return HEAD + faults_theorem() + "".join(told) + bodies_theorems() + "".join(built)
 
 
 def table() -> str:
-    """Returns the table."""
     rows = [row.replace("\t", "\\t") for row in all_rows()]
     return ("//! The rows of examples/vectors.rows, written by tools/write/vectors.py.\n\n"
             "pub const ROWS: &[&str] = &[\n" + "".join(f'    "{row}",\n' for row in rows) + "];\n")

@@ -27,7 +27,6 @@ static const size_t pdu_length = sizeof frame - 15;
 static const lldpa_tlv tlv = {(const uint8_t *)"sw1", 3, 5};
 static const char line[] = "configure lldp tx-interval 30";
 
-/* Opens an agent with 64 ports. */
 static uint8_t open_agent(void)
 {
     static lldpa_text names[64];

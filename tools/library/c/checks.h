@@ -11,7 +11,6 @@
 static unsigned passed;
 static unsigned failed;
 
-/* Counts something that must hold, and reports it if it does not. */
 static inline void holds(int is_so, const char *what)
 {
     passed += is_so != 0;
@@ -28,7 +27,6 @@ static inline int end(void)
     return passed == 0 || failed > 0;
 }
 
-/* Octets that were taken from the heap. */
 typedef struct octets {
     uint8_t *at;
     size_t length;
@@ -45,7 +43,6 @@ static inline void *taken(size_t size)
     return block;
 }
 
-/* Returns a copy of octets in a block of their own. */
 static inline octets copied(const void *at, size_t length)
 {
     octets block = {taken(length), length};

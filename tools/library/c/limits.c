@@ -115,7 +115,6 @@ static void try_odd_walks(void)
     }
 }
 
-/* Octets that are not a frame, and lines that are not a command. */
 static void try_odd_events(void)
 {
     lldpa_text name = {(const uint8_t *)"eth0", 4};

@@ -180,7 +180,6 @@ static void machine_numbers(void)
         holds(lldpa_open(options, &handle) == (wanted) && !handle.open, #options " " #wanted);                         \
     } while (0)
 
-/* Options that are out of range. */
 static void open_numbers(lldpa_options options)
 {
     uint32_t *numbers[] = {&options.max_neighbors, &options.credit_max, &options.fast_init, &options.reinit};
@@ -337,7 +336,6 @@ static void use_badly(void)
               now.lines.next == 4, "the end of a show");
 }
 
-/* All that an agent shows. */
 static size_t shown(uint8_t *room, size_t length)
 {
     size_t used = 0;

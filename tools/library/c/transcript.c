@@ -74,8 +74,6 @@ static void write_marks(uint8_t answer, const lldpa_marks *marks)
     }
 }
 
-/* ---- Shows ------------------------------------------------------------------------------------------------------ */
-
 /* A line of a show is this text: it alone, in a room that is just large enough. */
 static void see_line(uint32_t show, uint32_t line, const char *wanted, size_t length)
 {
@@ -147,8 +145,6 @@ static void write_show(uint32_t show)
     }
 }
 
-/* ---- Events ----------------------------------------------------------------------------------------------------- */
-
 /* Gives seconds: one if their number is odd, and then all at once, up to each at which something is due. */
 static void tick(uint32_t seconds)
 {
@@ -198,7 +194,6 @@ static void hear(uint32_t port, octets frame)
     must(lldpa_neighbor(&agent, port, after, room, sizeof room, &held) == LLDPA_OUT_OF_RANGE, "one neighbor more");
 }
 
-/* Runs a command, which the library reads by itself. */
 static void command(const char *line, size_t length)
 {
     lldpa_marks marks;

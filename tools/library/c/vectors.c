@@ -26,7 +26,6 @@ static octets octets_of(const char *digits)
     return spelled(digits, *digits == '-' ? 0 : strcspn(digits, ":"));
 }
 
-/* Writes fields as they are. */
 static void write_fields(size_t first, size_t count)
 {
     for (size_t at = first; at < first + count; at++) {
