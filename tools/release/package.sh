@@ -4,10 +4,9 @@
 # object, and with --library lldpa-dev_VERSION-REVISION_ARCH.deb, which has the rest.
 #     tools/release/package.sh [--library | --shared] [--arch ARCH] [--revision N] [FOLDER]
 # The package is written to FOLDER, the present one unless given, and its name to standard output. VERSION is the newest
-# of CHANGELOG.md and must be what the program says of itself. N, 1 unless given, is for a second package of one
-# version. It takes what tools/release/build.sh made for the architecture, amd64 or arm64: that of this machine unless
-# --arch is given; and the lldpa-live that tools/release/live.sh --dynamic made for it. It asks a program for another
-# machine for its version by qemu. LLDPA and LLDPA_LIVE, if they are set, name the programs. DEBFULLNAME and DEBEMAIL
+# of CHANGELOG.md and must be what the program says of itself. N is the Debian revision, by default 1. It takes what tools/release/build.sh made for the architecture, amd64 or arm64: that of this machine unless
+# --arch is given; and the lldpa-live that tools/release/live.sh --dynamic made for it. To learn the version of a program for another
+# machine, it runs it under qemu. LLDPA and LLDPA_LIVE, if they are set, name the programs. DEBFULLNAME and DEBEMAIL
 # name the maker, by default who made the last commit. It needs dpkg-deb, dpkg and binutils, but not root.
 set -eu
 usage() {
@@ -77,7 +76,7 @@ c_library() {
     "${tools}objdump" -T "$@" | grep -o 'GLIBC_[0-9.]*' | sort -uV | tail -n 1 | sed 's/GLIBC_//'
 }
 
-# What the package says of itself.
+# The control fields of the package.
 control() {
     cat << END
 Package: $name
@@ -90,7 +89,6 @@ END
     case $name in
         lldpa) cat << END ;;
 Depends: libc6 (>= $(c_library "$program" "$LLDPA_LIVE")), libgcc-s1, python3:any (>= 3.9)
-Suggests: graphviz
 Section: net
 Description: agent for the Link Layer Discovery Protocol (LLDP)
  lldpa shows which switch and port each network cable of a host leads to, and
@@ -126,7 +124,7 @@ changelog() {
     cat << END
 $name ($version) unstable; urgency=medium
 
-  * lldpa ${version%-*}. What it brings stands in changelog.gz.
+  * lldpa ${version%-*}. For the changes, see changelog.gz.
 
  -- $maker  $(date -u -R -d "@$SOURCE_DATE_EPOCH")
 END
@@ -137,7 +135,7 @@ if [ "$name" = lldpa ]; then
     for file in lldpa lldpa-live; do
         "${tools}strip" --remove-section=.comment --remove-section=.note "$tree/usr/bin/$file"
     done
-    # The configuration is no file of the package, so that no upgrade asks about it. postinst puts this one in its place.
+    # /etc/default/lldpa is not a conffile, so dpkg never asks about it. postinst installs it if it is missing.
     mv "$tree/etc/default/lldpa" "$tree/usr/share/lldpa/default"
     rmdir "$tree/etc/default"
 else
