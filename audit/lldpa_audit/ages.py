@@ -20,8 +20,7 @@ class Ages(NamedTuple):
 
 
 def ages_of(times: Sequence[float], now: float) -> Ages:
-    """Returns the ages of sources by their times, one at least, in seconds since 1970. What comes
-    from the future is new."""
+    """Returns the ages of one source or more by their times. What comes from the future is new."""
     return Ages(max(now - max(times), 0.0), max(now - min(times), 0.0))
 
 

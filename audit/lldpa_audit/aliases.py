@@ -10,11 +10,9 @@ MOST_PORTS = 64  # no aggregate has so many members
 
 
 def read_aliases(file: str, names: Names) -> Aliases:
-    """Returns the further names of a file, as they are compared. Raises PlanFault and OSError.
-
-    A row without a port names a host, one without a host a port of any host. Several rows may give
-    one further name to several ports of a host: a neighbor of that name answers to each.
-    """
+    """Returns the further names of a file, as they are compared. A row without a port names a host,
+    and one without a host a port of any host. A neighbor of a name that several ports share answers
+    to each. Raises PlanFault and OSError."""
     faults, aliases = Faults(file), Aliases({}, {})
     for line, fields in table_of(faults, COLUMNS):
         if len(fields) != len(COLUMNS) or not fields[2] or not any(fields[:2]):

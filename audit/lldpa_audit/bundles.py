@@ -13,11 +13,9 @@ Side = tuple[str, str, bool, int]
 
 
 class Bundles:
-    """Counts, for each two hosts, how many planned links announce each pair of aggregates.
-
-    An aggregate of one host ends at one of the other. So a link whose pair shares one side with
-    another pair, of as many links or more, ends at another aggregate than it ought to.
-    """
+    """Counts, for each two hosts, how many planned links announce each pair of aggregates. An
+    aggregate of one host ends at one of the other. So a link whose pair shares one side with
+    another pair, of as many links or more, ends at another aggregate than it ought to."""
 
     def __init__(self, plan: Plan, tables: Tables) -> None:
         self._tables = tables
@@ -30,8 +28,7 @@ class Bundles:
                 self._greatest[side] = sorted([*greatest, times])[1:]
 
     def part(self, end: End, other: End) -> bool:
-        """Returns whether the two ends of a planned link are of aggregates that do not belong
-        together."""
+        """Returns whether the ends of a link are of aggregates that do not belong together."""
         pair = self._pair(end, other)
         return any(self._greatest[side][0] >= self._counts[pair] for side in pair)
 
@@ -42,8 +39,7 @@ class Bundles:
             (end.host, other.host, True, ours), (end.host, other.host, False, theirs))
 
     def _heard(self, end: End, host: str) -> Optional[int]:
-        """Returns the aggregate that the only neighbor of an end names, if that neighbor is of a
-        host."""
+        """Returns the aggregate that the only neighbor of an end names, if it is of a host."""
         told = self._tables.ends.get(end)
         if told is None or len(told.neighbors) != 1:
             return None

@@ -4,8 +4,8 @@ from __future__ import annotations
 import re
 from typing import Mapping, Optional, Sequence, Union
 
-from .netbox import AT_NO_PANEL, Cable, Pair, Side, rows_of
-from .plan import Faults
+from .netbox import AT_NO_PANEL, Cable, Pair, Side, between
+from .plan import FIRST, Faults
 
 COLUMNS = ("host", "port", "peer", "peer_port")
 
@@ -26,11 +26,8 @@ POSITIONS = ("rear_port_position", "position")
 
 
 class Columns:
-    """Reads rows by the header of their file. What is wrong is a fault.
-
-    `others` names the columns that are read for details, and `can_read` says whether the header
-    names the ends.
-    """
+    """Reads rows by the header of their file. What is wrong is a fault. `others` names the columns
+    of details, and `can_read` says whether the header names the ends."""
 
     def __init__(self, header: Sequence[str], line: int, faults: Faults,
                  given: Optional[Mapping[str, str]] = None) -> None:
@@ -85,7 +82,7 @@ class Columns:
             return None
         texts = self._texts(fields) if self.others else ()
         position = "" if self._position is None else fields[self._position].strip()
-        return Cable((row,), line, texts, AT_NO_PANEL, position or "1")
+        return Cable((row,), line, texts, AT_NO_PANEL, position or FIRST)
 
     def _of_netbox(self, line: int, fields: Sequence[str], row: Sequence[str]
                    ) -> Union[Cable, str, None]:
@@ -94,9 +91,7 @@ class Columns:
         one, other = Side(ends_of(*row[:2]), kinds[0]), Side(ends_of(*row[2:]), kinds[1])
         kind, status = ["" if at is None else plain(fields[at])
                         for at in (self._type, self._status)]
-        rows = rows_of(one, other, kind, status)
-        return rows if isinstance(rows, str) else Cable(
-            rows, line, self._texts(fields), (one.is_at_panel, other.is_at_panel))
+        return between(one, other, kind, status, line, self._texts(fields))
 
     def _texts(self, fields: Sequence[str]) -> Sequence[str]:
         """Returns the texts of the other columns of a row."""
@@ -119,12 +114,3 @@ def plain(text: str) -> str:
 def key_of(name: str) -> str:
     """Returns a column's name as it is compared: `Side A` is `side_a`."""
     return "_".join(name.lower().split())
-
-
-def given_columns(text: str) -> Mapping[str, str]:
-    """Returns the columns of an option, such as `host=device,port=interface`. Raises ValueError."""
-    pairs = [part.partition("=") for part in text.split(",")]
-    columns = {name.strip(): column.strip() for name, _, column in pairs}
-    if len(columns) < len(pairs) or not set(columns) <= set(COLUMNS) or not all(columns.values()):
-        raise ValueError(text)
-    return columns

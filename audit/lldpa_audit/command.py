@@ -54,15 +54,16 @@ class Audit:
         given, names = self.given, self.names()
         plan, known, tables = self.read(names)
         self.progress.show("comparing")
-        findings = known.applied(audit(plan, tables, given.planned_only), names)
+        findings = audit(plan, tables, given.planned_only)
+        if known.rows:
+            findings = [known.applied(one, names) for one in findings]
         differing = mismatches(findings, tables, plan) if given.settings else {}
         if given.settings and not compared(findings, tables, plan):
             self.say("--settings compared nothing: no right link has settings from both ends")
         self.say_all((*known.unplanned(plan), *several_chassis(findings)))
         report = Report(plan, tables, findings, differing)
         self.show(report)
-        is_right = report.count.is_all_right and (report.count.is_complete or not given.all)
-        return self.status or (0 if is_right else 1)
+        return self.status or (0 if report.count.is_right(given.all) else 1)
 
     def read(self, names: Names) -> tuple[Plan, Known, Tables]:
         """Reads the plan, the known faults and what was seen."""
@@ -139,8 +140,7 @@ class Audit:
 
 
 def unplanned_hosts(tables: Tables, plan: Plan, files: Mapping[str, str]) -> Sequence[str]:
-    """Returns which hosts have a list and no planned cable, in words, by the files of hosts. Raises
-    ValueError if there are no other hosts."""
+    """Returns which hosts with a list have no planned cable. Raises ValueError if that is all."""
     if not tables.hosts:
         raise ValueError(f"no file lists neighbors of hosts of {plan.file}")
     unplanned = {key: host for key, host in tables.hosts.items() if key not in plan.hosts}
@@ -164,8 +164,7 @@ def advice(like: Optional[str], file: str, plan: Plan) -> str:
 
 
 def harmless(line: str) -> str:
-    """Returns a line that no runner of a pipeline takes for a command, as `##vso[..` and
-    `::set-output` are."""
+    """Returns a line in which no pipeline's runner finds a command, as `##vso[..` is."""
     line = line.replace("##", "#\\x23")
     return line.replace("::", "\\x3a:", 1) if line.lstrip().startswith("::") else line
 

@@ -7,9 +7,10 @@ Attributes, nodes and defaults are skipped; what else DOT has, such as subgraphs
 from __future__ import annotations
 
 import re
-from typing import Iterator, NamedTuple
+from typing import Iterator
 
-from lldpa.faults import LldpaFault
+from .netbox import Cable
+from .plan import Faults
 
 LETTER = r"A-Za-z_\u0080-\U0010ffff"
 NAME = rf'(?:"[^"\\]*(?:\\.[^"\\]*)*"|(?:[{LETTER}][{LETTER}0-9]*|[0-9]+)(?![{LETTER}0-9.]))'
@@ -22,28 +23,13 @@ OTHER = re.compile(rf"{NAME}\s*(?:=\s*{NAME}|{ATTRIBUTES}|(?=;))\s*;?", re.S)
 LONGEST_SHOWN = 60
 
 
-class DotFault(LldpaFault):
-    """Why a text is not such a topology, and its line."""
-
-    def __init__(self, text: str, line: int) -> None:
-        super().__init__(text)
-        self.line = line
-
-
-class Edge(NamedTuple):
-    """The host and the port of both ends of an edge, and its line."""
-
-    names: tuple[str, str, str, str]
-    line: int
-
-
 def is_dot(text: str) -> bool:
     """Returns whether a text begins as a graph does."""
     return HEAD.match(text, after_skipped(text, 0)) is not None
 
 
-def edges_of(text: str) -> Iterator[Edge]:
-    """Yields the edges of a graph in their order. Raises DotFault, after the edges before it."""
+def edges_of(text: str, faults: Faults) -> Iterator[Cable]:
+    """Yields the edges of a graph in their order. What is not an edge is a fault, and the last."""
     found = HEAD.match(text, after_skipped(text, 0))
     before, line = 0, 1
     at = after_skipped(text, found.end() if found else 0)
@@ -52,16 +38,19 @@ def edges_of(text: str) -> Iterator[Edge]:
         before = at
         found = EDGE.match(text, at)
         if found is not None:
-            one, port, other, other_port = map(unquoted, found.groups())
-            yield Edge((one, port, other, other_port), line)
+            names = [unquoted(name) for name in found.groups()]
+            if not all(names):
+                faults.add(line, "a name in it is empty")
+            yield Cable((names,), line)
         else:
             found = OTHER.match(text, at)
         if found is None:
-            raise refused(text, at, line)
+            faults.add(line, refused(text, at))
+            return
         at = after_skipped(text, found.end())
     end = after_skipped(text, at + 1)
     if end < len(text):
-        raise refused(text, end, line + text.count("\n", before, end))
+        faults.add(line + text.count("\n", before, end), refused(text, end))
 
 
 def after_skipped(text: str, at: int) -> int:
@@ -75,8 +64,8 @@ def unquoted(name: str) -> str:
     return name[1:-1].replace('\\"', '"') if name.startswith('"') else name
 
 
-def refused(text: str, at: int, line: int) -> DotFault:
-    """Returns the fault of what is not an edge of two ports."""
+def refused(text: str, at: int) -> str:
+    """Returns why what is at a place is not an edge of two ports."""
     found = text[at:at + LONGEST_SHOWN].split("\n")[0].rstrip()
     what = repr(found) if found else "its end"
-    return DotFault(f'{what} is not an edge such as "leaf1":"swp1" -- "spine1":"swp2"', line)
+    return f'{what} is not an edge such as "leaf1":"swp1" -- "spine1":"swp2"'

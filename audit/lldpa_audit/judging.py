@@ -34,11 +34,8 @@ class Verdict(Enum):
 
 
 class Finding(NamedTuple):
-    """The verdict on an end, the end that it wants, and its neighbors.
-
-    `partner` is the end that it is swapped with. An end that is not planned wants none. `reason`
-    says why an end is not judged whose fault is known.
-    """
+    """The verdict on an end, the end that it wants if it is planned, and its neighbors. `partner`
+    is the end that it is swapped with. `reason` says why its fault is known."""
 
     end: End
     verdict: Verdict
@@ -49,11 +46,8 @@ class Finding(NamedTuple):
 
 
 def audit(plan: Plan, tables: Tables, planned_only: bool = False) -> list[Finding]:
-    """Returns a finding for each planned end of the audited hosts, for each end of a link that was
-    looked at from neither end, and for each other port with a neighbor.
-
-    They are in the order of the plan; the unplanned ones follow.
-    """
+    """Returns a finding for each planned end of the audited hosts, and for each end of a link that
+    nobody looked at, in the order of the plan, and then for each other port with a neighbor."""
     judge = Judge(plan, tables)
     findings = list(judge.planned())
     if judge.names.short_names:
@@ -71,25 +65,21 @@ class Judge:
         self._bundles = Bundles(plan, tables) if self.names.vendor_names else None
 
     def planned(self) -> Iterator[Finding]:
-        """Yields the findings on the planned ends of the audited hosts, and on both ends of links
-        that nobody looked at."""
+        """Yields the findings on ends of audited hosts, and of links that nobody looked at."""
         hosts, ends, items = self.tables.hosts, self.tables.ends, iter(self.plan.ends.items())
         for (one, wish), (other, other_wish) in zip(items, items):  # the two ends of a link
             told, other_told = ends.get(one), ends.get(other)
             is_right = ((told is None or self.has_only(told, wish.wanted))
                         and (other_told is None or self.has_only(other_told, other_wish.wanted)))
-            if one.host in hosts:
-                yield self.finding(one, wish, told, is_right)
-            elif other_told is None:
-                yield Finding(wish.end, Verdict.NOT_LOOKED_AT, wish.wants)
-            if other.host in hosts:
-                yield self.finding(other, other_wish, other_told, is_right)
-            elif told is None:
-                yield Finding(other_wish.end, Verdict.NOT_LOOKED_AT, other_wish.wants)
+            for end, its_wish, here, there in ((one, wish, told, other_told),
+                                               (other, other_wish, other_told, told)):
+                if end.host in hosts:
+                    yield self.finding(end, its_wish, here, is_right)
+                elif there is None:
+                    yield Finding(its_wish.end, Verdict.NOT_LOOKED_AT, its_wish.wants)
 
     def of_several_domains(self, findings: Sequence[Finding]) -> Iterator[Finding]:
-        """Yields the findings: right ends of a planned host without a domain are doubled if hosts
-        of several domains answer by its name."""
+        """Yields the findings; right ends are doubled if several domains answer by one name."""
         heard: dict[str, set[str]] = defaultdict(set)
         names, right = self.names, Verdict.RIGHT
         for one in findings:
@@ -110,8 +100,7 @@ class Judge:
                 yield Finding(told.end, Verdict.UNPLANNED, None, told.neighbors)
 
     def finding(self, end: End, wish: Wish, told: Optional[KnownPort], is_right: bool) -> Finding:
-        """Returns the finding on a planned end. `is_right` says whether each end of its link that
-        is known of has the other one alone."""
+        """Returns the finding on a planned end; `is_right` if known ends hear only each other."""
         if told is None:
             return Finding(wish.end, Verdict.NO_DATA, wish.wants)
         if self._bundles is not None and self.is_of_another_bundle(end, wish.wanted, told):
@@ -125,8 +114,7 @@ class Judge:
                        told.neighbors, partner)
 
     def is_of_another_bundle(self, end: End, wanted: End, told: KnownPort) -> bool:
-        """Returns whether the one neighbor of an end names an aggregate in place of its port, and
-        that is not the one to which the link belongs."""
+        """Returns whether the only neighbor of an end names an aggregate of another link."""
         return (self._bundles is not None and len(told.neighbors) == 1
                 and self.names.is_any_member(told.neighbors[0], wanted.host)
                 and wanted not in self.names.ends(told.neighbors[0])
@@ -159,11 +147,8 @@ class Judge:
         return False
 
     def partner(self, end: End, wanted: End, neighbor: Seen) -> Optional[End]:
-        """Returns the end of another link with which an end is swapped that has only this neighbor.
-
-        Each has what the other one wants, and not what it wants itself. If there are several, it is
-        the first one of the plan.
-        """
+        """Returns the first end of another link with which an end is swapped that has only this
+        neighbor: each has what the other one wants, and not what it wants itself."""
         ends = (key for key in self.names.ends(neighbor) if key in self.plan.ends)
         others = {self.plan.ends[key].wanted for key in ends}
         for host in self.hosts_of_aggregate(neighbor):

@@ -16,8 +16,7 @@ VERDICTS = {one.value: (one,) for one in Verdict if one not in NOT_EXCUSED}
 
 
 class Row(NamedTuple):
-    """The end that a row names, the verdicts that it excuses there, and why. The port of a whole
-    host is empty."""
+    """An end, the verdicts that are excused there, and why. A whole host has an empty port."""
 
     end: End
     verdicts: Sequence[Verdict]
@@ -26,10 +25,7 @@ class Row(NamedTuple):
 
 
 class Known(NamedTuple):
-    """The rows by end, as it is compared.
-
-    `notes` names those whose last day is over, which excuse nothing.
-    """
+    """The rows by end, as it is compared. `notes` names those whose last day is over."""
 
     file: str
     rows: dict[End, list[Row]]
@@ -43,13 +39,9 @@ class Known(NamedTuple):
         rows = (*self.rows.get(key, ()), *self.rows.get(End(key.host, ""), ()))
         return next((row.reason for row in rows if verdict in row.verdicts), "")
 
-    def applied(self, findings: Sequence[Finding], names: Names) -> Sequence[Finding]:
-        """Returns the findings. One that is excused at either end of its link is known; a link that
-        nobody looked at only if both ends are."""
-        return [self._applied(one, names) for one in findings] if self.rows else findings
-
-    def _applied(self, one: Finding, names: Names) -> Finding:
-        """Returns a finding, as known if it is excused."""
+    def applied(self, one: Finding, names: Names) -> Finding:
+        """Returns a finding, as known if it is excused at either end of its link, or at both if
+        nobody looked at that."""
         if one.verdict is Verdict.RIGHT:
             return one
         ours, theirs = (self.reason(names, end, one.verdict) for end in (one.end, one.wants))
@@ -68,11 +60,7 @@ NOTHING_KNOWN = Known("", {}, [])
 
 
 def read_known(file: str, names: Names, today: datetime.date) -> Known:
-    """Reads the rows `host,port,reason,until`, the third last a date such as 2026-12-31 or empty,
-    and a further column `verdict` that may be empty.
-
-    Raises PlanFault and OSError.
-    """
+    """Reads rows `host,port,reason,until` and perhaps `verdict`. Raises PlanFault and OSError."""
     faults, known = Faults(file), Known(file, {}, [])
     for line, fields in table_of(faults, COLUMNS, FURTHER):
         host, port, reason, last, verdict, *rest = [*fields, ""]

@@ -18,11 +18,9 @@ MOST_KEPT = 4096
 
 
 class Settings(NamedTuple):
-    """What a port says of its link; None if it does not say it.
-
-    The maximum frame size is in octets, the speed in Mb/s. No port says a PVID of 0, which means
-    none. Duplex is `full` or `half`. `aggregation` is the number of the aggregate at that host.
-    """
+    """What a port says of its link; None if it does not say it. The frame size is in octets, the
+    speed in Mb/s, and duplex is `full` or `half`. A PVID of 0 means none, and `aggregation` is the
+    number of the aggregate at that host."""
 
     max_frame_size: Optional[int] = None
     pvid: Optional[int] = None

@@ -13,15 +13,15 @@ from .seen.tables import Tables
 
 Value = Union[bool, int, str]
 
-COLUMNS = {"mtu", "speed", "pvid"}
+# the settings that are compared, each with its unit, and the columns of a plan with the first ones
+NAMES = (("MTU", ""), ("PVID", ""), ("speed", " Mb/s"), ("duplex", ""), ("aggregation", ""))
+COLUMNS = ("mtu", "pvid", "speed")
 MISMATCH = "mismatch: "
 
 
 class Mismatch(NamedTuple):
-    """In what the ends of a link differ: in words, and by how much, seen from one of them.
-
-    Links of which one end differs from the other by the same may have one cause at that end's host.
-    """
+    """In what the ends of a link differ: in words, and by how much, seen from either end. Links
+    that differ by the same may have one cause at a host."""
 
     text: str
     ends: tuple[End, End]
@@ -39,8 +39,7 @@ class Said(NamedTuple):
 
 
 def said_of_links(findings: Iterable[Finding], tables: Tables, plan: Plan) -> Iterator[Said]:
-    """Yields what is said of each right link, once for each of its ends. What a port says is known
-    from its neighbor at the other end."""
+    """Yields what is said of each right link, once for each end, by each end's neighbor."""
     names = tables.names
     right = {names.end(one.end): one for one in findings if one.verdict is Verdict.RIGHT}
     wanted = expected(plan)
@@ -63,8 +62,7 @@ def mismatches(findings: Iterable[Finding], tables: Tables, plan: Plan) -> dict[
 
 
 def compared(findings: Iterable[Finding], tables: Tables, plan: Plan) -> bool:
-    """Returns whether any right link has settings that can be compared: of both ends, or of one end
-    and the plan."""
+    """Returns whether any right link has settings that can be compared."""
     return any(are_alike(one, other) for _, *settings in said_of_links(findings, tables, plan)
                for one, other in combinations(settings, 2))
 
@@ -89,13 +87,8 @@ def mismatch(said: Said) -> Optional[Mismatch]:
 
 
 def differing(one: Settings, other: Settings) -> Iterator[tuple[str, str, str, str]]:
-    """Yields what each of two ends says that the other one says otherwise, the first with its name,
-    and how each of them differs from the other."""
-    for name, unit, value, its in (
-            ("MTU", "", one.max_frame_size, other.max_frame_size),
-            ("PVID", "", one.pvid, other.pvid), ("speed", " Mb/s", one.speed, other.speed),
-            ("duplex", "", one.duplex, other.duplex),
-            ("aggregation", "", one.is_aggregated, other.is_aggregated)):
+    """Yields in what two ends differ: what each says, and how each differs from the other."""
+    for (name, unit), value, its in zip(NAMES, one, other):
         if value is not None and its is not None and value != its:
             texts = f"{name} {worded(value)}{unit}", f"{worded(its)}{unit}"
             if name == "MTU" and isinstance(value, int) and isinstance(its, int):
@@ -106,21 +99,19 @@ def differing(one: Settings, other: Settings) -> Iterator[tuple[str, str, str, s
 
 
 def expected(plan: Plan) -> Mapping[End, Settings]:
-    """Returns what the plan's columns mtu, speed (in Mb/s) and pvid say of each link. Raises
-    ValueError if one of them is not a number."""
-    if COLUMNS.isdisjoint(map(key_of, plan.columns)):
+    """Returns what the plan's columns of settings say of each link. Raises ValueError."""
+    if not set(COLUMNS).intersection(map(key_of, plan.columns)):
         return {}
     return {key: planned(plan, key) for key in plan.ends}
 
 
 def planned(plan: Plan, key: End) -> Settings:
     """Returns what the plan's columns say of a link. Raises ValueError."""
-    texts = {key_of(name): text for name, text in plan.details(key)}
+    texts = {key_of(name): text for name, text in plan.details(plan.ends[key])}
     speed = texts.get("speed", "")
     wanted = Settings(number(texts.get("mtu", "")), number(texts.get("pvid", "")),
                       int(speed) if speed.isdecimal() and len(speed) < 10 else None)
-    values = {"mtu": wanted.max_frame_size, "pvid": wanted.pvid, "speed": wanted.speed}
-    for name, value in values.items():
+    for name, value in zip(COLUMNS, wanted):
         if texts.get(name) and value is None:
             raise ValueError(f"{plan.file}: {plan.ends[key].end}: {name} {texts[name]!r} is not a "
                              "number to compare with")

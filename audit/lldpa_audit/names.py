@@ -25,12 +25,9 @@ class End(NamedTuple):
 
 
 class Seen(NamedTuple):
-    """A neighbor as an audit looks at it: the names of its host and of its port, the best first.
-
-    `aggregated` says whether its port is a member of an aggregate by its own words, and `settings`
-    what else it says of its link. `is_named` says whether its Port ID is the name or the alias of
-    an interface; it is the first of its ports then.
-    """
+    """A neighbor: the names of its host and of its port, the best first. By its own words its port
+    is `aggregated` or not, and its link has `settings`. If its Port ID is the name or the alias of
+    an interface, it `is_named`, and that is the first of its ports."""
 
     hosts: tuple[str, ...]
     ports: tuple[str, ...]
@@ -45,21 +42,14 @@ class Seen(NamedTuple):
             return "somebody for whom the table had no room"
         return f"{shown(self.hosts[0])} {shown(self.ports[0])}"
 
-    @property
-    def ids(self) -> str:
-        """Returns what distinguishes it from another neighbor of the same names."""
-        return f"chassis {shown(self.chassis)}, port {shown(self.port_id)}"
-
 
 # a neighbor for which the table had no room: nothing else is known
 NAMELESS = Seen((), ())
 
 
 class Aliases(NamedTuple):
-    """Further names: of hosts, and of the ports of a host, or of any if the host is empty.
-
-    All are as they are compared. Several ports may share a further name.
-    """
+    """Further names of hosts, and of the ports of a host, or of any if the host is empty, all as
+    they are compared. Several ports may share a further name."""
 
     hosts: dict[str, str]
     ports: dict[End, list[str]]
@@ -69,11 +59,9 @@ NO_ALIASES = Aliases({}, {})
 
 
 class Names:
-    """Which names are the same: those that are equal, and what else the rules let pass.
-
-    `planned` has the ends of the plan, and `planned_ports` their ports, as they are compared: they
-    say whether a Port Description counts, which people write.
-    """
+    """Which names are the same: those that are equal, and what else the rules let pass. `planned`
+    has the ends of the plan, and `planned_ports` their ports, as they are compared: they say
+    whether a Port Description counts, which people write."""
 
     def __init__(self, ignore_case: bool = False, short_names: bool = False,
                  vendor_names: bool = False, aliases: Aliases = NO_ALIASES) -> None:
@@ -149,8 +137,7 @@ class Names:
         return key
 
     def ports(self, host: str, name: str) -> Sequence[str]:
-        """Returns the ports that a name means, as they are compared, at a host that is compared
-        too."""
+        """Returns the ports that a name means at a host, all as they are compared."""
         port = self.plain_port(name)
         aliases = self.aliases.ports
         return aliases.get(End(host, port)) or aliases.get(End("", port)) or (port,)
@@ -183,8 +170,7 @@ class Names:
         return (port_id,) if self._rules.is_planned(neighbor, port_id) else ports
 
     def is_planned(self, neighbor: Seen, port_id: str) -> bool:
-        """Returns whether a neighbor's Port ID is a planned port of its host, or of any host if it
-        names an interface."""
+        """Returns whether a Port ID is planned at its host, or anywhere if of an interface."""
         if self._is_strict:
             return (neighbor.is_named and port_id in self.planned_ports
                     or any(End(host, port_id) in self.planned for host in neighbor.hosts))
@@ -200,14 +186,12 @@ class Names:
                         for port in self.heeded(neighbor)))
 
     def has_alias(self, host: str, name: str) -> bool:
-        """Returns whether the name of a port is an alias at a host, which is given as it is
-        compared."""
+        """Returns whether the name of a port is an alias at a host, given as it is compared."""
         port, aliases = self.plain_port(name), self.aliases.ports
         return End(host, port) in aliases or End("", port) in aliases
 
     def ends(self, neighbor: Seen) -> Iterable[End]:
-        """Returns each end that a neighbor answers to by the names of its port, as it is
-        compared."""
+        """Yields each end that a neighbor answers to by its port, as it is compared."""
         ports = self.heeded(neighbor)
         if self._is_strict:
             yield from (End(host, port) for host in neighbor.hosts for port in ports)

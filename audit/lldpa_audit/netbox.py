@@ -1,12 +1,12 @@
-"""NetBox's cables: which ends each joins, and which of them are left out. Its REST API lists them
-at /api/dcim/cables/."""
+"""NetBox's cables: which ends each joins, and which of them are left out."""
 from __future__ import annotations
 
 import json
 import re
-from typing import Any, Iterator, NamedTuple, Optional, Sequence, Union
+from itertools import product
+from typing import Any, Iterable, Iterator, NamedTuple, Optional, Sequence, Union
 
-from .plan import Faults
+from .plan import FIRST, Faults
 
 
 # what else of a cable is reported with its faults
@@ -43,7 +43,7 @@ class Cable(NamedTuple):
     line: Optional[int] = None
     texts: Sequence[str] = ()
     at_panels: tuple[bool, bool] = AT_NO_PANEL
-    position: str = "1"
+    position: str = FIRST
 
 
 class Side(NamedTuple):
@@ -58,9 +58,10 @@ class Side(NamedTuple):
         return any(kind.endswith(OF_PANELS) for kind in self.kinds)
 
 
-def rows_of(one: Side, other: Side, kind: str, status: str) -> Union[Sequence[Row], str]:
-    """Returns the ends that a cable joins, or why it is left out: the first two ends, the second
-    two .., or each with the only one of the other side."""
+def between(one: Side, other: Side, kind: str, status: str, line: Optional[int],
+            texts: Sequence[str]) -> Union[Cable, str]:
+    """Returns the cable between two sides, or why it is left out. It joins the first two ends, the
+    second two .., or each with the only one of the other side."""
     kinds, ends = [*one.kinds, *other.kinds], [*one.ends, *other.ends]
     if status in NOT_THERE:
         return ABSENT
@@ -70,10 +71,12 @@ def rows_of(one: Side, other: Side, kind: str, status: str) -> Union[Sequence[Ro
         return FREE
     if not kinds and any(OTHER_PORT.fullmatch(port) for _, port in ends):
         return POWER
-    if len(one.ends) == 1 or len(other.ends) == 1:
-        return [(*near, *far) for near in one.ends for far in other.ends] or UNPAIRED
-    are_pairs = len(one.ends) == len(other.ends)
-    return [(*near, *far) for near, far in zip(one.ends, other.ends) if are_pairs] or UNPAIRED
+    pairs: Iterable[tuple[Pair, Pair]] = product(one.ends, other.ends)
+    if len(one.ends) != 1 and len(other.ends) != 1:
+        pairs = zip(one.ends, other.ends) if len(one.ends) == len(other.ends) else ()
+    rows = [(*near, *far) for near, far in pairs]
+    at_panels = one.is_at_panel, other.is_at_panel
+    return Cable(rows, line, texts, at_panels) if rows else UNPAIRED
 
 
 def is_json(text: str) -> bool:
@@ -82,8 +85,7 @@ def is_json(text: str) -> bool:
 
 
 def cables_of(text: str, faults: Faults) -> Iterator[Union[Cable, str]]:
-    """Yields each cable of an answer, or of a list of answers, or why it is left out. What else is
-    wrong is a fault."""
+    """Yields each cable of one answer or several, or why it is left out. Adds other faults."""
     try:
         tree = json.loads(text)
     except (ValueError, RecursionError) as fault:
@@ -107,9 +109,8 @@ def cable_of(node: Any) -> Union[Cable, str]:
         return FREE
     texts = [text_of(node.get(name)) for name in DETAILS]
     one, other = side_of(node.get("a_terminations")), side_of(node.get("b_terminations"))
-    rows = rows_of(one, other, texts[DETAILS.index("type")], texts[DETAILS.index("status")])
-    return rows if isinstance(rows, str) else Cable(
-        rows, None, texts, (one.is_at_panel, other.is_at_panel))
+    kind, status = texts[DETAILS.index("type")], texts[DETAILS.index("status")]
+    return between(one, other, kind, status, None, texts)
 
 
 def side_of(terminations: Any) -> Side:

@@ -12,18 +12,8 @@ from .plan import Detail, Faults, Link
 MOST_PANELS = 100
 
 
-class Pair(NamedTuple):
-    """A front port of a panel, the rear port behind it, and its position there, from 1 on."""
-
-    front: End
-    rear: End
-    position: str
-    line: Optional[int]
-
-
 class Cable(NamedTuple):
-    """The other end of a cable that ends at a panel, and the cable's line and detail in the plan.
-    """
+    """The other end of a cable that ends at a panel, and the cable's line and detail."""
 
     end: End
     key: End
@@ -32,43 +22,40 @@ class Cable(NamedTuple):
 
 
 class Panels:
-    """Follows cables through panels. Several front ports may share a rear port, as those of a
-    cassette with a trunk do: behind the trunk a link goes on at the position at which it began.
+    """Follows cables through panels. Behind a rear port that several front ports share, such as a
+    trunk's, a link goes on at the position at which it began. `dead_ends` has the ends whose link
+    cannot be followed, each with the reason."""
 
-    `dead_ends` has the ends whose link cannot be followed, each with the reason.
-    """
-
-    def __init__(self, pairs: Iterable[Pair], names: Names, faults: Faults,
+    def __init__(self, pairs: Iterable[Link], names: Names, faults: Faults,
                  faults_of_pairs: Faults) -> None:
         self._names = names
         self._faults = faults
         self._file = faults_of_pairs.file
         self._cables: dict[End, Cable] = {}
-        self._pairs: dict[End, Pair] = {}
+        self._pairs: dict[End, Link] = {}
         self._fronts_of: dict[End, dict[str, End]] = {}
         self._hosts: set[str] = set()
         self.dead_ends: list[tuple[End, str]] = []
         for pair in pairs:
             self._add_pair(pair, faults_of_pairs)
 
-    def _add_pair(self, pair: Pair, faults: Faults) -> None:
-        """Remembers what a front port leads to. A port in two pairs is a fault, unless it is a
-        rear port and they have different positions."""
-        front, rear = self._names.end(pair.front), self._names.end(pair.rear)
+    def _add_pair(self, pair: Link, faults: Faults) -> None:
+        """Remembers a pair. A port in two pairs is a fault, except a rear port at two positions."""
+        front, rear = self._names.end(pair.one), self._names.end(pair.other)
         back = self._pairs.get(rear)
-        if back is not None and self._names.end(back.rear) == front:
+        if back is not None and self._names.end(back.other) == front:
             return  # the same pair, written from its other side
         before = self._pairs.setdefault(front, pair)
-        taken = self._fronts_of.setdefault(rear, {}).setdefault(pair.position, pair.front)
-        if before[:3] != pair[:3] or front in self._fronts_of:
-            faults.add(pair.line, f"{pair.front} is planned already in line {before.line}")
-        elif taken != pair.front or back is not None:
-            faults.add(pair.line, f"{pair.rear} is planned already for {taken}")
+        taken = self._fronts_of.setdefault(rear, {}).setdefault(pair.position, pair.one)
+        is_other = before[:2] != pair[:2] or before.position != pair.position
+        if is_other or front in self._fronts_of:
+            faults.add(pair.line, f"{pair.one} is planned already in line {before.line}")
+        elif taken != pair.one or back is not None:
+            faults.add(pair.line, f"{pair.other} is planned already for {taken}")
         self._hosts.update((front.host, rear.host))
 
     def through(self, links: Iterable[Link]) -> Iterator[Link]:
-        """Yields links whose ends are no panels. One that was followed from both its ends comes
-        twice."""
+        """Yields links without panels, twice if they were followed from both their ends."""
         links = list(links)
         for link in links:
             if self.has(link.one) or self.has(link.other):
@@ -123,13 +110,11 @@ class Panels:
 
     def _other_side(self, cable: Cable, positions: list[str]) -> Union[End, str]:
         """Returns the other side of the panel at which a cable ends, or why that is not known.
-
-        `positions` has those at which the link has entered rear ports and not left them again.
-        """
+        `positions` are those at which the link is in trunks."""
         pair = self._pairs.get(cable.key)
         if pair is not None:
             positions.append(pair.position)
-            return pair.rear
+            return pair.other
         fronts = self._fronts_of.get(cable.key, {})
         if not fronts:
             return f"{self._file} has no row for {cable.end}"

@@ -50,21 +50,20 @@ class Faults:
 
 
 class Detail(NamedTuple):
-    """What else a plan says of a cable: the texts of its other columns in their order, and the ends
-    at panels through which the link goes on from that cable."""
+    """What else a plan says of a cable: other columns in their order, and the way at panels."""
 
     texts: Sequence[str] = ()
     path: Sequence[End] = ()
 
 
 NO_DETAIL = Detail()
+FIRST = "1"
 
 
 class Link(NamedTuple):
-    """A planned link: its two ends, and the line of each in the plan if that is known.
-
-    Behind panels the two ends are at two cables, each with a line and a detail.
-    """
+    """A planned link: its two ends, and the line of each in the plan if that is known. At panels
+    they are at two cables, each with a line and a detail. A pair of ports of a panel is a link from
+    the front port to the rear port, with its position there, from 1 on."""
 
     one: End
     other: End
@@ -72,13 +71,12 @@ class Link(NamedTuple):
     other_line: Optional[int] = None
     detail: Detail = NO_DETAIL
     other_detail: Optional[Detail] = None
+    position: str = FIRST
 
 
 class Wish(NamedTuple):
-    """A planned end and the one that it wants, as the plan writes them, and its line.
-
-    `wanted` is the one that it wants as it is compared.
-    """
+    """A planned end and the one that it wants, as the plan writes them, its line, and what else the
+    plan says. `wanted` is the one that it wants as it is compared."""
 
     end: End
     wants: End
@@ -87,15 +85,16 @@ class Wish(NamedTuple):
     detail: Detail = NO_DETAIL
 
 
+NO_END = End("", "")
+NOT_PLANNED = Wish(NO_END, NO_END, NO_END)
+
+
 class Plan:
     """The planned ends in the order of the plan, by their names as they are compared. The two ends
-    of a link follow one another.
-
-    No end is joined to two, except the ends in `whole`, at which the several links of a breakout
-    cable begin: `breakouts` has these. Raises PlanFault. `columns` names the texts of each detail,
-    `notes` has what of the file is left out, `not_judged` counts the links that go on at an unknown
-    place, and `unknown` has their ends.
-    """
+    of a link follow one another. No end is joined to two, except those in `whole`, at which the
+    several links of a breakout cable begin: `breakouts` has these. Raises PlanFault. `columns`
+    names the texts of each detail, `notes` has what is left out, `not_judged` counts the links that
+    go on at an unknown place, and `unknown` has their ends."""
 
     def __init__(self, file: str, links: Iterable[Link], names: Names,
                  faults: Optional[Faults] = None, whole: Optional[Set[End]] = None) -> None:
@@ -126,8 +125,7 @@ class Plan:
         names.planned, names.planned_ports = self.ends, {key.port for key in self.ends}
 
     def _need_hosts_apart(self, whole: Names, faults: Faults) -> None:
-        """Refuses two hosts whose names differ only in their domains: they would be one, and one's
-        cables the other's."""
+        """Refuses two hosts whose names differ only in their domains: they would be one."""
         firsts: dict[str, str] = {}
         for key, wish in self.ends.items():
             first = firsts.setdefault(key.host, wish.end.host)
@@ -137,7 +135,7 @@ class Plan:
 
     def _add(self, link: Link, names: Names, faults: Faults) -> None:
         """Plans a link, unless it is planned already."""
-        one, other, line, other_line, detail, other_detail = link
+        one, other, line, other_line, detail, other_detail, _ = link
         one_key, other_key = names.end(one), names.end(other)
         before, other_before = self.ends.get(one_key), self.ends.get(other_key)
         if before is None and other_before is None and one_key != other_key:
@@ -159,8 +157,7 @@ class Plan:
         some.append(link)
 
     def add_lane(self, lane: End, link: Link, names: Names, wanted: Optional[End]) -> None:
-        """Plans a link of a breakout cable at one of its lanes, now that these are known. Its other
-        end wants that lane, unless another end is given."""
+        """Plans a link of a breakout cable at its lane. The other end wants that or a given end."""
         self._add(link._replace(one=lane), names, Faults(self.file))
         other = names.end(link.other)
         self.ends[other] = self.ends[other]._replace(wanted=wanted or names.end(lane))
@@ -173,11 +170,9 @@ class Plan:
             ends[key.host].append(key)
         return ends
 
-    def details(self, end: End) -> Sequence[tuple[str, str]]:
-        """Returns the name and the text of each other column for an end, as it is compared."""
-        wish = self.ends.get(end)
-        return [(name, text) for name, text in zip(self.columns, wish.detail.texts) if text
-                ] if wish else ()
+    def details(self, wish: Wish) -> Sequence[tuple[str, str]]:
+        """Returns the name and the text of each other column for an end."""
+        return [(name, text) for name, text in zip(self.columns, wish.detail.texts) if text]
 
 
 def planned_twice(end: End, before: Optional[Wish], line: Optional[int]) -> str:

@@ -6,10 +6,10 @@ from sys import intern
 from typing import Iterable, Iterator, Mapping, Optional, Sequence, Union
 
 from .columns import Columns
-from .dot import DotFault, edges_of, is_dot
+from .dot import edges_of, is_dot
 from .names import End, Names
-from .netbox import DETAILS, Cable, Row, cables_of, is_json
-from .panels import Pair, Panels, fewest_links
+from .netbox import DETAILS, Cable, cables_of, is_json
+from .panels import Panels, fewest_links
 from .plan import NO_DETAIL, Detail, Faults, Link, Plan
 from .progress import Progress
 from .rows import rows_of, text_of
@@ -19,12 +19,9 @@ LONGEST_NAME = 255  # no neighbor says a longer one
 
 
 class PlanFile:
-    """Reads the links of a file.
-
-    `left_out` counts the cables that are left out, by the reason. `at_panels` has the ends that
-    are ports of panels by the file's own word, each with the end at the cable's other side, and
-    `breakouts` those at which several links begin.
-    """
+    """Reads the links of a file. `left_out` counts the cables that are left out, by the reason.
+    `at_panels` has the ends that the file calls ports of panels, each with the cable's other end,
+    and `breakouts` the ends of several links."""
 
     def __init__(self, file: str, columns: Optional[Mapping[str, str]] = None,
                  has_panels: bool = True) -> None:
@@ -47,29 +44,14 @@ class PlanFile:
                 if self._has_panels or not self.at_panels or not self.at_panels.keys() & link[:2]:
                     yield link
 
-    def pairs(self) -> Iterator[Pair]:
-        """Yields the pairs of ports that panels join."""
-        for cable in self._cables():
-            if isinstance(cable, Cable):
-                for link in self._links_of(cable):
-                    yield Pair(link.one, link.other, cable.position, link.line)
-
     def _cables(self) -> Iterator[Union[Cable, str]]:
         """Returns the cables, and why others are left out."""
         if is_json(self.text):
             self.others = DETAILS
             return cables_of(self.text, self.faults)
-        return self._cables_of_dot() if is_dot(self.text) else self._cables_of_rows()
-
-    def _cables_of_dot(self) -> Iterator[Cable]:
-        """Yields the edges of a graph."""
-        try:
-            for names, line in edges_of(self.text):
-                if not all(names):
-                    self.faults.add(line, "a name in it is empty")
-                yield Cable((names,), line)
-        except DotFault as fault:
-            self.faults.add(fault.line, str(fault))
+        if is_dot(self.text):
+            return edges_of(self.text, self.faults)
+        return self._cables_of_rows()
 
     def _cables_of_rows(self) -> Iterator[Union[Cable, str]]:
         """Yields the cables of rows, the first of which names the columns."""
@@ -83,16 +65,18 @@ class PlanFile:
                 yield cable
 
     def _links_of(self, cable: Cable) -> Sequence[Link]:
-        """Returns the links of a cable, and remembers which of its ends are at panels, or begin
-        several links."""
-        rows, line, texts, at_panels, _ = cable
+        """Returns the links of a cable, and remembers ends at panels and those of several links."""
+        rows, line, texts, at_panels, position = cable
         detail = Detail(texts) if texts else NO_DETAIL
         links = []
         for row in rows:
-            if len("".join(row)) > LONGEST_NAME:
-                self._need_short(row, line)
+            longest = max(map(len, row))
+            if longest > LONGEST_NAME:
+                self.faults.add(line, f"a name in it has {longest} characters; the longest name "
+                                      f"that LLDP can send has {LONGEST_NAME}")
             host, port, peer, peer_port = map(intern, row)  # names are in many rows
-            links.append(Link(End(host, port), End(peer, peer_port), line, None, detail))
+            links.append(Link(End(host, port), End(peer, peer_port), line, None, detail, None,
+                              position))
         if at_panels[0]:
             self.at_panels.update((link.one, link.other) for link in links)
         if at_panels[1]:
@@ -103,20 +87,10 @@ class PlanFile:
             self.breakouts.add(links[0].other)
         return links
 
-    def _need_short(self, row: Row, line: Optional[int]) -> None:
-        """Refuses names that are longer than LLDP can send."""
-        longest = max(map(len, row))
-        if longest > LONGEST_NAME:
-            self.faults.add(line, f"a name in it has {longest} characters; the longest name "
-                                  f"that LLDP can send has {LONGEST_NAME}")
-
 
 def read_plan(file: str, names: Names, columns: Optional[Mapping[str, str]] = None,
               panels: Optional[str] = None, progress: Optional[Progress] = None) -> Plan:
-    """Reads the plan of a file, whose columns may be given, through the panels of another file.
-
-    Raises PlanFault and OSError.
-    """
+    """Reads the plan of a file through the panels of another. Raises PlanFault and OSError."""
     read = PlanFile(file, columns, panels is not None)
     links: Iterable[Link] = read.links()
     if progress is not None:
@@ -124,7 +98,7 @@ def read_plan(file: str, names: Names, columns: Optional[Mapping[str, str]] = No
     followed = None
     if panels is not None:
         of_panels = PlanFile(panels)
-        followed = Panels(of_panels.pairs(), names, read.faults, of_panels.faults)
+        followed = Panels(of_panels.links(), names, read.faults, of_panels.faults)
         of_panels.faults.end()
         links = followed.through(links)
     plan = Plan(file, links, names, read.faults, read.breakouts)

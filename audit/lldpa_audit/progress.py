@@ -26,11 +26,8 @@ class Progress:
 
     def over(self, items: Iterable[Item], total: int, what: str) -> Iterator[Item]:
         """Returns the items, and reports how many of them there were."""
-        if not self._is_on:
-            yield from items
-            return
         for number, item in enumerate(items, 1):
-            if time.monotonic() >= self._next:
+            if self._is_on and time.monotonic() >= self._next:
                 self.show(f"{number} of {total} {what}")
             yield item
 

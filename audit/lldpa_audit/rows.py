@@ -40,12 +40,9 @@ def table_of(faults: Faults, columns: Sequence[str], further: Sequence[str] = ()
 
 def rows_of(text: str, faults: Faults) -> Iterator[tuple[int, list[str]]]:
     """Yields each row that is not blank and not a comment, with its line; the first is the header.
-    Rows that are shorter than the header end in empty fields.
-
-    A comment is a line before the header that begins with `#`, or a row after it whose first
-    field begins with `#` and that has fewer fields than the header. A field in quotes may have line
-    feeds, and lines in it that look like comments. Nothing follows a field that never ends.
-    """
+    Rows that are shorter than that end in empty fields. A comment begins with `#`, and is before
+    the header or has fewer fields than it. A field in quotes may have line feeds, and lines in it
+    that look like comments. Nothing follows a field that never ends."""
     lines = Lines(text)
     reader = csv.reader(lines, delimiter=separator_of(text), strict=True, skipinitialspace=True)
     width = 0
@@ -83,9 +80,7 @@ def separator_of(text: str) -> str:
 
 class Lines:
     """Yields lines, without those between rows that are blank, or comments before the header.
-
-    `number` is the number of the last line, and `begin` that of the first line of a row.
-    """
+    `number` is that of the last line, and `begin` that of a row's first line."""
 
     def __init__(self, text: str) -> None:
         self._text = text

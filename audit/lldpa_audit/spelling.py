@@ -69,10 +69,8 @@ def plain(name: str) -> str:
 
 
 def plain_port(name: str) -> str:
-    """Returns a port's name in one spelling: `Gi1/0/1` and `GigabitEthernet1/0/1` have the same.
-
-    A Linux' `eth0` is unchanged, since a switch may have that and an Ethernet0.
-    """
+    """Returns a port's name in one spelling for all vendors. A Linux' `eth0` is unchanged, since a
+    switch may have that and an Ethernet0."""
     unit = UNIT.fullmatch(name)
     if unit:
         return unit[1]

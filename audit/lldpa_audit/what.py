@@ -13,10 +13,7 @@ ENDINGS = (".gz", ".json", ".json0", ".xml", ".walk", ".txt", ".show", ".out", "
 
 class What(NamedTuple):
     """A file of a host, and the port if it is a capture of one. Without a host the file's name may
-    be one.
-
-    One that was found in a folder ends nothing but itself if it cannot be opened.
-    """
+    be one. One that `is_found` in a folder is skipped if it cannot be opened."""
 
     host: str
     port: str
@@ -34,12 +31,9 @@ def read_what(word: str, ours: str) -> What:
 
 
 def placed(what: What, plan: Plan, names: Names, ours: str) -> What:
-    """Returns the same as the plan takes it: a file without a host, and HOST:PORT=FILE, which looks
-    like a port with a colon in its name.
-
-    It is such a port if the plan has it, or if a number follows the colon and the plan has no such
-    host, as in `et-0/0/0:1`.
-    """
+    """Returns the same as the plan takes it: a file without a host, and HOST:PORT=FILE. That is a
+    port with a colon in its name if the plan has it, or if a number follows the colon and the plan
+    has no such host, as in `et-0/0/0:1`."""
     if not what.host:
         return what._replace(host=host_of_file(what.file, plan, names, ours))
     if ":" not in what.port or names.end(End(what.host, what.port)) in plan.ends:
@@ -53,8 +47,7 @@ def placed(what: What, plan: Plan, names: Names, ours: str) -> What:
 
 
 def host_of_file(file: str, plan: Plan, names: Names, ours: str) -> str:
-    """Returns the host of a file without one: a planned one after which it is named, or this
-    host."""
+    """Returns the planned host after which a file is named, or this host."""
     named = without_ending(os.path.basename(file))
     is_named = names.host(named) in plan.hosts
     return named if is_named or names.host(ours) not in plan.hosts else ours

@@ -10,7 +10,7 @@ from lldpa.client.connection import DEFAULT_PATH
 from lldpa.version import add_version
 
 from .ages import seconds_of
-from .columns import given_columns
+from .columns import COLUMNS
 
 USAGE = "lldpa-audit [OPTION ..] PLAN WHAT .."
 WORDS = """\
@@ -110,9 +110,10 @@ def seconds(text: str) -> float:
 
 
 def columns(text: str) -> "dict[str, str]":
-    """Returns the columns of an option."""
-    try:
-        return dict(given_columns(text))
-    except ValueError:
-        raise argparse.ArgumentTypeError(
-            f"{text!r} is not like host=NAME,port=NAME,peer=NAME,peer_port=NAME") from None
+    """Returns the columns of an option, such as `host=device,port=interface`."""
+    pairs = [part.partition("=") for part in text.split(",")]
+    given = {name.strip(): column.strip() for name, _, column in pairs}
+    if len(given) == len(pairs) and set(given) <= set(COLUMNS) and all(given.values()):
+        return given
+    raise argparse.ArgumentTypeError(
+        f"{text!r} is not like host=NAME,port=NAME,peer=NAME,peer_port=NAME")

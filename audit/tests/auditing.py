@@ -1,6 +1,7 @@
 """For tests of lldpa-audit: it is run in a folder, and the six ports of a rack are served."""
 from __future__ import annotations
 
+import json
 import os
 import re
 import subprocess
@@ -8,7 +9,7 @@ import sys
 import tempfile
 import unittest
 from pathlib import Path
-from typing import Sequence, Union
+from typing import Any, List, Mapping, NamedTuple, Optional, Sequence, Tuple, Union
 
 import rack
 from served import PROGRAM, REPOSITORY
@@ -18,9 +19,41 @@ AUDIT = os.environ.get("LLDPA_AUDIT") or str(REPOSITORY / "bin" / "lldpa-audit")
 WITH_AGENT = {**os.environ, "PATH": f"{os.path.dirname(PROGRAM)}:{os.environ['PATH']}"}
 
 
-def run(*words: str) -> "subprocess.CompletedProcess[str]":
+class Row(NamedTuple):
+    """An audit in a folder: files, words, the status, and the lines that it prints, first those of
+    standard error. They are without ages, and without further columns of the plan."""
+
+    name: str
+    files: Mapping[str, Any]
+    words: str
+    status: int
+    lines: Sequence[str]
+
+
+def audited(row: Row) -> Tuple[int, List[str]]:
+    """Returns the status and the lines of an audit."""
+    with tempfile.TemporaryDirectory() as folder:
+        for name, content in row.files.items():
+            write(Path(folder, name), content)
+        ran = run(*row.words.split(), folder=folder)
+    lines = (ran.stderr.replace("lldpa-audit: ", "") + ran.stdout).splitlines()
+    return ran.returncode, [re.sub(r" \[[^]]*\]$", "", line) for line in lines]
+
+
+def write(path: Path, content: Any) -> None:
+    """Writes a file of octets, text or JSON, or lets a call make it."""
+    path.parent.mkdir(parents=True, exist_ok=True)
+    if callable(content):
+        content(path)
+    elif isinstance(content, bytes):
+        path.write_bytes(content)
+    else:
+        path.write_text(content if isinstance(content, str) else json.dumps(content))
+
+
+def run(*words: str, folder: Optional[str] = None) -> "subprocess.CompletedProcess[str]":
     """Runs the program with these words. Its count says nothing of ages here: they change."""
-    ran = run_whole(*words)
+    ran = run_whole(*words, folder=folder)
     ran.stdout = without_ages(ran.stdout)
     return ran
 
@@ -30,9 +63,9 @@ def without_ages(text: str) -> str:
     return re.sub(r"; sources [^\n<]* old$", "", text, flags=re.M)
 
 
-def run_whole(*words: str) -> "subprocess.CompletedProcess[str]":
+def run_whole(*words: str, folder: Optional[str] = None) -> "subprocess.CompletedProcess[str]":
     """Runs the program with these words."""
-    return subprocess.run([sys.executable, AUDIT, *words], env=WITH_AGENT,
+    return subprocess.run([sys.executable, AUDIT, *words], env=WITH_AGENT, cwd=folder,
                           capture_output=True, text=True, timeout=600, check=False)
 
 

@@ -17,8 +17,7 @@ CASSETTE = 12  # front ports of a panel before the servers, with one rear port
 
 
 class Fault(NamedTuple):
-    """A planted fault: its kind, the ends at which it may be reported, the kinds that its repairs
-    may have, and how many of them there may be."""
+    """A fault, the ends at which it may be reported, and the kinds and number of its repairs."""
 
     kind: str
     ends: Set[End]
@@ -85,8 +84,7 @@ class Fabric:
         return leaf, f"swp{row}{len(self.faults):02}"
 
     def told(self, kind: str, ends: Sequence[End], repairs: str, most: int = 1) -> None:
-        """Notes a fault that may be reported at these ends and at those that they are planned
-        with."""
+        """Notes a fault that may be reported at these ends and at their planned peers."""
         all_ends = {*ends, *(self.planned[end] for end in ends if end in self.planned)}
         self.faults.append(Fault(kind, all_ends, set(repairs.split(",")), most))
 
@@ -173,8 +171,7 @@ class Fabric:
         return self.lags[end][0] if is_named else end[1]
 
     def hosts(self) -> Dict[str, Dict[str, List[End]]]:
-        """Returns what each planned host hears at each of its ports, except those that are
-        hidden."""
+        """Returns what each planned host hears at each of its ports that is not hidden."""
         hosts: Dict[str, Dict[str, List[End]]] = defaultdict(dict)
         for end in {*self.planned, *self.peer}:
             if end not in self.hidden and not end[0].startswith("guest"):
@@ -241,8 +238,7 @@ def csv_plan(links: Sequence[Tuple[End, End]]) -> str:
 
 
 def panels() -> str:
-    """Returns the front ports of the panels as NetBox exports them: cassettes with one rear
-    port."""
+    """Returns the front ports of cassettes with one rear port, as NetBox exports them."""
     return "device,name,rear_port,rear_port_position\n" + "".join(
         f"{side}-leaf{leaf:02},F{port},R1,{port}\n" for side in ("pn", "pf")
         for leaf in range(1, LEAFS + 1) for port in range(1, CASSETTE + 1))

@@ -28,15 +28,13 @@ def csv_plan() -> str:
 
 
 def lldp_frame(host: str, port: str) -> bytes:
-    """Returns a frame of a host that has its name in the System Name, and its port's in the Port
-    ID."""
+    """Returns a frame that names a host in its System Name and a port in its Port ID."""
     chassis = b"\x04\x02" + host.encode()[-5:]
     return frame(chassis, b"\x05" + port.encode(), 120, tlv(5, host.encode()))
 
 
 def frames(port: str) -> List[bytes]:
-    """Returns what is captured at a port: each neighbor twice, and a frame that is not an LLDP
-    frame."""
+    """Returns what is captured at a port: each neighbor twice, and other frames."""
     other = made_captures.OTHER
     return [other, *[lldp_frame(*neighbor) for neighbor in HEARD[port]] * 2, other]
 
@@ -57,15 +55,10 @@ def pcapng(packets_of: Dict[str, Sequence[bytes]]) -> bytes:
     return file
 
 
-def show(ports: Sequence[str] = PORTS) -> List[str]:
+def text_of_show(ports: Sequence[str] = PORTS) -> str:
     """Returns the `show neighbors` of a real agent that heard what was captured."""
     with Agent.start(ports, PROGRAM, receive_only=True) as agent:
         for port in ports:
             for octets in frames(port):
                 agent.frame(port, octets)
-        return agent.ask("show neighbors")
-
-
-def text_of_show(ports: Sequence[str] = PORTS) -> str:
-    """Returns such a show as text."""
-    return "".join(line + "\n" for line in show(ports))
+        return "".join(line + "\n" for line in agent.ask("show neighbors"))

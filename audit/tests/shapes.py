@@ -7,7 +7,7 @@ import os
 import subprocess
 import sys
 from pathlib import Path
-from typing import Callable, Iterator, List, Mapping, NamedTuple, Sequence
+from typing import Any, Callable, Iterator, List, Mapping, NamedTuple, Sequence
 
 import rack
 from auditing import AUDIT, WITH_AGENT
@@ -51,13 +51,20 @@ def napalm(*neighbors: Sequence[str]) -> str:
     return json.dumps({port: [{"hostname": host, "port": at}] for port, host, at in neighbors})
 
 
+def cable_between(number: int, one: Sequence[Any], other: Sequence[Any], kind: str = "interface",
+                  status: str = "connected") -> Any:
+    """Returns a cable between some ends as NetBox's API lists it."""
+    sides = [[{"object_type": f"dcim.{kind}", "object_id": number, "object": {
+        "name": port, "device": {"name": host} if host else None}} for host, port in side]
+        for side in (one, other)]
+    return {"id": number, "type": "cat6", "label": f"L{number}", "status": {"value": status},
+            "a_terminations": sides[0], "b_terminations": sides[1]}
+
+
 def cable(number: int) -> str:
-    """Returns a cable as NetBox's API lists it."""
-    ends = [[{"object_type": "dcim.interface", "object_id": number, "object": {
-        "name": port, "device": {"name": host}}}] for host, port in (
-            (f"leaf{number // 48}", f"swp{number % 48}"), (f"srv{number}", "eth0"))]
-    return json.dumps({"id": number, "type": "cat6", "label": f"L{number}", "status": {
-        "value": "connected"}, "a_terminations": ends[0], "b_terminations": ends[1]})
+    """Returns a cable of a switch and a server, as text."""
+    return json.dumps(cable_between(number, [(f"leaf{number // 48}", f"swp{number % 48}")],
+                                    [(f"srv{number}", "eth0")]))
 
 
 def audit(folder: Path, plan: str, seen: str, *words: str) -> List[str]:
@@ -72,8 +79,7 @@ def with_aliases(folder: Path, rows: Iterator[str]) -> List[str]:
     with (folder / "aliases").open("w") as file:
         file.write("host,port,alias\n")
         file.writelines(rows)
-    return audit(folder, PLAN, napalm(("swp1", "x", "eth0")), "--aliases",
-                 str(folder / "aliases"))
+    return audit(folder, PLAN, napalm(("swp1", "x", "eth0")), "--aliases", str(folder / "aliases"))
 
 
 def with_blocks(folder: Path) -> List[str]:

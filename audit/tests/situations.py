@@ -1,15 +1,13 @@
 """For tests: situations that were once judged wrongly, each with what an audit of it prints.
 
-A list is `PORT HOST PORT`, one neighbor a line, and `PORT` alone for a port that hears nobody. The
-lines are those of standard output, without the ages. Those of standard error come before them,
-without the program's name and the folder.
+A list is `PORT HOST PORT`, one neighbor a line, and `PORT` alone for a port that hears nobody.
 """
 from __future__ import annotations
 
 import json
-from typing import Any, List, Mapping, NamedTuple, Sequence
+from typing import Any, List, Mapping, Sequence
 
-from auditing import neighbor
+from auditing import Row, neighbor
 
 HEAD = "host,port,peer,peer_port\n"
 CABLES = "device_a,termination_a,device_b,termination_b,type,status\n"
@@ -19,16 +17,11 @@ PAIRS = "device,name,rear_port,rear_port_position\n"
 FIELDS = ("remote_system_name", "remote_port", "remote_chassis_id", "remote_port_description")
 
 
-class Situation(NamedTuple):
-    """A plan, lists by host, further words and files, and the status and the lines that follow."""
-
-    name: str
-    plan: str
-    lists: Mapping[str, str]
-    status: int
-    lines: Sequence[str]
-    words: str = ""
-    files: Mapping[str, str] = {}
+def situation(name: str, plan: str, lists: Mapping[str, str], status: int, lines: Sequence[str],
+              words: str = "", files: Mapping[str, str] = {}) -> Row:
+    """Returns an audit of a plan and of lists by host, with further words and files."""
+    seen = {f"lists/{host}": napalm(text) for host, text in lists.items()}
+    return Row(name, {"plan": plan, **seen, **files}, f"plan lists {words}", status, lines)
 
 
 def napalm(text: str) -> str:
@@ -50,14 +43,14 @@ LEAF2 = "".join(f"swp{at} srv{at} eth1\n" for at in range(1, 5))
 RED = "8 cables: 4 right, 0 wrong, 4 not looked at (leaf2, srv1, srv2, 2 more)"
 
 BY_LINK = (
-    Situation("servers without lists are no gap", HEAD + RACK, {"leaf1": LEAF1, "leaf2": LEAF2}, 0,
+    situation("servers without lists are no gap", HEAD + RACK, {"leaf1": LEAF1, "leaf2": LEAF2}, 0,
               ["8 cables: 8 right, 0 wrong"], "--all"),
-    Situation("a switch without a list, not red", HEAD + RACK, {"leaf1": LEAF1}, 0, [RED]),
-    Situation("a switch without a list, red", HEAD + RACK, {"leaf1": LEAF1}, 1, [RED], "--all"),
-    Situation("the servers are known, and a switch has no list", HEAD + RACK, {"leaf1": LEAF1}, 1,
+    situation("a switch without a list, not red", HEAD + RACK, {"leaf1": LEAF1}, 0, [RED]),
+    situation("a switch without a list, red", HEAD + RACK, {"leaf1": LEAF1}, 1, [RED], "--all"),
+    situation("the servers are known, and a switch has no list", HEAD + RACK, {"leaf1": LEAF1}, 1,
               [RED], "--all --known known",
               {"known": KNOWN + "".join(f"srv{at},,sends no LLDP,\n" for at in range(1, 5))}),
-    Situation("both sides of what nobody looked at are known", HEAD + RACK, {"leaf1": LEAF1}, 0,
+    situation("both sides of what nobody looked at are known", HEAD + RACK, {"leaf1": LEAF1}, 0,
               ["8 cables: 4 right, 0 wrong, 4 known"], "--all --known known",
               {"known": KNOWN + "leaf2,,off,\n" + "".join(f"srv{at},eth1,off,\n"
                                                           for at in range(1, 5))}),
@@ -65,26 +58,26 @@ BY_LINK = (
 NAS = HEAD + "leaf1,swp1,nas1,e0\nleaf1,swp2,srv2,e0\n"
 SILENT_NAS = {"known": KNOWN + "nas1,,sends no LLDP,\n"}
 KNOWN_FAULTS = (
-    Situation("silence is excused", NAS, {"leaf1": "swp2 srv2 e0"}, 0,
+    situation("silence is excused", NAS, {"leaf1": "swp2 srv2 e0"}, 0,
               ["2 cables: 1 right, 0 wrong, 1 known"], "--known known", SILENT_NAS),
-    Situation("a rogue is not", NAS, {"leaf1": "swp1 rogue-ap p\nswp2 srv2 e0"}, 1,
+    situation("a rogue is not", NAS, {"leaf1": "swp1 rogue-ap p\nswp2 srv2 e0"}, 1,
               ["swp1  wrong: wants nas1 e0, has rogue-ap p", "2 cables: 1 right, 1 wrong"],
               "--known known", SILENT_NAS),
-    Situation("an exchange is not", NAS, {"leaf1": "swp1 srv2 e0"}, 1, [
+    situation("an exchange is not", NAS, {"leaf1": "swp1 srv2 e0"}, 1, [
         "swp1  wrong: wants nas1 e0, has srv2 e0 (planned at swp2)",
         "swp2  silent: wants srv2 e0 (seen at swp1)", "2 cables: 0 right, 2 wrong"],
         "--known known", SILENT_NAS),
-    Situation("a verdict is excused by its name", NAS, {"leaf1": "swp1 rogue-ap p\nswp2 srv2 e0"},
+    situation("a verdict is excused by its name", NAS, {"leaf1": "swp1 rogue-ap p\nswp2 srv2 e0"},
               0, ["2 cables: 1 right, 0 wrong, 1 known"], "--known known",
               {"known": KNOWN_VERDICT + "nas1,,an access point,,wrong\n"}),
-    Situation("and no other one", NAS, {"leaf1": "swp2 srv2 e0"}, 1,
+    situation("and no other one", NAS, {"leaf1": "swp2 srv2 e0"}, 1,
               ["swp1  silent: wants nas1 e0", "2 cables: 1 right, 1 wrong"], "--known known",
               {"known": KNOWN_VERDICT + "nas1,,an access point,,wrong\n"}),
-    Situation("a row of nothing planned", NAS, {"leaf1": "swp1 nas1 e0\nswp2 srv2 e0"}, 0, [
+    situation("a row of nothing planned", NAS, {"leaf1": "swp1 nas1 e0\nswp2 srv2 e0"}, 0, [
         "known: line 2: nas9 is not planned", "known: line 3: leaf1 swp9 is not planned",
         "2 cables: 2 right, 0 wrong"], "--known known",
         {"known": KNOWN + "nas9,,sends no LLDP,\nleaf1,swp9,spare,\n"}),
-    Situation("a bad verdict", NAS, {"leaf1": "swp1 nas1 e0"}, 2, [
+    situation("a bad verdict", NAS, {"leaf1": "swp1 nas1 e0"}, 2, [
         "known: line 2: 'quiet' is not a verdict: wrong, swapped, silent, extra, doubled, "
         "one-sided, disagrees, unplanned, no data"], "--known known",
         {"known": KNOWN_VERDICT + "nas1,,x,,quiet\n"}),
@@ -94,26 +87,26 @@ PANELED = HEAD + "".join(f"leaf1,swp{at},pp1,F{at}\npp1,R{at},pp2,R{at}\npp2,F{a
 TRUNK = HEAD + "pp1,R1,pp2,R1\nleaf1,swp5,pp1,F5\npp2,F1,srv1,e0\nleaf1,swp6,srv6,e0\n"
 PAIR_ROWS = [f"pp{panel},F{at},R{at},\n" for panel in (1, 2) for at in range(1, 5)]
 PANELS = (
-    Situation("half of the rows are missing", PANELED, {"leaf1": "swp1 srv1 e0\nswp2 srv2 e0"}, 0, [
+    situation("half of the rows are missing", PANELED, {"leaf1": "swp1 srv1 e0\nswp2 srv2 e0"}, 0, [
         "leaf1 swp3 cannot be judged: panels has no row for pp1 F3",
         "srv3 e0 cannot be judged: panels has no row for pp2 F3",
         "leaf1 swp4 cannot be judged: panels has no row for pp1 F4",
         "1 more ends behind panels cannot be judged",
         "4 cables: 2 right, 0 wrong, 2 not judged"], "--panels panels",
         {"panels": PAIRS + "".join(PAIR_ROWS[:2] + PAIR_ROWS[4:6])}),
-    Situation("and all are needed", PANELED,
+    situation("and all are needed", PANELED,
               {"leaf1": "swp1 srv1 e0\nswp2 srv2 e0\nswp3 srv3 e0"}, 1, [
                   "leaf1 swp4 cannot be judged: panels has no row for pp1 F4",
                "srv4 e0 cannot be judged: panels has no row for pp1 R4",
                "4 cables: 3 right, 0 wrong, 1 not judged"], "--all --panels panels",
               {"panels": PAIRS + "".join(PAIR_ROWS[:3] + PAIR_ROWS[4:])}),
-    Situation("position 5 finds position 1 alone", TRUNK,
+    situation("position 5 finds position 1 alone", TRUNK,
               {"leaf1": "swp5 srv1 e0\nswp6 srv6 e0"}, 1, [
                   "leaf1 swp5 cannot be judged: panels has no position 5 at pp2 R1",
                "srv1 e0 cannot be judged: panels has no position 1 at pp1 R1",
                "2 cables: 1 right, 0 wrong, 1 not judged"], "--all --panels panels",
               {"panels": PAIRS + "pp1,F5,R1,5\npp2,F1,R1,1\n"}),
-    Situation("no panels at all", TYPED + "leaf1,dcim.interface,swp1,pp1,dcim.frontport,F1\n"
+    situation("no panels at all", TYPED + "leaf1,dcim.interface,swp1,pp1,dcim.frontport,F1\n"
               "leaf1,dcim.interface,swp2,srv2,dcim.interface,e0\n",
               {"leaf1": "swp1 x y\nswp2 srv2 e0"}, 1, [
                   "plan: 1 cable ends at patch panels and cannot be judged: give --panels with "
@@ -131,43 +124,68 @@ NXOS = json.dumps({"TABLE_nbor_detail": {"ROW_nbor_detail": [{
 MOVED = ["swp5  wrong: wants cx1 1/1/5, has cx1 1/1/6 (planned at swp6)",
          "2 cables: 1 right, 1 wrong"]
 PORT_IDS = (
-    Situation("a planned Port ID of lldpcli's counts before a description", CX,
+    situation("a planned Port ID of lldpcli's counts before a description", CX,
               {"leaf1": OF_LLDPCLI}, 1, MOVED),
-    Situation("one of NX-OS", CX, {"leaf1": NXOS}, 1, MOVED),
-    Situation("a number by NAPALM", NUMBERS, {"leaf1": "swp5 cx1 6 c 5\nswp6 cx1 6 c 5"}, 1,
+    situation("one of NX-OS", CX, {"leaf1": NXOS}, 1, MOVED),
+    situation("a number by NAPALM", NUMBERS, {"leaf1": "swp5 cx1 6 c 5\nswp6 cx1 6 c 5"}, 1,
               [line.replace("1/1/", "") for line in MOVED]),
-    Situation("one that no plan names does not count", CX,
+    situation("one that no plan names does not count", CX,
               {"leaf1": "swp5 cx1 17 c 1/1/5\nswp6 cx1 18 c 1/1/6"}, 0,
               ["2 cables: 2 right, 0 wrong"]),
 )
 SW1 = HEAD + "a,1,sw1,p1\na,2,sw1,p2\n"
 DC = HEAD + "a,1,sw1.dc1,p1\na,2,sw1.dc2,p1\n"
 NAMES = (
-    Situation("two domains answer by one planned name", SW1,
+    situation("two domains answer by one planned name", SW1,
               {"a": "1 sw1.dc1 p1\n2 sw1.dc2 p2"}, 1, [
                   "sw1  doubled: it is sw1.dc1 at a 1, sw1.dc2 at a 2",
                   "2 cables: 0 right, 2 wrong"], "--short-names"),
-    Situation("one domain does", SW1, {"a": "1 sw1.dc1 p1\n2 sw1 p2"}, 0,
+    situation("one domain does", SW1, {"a": "1 sw1.dc1 p1\n2 sw1 p2"}, 0,
               ["2 cables: 2 right, 0 wrong"], "--short-names"),
-    Situation("domains are compared if both have one", DC, {"a": "1 sw1.dc2 p1\n2 sw1.dc1 p1"}, 1, [
+    situation("domains are compared if both have one", DC, {"a": "1 sw1.dc2 p1\n2 sw1.dc1 p1"}, 1, [
         "1  swapped with 2: wants sw1.dc1 p1, has sw1.dc2 p1", "2 cables: 0 right, 2 wrong"],
         "--short-names"),
-    Situation("and not if one has none", DC, {"a": "1 sw1 p1\n2 sw1.dc2 p1"}, 0,
+    situation("and not if one has none", DC, {"a": "1 sw1 p1\n2 sw1.dc2 p1"}, 0,
               ["2 cables: 2 right, 0 wrong"], "--short-names"),
-    Situation("the domain is another one", HEAD + "a,1,sw1.dc1,p1\n", {"a": "1 sw1.dc9 p1"}, 1, [
+    situation("the domain is another one", HEAD + "a,1,sw1.dc1,p1\n", {"a": "1 sw1.dc9 p1"}, 1, [
         "1  wrong: wants sw1.dc1 p1, has sw1.dc9 p1 (only the domain differs)",
         "1 cable: 0 right, 1 wrong"],
         "--short-names"),
-    Situation("two chassis IDs of one name", SW1 + "a,3,sw1,p3\n",
+    situation("two chassis IDs of one name", SW1 + "a,3,sw1,p3\n",
               {"a": "1 sw1 p1 c1 -\n2 sw1 p2 c2 -\n3 sw1 p3 c2 -"}, 0, [
                   "sw1 answers with 2 chassis IDs (c1 at a 1, c2 at a 3): two devices may have one "
                   "name", "3 cables: 3 right, 0 wrong"]),
 )
-RUNNERS = (
-    Situation("settings of nobody", HEAD + "a,1,b,1\n", {"a": "1 b 1"}, 0, [
+PAIR = HEAD + "leaf1,swp1,host01,eth0\n"
+SHOWS = {"leaf1": neighbor("swp1", "host01", "eth0", size=0x5dc, tlvs=["0080c2.1=0014"]),
+         "host01": neighbor("eth0", "leaf1", "swp1", size=9216)}
+UNLIKE = "leaf1 swp1  mismatch: leaf1 swp1 says MTU 9216, host01 eth0 says 1500"
+ONE_UNLIKE = "1 cable: 1 right, 0 wrong; 1 with a mismatch"
+SERVERS = range(1, 21)
+SETTINGS = (
+    situation("settings of nobody", HEAD + "a,1,b,1\n", {"a": "1 b 1"}, 0, [
         "--settings compared nothing: no right link has settings from both ends",
         "1 cable: 1 right, 0 wrong"], "--settings"),
-    Situation("commands of GitHub and of Azure", HEAD + "::set-output,1,b,1\nc,1,d,1\n", {
+    situation("settings that nobody asks for", PAIR, SHOWS, 0, ["1 cable: 1 right, 0 wrong"]),
+    situation("settings of both ends", PAIR, SHOWS, 1, [UNLIKE, ONE_UNLIKE], "--settings"),
+    situation("settings of the plan", "host,port,peer,peer_port,mtu,pvid\n"
+              "leaf1,swp1,host01,eth0,9216,10\n", SHOWS, 1, [
+                  f"{UNLIKE}; host01 eth0 says MTU 1500, the plan has 9216; host01 eth0 says PVID "
+                  "20, the plan has 10", ONE_UNLIKE], "--settings"),
+    situation("nineteen of twenty servers differ from their switch",
+              HEAD + "".join(f"leaf1,swp{at},srv{at},eth0\n" for at in SERVERS),
+              {"leaf1": "".join(neighbor(f"swp{at}", f"srv{at}", "eth0",
+                                         size=1500 if at == 7 else 9194) for at in SERVERS),
+               **{f"srv{at}": neighbor("eth0", "leaf1", f"swp{at}", size=9216) for at in SERVERS}},
+              1, ["leaf1       mismatch at 19 links: differs in MTU by +22, as leaf1 swp1 says MTU "
+                  "9216, srv1 eth0 says 9194",
+                  "leaf1 swp7  mismatch: leaf1 swp7 says MTU 9216, srv7 eth0 says 1500",
+                  "20 cables: 20 right, 0 wrong; 20 with a mismatch"], "--settings"),
+)
+RUNNERS = (
+    situation("planned ports alone", PAIR, {"leaf1": "swp1 host01 eth0\nswp2 x y"}, 0,
+              ["1 cable: 1 right, 0 wrong"], "--planned-only"),
+    situation("commands of GitHub and of Azure", HEAD + "::set-output,1,b,1\nc,1,d,1\n", {
         "::set-output": "1 ##vso[task.x]y 1\n2 ##vso[task.x]z 1", "c": "1 d 1"}, 1, [
             "\\x3a:set-output 1  wrong: wants b 1, has #\\x23vso[task.x]y 1",
             "\\x3a:set-output 2  unplanned: has #\\x23vso[task.x]z 1",
@@ -176,30 +194,30 @@ RUNNERS = (
 SIDES = "a,1,b,1,cat6,connected\n"
 FOUR = f'a,1,b,"1, 2,3 , 4",aoc,connected\n'
 NETBOX = (
-    Situation("a breakout whose lanes are known", CABLES + FOUR, {"a": "".join(
+    situation("a breakout whose lanes are known", CABLES + FOUR, {"a": "".join(
         f"1s{lane} b {at}\n" for lane, at in enumerate((2, 1, 4, 3)))}, 0,
         ["4 cables: 4 right, 0 wrong"]),
-    Situation("a breakout of which two lanes are heard", CABLES + FOUR,
+    situation("a breakout of which two lanes are heard", CABLES + FOUR,
               {"a": "1s1 b 3\n1s0 b 4"}, 1, [
         "1:3  silent: wants b 1", "1:4  silent: wants b 2", "4 cables: 2 right, 2 wrong"]),
-    Situation("a breakout with a stranger, and one that comes twice", CABLES + FOUR, {
+    situation("a breakout with a stranger, and one that comes twice", CABLES + FOUR, {
         "a": "1s0 b 2\n1s1 x 1\n1s2 b 2\n1s3 b 4"}, 1, [
             "1s1  wrong: wants b 1, has x 1", "1s2  wrong: wants b 3, has b 2 (planned at 1s0)",
             "4 cables: 2 right, 2 wrong"]),
-    Situation("a breakout that is seen from the lanes' side", CABLES + FOUR, {
+    situation("a breakout that is seen from the lanes' side", CABLES + FOUR, {
         "b": "1 a 1/1\n2 a 1/2\n3 a 1/4\n4 x y"}, 1, [
             "4  wrong: wants a 1:4, has x y", "4 cables: 3 right, 1 wrong"]),
-    Situation("a breakout that is listed as one port", CABLES + FOUR, {
+    situation("a breakout that is listed as one port", CABLES + FOUR, {
         "a": "1 b 4\n1 b 3\n1 b 2\n1 b 1", "b": "1 a 1\n2 a 1\n3 a 1\n4 a 1"}, 0,
         ["4 cables: 4 right, 0 wrong"]),
-    Situation("cables that cannot be judged", CABLES + SIDES + (
+    situation("cables that cannot be judged", CABLES + SIDES + (
         "a,2,,,cat6,connected\n,,b,2,cat6,connected\na,PSU1,pdu1,Outlet 3,,connected\n"
         "a,con 0,cs1,1,cat5,connected\na,5,b,5,cat6,Planned\na,6,b,6,cat6,decommissioning\n"
         'a,7,b,"7,8,9",cat6,connected\n').replace("a,7,b", 'a,"7,8",b'), {"a": "1 b 1"}, 0, [
             "plan: 7 cables are left out: 2 without a port of a device at both ends, 2 of power or "
             "consoles, 2 planned or decommissioning, 1 with ends that cannot be paired",
             "1 cable: 1 right, 0 wrong"]),
-    Situation("several ends at both sides", CABLES + 'a,"1,2",b,"1, 2",dac,connected\n',
+    situation("several ends at both sides", CABLES + 'a,"1,2",b,"1, 2",dac,connected\n',
               {"a": "1 b 2\n2 b 1"}, 1, ["1  swapped with 2: wants b 1, has b 2",
                                          "2 cables: 0 right, 2 wrong"]),
 )
@@ -214,12 +232,12 @@ NO_JSON = "it begins like JSON, and is none"
 EXCHANGED = ["s1  exchanged with s2: each answers at all links of the other (4 and 4)",
              "8 cables: 0 right, 8 wrong"]
 HOSTS = (
-    Situation("two servers in each other's place", FOUR_EACH, SEEN, 1, EXCHANGED),
-    Situation("seen by themselves too", FOUR_EACH, {**SEEN, **OWN}, 1, EXCHANGED),
-    Situation("a list that cannot be read", FOUR_EACH, {**RIGHT, "leaf1": "{"}, 1, [
-        f"leaf1: {NO_JSON}", f"leaf1  no data at 4 of 4 ports (lists/leaf1: {NO_JSON})",
+    situation("two servers in each other's place", FOUR_EACH, SEEN, 1, EXCHANGED),
+    situation("seen by themselves too", FOUR_EACH, {**SEEN, **OWN}, 1, EXCHANGED),
+    situation("a list that cannot be read", FOUR_EACH, {**RIGHT, "leaf1": "{"}, 1, [
+        f"lists/leaf1: {NO_JSON}", f"leaf1  no data at 4 of 4 ports (lists/leaf1: {NO_JSON})",
         "8 cables: 8 right, 0 wrong"]),
-    Situation("a host that is down", FOUR_EACH, {"leaf1": "swp1 s1 e0\nswp2 s1 e2",
+    situation("a host that is down", FOUR_EACH, {"leaf1": "swp1 s1 e0\nswp2 s1 e2",
                                                  "leaf2": "swp1 s1 e1\nswp2 s1 e3"}, 1, [
         "s2  silent at all 4 of its links", "8 cables: 4 right, 4 wrong"]),
 )
@@ -235,53 +253,52 @@ MEMBERS = {"leaf1": "".join(neighbor(f"swp{at}", "host01", f"bond{bond}", aggreg
 LANES = HEAD + "".join(f"leaf1,swp1s{at},leaf2,swp1s{at}\n" for at in range(4))
 RUN = HEAD + "".join(f"s,p{at},x{at},e0\n" for at in range(6))
 MORE = (
-    Situation("a label like a comment", "label," + HEAD + "#17,leaf1,swp1,host01,eth0\n"
+    situation("a label like a comment", "label," + HEAD + "#17,leaf1,swp1,host01,eth0\n"
               "# of rack 2\n#18,leaf1,swp2,host01,eth1\n",
               {"leaf1": neighbor("swp1", "host09", "eth9")}, 1, [
                   "swp1  wrong: wants host01 eth0, has host09 eth9",
                   "swp2  no data: wants host01 eth1",
                   "2 cables: 0 right, 1 wrong, 1 not looked at (host01)"]),
-    Situation("a comment that takes rows with it", HEAD + '# old,"5\nleaf1,swp1,host01,eth0\n"\n',
+    situation("a comment that takes rows with it", HEAD + '# old,"5\nleaf1,swp1,host01,eth0\n"\n',
               {"leaf1": "swp1 x y"}, 2,
               ["plan: line 2: a comment with a quote in it that ends in a further line"]),
-    *[Situation(f"a description beside {kind}", TWO_PORTS, {"leaf1": neighbor(
+    *[situation(f"a description beside {kind}", TWO_PORTS, {"leaf1": neighbor(
         "swp1", "host01", "eth1", "eth0", kind) + EMPTY.format("swp2", "no")}, 1, [
             TO_SWP2, "swp2  silent: wants host01 eth1 (seen at swp1)",
             "2 cables: 0 right, 2 wrong"]) for kind in ("ifname", "ifalias")],
-    Situation("a description beside a port that no plan names", HEAD + "leaf1,swp1,host01,eth0\n",
+    situation("a description beside a port that no plan names", HEAD + "leaf1,swp1,host01,eth0\n",
               {"leaf1": neighbor("swp1", "host01", "enp3s0", "eth0")}, 0,
               ["1 cable: 1 right, 0 wrong"]),
-    Situation("an alias of two members", BOND, {"leaf1": neighbor(
+    situation("an alias of two members", BOND, {"leaf1": neighbor(
         "swp1", "host01", "bond0", aggregate=7) + neighbor("swp3", "host01", "bond0", aggregate=7)},
         1, ["swp2  no data: wants host01 eth1 (seen at swp3)",
             "swp3  wrong: wants host01 eth2, has host01 bond0",
             "swp4  no data: wants host01 eth3",
             "4 cables: 1 right, 1 wrong, 2 not looked at (host01)"],
         "--vendor-names --aliases aliases", ALIASES),
-    Situation("the numbers of both ends of bonds", BOND, MEMBERS, 1, [
+    situation("the numbers of both ends of bonds", BOND, MEMBERS, 1, [
         "leaf1 swp3  wrong: wants host01 eth2, has host01 bond9",
         "leaf1 swp4  wrong: wants host01 eth3, has host01 bond8",
         "4 cables: 2 right, 2 wrong"], "--vendor-names"),
-    *[Situation(f"{name} is not a number", f"{HEAD[:-1]},{name}\na,1,b,1,{text}\n",
+    *[situation(f"{name} is not a number", f"{HEAD[:-1]},{name}\na,1,b,1,{text}\n",
                 {"a": "1 b 1"}, 2, [
                     f"plan: a 1: {name} '{text}' is not a number to compare with"], "--settings")
       for name, text in (("speed", "25G"), ("mtu", "9k"), ("pvid", "70000"))],
-    Situation("a full table that is empty", HEAD + "a,1,b,1\n", {"a": EMPTY.format(1, "yes")}, 1, [
+    situation("a full table that is empty", HEAD + "a,1,b,1\n", {"a": EMPTY.format(1, "yes")}, 1, [
         "1  wrong: wants b 1, has somebody for whom the table had no room",
         "1 cable: 0 right, 1 wrong"]),
-    Situation("neither side is broken out", LANES, {
+    situation("neither side is broken out", LANES, {
         "leaf1": neighbor("swp1", "leaf2", "swp1"),
         "leaf2": neighbor("swp1", "leaf1", "swp1")}, 1, [
         "leaf1 swp1  not broken out: swp1s0 to swp1s3 are planned",
         "leaf2 swp1  not broken out: swp1s0 to swp1s3 are planned",
         "4 cables: 0 right, 0 wrong, 4 not looked at; 2 unplanned"]),
-    Situation("two runs that meet", RUN, {"s": "".join(
+    situation("two runs that meet", RUN, {"s": "".join(
         f"p{at} x{has} e0\n" for at, has in enumerate([1, 2, 3, 2, 3, 4]))}, 1, [
             "p0 to p2  shifted by one: each has what the next wants",
             "p4        wrong: wants x4 e0 (seen at p5), has x3 e0 (planned at p3)",
             "p5        wrong: wants x5 e0, has x4 e0 (planned at p4)",
             "6 cables: 0 right, 6 wrong"]),
 )
-SITUATIONS = {"more": MORE, "by link": BY_LINK, "known": KNOWN_FAULTS, "panels": PANELS,
-              "Port IDs": PORT_IDS,
-              "names": NAMES, "runners": RUNNERS, "NetBox": NETBOX, "hosts": HOSTS}
+ROWS = (*MORE, *BY_LINK, *KNOWN_FAULTS, *PANELS, *PORT_IDS, *NAMES, *SETTINGS, *RUNNERS, *NETBOX,
+        *HOSTS)

@@ -25,8 +25,9 @@ class SlowJudge:
         return one.lower() == other.lower() if self.ignore_case else one == other
 
     def same_host(self, one: str, other: str) -> bool:
-        if self.short_names and self.same_text(short(one), short(other)):
-            return "" in (domain(one), domain(other)) or self.same_text(domain(one), domain(other))
+        (short, domain), (its_short, its_domain) = parts(one), parts(other)
+        if self.short_names and self.same_text(short, its_short):
+            return "" in (domain, its_domain) or self.same_text(domain, its_domain)
         return self.same_text(one, other)
 
     def same_port(self, one: str, other: str) -> bool:
@@ -82,7 +83,7 @@ class SlowJudge:
         heard = [name for one in self.wants if self.is_right(one)
                  and self.same_host(self.wants[one].host, self.wants[end].host)
                  for name in (self.neighbors(one) or [])[0].hosts]
-        domains = {domain(name.lower() if self.ignore_case else name) for name in heard}
+        domains = {parts(name.lower() if self.ignore_case else name)[1] for name in heard}
         return len(domains - {""}) > 1
 
     def verdicts(self, end: End) -> List[str]:
@@ -111,14 +112,7 @@ class SlowJudge:
                 if neighbors and not any(self.same_end(port, end) for end in self.wants)]
 
 
-def short(host: str) -> str:
-    """Returns a host's name up to its first dot, except an IPv4 address and a name that begins with
-    it."""
-    if re.fullmatch(r"[0-9]+[.][0-9]+[.][0-9]+[.][0-9]+", host) or host.startswith("."):
-        return host
-    return host.split(".")[0]
-
-
-def domain(host: str) -> str:
-    """Returns what follows, or an empty text."""
-    return host[len(short(host)):]
+def parts(host: str) -> Tuple[str, str]:
+    """Returns a host's name to its first dot, and the rest. An IPv4 address and `.x` are whole."""
+    found = re.fullmatch(r"(?![0-9]+([.][0-9]+){3}$)([^.]+)([.].*)?", host)
+    return (found[2], found[3] or "") if found else (host, "")

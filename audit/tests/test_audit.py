@@ -52,8 +52,7 @@ class Case:
         return neighbors
 
     def somebody(self, end: End) -> Seen:
-        """Returns a neighbor that answers to an end, or has nearly its name, or answers to another
-        one as well."""
+        """Returns a neighbor that answers to an end, or nearly does, or to another end too."""
         if self.rng.random() < 0.2:
             return Seen((self.like(end.host, HOSTS),), (self.like(end.port, PORTS),))
         if self.rng.random() < 0.2:
@@ -77,8 +76,7 @@ class Case:
                                       aggregated=self.rng.random() < 0.5))
 
     def with_port_id(self, seen: Seen) -> Seen:
-        """Returns a neighbor whose Port ID is the first of its ports if it names an interface, and
-        otherwise the last."""
+        """Returns a neighbor whose Port ID is its first port, if it is named, or its last."""
         is_named = self.rng.random() < 0.5
         return seen._replace(port_id=seen.ports[0 if is_named else -1], is_named=is_named)
 
@@ -137,8 +135,7 @@ class Aggregates(unittest.TestCase):
     """Hosts of very many ports that name their aggregates: twice the links cost twice as much."""
 
     def steps(self, links: int, peer: str, numbers: int) -> int:
-        """Returns how many lines are run to judge the links of a host that hears a peer, in so many
-        aggregates. It is the same on any machine."""
+        """Returns how many lines are run to judge a host's links to a peer, on any machine."""
         names, count = Names(vendor_names=True), 0
         plan = Plan("p", [Link(End(one, f"eth{at}"), End(other, f"eth{at}"), None)
                           for one, other in (("a", "b"), ("c", "d")) for at in range(links)], names)

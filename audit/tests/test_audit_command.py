@@ -4,12 +4,10 @@ from __future__ import annotations
 import gzip
 import json
 import os
-import re
 import subprocess
 import sys
 import threading
 import time
-import unittest
 from pathlib import Path
 from typing import Tuple
 
@@ -148,12 +146,6 @@ class Words(Audits):
                              What(host, its_port, "f"), port)
         self.assertEqual(placed(What("leaf1", "swp1:0", "f"), plan, names, "us").port, "swp1:0")
 
-    def test_planned_only(self) -> None:
-        show = self.file("show", rack.text_of_show(["swp1", "swp2"]))
-        self.assertEqual(self.audit(show)[:2], (
-            1, "swp2  unplanned: has host02 eth0\n1 cable: 1 right, 0 wrong; 1 unplanned\n"))
-        self.assertEqual(self.audit("--planned-only", show)[0], 0)
-
 
 class Captures(Audits):
     """Captures of all kinds."""
@@ -217,7 +209,7 @@ class Captures(Audits):
 
 
 class Sources(Audits):
-    """Old sources, damaged shows, and files that say nothing of a host."""
+    """Old sources."""
 
     def test_ages(self) -> None:
         self.plan = self.file("two", f"{HEAD}leaf1,swp1,host01,eth0\nleaf2,swp1,host02,eth0\n")
@@ -234,38 +226,3 @@ class Sources(Audits):
         self.assertEqual(self.audit(show, many, "--stale-after", "401d")[0], 0)
         for word in ("1w", "", "-1", "d"):
             self.assertEqual(self.audit(show, f"--stale-after={word}")[0], 2, word)
-
-    def test_numbers_of_many_digits(self) -> None:
-        text = rack.text_of_show(["swp1"])
-        self.plan = self.file("two", f"{HEAD}leaf1,swp1,host01,eth0\nleaf2,swp1,host01,eth1\n")
-        good, numbers = self.file("good", text), re.findall(r"^(.*=)\d+$", text, re.M)
-        self.assertGreater(len(numbers), 2)
-        for key in numbers:
-            bad = self.file("bad", re.sub(rf"{re.escape(key)}\d+", key + "1" * 5000, text))
-            status, out, err = self.audit(good, f"leaf2:{bad}")
-            self.assertEqual((status, "Traceback" in err), (1, False), key)
-            self.assertIn("leaf2 swp1  no data: wants host01 eth1", out)
-            self.assertIn("2 cables: 1 right, 0 wrong, 1 not looked at (host01)", out)
-
-    def test_what_tells_nothing(self) -> None:
-        self.plan = self.file("two", f"{HEAD}leaf1,swp1,leaf2,swp1\nh1,e0,h2,e0\n")
-        other = f"h1:{self.file('h1', neighbor('e0', 'h2', 'e0'))}"
-        empty = bytes.fromhex("0a0d0d0a1c0000004d3c2b1a01000000ffffffffffffffff1c000000")
-        for octets, why in ((empty, "it names no Ethernet interface"),
-                            (b'{"leafX": {"swp1": []}}', "it is of other hosts"),
-                            (b'{"swp1": {}, "swp2": {}}', "it is of other hosts")):
-            path = self.file("file", octets)
-            ran = run(self.plan, other, f"leaf1:{path}")
-            self.assertEqual(ran.returncode, 1)
-            self.assertIn(f"leaf1 swp1  no data: wants leaf2 swp1 ({path}: {why})", ran.stdout)
-
-    def test_a_link_to_a_folder(self) -> None:
-        (self.folder / "seen" / "leaf1").mkdir(parents=True)
-        link = self.folder / "seen" / "leaf1" / "latest"
-        link.symlink_to(self.folder)
-        self.assertIn(f"lldpa-audit: {link}: it is a link to a folder, and is passed over",
-                      self.audit(str(self.folder / "seen"))[2])
-
-
-if __name__ == "__main__":
-    unittest.main()

@@ -59,7 +59,3 @@ class Output(InAFolder):
                 self.assertEqual(run_with(f"{output} {errors}", self.audit), (2, ""))
             self.assertEqual(run_with(f">/dev/null {errors}", self.audit), (1, ""))
             self.assertEqual(run_with(f">/dev/null {errors}", [AUDIT]), (2, ""))
-
-
-if __name__ == "__main__":
-    unittest.main()

@@ -7,7 +7,6 @@ import json
 import os
 import struct
 import tracemalloc
-import unittest
 from pathlib import Path
 from typing import Callable, Iterator, Tuple
 
@@ -38,14 +37,8 @@ def captures() -> Iterator[Tuple[bytes, int, int]]:
 class Hostile(InAFolder):
     """Each test has a folder."""
 
-    def octets(self, name: str, octets: bytes) -> str:
-        """Writes a file and gives its name."""
-        (self.folder / name).write_bytes(octets)
-        return str(self.folder / name)
-
     def within(self, body: Callable[[], object], result: object) -> None:
-        """Checks what a body returns, and that it ends before a square would, in seconds of the
-        processor."""
+        """Checks what a body returns, in fewer seconds of the processor than a square needs."""
         begin = sum(os.times()[:4])
         self.assertEqual(body(), result)
         self.assertLess(sum(os.times()[:4]) - begin, SECONDS)
@@ -59,12 +52,12 @@ class Captures(Hostile):
             with self.subTest(begin=octets[:60]):
                 self.within(lambda: len(interfaces_of(io.BytesIO(octets))), interfaces)
                 self.within(lambda: sum(1 for _ in packets_of(io.BytesIO(octets))), packets)
-                path = self.octets("long", octets)
+                path = self.file("long", octets)
                 self.within(lambda: run_capture([path]).returncode, 0)
 
     def test_gzip_that_unpacks_to_very_much(self) -> None:
         bomb = gzip.compress(PCAP) + gzip.compress(bytes(1 << 20), 9) * 130
-        ran = run(self.plan, "--host", "leaf1", f"swp1={self.octets('bomb', bomb)}")
+        ran = run(self.plan, "--host", "leaf1", f"swp1={self.file('bomb', bomb)}")
         self.assertIn("its gzip data unpacks to more than the limit", ran.stderr)
         self.assertEqual(ran.returncode, 1)
 
@@ -73,18 +66,18 @@ class Captures(Hostile):
         frame = rack.lldp_frame("host01", "eth0")
         tagged = frame[:12] + bytes.fromhex("81000005") + frame[12:]
         ports = {f"swp{at}": [frame] for at in range(1, 70)}
-        capture = self.octets("wide", rack.pcapng({**ports, "swp70": [tagged]}))
+        capture = self.file("wide", rack.pcapng({**ports, "swp70": [tagged]}))
         said = run(self.plan, "--host", "leaf1", capture).stderr
         self.assertEqual(said.count("is skipped: it is tagged"), 1, said)
 
     def test_a_capture_without_packets_is_as_old_as_its_file(self) -> None:
         ran = run(self.plan, "--host", "leaf1", "--stale-after", "1d",
-                  f"swp1={self.octets('empty', PCAP)}")
+                  f"swp1={self.file('empty', PCAP)}")
         self.assertIn("swp1  silent", ran.stdout)
 
     def test_ports_that_a_shell_would_hand_on_as_options(self) -> None:
         named = rack.pcapng({"--listen": rack.frames("swp1"), "18123": rack.frames("swp2")})
-        ran = run_capture(["--ports", self.octets("named", named)])
+        ran = run_capture(["--ports", self.file("named", named)])
         self.assertEqual((ran.returncode, ran.stdout), (2, ""))
         self.assertIn("a port is named '--listen'", ran.stderr)
 
@@ -153,7 +146,3 @@ class Texts(Hostile):
             self.assertFalse({"\x1b", "\u3164", "\u202e"} & set(text))
             self.assertNotIn("\u0301" * 3, text)
         self.assertIn("<bdi>\u05d0\u05d1</bdi>", texts[1])
-
-
-if __name__ == "__main__":
-    unittest.main()

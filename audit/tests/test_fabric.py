@@ -1,12 +1,10 @@
-"""A fabric of 2,000 links with 100 faults of 20 kinds, seen in many forms: each fault is reported,
-and nothing else."""
+"""A fabric of 2,000 links with 100 faults in many forms: each is reported, and nothing else."""
 from __future__ import annotations
 
 import json
 import os
 import random
 import sys
-import unittest
 from pathlib import Path
 from typing import Any, Dict, List, Sequence, Set, Tuple
 
@@ -33,8 +31,7 @@ class Faults(InAFolder):
         kinds = {fault.kind for fault in fabric.faults}
         self.assertEqual((len(fabric.links), len(fabric.faults), len(kinds), len(fabric.lags)),
                          (2000, 100, 20, 640))
-        self.words = ["--panels", self.file("panels.csv", panels()), "--settings",
-                      "--vendor-names"]
+        self.words = ["--panels", self.file("panels.csv", panels()), "--settings", "--vendor-names"]
         self.lags = {(fabric.names.get(end[0], end[0]), fabric.said(end)): number
                      for end, (_, number) in fabric.lags.items()}
         (self.folder / "seen").mkdir()
@@ -76,8 +73,7 @@ class Faults(InAFolder):
         self.need_true_neighbors(told)
 
     def need_each_fault(self, told: Any) -> None:
-        """Checks that each repair is of one planted fault, and that each fault has as few repairs
-        as it may."""
+        """Checks that each repair is of one fault, and that each fault has as few as it may."""
         of_ends = {end: fault for fault in self.fabric.faults for end in fault.ends}
         kinds: Dict[int, List[str]] = {}
         for repair in told["repairs"]:
@@ -93,8 +89,7 @@ class Faults(InAFolder):
             self.assertTrue(0 < count <= fault.most, (fault, kinds.get(id(fault))))
 
     def need_true_neighbors(self, told: Any) -> None:
-        """Checks that what an end is reported to have is what it has, and that nothing wrong is
-        called right."""
+        """Checks the neighbors that each end is reported to have, and that no fault is right."""
         wrong: Set[Tuple[str, str]] = set()
         for one in told["ends"]:
             end = one["host"], one["port"]
@@ -109,7 +104,3 @@ class Faults(InAFolder):
                                  and peer not in self.fabric.hidden, one)
         for fault in self.fabric.faults:
             self.assertTrue(fault.ends & wrong, fault)
-
-
-if __name__ == "__main__":
-    unittest.main()

@@ -4,7 +4,7 @@ from __future__ import annotations
 import unittest
 from typing import List, Sequence
 
-from auditing import InAFolder, neighbor, run
+from auditing import neighbor
 from lldpa_audit.judging import audit
 from lldpa_audit.mismatches import mismatches
 from lldpa_audit.names import End, Names
@@ -82,26 +82,3 @@ class Texts(unittest.TestCase):
                          Settings(is_aggregated=True, aggregation=7))
         for text in ("", "0", "-1", "x", "9" * 5000, "\u0664"):
             self.assertIsNone(settings_of(text, text, text, ""), text)
-
-
-class Command(InAFolder):
-    """The program's option."""
-
-    def test_the_other_end_and_the_plan(self) -> None:
-        shows = {"leaf1": neighbor("swp1", "host01", "eth0", tlvs=tlvs("05dc", "0014")),
-                 "host01": neighbor("eth0", "leaf1", "swp1", tlvs=tlvs("2400"))}
-        lists = [f"{host}:{self.file(host, show)}" for host, show in shows.items()]
-        ends = "leaf1 swp1  mismatch: leaf1 swp1 says MTU 9216, host01 eth0 says 1500"
-        for columns, texts, words, said in (
-                ("", "", [], "1 cable: 1 right, 0 wrong"), ("", "", ["--settings"], ends),
-                (",mtu,pvid", ",9216,10", ["--settings"],
-                 f"{ends}; host01 eth0 says MTU 1500, the plan has 9216; host01 eth0 says PVID 20, "
-                 "the plan has 10 [mtu 9216, pvid 10]")):
-            plan = self.file("plan.csv", f"host,port,peer,peer_port{columns}\n"
-                                         f"leaf1,swp1,host01,eth0{texts}\n")
-            ran = run(plan, *lists, *words)
-            self.assertEqual((ran.returncode, ran.stdout.splitlines()[0]), (len(words), said))
-
-
-if __name__ == "__main__":
-    unittest.main()

@@ -183,7 +183,3 @@ class Shown(unittest.TestCase):
         for order in (names, names[::-1]):
             self.assertEqual(sorted(order, key=lambda name: natural(name, {})), names)
         self.assertEqual(natural("007", {}), natural("7", {}))
-
-
-if __name__ == "__main__":
-    unittest.main()

@@ -11,8 +11,6 @@ import subprocess
 import sys
 import unittest
 from collections import Counter
-from html.parser import HTMLParser
-from typing import List, Optional, Tuple
 from xml.etree import ElementTree
 
 import rack
@@ -48,22 +46,13 @@ TOP = os.path.dirname(os.path.dirname(AUDIT))
 PATH = os.pathsep.join(f"{TOP}/{name}" for name in ("audit", "python"))
 
 
-class Elements(HTMLParser):
-    """The elements of a page, and its texts."""
+class Elements:
+    """The elements of a page, its texts and the addresses that it links to."""
 
     def __init__(self, page: str) -> None:
-        super().__init__()
-        self.tags: Counter[str] = Counter()
-        self.texts: List[str] = []
-        self.addresses: List[str] = []
-        self.feed(page)
-
-    def handle_starttag(self, tag: str, attrs: List[Tuple[str, Optional[str]]]) -> None:
-        self.tags[tag] += 1
-        self.addresses += [value or "" for name, value in attrs if name in ("src", "href")]
-
-    def handle_data(self, data: str) -> None:
-        self.texts.append(data.strip())
+        self.tags = Counter(re.findall(r"<(\w+)", page))
+        self.texts = [html.unescape(text).strip() for text in re.split(r"<[^>]*>", page)]
+        self.addresses = re.findall(r'(?:src|href)="?([^">]*)', page)
 
 
 class Content(InAFolder):
@@ -147,7 +136,3 @@ class Terminal(InAFolder):
         self.assertNotIn("\x1b", run(self.plan, "--host", "leaf1", "none").stderr)
         progress = Progress("x", is_on=False)
         self.assertEqual(list(progress.over("abc", 3, "letters")), ["a", "b", "c"])
-
-
-if __name__ == "__main__":
-    unittest.main()

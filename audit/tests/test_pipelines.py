@@ -122,25 +122,3 @@ class NotLookedAt(InAFolder):
             self.assertEqual([one["verdict"] for one in told["ends"]],
                              ["right", "not looked at", "not looked at"])
             self.assertIn('lldpa_audit_cables{state="not looked at"} 1\n', metrics.read_text())
-
-
-class Settings(InAFolder):
-    """Servers that differ from their switch."""
-
-    def test_nineteen_of_twenty(self) -> None:
-        plan = self.file("p", "host,port,peer,peer_port\n"
-                         + "".join(f"leaf1,swp{at},srv{at},eth0\n" for at in range(1, 21)))
-        (self.folder / "seen").mkdir()
-        self.file("seen/leaf1", "".join(neighbor(
-            f"swp{at}", f"srv{at}", "eth0", size=1500 if at == 7 else 9194) for at in range(1, 21)))
-        for at in range(1, 21):
-            self.file(f"seen/srv{at}", neighbor("eth0", "leaf1", f"swp{at}", size=9216))
-        lines = run(plan, str(self.folder / "seen"), "--settings").stdout.splitlines()
-        self.assertEqual(lines[:-1], [
-            "leaf1       mismatch at 19 links: differs in MTU by +22, as leaf1 swp1 says MTU 9216, "
-            "srv1 eth0 says 9194",
-            "leaf1 swp7  mismatch: leaf1 swp7 says MTU 9216, srv7 eth0 says 1500"])
-
-
-if __name__ == "__main__":
-    unittest.main()

@@ -4,13 +4,15 @@ from __future__ import annotations
 import json
 import tempfile
 import unittest
+from argparse import ArgumentTypeError
 from pathlib import Path
-from typing import Any, List, Mapping, Optional, Sequence
+from typing import List, Mapping, Optional
 
-from lldpa_audit.columns import given_columns
 from lldpa_audit.names import Names
 from lldpa_audit.plan import Plan, PlanFault
 from lldpa_audit.planfile import read_plan
+from lldpa_audit.words import columns
+from shapes import cable_between
 
 HEAD = "host,port,peer,peer_port\n"
 # the forms that ptmd's documentation of topology files shows
@@ -169,12 +171,12 @@ class Texts(Plans):
 
     def test_named_columns(self) -> None:
         text = "From;Interface;To Device;To Interface;host\nleaf1;swp1;host01;eth0;x\n"
-        columns = given_columns("host=from,port=Interface,peer=to device,peer_port=To Interface")
-        self.assertEqual(self.links(self.plan(text, columns)), ["leaf1 swp1 - host01 eth0"])
+        given = columns("host=from,port=Interface,peer=to device,peer_port=To Interface")
+        self.assertEqual(self.links(self.plan(text, given)), ["leaf1 swp1 - host01 eth0"])
         with self.assertRaisesRegex(PlanFault, "line 1: the column none is missing"):
-            self.plan(text, given_columns("host=from,port=none"))
+            self.plan(text, columns("host=from,port=none"))
         for bad in ("host", "host=", "hosts=a", "host=a,host=b", ""):
-            self.assertRaises(ValueError, given_columns, bad)
+            self.assertRaises(ArgumentTypeError, columns, bad)
 
 
 class NetBox(Plans):
@@ -199,19 +201,13 @@ class NetBox(Plans):
         self.assertEqual(self.notes(plan), ["plan: 6 cables are left out: 6 of power or consoles"])
 
     def test_the_answer_of_the_api(self) -> None:
-        def cable(number: int, one: Sequence[Any], other: Sequence[Any], **more: Any) -> Any:
-            sides = [[{"object_type": f"dcim.{more.get('kinds', 'interface')}", "object": {
-                "name": end[1], "device": {"name": end[0]} if end[0] else None}} for end in side]
-                for side in (one, other)]
-            return {"id": number, "type": more.get("type", "cat6"), "status": {
-                "value": more.get("status", "connected")}, "a_terminations": sides[0],
-                "b_terminations": sides[1]}
-        cables = [cable(1, [("a", "1")], [("b", "1")]),
-                  cable(2, [("a", "2"), ("a", "3")], [("b", "2"), ("b", "3")]),
-                  cable(3, [("pdu", "O1")], [("a", "PSU1")], kinds="powerport"),
-                  cable(4, [("a", "4")], []), cable(5, [("a", "5")], [("", "5")]),
-                  cable(6, [("a", "6")], [("b", "6")], status="planned"),
-                  cable(7, [("a", "7")] * 2, [("b", "7")] * 3), None]
+        cables = [cable_between(1, [("a", "1")], [("b", "1")]),
+                  cable_between(2, [("a", "2"), ("a", "3")], [("b", "2"), ("b", "3")]),
+                  cable_between(3, [("pdu", "O1")], [("a", "PSU1")], kind="powerport"),
+                  cable_between(4, [("a", "4")], []),
+                  cable_between(5, [("a", "5")], [("", "5")]),
+                  cable_between(6, [("a", "6")], [("b", "6")], status="planned"),
+                  cable_between(7, [("a", "7")] * 2, [("b", "7")] * 3), None]
         pages = [{"next": "x", "results": cables[:2]}, {"next": None, "results": cables[2:]}]
         for text in (json.dumps(pages), json.dumps({"results": cables})):
             plan = self.plan(text)
@@ -220,7 +216,7 @@ class NetBox(Plans):
                 "plan: 6 cables are left out: 3 without a port of a device at both ends, 1 of "
                 "power or consoles, 1 planned or decommissioning, 1 with ends that cannot be "
                 "paired"])
-        nameless = cable(1, [("a", "1")], [("b", "1")])
+        nameless = cable_between(1, [("a", "1")], [("b", "1")])
         nameless["b_terminations"][0]["object"]["device"] = {"name": None, "display": "EX (7)"}
         self.assertEqual(self.links(self.plan(json.dumps({"results": [nameless]}))),
                          ['a 1 - "EX (7)" 1'])
@@ -271,7 +267,3 @@ class Panels(Plans):
             plan = self.plan("\n".join([HEAD[:-1], *rows[::-1]]),
                              panels="\n".join([*pairs, "x,1,x,2"]))
             self.assertCountEqual([set(text.split(" - ")) for text in self.links(plan)], wanted)
-
-
-if __name__ == "__main__":
-    unittest.main()

@@ -89,8 +89,7 @@ def seen(text: str) -> Seen:
     if text == "?":
         return NAMELESS
     host, port = text.rstrip("!").split()
-    return Seen((host,), tuple(port.split("|")),
-                "c!" if text.endswith("!") else "c", port)
+    return Seen((host,), tuple(port.split("|")), "c!" if text.endswith("!") else "c", port)
 
 
 def report_of(links: str, known: str) -> Report:
@@ -101,7 +100,9 @@ def report_of(links: str, known: str) -> Report:
     tables = Tables(names)
     for text in known.split("; "):
         at, _, neighbors = text.partition(" =")
-        tables.add(*end(at), [seen(one.strip()) for one in neighbors.split(",") if one.strip()])
+        host, port = end(at)
+        heard = [seen(one.strip()) for one in neighbors.split(",") if one.strip()]
+        tables.add_ports(host, {port: heard})
     return Report(plan, tables, audit(plan, tables))
 
 
@@ -111,7 +112,3 @@ class Lines(unittest.TestCase):
     def test_lines(self) -> None:
         for links, known, lines in ROWS:
             self.assertEqual(report_of(links, known).lines(), lines)
-
-
-if __name__ == "__main__":
-    unittest.main()

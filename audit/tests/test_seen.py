@@ -2,6 +2,7 @@
 from __future__ import annotations
 
 import random
+import re
 import unittest
 
 from lldpa.agent.show import Counters, Neighbor, ShowFault, read_show
@@ -83,6 +84,11 @@ class Neighbors(unittest.TestCase):
                 read_ports(text)
             self.assertIn(said, str(raised.exception))
 
+    def test_numbers_of_many_digits(self) -> None:
+        for key in re.findall(r"^([^=]+\.(?:neighbors|octets|ttl|expires)=)\d+$", SHOW, re.M):
+            text = re.sub(rf"{re.escape(key)}\d+", key + "1" * 5000, SHOW)
+            self.assertRaises(ShowFault, read_ports, text)
+
     def test_damaged_shows(self) -> None:
         """Checks that a damaged show is refused, or has what the package's reader finds in it."""
         rng, right = random.Random(30), 0
@@ -115,7 +121,3 @@ def damaged(text: str, rng: random.Random) -> str:
     line = rng.choice(text.splitlines(keepends=True))
     piece = rng.choice(["", rng.choice(PIECES), text[at:end] * 2, line])
     return (text[:at] + piece + text[end:]).rstrip("\n") + "\n"
-
-
-if __name__ == "__main__":
-    unittest.main()

@@ -140,7 +140,3 @@ class Faults(unittest.TestCase):
     def test_too_much(self) -> None:
         found = in_a_file(b'{"lldp": {}}' + b" " * (MOST_OCTETS + 1024))
         self.assertIn("no list has so much", found.faults[0] if found else "")
-
-
-if __name__ == "__main__":
-    unittest.main()

@@ -227,7 +227,3 @@ class Prometheus(unittest.TestCase):
         self.assertEqual((first.ports, first.settings), (("eth0", "to b"), Settings(9216, 10)))
         self.assertEqual((second.hosts[0], second.settings), ("caf\xe9\\", None))
         self.assertEqual((third.hosts[0], third.ports[0]), ("caf\xe9\ufffd\\", "\\x"))
-
-
-if __name__ == "__main__":
-    unittest.main()

@@ -106,8 +106,7 @@ def napalm(ports: Ports) -> Any:
 
 
 def textfsm(ports: Ports) -> Any:
-    """Writes rows of ntc-templates' cisco_ios_show_lldp_neighbors_detail, as netmiko returns
-    them."""
+    """Writes rows of ntc-templates for IOS, as netmiko returns them."""
     return each(ports, lambda port, host, at: {
         "local_interface": port, "chassis_id": chassis_of(host), "neighbor_port_id": at,
         "neighbor_interface": TO, "neighbor_name": host, "system_description": "Cisco IOS Software",

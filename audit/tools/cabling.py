@@ -7,20 +7,17 @@ FOLDER gets plan.csv and a file of each leaf and spine below FOLDER/seen. A pod 
 audit/tests/fabric.py, of 2,000 links and 40 switches; each has 20 faults.
 """
 import argparse
-import os
 import pathlib
-import subprocess
 import sys
-import time
 
 TOP = pathlib.Path(__file__).resolve().parents[2]
-sys.path += [str(TOP / "python"), str(TOP / "audit" / "tests")]
+sys.path += [str(TOP / folder) for folder in ("python", "python/tests", "audit/tests")]
+import shapes  # noqa: E402
 from fabric import Fabric  # noqa: E402
 from lldpa import read_show  # noqa: E402
 from lldpa.lldpcli_forms.shows import Depth, Told, neighbors  # noqa: E402
 from lldpa.lldpcli_forms.writing import FORMS as OF_LLDPCLI  # noqa: E402
 
-AUDIT = [sys.executable, str(TOP / "bin" / "lldpa-audit")]
 # a VLAN, a frame size, and what a link of copper advertises and is
 SETTINGS = (("0080c2.1", "000a"), ("0080c2.3", "000a0374656e"), ("00120f.4", "2400"), ("00120f.1", "030001001e"))
 
@@ -70,17 +67,6 @@ def show_of_port(neighbors, tlvs):
             yield f"{place}.{line}"
 
 
-def measured(words):
-    """Seconds of processor time and of the clock, and the most megabytes, of an audit."""
-    begin = time.monotonic()
-    child = subprocess.Popen([*AUDIT, *words], stdout=subprocess.DEVNULL)
-    _, status, usage = os.wait4(child.pid, 0)
-    child.returncode = os.waitstatus_to_exitcode(status)
-    if child.returncode != 1:
-        sys.exit(f"the audit ended with {child.returncode}")
-    return usage.ru_utime + usage.ru_stime, time.monotonic() - begin, usage.ru_maxrss / 1024
-
-
 def main():
     """Writes a network and measures its audit."""
     parser = argparse.ArgumentParser(description=__doc__.splitlines()[0])
@@ -88,8 +74,8 @@ def main():
     parser.add_argument("--pods", type=int, default=50)
     parser.add_argument("--form", choices=FORMS, default="show")
     given = parser.parse_args()
-    used, passed, megabytes = measured(write(given.folder, given.pods, given.form))
-    print(f"{2000 * given.pods} links: {used:.1f} s of processor time, {passed:.1f} s, {megabytes:.0f} MB")
+    ran = shapes.measured(write(given.folder, given.pods, given.form))
+    print(f"{2000 * given.pods} links: {ran.seconds:.1f} s of processor time, {ran.megabytes} MB", *ran.faults)
 
 
 if __name__ == "__main__":

@@ -20,12 +20,9 @@ NO_FAULTS = (Verdict.NO_DATA, Verdict.NOT_LOOKED_AT, Verdict.KNOWN)
 
 
 class Count(NamedTuple):
-    """How many cables are planned in each state.
-
-    `hosts` has hosts at which cables end that nobody looked at, with the most of them first.
-    `unplanned` are ports, `mismatches` right links of which both ends say different things, and
-    `faults` ends that are neither right nor known.
-    """
+    """How many cables are in each state. `hosts` are those at which cables end that nobody looked
+    at, with most of them first, `unplanned` counts ports, `mismatches` right links whose ends
+    disagree, and `faults` ends that are neither right nor known."""
 
     cables: Mapping[str, int]
     unplanned: int
@@ -53,15 +50,10 @@ class Count(NamedTuple):
         """Returns how many cables are planned."""
         return sum(self.cables.values())
 
-    @property
-    def is_all_right(self) -> bool:
-        """Returns whether all that was looked at is right or known."""
-        return not self.faults and not self.mismatches
-
-    @property
-    def is_complete(self) -> bool:
-        """Returns whether each cable was looked at."""
-        return not self.cables[NOT_LOOKED_AT] and not self.cables[NOT_JUDGED]
+    def is_right(self, needs_all: bool) -> bool:
+        """Returns whether what was looked at is right or known, and that is all if it must be."""
+        is_complete = not self.cables[NOT_LOOKED_AT] and not self.cables[NOT_JUDGED]
+        return not self.faults and not self.mismatches and (is_complete or not needs_all)
 
 
 def count(findings: Sequence[Finding], plan: Plan, tables: Tables, mismatches: int = 0) -> Count:
@@ -89,8 +81,7 @@ def count(findings: Sequence[Finding], plan: Plan, tables: Tables, mismatches: i
 
 
 def state_of(one: Finding, far: Optional[Finding]) -> str:
-    """Returns the state of a cable with these findings at its ends. One without is right, or its
-    other end was judged."""
+    """Returns the state of a cable by the findings at its ends that are not right."""
     verdicts = [one.verdict, far.verdict if far is not None else one.verdict]
     if any(verdict not in NO_FAULTS for verdict in verdicts):
         return WRONG

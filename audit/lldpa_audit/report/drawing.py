@@ -1,11 +1,8 @@
-"""Pictures of a host for a page: each end with a fault, what it wants, and what it has.
-
-A picture is 360 pixels wide, so that it has room on the screen of a telephone.
-"""
+"""Pictures of a host for a page, so narrow that a telephone's screen has room for them."""
 from __future__ import annotations
 
 import html
-from typing import Iterator, NamedTuple, Sequence
+from typing import Iterator, Sequence
 
 from ..judging import Finding, Verdict
 from ..names import Names, shown
@@ -18,13 +15,8 @@ BOX = 18
 PORT_LEFT, PORT_RIGHT = MARGIN, 106
 PEER_LEFT, PEER_RIGHT = 178, WIDTH - MARGIN
 LETTER = 6.7  # the width of a letter of the font, in pixels
-
-
-class Line(NamedTuple):
-    """A line from a port to a peer: its style, and the peer's text."""
-
-    style: str
-    peer: str
+# a line from a port to a peer: its style, and the peer's text
+Line = tuple[str, str]
 
 
 def pictures_of(host: str, faults: Sequence[Finding], names: Names) -> Iterator[str]:
@@ -47,14 +39,14 @@ def lines_of(fault: Finding, names: Names) -> list[Line]:
     wants = fault.wants
     key = names.end(wants) if wants is not None else None
     are_it = [key is not None and names.answers(one, key) for one in fault.has]
-    lines = [Line("right" if is_it else "has", str(wants if is_it else neighbor))
+    lines = [("right" if is_it else "has", str(wants if is_it else neighbor))
              for is_it, neighbor in zip(are_it[:MOST_NEIGHBORS], fault.has)]
     if len(fault.has) > MOST_NEIGHBORS:
-        lines.append(Line("has", f"{len(fault.has) - MOST_NEIGHBORS} more"))
+        lines.append(("has", f"{len(fault.has) - MOST_NEIGHBORS} more"))
     if wants is not None and not any(are_it):
         unknown = fault.verdict is Verdict.NO_DATA
-        lines.append(Line("unknown" if unknown else "wants", str(wants)))
-    return lines or [Line("unknown", "?")]
+        lines.append(("unknown" if unknown else "wants", str(wants)))
+    return lines or [("unknown", "?")]
 
 
 def group(fault: Finding, lines: Sequence[Line], top: int) -> str:
@@ -62,11 +54,11 @@ def group(fault: Finding, lines: Sequence[Line], top: int) -> str:
     middle = top + (len(lines) - 1) * ROW // 2
     kind = "unknown" if fault.verdict is Verdict.NO_DATA else "fault"
     parts = [box(PORT_LEFT, PORT_RIGHT, middle, f"port {kind}", shown(fault.end.port))]
-    for number, line in enumerate(lines):
+    for number, (style, peer) in enumerate(lines):
         at = top + number * ROW
-        parts.append(f'<line class="{line.style}" x1="{PORT_RIGHT}" y1="{middle + BOX // 2}" '
+        parts.append(f'<line class="{style}" x1="{PORT_RIGHT}" y1="{middle + BOX // 2}" '
                      f'x2="{PEER_LEFT}" y2="{at + BOX // 2}"/>')
-        parts.append(box(PEER_LEFT, PEER_RIGHT, at, f"peer {line.style}", line.peer))
+        parts.append(box(PEER_LEFT, PEER_RIGHT, at, f"peer {style}", peer))
     return "".join(parts)
 
 

@@ -32,8 +32,7 @@ def exchanges_of(faults: Faults) -> Exchanges:
 
 
 def add(found: Exchanges, faults: Faults, near: Pair, ranks: dict[End, int]) -> None:
-    """Adds an exchange by the pair of it that comes first. It is reported at the pair of one host,
-    since cables are mostly exchanged at one side."""
+    """Adds an exchange by its first pair. It is reported at the pair of one host, if one is."""
     one, other = far_of(faults, *near), far_of(faults, *near[::-1])
     pairs = [near]
     if one is not None and other is not None and twin_of(faults, one) == other:

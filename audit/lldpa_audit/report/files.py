@@ -8,8 +8,7 @@ from pathlib import Path
 
 
 def write(file: str, octets: bytes) -> None:
-    """Writes a file. A reader never sees a part of it, unless it is a pipe or a device. Raises
-    OSError."""
+    """Writes a file, at once if it is a plain one. Raises OSError."""
     path = Path(file)
     try:
         if is_written_in_place(path):
@@ -23,8 +22,7 @@ def write(file: str, octets: bytes) -> None:
 def is_written_in_place(path: Path) -> bool:
     """Returns whether a file is not a plain one, such as a pipe or a device. One that is another
     user's is replaced, and so is a link of another user to a device."""
-    return (path.exists() and not path.is_file()
-            and path.lstat().st_uid in (0, os.geteuid()))
+    return path.exists() and not path.is_file() and path.lstat().st_uid in (0, os.geteuid())
 
 
 def replace(path: Path, octets: bytes) -> None:

@@ -42,14 +42,12 @@ def of_links(faults: Faults, texts: FaultTexts) -> Iterator[Repair]:
 
 
 def rank(fault: Finding) -> tuple[int, bool]:
-    """Returns the key that sorts the end of a link that is wrong first, and if both are, the one
-    that hears the other."""
+    """Returns the key that sorts a wrong end first, and of two the one that hears the other."""
     return RANKS.index(fault.verdict), not fault.has
 
 
 def ports_beside(faults: Faults, ends: Sequence[End]) -> list[End]:
-    """Returns the ports beside the plan that the line of a link names: at which an end of it is, or
-    which is heard at an end."""
+    """Returns the unplanned ports at which an end of a link is, or that an end hears."""
     found: dict[End, None] = {}
     for end in ends:
         place, neighbor = faults.seen.get(end), faults.only(faults.left[end])

@@ -5,7 +5,7 @@ from typing import Dict, Optional, Sequence, Union
 
 from ..judging import Finding, Verdict
 from ..names import End, Seen, text_of
-from .repairs import Repair
+from .repairs import TO_DO, Repair
 from .report import Report
 from .whole_hosts import MISMATCH
 
@@ -36,7 +36,7 @@ def json_of_repair(report: Report, number: int, repair: Repair) -> Json:
     return {
         "number": number,
         "kind": repair.kind,
-        "do": repair.to_do,
+        "do": TO_DO[repair.kind],
         "host": text_of(repair.end.host),
         "port": text_of(repair.end.port),
         "place": text_of(report.place(repair)),
@@ -65,12 +65,11 @@ def json_of_finding(report: Report, finding: Finding) -> Json:
 
 
 def json_of_plan(report: Report, end: End) -> Dict[str, Json]:
-    """Returns what the plan says of an end: its line, its other columns, and the way through
-    panels."""
-    planned = report.planned(end)
-    return {"line": planned.line,
-            "details": {text_of(name): text_of(text) for name, text in planned.details},
-            "path": [json_of_end(one) for one in planned.path]}
+    """Returns the line of an end in the plan, its other columns, and its way through panels."""
+    wish = report.planned(end)
+    return {"line": wish.line,
+            "details": {text_of(name): text_of(text) for name, text in report.plan.details(wish)},
+            "path": [json_of_end(one) for one in wish.detail.path]}
 
 
 def json_of_end(end: Optional[End]) -> Json:

@@ -11,6 +11,7 @@ from lldpa.texts import printable
 from ..judging import Finding, Verdict
 from ..names import End, shown, text_of
 from .drawing import pictures_of
+from .repairs import TO_DO
 from .report import Report
 from .whole_hosts import MISMATCH
 from .style import STYLE
@@ -26,8 +27,7 @@ def page_of(report: Report) -> bytes:
 
 
 def parts(report: Report) -> Iterator[str]:
-    """Yields the page: the count, the repairs, faults by kind and by host, and each host with
-    faults."""
+    """Yields the page: the count, the repairs, faults by kind and host, and each such host."""
     hosts: dict[str, list[Finding]] = {}
     for fault in report.told[:MOST_ROWS]:
         hosts.setdefault(report.names.host(fault.end.host), []).append(fault)
@@ -56,7 +56,7 @@ def repairs(report: Report) -> Iterator[str]:
     for number, repair in enumerate(report.repairs[:MOST_ROWS], 1):
         yield (f'<tr id="r{number}"><td class=number>{number}'
                f"<td><b>{text(report.place(repair))}</b><td>{text(repair.text)}"
-               f"<td>{repair.to_do}<td>{planned(report, repair.end)}"
+               f"<td>{TO_DO[repair.kind]}<td>{planned(report, repair.end)}"
                f"<td class=number>{report.links_of(repair)}</tr>\n")
     yield "</table>\n"
     if len(report.told) > MOST_ROWS:
@@ -108,11 +108,11 @@ def host(report: Report, number: int, faults: Sequence[Finding]) -> Iterator[str
 
 def planned(report: Report, end: End) -> str:
     """Returns the line of the plan that has an end, and what else it says there."""
-    line, details, path = report.planned(end)
-    says = [] if line is None else [f"line {line}"]
-    says += [f"{text(name)} <b>{text(value)}</b>" for name, value in details]
-    if path:
-        says.append(f"through {', '.join(text(str(one)) for one in path)}")
+    wish = report.planned(end)
+    says = [] if wish.line is None else [f"line {wish.line}"]
+    says += [f"{text(name)} <b>{text(value)}</b>" for name, value in report.plan.details(wish)]
+    if wish.detail.path:
+        says.append(f"through {', '.join(text(str(one)) for one in wish.detail.path)}")
     return f"<small>{', '.join(says)}</small>" if says else ""
 
 
@@ -124,9 +124,6 @@ def kind_of(fault: Finding) -> str:
 def text(name: str) -> str:
     """Returns a text as HTML. Each word whose letters may run from the right is set apart."""
     escaped = html.escape(printable(text_of(name)))
-    return escaped if escaped.isascii() else WORD.sub(set_apart, escaped)
-
-
-def set_apart(word: re.Match[str]) -> str:
-    """Returns a word that runs in its own direction, if it is not in Latin letters."""
-    return word[0] if word[0].isascii() else f"<bdi>{word[0]}</bdi>"
+    if escaped.isascii():
+        return escaped
+    return WORD.sub(lambda word: word[0] if word[0].isascii() else f"<bdi>{word[0]}</bdi>", escaped)

@@ -1,10 +1,9 @@
-"""An audit for pipelines: a report of JUnit's form with a test case for each planned end, and
-metrics for the folder that node_exporter reads texts from."""
+"""An audit for pipelines: a report of JUnit's form, and metrics for node_exporter."""
 from __future__ import annotations
 
 import time
 from collections import Counter
-from typing import Iterator, Mapping
+from typing import Mapping
 from xml.sax.saxutils import quoteattr
 
 from lldpa.texts import printable
@@ -21,11 +20,7 @@ NAME = "lldpa-audit"
 
 def junit_of(report: Report, needs_all: bool = False) -> bytes:
     """Returns the report in XML. What was not looked at is skipped, or fails if all is needed."""
-    return "".join(junit_parts(report, "failure" if needs_all else "skipped")).encode()
-
-
-def junit_parts(report: Report, unseen: str) -> Iterator[str]:
-    """Yields the report from its beginning to its end."""
+    unseen = "failure" if needs_all else "skipped"
     cases = [(one.end, *case_of(report, one, unseen)) for one in report.in_order()]
     not_judged = report.count.cables[NOT_JUDGED]
     if not_judged:
@@ -34,14 +29,13 @@ def junit_parts(report: Report, unseen: str) -> Iterator[str]:
     counted = Counter(element for _, element, _ in cases)
     counts = (f'tests="{len(cases)}" failures="{counted["failure"]}" errors="0" '
               f'skipped="{counted["skipped"]}"')
-    yield '<?xml version="1.0" encoding="UTF-8"?>\n'
-    yield f'<testsuites name="{NAME}" {counts}>\n'
-    yield f"<testsuite name={quoted(report.plan.file)} {counts}>\n"
+    parts = ['<?xml version="1.0" encoding="UTF-8"?>\n', f'<testsuites name="{NAME}" {counts}>\n',
+             f"<testsuite name={quoted(report.plan.file)} {counts}>\n"]
     for end, element, text in cases:
-        head = f"<testcase classname={quoted(end.host)} name={quoted(end.port)}"
-        yield f"{head}/>\n" if not element else (
-            f"{head}><{element} message={quoted(text)}/></testcase>\n")
-    yield "</testsuite>\n</testsuites>\n"
+        parts.append(f"<testcase classname={quoted(end.host)} name={quoted(end.port)}")
+        inner = f"><{element} message={quoted(text)}/></testcase>\n"
+        parts.append(inner if element else "/>\n")
+    return "".join([*parts, "</testsuite>\n</testsuites>\n"]).encode()
 
 
 def case_of(report: Report, one: Finding, unseen: str) -> tuple[str, str]:
@@ -63,32 +57,28 @@ def quoted(text: str) -> str:
 
 
 def metrics_of(report: Report) -> bytes:
-    """Returns the metrics."""
-    return "".join(gauges(report)).encode()
-
-
-def gauges(report: Report) -> Iterator[str]:
-    """Yields each metric with its help."""
+    """Returns the metrics, each with its help."""
     count, now = report.count, time.time()
     verdicts = Counter(one.verdict.value for one in report.findings)
     verdicts[MISMATCH] = count.mismatches
     verdicts[Verdict.RIGHT.value] -= count.mismatches
     names = [*(verdict.value for verdict in Verdict), MISMATCH]
-    yield from gauge("lldpa_audit_cables", "Planned cables by state.", "state", count.cables)
-    yield from gauge("lldpa_audit_ends", "Ends by verdict.", "verdict",
-                     {name: verdicts[name] for name in names})
     kinds = Counter(repair.kind for repair in report.repairs)
-    yield from gauge("lldpa_audit_repairs", "Repairs by kind.", "kind",
-                     {kind: kinds[kind] for kind in TO_DO})
-    if count.ages is not None:
-        yield from gauge("lldpa_audit_source_timestamp_seconds", "Time of what is seen.", "source",
-                         {"newest": now - count.ages.newest, "oldest": now - count.ages.oldest})
-    yield from gauge("lldpa_audit_run_timestamp_seconds", "Time of the audit.", "", {"": now})
+    ages = {} if count.ages is None else count.ages._asdict()
+    return "".join([
+        gauge("cables", "Planned cables by state.", "state", count.cables),
+        gauge("ends", "Ends by verdict.", "verdict", {name: verdicts[name] for name in names}),
+        gauge("repairs", "Repairs by kind.", "kind", {kind: kinds[kind] for kind in TO_DO}),
+        gauge("source_timestamp_seconds", "Time of what is seen.", "source",
+              {name: now - age for name, age in ages.items()}),
+        gauge("run_timestamp_seconds", "Time of the audit.", "", {"": now})]).encode()
 
 
-def gauge(name: str, told: str, label: str, values: Mapping[str, float]) -> Iterator[str]:
-    """Yields a metric, with its value for each value of a label."""
-    yield f"# HELP {name} {told}\n# TYPE {name} gauge\n"
+def gauge(name: str, told: str, label: str, values: Mapping[str, float]) -> str:
+    """Returns a metric with its value for each value of a label, or nothing without values."""
+    name = f"lldpa_audit_{name}"
+    lines = [f"# HELP {name} {told}\n# TYPE {name} gauge\n"] if values else []
     for text, value in values.items():
         labels = f'{{{label}="{text}"}}' if label else ""
-        yield f"{name}{labels} {value:.15g}\n"
+        lines.append(f"{name}{labels} {value:.15g}\n")
+    return "".join(lines)

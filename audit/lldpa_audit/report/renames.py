@@ -14,8 +14,7 @@ Heard = Mapping[str, Sequence[tuple[End, Seen]]]
 
 
 def exchanged(faults: Faults) -> Iterator[Repair]:
-    """Yields a repair for each two hosts that have each other's names at all their links, two at
-    least."""
+    """Yields a repair for each two hosts that have each other's names at all their links."""
     heard = other_names(faults)
     for host, by_name in heard.items():
         other = next(iter(by_name))
@@ -39,8 +38,7 @@ def exchange(faults: Faults, host: str, other: str, some: Sequence[End]) -> Repa
 
 
 def renamed(faults: Faults) -> Iterator[Repair]:
-    """Yields a repair for each planned host that is heard by another name at each of its links,
-    two at least, with the ports that are planned."""
+    """Yields a repair for each planned host that is heard by another name at all its links."""
     for host, by_name in other_names(faults).items():
         some = max(by_name.values(), key=len)
         own = [faults.left[end] for end, _ in some if end in faults.left]
@@ -62,8 +60,7 @@ def other_names(faults: Faults) -> Mapping[str, Heard]:
 
 
 def has_port(faults: Faults, neighbor: Seen, wanted: End) -> bool:
-    """Returns whether a neighbor has, or may have, the port of the end that is wanted, at another
-    host."""
+    """Returns whether a neighbor is of another host and may have the port that is wanted."""
     names = faults.names
     hosts = names.hosts_of(neighbor)
     return bool(hosts) and wanted.host not in hosts and (

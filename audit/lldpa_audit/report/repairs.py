@@ -34,10 +34,8 @@ TO_DO = {
 
 
 class Repair(NamedTuple):
-    """One line: its kind, where to go, what is wrong there, and each end that it mends.
-
-    `place` names where to go if that is not the end, but a whole host or several ports.
-    """
+    """One line: its kind, where to go, what is wrong there, and each end that it mends. `place`
+    names a whole host or several ports to go to."""
 
     kind: str
     end: End
@@ -45,17 +43,10 @@ class Repair(NamedTuple):
     mends: Sequence[Finding]
     place: str = ""
 
-    @property
-    def to_do(self) -> str:
-        """Returns what mends it."""
-        return TO_DO[self.kind]
-
 
 class Faults:
-    """The faults by their ends as they are compared, in order, and what helps to find cables.
-
-    `left` has the faults that no repair mends so far, and `seen` where each wanted end is seen.
-    """
+    """The faults in order, by their ends as they are compared. `left` has those that no repair
+    mends so far, and `seen` where each wanted end is seen."""
 
     def __init__(self, plan: Plan, tables: Tables, faults: Iterable[Finding]) -> None:
         self.plan = plan
@@ -115,8 +106,7 @@ class Faults:
         return self.names.end(wish.wants) if wish else None
 
     def planned(self, neighbor: Seen) -> Optional[Wish]:
-        """Returns the one end of the plan that a neighbor answers to, or None if there are
-        several."""
+        """Returns the planned end that a neighbor answers to, or None if it is not just one."""
         ends = {key for key in self.names.ends(neighbor) if key in self.plan.ends}
         return self.plan.ends[ends.pop()] if len(ends) == 1 else None
 

@@ -1,7 +1,7 @@
 """The report of an audit: its lines, and what its JSON, its page and other files are made of."""
 from __future__ import annotations
 
-from typing import Iterator, Mapping, NamedTuple, Optional, Sequence
+from typing import Iterator, Mapping, Optional, Sequence
 
 from lldpa.texts import printable
 
@@ -9,7 +9,7 @@ from ..columns import key_of
 from ..judging import Finding, Verdict
 from ..mismatches import Mismatch
 from ..names import End, shown, text_of
-from ..plan import Plan
+from ..plan import NOT_PLANNED, Plan, Wish
 from ..seen.tables import Tables
 from .count import count
 from .links import of_exchanges, of_links, of_ports
@@ -27,20 +27,9 @@ MOST_DETAILS, LONGEST_DETAIL = 4, 40
 NO_FAULTS = (Verdict.RIGHT, Verdict.KNOWN, Verdict.NOT_LOOKED_AT)
 
 
-class Planned(NamedTuple):
-    """What the plan says of an end: its line, its other columns, and the way through panels."""
-
-    line: Optional[int] = None
-    details: Sequence[tuple[str, str]] = ()
-    path: Sequence[End] = ()
-
-
 class Report:
-    """What an audit has found.
-
-    `mismatches` has the texts of right links whose ends disagree. `told` has the findings that are
-    reported, by host and port, and `repairs` what mends them.
-    """
+    """What an audit has found: `told` has the findings that are reported, by host and port,
+    `repairs` what mends them, and `mismatches` the right links whose ends disagree."""
 
     def __init__(self, plan: Plan, tables: Tables, findings: Sequence[Finding],
                  mismatches: Optional[Mapping[End, Mismatch]] = None) -> None:
@@ -88,7 +77,7 @@ class Report:
 
     def _column(self, repair: Repair, by: str) -> str:
         """Returns what a column of the plan says of the cable at which a repair begins."""
-        details = self.planned(repair.end).details if by else ()
+        details = self.plan.details(self.planned(repair.end)) if by else ()
         return next((text for name, text in details if key_of(name) == key_of(by)), "")
 
     def place(self, repair: Repair) -> str:
@@ -97,23 +86,21 @@ class Report:
 
     def _details(self, repair: Repair) -> str:
         """Returns what else the plan says of the cable of a repair, in brackets."""
-        planned = Planned() if repair.place else self.planned(repair.end)
-        texts = [f"{name} {value}" for name, value in planned.details
+        wish = NOT_PLANNED if repair.place else self.planned(repair.end)
+        texts = [f"{name} {value}" for name, value in self.plan.details(wish)
                  if len(value) <= LONGEST_DETAIL][:MOST_DETAILS]
-        if planned.path:
-            texts.append(f"through {', '.join(map(str, planned.path))}")
+        if wish.detail.path:
+            texts.append(f"through {', '.join(map(str, wish.detail.path))}")
         return f" [{printable(text_of(', '.join(texts)))}]" if texts else ""
 
-    def planned(self, end: End) -> Planned:
+    def planned(self, end: End) -> Wish:
         """Returns what the plan says of an end."""
-        key = self.names.end(end)
-        wish = self.plan.ends.get(key)
-        return Planned(wish.line, self.plan.details(key), wish.detail.path) if wish else Planned()
+        return self.plan.ends.get(self.names.end(end), NOT_PLANNED)
 
     def links_of(self, repair: Repair) -> int:
         """Returns how many planned links a repair mends."""
-        wishes = [self.plan.ends.get(self.names.end(fault.end)) for fault in repair.mends]
-        return len({frozenset((wish.end, wish.wants)) for wish in wishes if wish is not None})
+        wishes = [self.planned(fault.end) for fault in repair.mends]
+        return len({frozenset(wish[:2]) for wish in wishes if wish is not NOT_PLANNED})
 
     def in_order(self) -> list[Finding]:
         """Returns all findings by hosts and ports."""

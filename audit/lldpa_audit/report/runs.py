@@ -17,8 +17,7 @@ LANE = re.compile(r"(.*[0-9])[s:][0-9]|((?:Et|Eth|Ethernet)[0-9]+/[0-9]+)/[0-9]"
 
 
 def shifted(faults: Faults) -> Iterator[Repair]:
-    """Yields a repair for each run of ports that have what the next one wants, or the one before.
-    """
+    """Yields a repair for each run of ports that have what the next or the last one wants."""
     counts = Counter(key.host for key, fault in faults if faults.only(fault))
     for host in (host for host, count in counts.items() if count >= SHORTEST):
         ports = sorted(faults.plan.ends_of_hosts.get(host, ()), key=by_port)
@@ -35,16 +34,14 @@ def shifted(faults: Faults) -> Iterator[Repair]:
 
 
 def step_of(faults: Faults, key: End, places: dict[End, int]) -> int:
-    """Returns how many ports further the end is that ought to have what an end has, or 0 if there
-    is none."""
+    """Returns how many ports further the end is that wants what an end has, or 0."""
     fault = faults.left.get(key)
     meant = faults.meant(fault) if fault is not None else None
     return places[meant] - places[key] if meant in places else 0
 
 
 def repair_of_run(faults: Faults, ports: Sequence[End], begin: int, end: int, step: int) -> Repair:
-    """Returns the repair of ports that are shifted by one; the one after the last may have no
-    neighbor."""
+    """Returns the repair of shifted ports. The one after the last may have no neighbor."""
     run = list(ports[begin:end])
     behind = end if step > 0 else begin - 1
     if 0 <= behind < len(ports):
@@ -100,8 +97,7 @@ def own_end(faults: Faults, key: End, fault: Finding) -> Optional[End]:
     if len(fault.has) != 1 or fault.verdict not in (*HAVE_ANOTHER, Verdict.UNPLANNED):
         return None
     ends = [end for end in faults.names.ends(fault.has[0]) if end.host == key.host]
-    return next((end for end in ends if end in faults.tables.ends or end in faults.plan.ends),
-                None)
+    return next((end for end in ends if end in faults.tables.ends or end in faults.plan.ends), None)
 
 
 def repair(faults: Faults, kind: str, keys: Sequence[End], text: str, places: Sequence[End]

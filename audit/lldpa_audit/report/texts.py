@@ -49,8 +49,7 @@ class FaultTexts:
         return f"{text} ({reason})" if reason else text
 
     def of_link(self, fault: Finding, other: Optional[Finding]) -> str:
-        """Returns what is wrong at an end of a link, and at its other end, which has a lesser
-        fault."""
+        """Returns what is wrong at an end, and at the other end, which has a lesser fault."""
         text = self.text(fault)
         are_alike = other is not None and fault.verdict is other.verdict
         if other is None or are_alike and other.verdict in (Verdict.ONE_SIDED, Verdict.SILENT):
@@ -98,12 +97,12 @@ class FaultTexts:
             has = [neighbor for neighbor in has if not self.names.answers(neighbor, wanted)]
         texts = [self.neighbor(neighbor, fault.end, fault.wants) for neighbor in has[:MOST_NAMED]]
         if len(set(texts)) < len(texts):
-            texts = [f"{text} ({neighbor.ids})" for text, neighbor in zip(texts, has)]
+            texts = [f"{text} (chassis {shown(one.chassis)}, port {shown(one.port_id)})"
+                     for text, one in zip(texts, has)]
         return listed(texts, len(has) - len(texts))
 
     def neighbor(self, neighbor: Seen, end: End, wants: Optional[End]) -> str:
-        """Returns which neighbor an end has, and where that is planned, or in what its name
-        differs."""
+        """Returns which neighbor an end has, and where it is planned or how its name differs."""
         differs = self.faults.differences.of_neighbor(neighbor, wants) if wants else None
         if differs:
             return f"{neighbor} ({differs})"

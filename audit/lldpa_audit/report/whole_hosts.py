@@ -1,5 +1,4 @@
-"""Faults of whole hosts: one line for a host without data, one that is silent, two of a name, or
-one that differs in a setting from its neighbors."""
+"""Faults of whole hosts: without data, silent, two of one name, or of another setting."""
 from __future__ import annotations
 
 from collections import Counter
@@ -62,8 +61,7 @@ def silent_links(faults: Faults, host: str) -> Sequence[Sequence[End]]:
 
 
 def of_one_name(faults: Faults) -> Iterator[Repair]:
-    """Yields a repair for each planned host without a domain by whose name hosts of several domains
-    answer."""
+    """Yields a repair for each planned name by which hosts of several domains answer."""
     ends: dict[str, list[End]] = {}
     for key, fault in faults:
         far = faults.far(key)
@@ -128,8 +126,7 @@ def keys_of(one: Mismatch, names: Names) -> Iterator[tuple[str, str]]:
 
 def of_host(host: str, by: str, some: Sequence[Finding], found: Mapping[End, Mismatch],
             names: Names) -> Repair:
-    """Returns the repair of a host that differs from its neighbors in the same way at several
-    links."""
+    """Returns the repair of a host that differs from its neighbors alike at several links."""
     first = found[some[0].end]
     end = next(end for end in first.ends if names.host(end.host) == host)
     example = first.text.partition(": ")[2]

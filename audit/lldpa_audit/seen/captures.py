@@ -11,7 +11,6 @@ from lldpa.capture.packets import ETHERNET, BadCapture, interfaces_of, reader_of
 from lldpa.capture.pcap import PcapReader
 from lldpa.capture.source import Source, opened
 from lldpa.capture.trace import SILENT, Told, frames_of
-from lldpa.faults import LldpaFault
 from lldpa.limits import MOST_NEIGHBORS, MOST_PORTS
 
 from ..limits import SECONDS, LimitFault, limited
@@ -23,16 +22,10 @@ LINES_AT_ONCE = 1000
 MOST_UNPACKED = 1 << 27
 
 
-class NoPortNamed(LldpaFault, ValueError):
-    """A capture that does not tell from which port its frames are."""
-
-
 def read_captures(files: Sequence[str], port: str, program: str) -> Listing:
     """Returns the neighbors of a port by its captures or, if no port is named, of the interfaces
-    that the only capture names. Captures without time stamps are as old as the first file.
-
-    A large capture may take long. Raises NoPortNamed, OSError, and Ended if the agent ends.
-    """
+    that the only capture names. Those without time stamps are as old as the first file, and large
+    ones take long. Raises ValueError, OSError, and Ended if the agent ends."""
     stats = [stat_of(file) for file in files]
     seconds = max(SECONDS, sum(one.st_size for one in stats) >> 21)
     try:
@@ -78,21 +71,19 @@ def interface_names(file: str) -> Sequence[str]:
                       if one.link_type == ETHERNET]
     names = [one.name for one in interfaces if one.name]
     if is_of_one_port(file) or len(names) < len(interfaces):
-        raise NoPortNamed(f"{file}: it does not name the port of its frames: write PORT={file}")
+        raise ValueError(f"{file}: it does not name the port of its frames: write PORT={file}")
     return list(dict.fromkeys(names))
 
 
 def is_of_one_port(path: str) -> bool:
-    """Returns whether a file is a capture in the format of pcap, which names no interface. What is
-    wrong with a file is reported when it is read."""
+    """Returns whether a file is a pcap, which names no interface. Damage is reported later."""
     with suppress(OSError, BadCapture), opened(path) as file:
         return isinstance(reader_of(file), PcapReader)
     return False
 
 
 def at_the_end(lines: Iterator[str], ports: Sequence[str], program: str) -> Ports:
-    """Returns the neighbors of some ports after the lines of a trace. The agent refuses those of
-    other ports."""
+    """Returns the neighbors of some ports after a trace. The agent refuses those of others."""
     with Agent.start(ports, program, receive_only=True, max_neighbors=MOST_NEIGHBORS) as agent:
         while some := list(islice(lines, LINES_AT_ONCE)):
             agent.tell(some)

@@ -18,14 +18,12 @@ from .shows import SETTING, settings_of_tlvs
 
 
 class Form(NamedTuple):
-    """The ways to ports, from a port to its neighbors, and from a neighbor to its fields.
-
-    `sign` leads somewhere in this form alone. Without `port` the name that `*` stands for is the
-    port. After `?` come neighbors that a port may lack. Without `kind` the look of a port ID tells
-    whether an interface has that name. `settings` are the ways to the frame size, the PVID, the MAU
-    type and the aggregate. A neighbor has a chassis ID and a port ID; one `of_names` has only some
-    name of its host and of its port. `protocol` leads to the protocol by which it was heard.
-    """
+    """The ways to ports, from a port to its neighbors, and from a neighbor to its fields. `sign`
+    leads somewhere in this form alone. Without `port` the name that `*` stands for is the port.
+    After `?` come neighbors that a port may lack. Without `kind` the look of a port ID tells
+    whether it is an interface's name. `settings` are the ways to the frame size, PVID, MAU type and
+    aggregate, and `protocol` that to the protocol. A neighbor has a chassis ID and a port ID; one
+    `of_names` has some name of its host and of its port."""
 
     sign: str
     ports: str
@@ -152,8 +150,7 @@ def text(node: Any, ways: str) -> str:
 
 
 def listed(node: Any, of: str) -> list[Any]:
-    """Returns the objects of a list, which some vendors omit around a single one. Raises
-    SeenFault."""
+    """Returns a list of objects; some vendors omit it around one object. Raises SeenFault."""
     some = [node] if isinstance(node, dict) else node
     if not isinstance(some, list) or not all(isinstance(one, dict) for one in some):
         raise SeenFault(f"{of!r} has something other than a list of objects")
@@ -220,7 +217,8 @@ def seen(node: Any, form: Form, port: str) -> Seen:
     elif not chassis or not port_id:
         lacks = (form.port_id if chassis else form.chassis).partition(",")[0]
         raise SeenFault(f"{port!r} has a neighbor without {lacks}: is the list of `detail`?")
-    kind = kind_of(text(node, form.kind)) if form.kind else guessed_kind(port_id)
+    by_its_look = "ifname" if INTERFACE.fullmatch(port_id) else "local"
+    kind = kind_of(text(node, form.kind)) if form.kind else by_its_look
     if form.chassis == "chassisId":
         port_id = port_id.strip('"')
     return neighbor(chassis, kind, port_id, name, descr, texts(node, form.addresses),
@@ -242,8 +240,3 @@ def settings(node: Any, form: Form) -> Optional[Settings]:
 def kind_of(subtype: str) -> str:
     """Returns the kind of a port ID by a vendor's word or number for its subtype."""
     return OF_INTERFACES.get(re.sub(".*:|[ _-]", "", subtype.lower()), "local")
-
-
-def guessed_kind(port_id: str) -> str:
-    """Returns the kind of a port ID by its look."""
-    return "ifname" if INTERFACE.fullmatch(port_id) else "local"

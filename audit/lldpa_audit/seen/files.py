@@ -28,8 +28,7 @@ SeenFile = Optional[Listing]
 
 
 def read_file(what: What) -> SeenFile:
-    """Returns what is in a file. Raises OSError for one that was named, and not found in a
-    folder."""
+    """Returns what is in a file. Raises OSError for one that a word names."""
     try:
         with limited(what.file), opened(what.file) as file:
             octets = octets_of(file)
@@ -47,8 +46,7 @@ def read_file(what: What) -> SeenFile:
 
 
 def octets_of(file: BinaryIO) -> Optional[bytes]:
-    """Returns the octets of a file, which gzip may have compressed; None if they are not text.
-    Raises BadCapture and SeenFault."""
+    """Returns the unpacked octets of a text, else None. Raises BadCapture and SeenFault."""
     front = file.read(FRONT)
     source: Readable = file
     if front.startswith(MAGIC):
@@ -80,8 +78,7 @@ def placed(listing: Listing, file: str, written: float) -> Listing:
 
 
 def read_files(whats: Sequence[What]) -> Iterator[SeenFile]:
-    """Returns what is in each file, in their order. Many are read from the call on. Raises
-    OSError."""
+    """Returns what is in each file; many are read from the call on. Raises OSError."""
     processors = len(os.sched_getaffinity(0))
     if len(whats) < MANY or processors < 2:
         return map(read_file, whats)

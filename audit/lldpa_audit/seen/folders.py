@@ -13,10 +13,8 @@ Say = Callable[[str], None]
 
 
 def read_whats(words: Sequence[str], ours: str, say: Say) -> Iterator[What]:
-    """Yields what words name, each file of a folder by itself. What is passed over there is said.
-
-    Raises OSError, and ValueError if a folder is empty.
-    """
+    """Yields what words name, each file of a folder by itself, and says what is passed over. Raises
+    OSError, and ValueError if a folder is empty."""
     for word in words:
         what = read_what(word, ours)
         if what.port or not os.path.isdir(what.file):
@@ -39,8 +37,7 @@ def of_hosts(folder: str, say: Say) -> Iterator[What]:
 
 
 def of_host(host: str, folder: str, say: Say) -> Iterator[What]:
-    """Yields the files of a host: a capture that does not name its interfaces is named by its
-    port."""
+    """Yields the files of a host. A capture of one port is named after that."""
     for entry in entries(folder, say):
         if entry.is_dir(follow_symlinks=False):
             yield from of_host(host, entry.path, say)
@@ -65,8 +62,7 @@ def entries(folder: str, say: Say) -> Iterator["os.DirEntry[str]"]:
 
 
 def why_passed_over(entry: "os.DirEntry[str]") -> str:
-    """Returns why an entry of a folder cannot be a list or a capture, or an empty text if it
-    can."""
+    """Returns why an entry cannot be a list or a capture, or an empty text if it can."""
     if entry.name.endswith(LEFT_BY_EDITORS):
         return "it is a copy that an editor left"
     if entry.is_dir() or entry.is_file():

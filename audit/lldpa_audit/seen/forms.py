@@ -84,6 +84,5 @@ def text_of(octets: bytes) -> str:
 
 
 def is_text(front: bytes) -> bool:
-    """Returns whether octets that begin like this are text: no capture has so few control
-    characters."""
+    """Returns whether octets begin like text: no capture has so few control characters."""
     return front.startswith(UTF_16) or not front.translate(None, TEXT)

@@ -23,12 +23,9 @@ SKIPPED = "is skipped"
 
 
 class Gathering:
-    """Puts what is given into tables. What is damaged is said, and its ports are not known.
-
-    `status` is 1 if something is damaged, and 2 if a host cannot be judged since two sources have
-    the same of it. Its calls raise OSError for what cannot be read, ValueError for what names no
-    port, and Ended if the agent that reads captures ends.
-    """
+    """Puts what is given into tables, and says what is damaged. `status` is 1 for damage, and 2 if
+    two sources have the same of a host. Its calls raise OSError for what cannot be read, ValueError
+    for what names no port, and Ended if the agent that reads captures ends."""
 
     def __init__(self, tables: Tables, program: str, say: Callable[[str], None],
                  stale_after: float = inf) -> None:
@@ -75,7 +72,7 @@ class Gathering:
             own = names.end(End(host, name))
             neighbors = [one for one in heard if not names.answers(one, own)]
             if neighbors or not skipped:
-                self.need_one(host, self.tables.add(host, name, neighbors, files[0]))
+                self.need_one(host, self.tables.add_ports(host, {name: neighbors}, files[0]))
             else:
                 self.tables.add_reason(host, name, skipped)
 

@@ -33,8 +33,7 @@ def tree_of(text: str, begin: int) -> Any:
 
 
 def decoded(text: str, begin: int) -> Any:
-    """Returns what JSON says; numbers stay texts, of whatever length. Raises SeenFault, and
-    JSONDecodeError."""
+    """Returns what JSON says, numbers as texts. Raises SeenFault and JSONDecodeError."""
     decoder = json.JSONDecoder(strict=False, parse_int=str, parse_float=str, parse_constant=str,
                                object_pairs_hook=each_once)
     try:

@@ -14,13 +14,10 @@ class SeenFault(LldpaFault, ValueError):
 
 
 class Listing(NamedTuple):
-    """The neighbors of ports.
-
-    If `has_all_heard` is set, each port of the host that has a neighbor is among them; a form that
-    lists neighbors has no word of a port that hears nobody. `hosts` has the neighbors of each host
-    in a file of many hosts. If there are `faults`, the ports are not known. `notes` say what was
-    skipped. `time` is when this was seen, in seconds since 1970; 0 if nothing says it.
-    """
+    """The neighbors of ports. If it `has_all_heard`, further ports of the host have no neighbor.
+    `hosts` has the neighbors of each host in a file of many. If there are `faults`, the ports are
+    not known. `notes` say what was skipped. `time` is when this was seen, in seconds since 1970; 0
+    if nothing says it."""
 
     ports: Ports
     has_all_heard: bool

@@ -20,12 +20,9 @@ UNNAMED = ("",)
 
 def neighbor(chassis: str, kind: str, port_id: str, name: str = "", descr: str = "",
              addresses: Iterable[str] = (), settings: Optional[Settings] = None) -> Seen:
-    """Returns a neighbor by what it says, under each name that it has. Texts are empty if it does
-    not say them, and `kind` is that of the port ID, by lldpcli's word for it.
-
-    The System Name reads best, and so does the Port Description, unless the Port ID is the name or
-    the alias of an interface.
-    """
+    """Returns a neighbor by what it says, under each name that it has. What it does not say is
+    empty; `kind` is that of the Port ID, by lldpcli's word. The System Name reads best, and so does
+    the Port Description, unless the Port ID is an interface's name or alias."""
     chassis, port_id = clean(chassis), clean(port_id)
     is_named = kind in OF_INTERFACES and port_id != ""
     ports = texts(port_id, descr) if is_named else texts(descr, port_id)
@@ -37,8 +34,7 @@ def neighbor(chassis: str, kind: str, port_id: str, name: str = "", descr: str =
 # many neighbors have the same texts: each is kept, and handed on by a process, once
 @lru_cache(MOST_KEPT)
 def names_of_host(name: str, chassis: str, *addresses: str) -> tuple[str, ...]:
-    """Returns the names of a host by its System Name, its chassis ID and its addresses. In a show a
-    comma ends an address."""
+    """Returns the names of a host. In a show, a comma ends an address."""
     addresses = (chassis, *[clean(address.partition(",")[0]) for address in addresses])
     return texts(name, *[form for address in addresses for form in names_of_address(address)])
 
@@ -51,12 +47,9 @@ def texts(*names: str) -> tuple[str, ...]:
 
 @lru_cache(MOST_KEPT)
 def clean(text: str) -> str:
-    """Returns a text whose surrogates all stand for octets that are not UTF-8. JSON can have
-    others.
-
-    Of a text that is longer than any that a neighbor can say only the begin is kept, which is no
-    name of a plan either.
-    """
+    """Returns a text whose surrogates all stand for octets that are not UTF-8. Of one that is
+    longer than any that a neighbor can say only the begin is kept, which is no planned name
+    either."""
     text = text[:LONGEST]
     try:
         text.encode(errors="surrogateescape")

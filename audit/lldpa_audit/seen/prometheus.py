@@ -1,10 +1,6 @@
-"""A saved answer of Prometheus' HTTP API, with the neighbors that `lldpa-ctl metrics` of each host
-writes.
-
-https://prometheus.io/docs/prometheus/latest/querying/api/ describes it. A query for
-`lldpa_neighbor_info` lists neighbors. With `lldpa_too_many` it has each port of a host, and with
-`node_textfile_mtime_seconds` when the metrics were written.
-"""
+"""A saved answer of Prometheus' API (https://prometheus.io/docs/prometheus/latest/querying/api/)
+with what `lldpa-ctl metrics` of each host writes: neighbors by `lldpa_neighbor_info`, each port by
+`lldpa_too_many`, and their time by `node_textfile_mtime_seconds`."""
 from __future__ import annotations
 
 import re
@@ -25,8 +21,7 @@ Labels = dict[str, str]
 
 
 def read_prometheus(tree: Any) -> Listing:
-    """Returns the neighbors of each host. Raises SeenFault. Two targets of one host may have the
-    same neighbor."""
+    """Returns the neighbors of each host, each once at a port. Raises SeenFault."""
     heard: dict[str, dict[str, dict[Any, Seen]]] = {}
     times: dict[str, float] = {}
     whole = set()
@@ -40,7 +35,9 @@ def read_prometheus(tree: Any) -> Listing:
             if value:
                 at_port[PORTS] = NAMELESS
         elif "chassis" in labels and "port_id" in labels:
-            one = neighbor_of(labels)
+            settings = settings_of(labels["max_frame_size"], labels["pvid"], "", "")
+            one = neighbor(labels["chassis"], labels["port_id_kind"], labels["port_id"],
+                           labels["name"], labels["port_descr"], [labels["management"]], settings)
             heard.setdefault(host, {}).setdefault(port, {})[one] = one
     if not heard:
         raise SeenFault("it is an answer of Prometheus without lldpa_neighbor_info: see "
@@ -52,8 +49,7 @@ def read_prometheus(tree: Any) -> Listing:
 
 
 def samples(tree: Any) -> Iterator[tuple[str, Labels, float]]:
-    """Yields the host, the labels and the value of each series. A label that is missing is empty.
-    Raises SeenFault."""
+    """Yields the host, the labels and the value of each series. Raises SeenFault."""
     try:
         for one in tree["data"]["result"]:
             found = HOST.fullmatch(one["metric"]["instance"])
@@ -69,14 +65,6 @@ def samples(tree: Any) -> Iterator[tuple[str, Labels, float]]:
 
 
 def is_of_agent(file: str) -> bool:
-    """Returns whether a file of node_exporter's folder is one of `lldpa-ctl metrics`, by its
-    name."""
+    """Returns whether a file of node_exporter's folder is of `lldpa-ctl metrics`."""
     name = file.rpartition("/")[2]
     return "lldpa" in name and "audit" not in name
-
-
-def neighbor_of(labels: Labels) -> Seen:
-    """Returns a neighbor by its labels."""
-    settings = settings_of(labels["max_frame_size"], labels["pvid"], "", "")
-    return neighbor(labels["chassis"], labels["port_id_kind"], labels["port_id"], labels["name"],
-                    labels["port_descr"], [labels["management"]], settings)

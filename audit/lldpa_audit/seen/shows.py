@@ -1,7 +1,5 @@
-"""The ports of `show neighbors` and their neighbors, as an audit looks at them.
-
-An audit of a large network spends most of its time here, so an expression takes a whole neighbor.
-"""
+"""The ports of `show neighbors` and their neighbors. An audit of a large network spends most of its
+time here, so an expression takes a whole neighbor."""
 from __future__ import annotations
 
 import re
@@ -72,21 +70,12 @@ def neighbors_at(text: str, at: int, port: str, most: int) -> tuple[list[Seen], 
 
 def seen_neighbor(chassis: str, kind: str, port_id: str, said: Sequence[tuple[str, str]]) -> Seen:
     """Returns a neighbor by its identifiers, and by what else it says."""
-    name = descr = ""
-    addresses: list[str] = []
-    tlvs: list[tuple[str, str]] = []
-    for key, value in said:
-        if key == "chassis.name":
-            name = value
-        elif key == "port.descr":
-            descr = value
-        elif key == "chassis.mgmt":
-            addresses.append(plain(value))
-        else:
-            tlvs.append((key, value))
-    settings = settings_of_tlvs(tuple(tlvs)) if tlvs else None
-    return neighbor(plain(chassis), kind, plain(port_id), plain(name), plain(descr), addresses,
-                    settings)
+    last = dict(said)
+    name, descr = plain(last.get("chassis.name", "")), plain(last.get("port.descr", ""))
+    addresses = [plain(value) for key, value in said if key == "chassis.mgmt"]
+    tlvs = tuple([one for one in said if one[0].startswith("org.")])
+    settings = settings_of_tlvs(tlvs) if tlvs else None
+    return neighbor(plain(chassis), kind, plain(port_id), name, descr, addresses, settings)
 
 
 @lru_cache(MOST_KEPT)  # a network has few settings, and many ports
@@ -109,8 +98,7 @@ def line_of(text: str, at: int) -> int:
 
 @lru_cache(MOST_KEPT)
 def plain(text: str) -> str:
-    """Returns a text of a show as people write it. No show has other letters than those of
-    ASCII."""
+    """Returns a text of a show, which is ASCII, as people write it."""
     if "\\" not in text or not text.isascii():
         return text
     return unescaped(text).decode(errors="surrogateescape")

@@ -50,10 +50,8 @@ def read_walk(text: str) -> Listing:
 
 
 def rows_of(text: str) -> tuple[dict[str, Row], dict[str, Row]]:
-    """Returns the rows of local ports and those of neighbors, by their indexes. Raises SeenFault.
-
-    A walk goes from column to column, and up in each: a line that a neighbor's text has cannot.
-    """
+    """Returns the rows of local ports and those of neighbors, by their indexes. Raises SeenFault if
+    they are out of a walk's order, as a line in a neighbor's text may be."""
     tables: tuple[dict[str, Row], dict[str, Row]] = {}, {}
     last: tuple[int, ...] = ()
     for name, number, index, kind, value in LINE.findall(text):

@@ -16,10 +16,7 @@ class KnownPort(NamedTuple):
 
 
 class Tables:
-    """The known ports of the audited hosts, and why others are not known.
-
-    Hosts and ends are looked up by their names as they are compared.
-    """
+    """The known ports of the audited hosts, by their names as they are compared."""
 
     def __init__(self, names: Names) -> None:
         self.names = names
@@ -32,18 +29,13 @@ class Tables:
         self.times: list[float] = []  # of each source, in seconds since 1970
 
     def add_host(self, host: str) -> None:
-        """Adds an audited host, even if none of its ports is known. Raises ValueError if another
-        host has the same name by --short-names."""
+        """Adds an audited host. Raises ValueError if --short-names makes another one the same."""
         before = self.hosts.setdefault(self.names.host(host), host)
         if before != host and self.names.short_names:
             whole = self.names.with_domains()
             if whole.host(before) != whole.host(host):
                 raise ValueError(f"{shown(before)} and {shown(host)} would be one host by "
                                  "--short-names")
-
-    def add(self, host: str, port: str, neighbors: Sequence[Seen], file: str = "") -> str:
-        """Adds the neighbors of a port. Returns what `add_ports` does."""
-        return self.add_ports(host, {port: neighbors}, file)
 
     def add_ports(self, host: str, ports: Mapping[str, Sequence[Seen]], file: str = "",
                   has_all_heard: bool = False) -> str:
@@ -73,10 +65,8 @@ class Tables:
         self._forgotten.setdefault(self.names.host(host), reason)
 
     def complete(self, plan: Plan) -> None:
-        """Adds the planned ports that lists do not have: they have no neighbor.
-
-        If something of a host, or of such a port, is damaged, its neighbors are not known.
-        """
+        """Adds the planned ports that lists do not have: they have no neighbor. If something of a
+        host or of a port is damaged, its neighbors are not known."""
         for name, reason in self._forgotten.items():
             self._listed.pop(name, None)
             self._reasons[End(name, "")] = reason

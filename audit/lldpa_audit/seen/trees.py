@@ -61,8 +61,7 @@ def listing_of_host(tree: Any) -> Optional[Listing]:
 
 
 def listing_in(tree: dict[str, Any]) -> Optional[Listing]:
-    """Returns the neighbors in what a program puts around a list, or in NAPALM's form, which has a
-    list at each port. Returns None if it is neither. Raises SeenFault."""
+    """Returns the neighbors inside a wrapper or in NAPALM's form, else None. Raises SeenFault."""
     inner = {name.rpartition("/")[2]: one for name, one in tree.items()}
     wrapper = next((name for name in WRAPPERS if name in inner), None)
     if wrapper is not None:
@@ -73,8 +72,7 @@ def listing_in(tree: dict[str, Any]) -> Optional[Listing]:
 
 
 def listing_of_one(answers: list[Any]) -> Optional[Listing]:
-    """Returns the neighbors in the only answer of several that is a list of them, None if none is.
-    Raises SeenFault."""
+    """Returns the only list of neighbors in several answers, or None. Raises SeenFault."""
     if len(answers) == 1:
         return listing_of_host(answers[0])
     found = [one for one in map(listing_or_fault, filter(None, answers)) if not one.faults]

@@ -1,19 +1,14 @@
-"""What lists once did to an audit: each was right for the wrong reason, or refused as a whole.
-"""
+"""For tests: lists that were once refused as a whole, or right for the wrong reason."""
 from __future__ import annotations
 
 import gzip
 import json
 import os
-import tempfile
-import unittest
-from concurrent.futures import ThreadPoolExecutor
-from pathlib import Path
-from typing import Any, Mapping, NamedTuple, Sequence, Tuple
+from typing import Any, Sequence, Tuple
 
 import rack
 import vendors
-from auditing import neighbor, run
+from auditing import Row, neighbor
 
 PLAN = """host,port,peer,peer_port
 leaf1,swp1,host01,eth0
@@ -70,20 +65,7 @@ FAILED: Sequence[Tuple[str, Any, str]] = (
     ("10: null", None, "it has no list, but nothing"),
     ("10: an error", {"error": "x"},
      "it is an error message, and no list of neighbors: see lldpa-audit(1)"))
-
-
-class Row(NamedTuple):
-    """An audit: files by their names, words, the status, and the lines that it prints, first those
-    of standard error."""
-
-    point: str
-    files: Mapping[str, Any]
-    words: str
-    status: int
-    lines: Sequence[str]
-
-
-ROWS = [
+PARTS = (
     *(Row(point, {"l": tree}, "leaf1:l", 1, [
         f"l: {cause}", f"leaf1  no data at 2 of 2 ports (l: {cause})", NOT_LOOKED_AT])
       for point, tree, cause in REFUSED),
@@ -111,6 +93,14 @@ ROWS = [
         ["plan.csv has no cable of the host x: if the file is of another host, write HOST:FILE, "
          "such as leaf1:lists/x.json",
          "3 cables: 2 right, 0 wrong, 1 not looked at (host04, leaf2.lab)"]),
+    *(Row(f"a file that tells nothing: {why}", {"l": text, "leaf2.lab": LEAF2}, "leaf1:l leaf2.lab",
+          1, [*(f"plan.csv has no cable of the host {host}" for host in unplanned),
+              f"leaf1  no data at 2 of 2 ports (l: {why})",
+              "3 cables: 1 right, 0 wrong, 2 not looked at (host01, host02)"])
+      for text, unplanned, why in (
+          (rack.section(), (), "it names no Ethernet interface"),
+          ({"leafX": {"swp1": []}}, ("leafX",), "it is of other hosts"),
+          ({"swp1": {}, "swp2": {}}, ("swp1", "swp2"), "it is of other hosts"))),
     Row("13: rows as nornir has them", {
         "l": {"leaf1": vendors.textfsm(RIGHT), "leaf2.lab": vendors.textfsm(OF_LEAF2)}}, "l", 0,
         ALL_RIGHT),
@@ -127,9 +117,11 @@ ROWS = [
         ["seen: it is a folder without files"]),
     Row("12: what is passed over in a folder", {
         "seen/fifo": os.mkfifo, "seen/gone.json": lambda path: path.symlink_to("nowhere"),
-        "seen/leaf1.json~": "{", "seen/leaf1": LEAF1}, "seen", 0, [
+        "seen/leaf1.json~": "{", "seen/leaf1/list": LEAF1,
+        "seen/leaf1/latest": lambda path: path.symlink_to("..")}, "seen", 0, [
             "seen/fifo: it is no file, and is passed over",
             "seen/gone.json: it is a link that leads nowhere, and is passed over",
+            "seen/leaf1/latest: it is a link to a folder, and is passed over",
             "seen/leaf1.json~: it is a copy that an editor left, and is passed over",
             "3 cables: 2 right, 0 wrong, 1 not looked at (host04, leaf2.lab)"]),
     Row("12: one of two files of a host is damaged", {
@@ -144,41 +136,6 @@ ROWS = [
         "swp3  unplanned: has host01 eth1", "swp5  unplanned: has host99 eth0",
         "swp6  unplanned: has host03 eth1 and rogue p1",
         "3 cables: 2 right, 0 wrong, 1 not looked at (host04, leaf2.lab); 3 unplanned"]),
-]
-
-
-def write(path: Path, content: Any) -> None:
-    """Writes a file of octets, text or JSON, or lets a call make it."""
-    path.parent.mkdir(parents=True, exist_ok=True)
-    if callable(content):
-        content(path)
-    elif isinstance(content, bytes):
-        path.write_bytes(content)
-    else:
-        path.write_text(content if isinstance(content, str) else json.dumps(content))
-
-
-def audited(row: Row) -> Tuple[int, Sequence[str]]:
-    """Returns the status and the lines of an audit."""
-    with tempfile.TemporaryDirectory() as folder:
-        for name, content in {"plan.csv": PLAN, **row.files}.items():
-            write(Path(folder, name), content)
-        words = [f"{front}{mark}{folder}/{file}" for front, mark, file in (
-            word.rpartition(":") for word in row.words.split())]
-        ran = run(f"{folder}/plan.csv", *words)
-    text = ran.stderr.replace("lldpa-audit: ", "") + ran.stdout
-    return ran.returncode, text.replace(f"{folder}/", "").splitlines()
-
-
-class Points(unittest.TestCase):
-    """Each row of the table."""
-
-    def test_rows(self) -> None:
-        with ThreadPoolExecutor() as pool:
-            for row, found in zip(ROWS, pool.map(audited, ROWS)):
-                with self.subTest(point=row.point):
-                    self.assertEqual(found, (row.status, row.lines))
-
-
-if __name__ == "__main__":
-    unittest.main()
+)
+ROWS = [row._replace(files={"plan.csv": PLAN, **row.files}, words=f"plan.csv {row.words}")
+        for row in PARTS]
