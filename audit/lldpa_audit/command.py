@@ -93,7 +93,7 @@ class Audit:
         for what in whats:
             key = names.host(what.host)
             if what.host != given.host and key in plan.hosts and key not in tables.hosts:
-                tables.add_reason(what.host, "", f"{what.file}: it is of other hosts")
+                tables.add_reason(what.host, "", f"{what.file}: it has lists of other hosts only")
         if given.live:
             try:
                 gathering.add_live(given.host, given.control, plan, given.wait)

@@ -66,7 +66,7 @@ def read_known(file: str, names: Names, today: datetime.date) -> Known:
         host, port, reason, last, verdict, *rest = [*fields, ""]
         until, verdicts = date_of(last), VERDICTS.get(verdict) if verdict else SILENCE
         if rest[1:] or not host or not reason or until is None:
-            faults.add(line, "it has no host, no reason, or no date such as 2026-12-31")
+            faults.add(line, "a host or a reason is missing, or a date such as 2026-12-31")
         elif verdicts is None:
             faults.add(line, f"{verdict!r} is not a verdict: {', '.join(VERDICTS)}")
         elif until < today:

@@ -58,9 +58,10 @@ def add_words_of_sources(parser: argparse.ArgumentParser) -> None:
     """Adds the words for how the plan is read, and for what is seen besides files."""
     add = parser.add_argument
     add("--columns", metavar="NAMES", type=columns,
-        help="the plan's columns, such as host=device,port=interface,peer=to,peer_port=to_port")
+        help="how the plan names its columns, such as "
+             "host=device,port=interface,peer=to,peer_port=to_port")
     add("--panels", metavar="FILE",
-        help="the ports that patch panels join, such as NetBox's export of front ports")
+        help="which ports of patch panels belong together, such as NetBox's export of front ports")
     add("--live", action="store_true", help="ask the lldpa-live of this host")
     add("--control", metavar="PATH", default=DEFAULT_PATH,
         help=f"the control socket of lldpa-live (default: {DEFAULT_PATH})")
@@ -71,7 +72,7 @@ def add_words_of_sources(parser: argparse.ArgumentParser) -> None:
     add("--host", metavar="NAME", default=socket.gethostname(),
         help="this host's name in the plan (default: the system's name)")
     add("--settings", action="store_true",
-        help="compare what both ends of each right link announce: frame size, VLAN, speed, duplex")
+        help="compare what both ends of correct links announce: frame size, VLAN, speed, duplex")
 
 
 def add_words_of_names(parser: argparse.ArgumentParser) -> None:
@@ -82,7 +83,8 @@ def add_words_of_names(parser: argparse.ArgumentParser) -> None:
         help="compare hosts' domains only if both names have one")
     add("--vendor-names", action="store_true",
         help="treat vendors' spellings as equal, such as Gi1/0/1 and GigabitEthernet1/0/1")
-    add("--aliases", metavar="FILE", help="more names, in CSV with the columns host,port,alias")
+    add("--aliases", metavar="FILE",
+        help="other names of hosts and ports, in CSV with the columns host,port,alias")
 
 
 def add_words_of_report(parser: argparse.ArgumentParser) -> None:

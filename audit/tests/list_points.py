@@ -99,8 +99,8 @@ PARTS = (
               "3 cables: 1 right, 0 wrong, 2 not looked at (host01, host02)"])
       for text, unplanned, why in (
           (rack.section(), (), "it names no Ethernet interface"),
-          ({"leafX": {"swp1": []}}, ("leafX",), "it is of other hosts"),
-          ({"swp1": {}, "swp2": {}}, ("swp1", "swp2"), "it is of other hosts"))),
+          ({"leafX": {"swp1": []}}, ("leafX",), "it has lists of other hosts only"),
+          ({"swp1": {}, "swp2": {}}, ("swp1", "swp2"), "it has lists of other hosts only"))),
     Row("13: rows as nornir has them", {
         "l": {"leaf1": vendors.textfsm(RIGHT), "leaf2.lab": vendors.textfsm(OF_LEAF2)}}, "l", 0,
         ALL_RIGHT),
@@ -115,19 +115,19 @@ PARTS = (
       for words in ("seen", "leaf1:seen/leaf1 leaf2.lab:seen/leaf2.lab")),
     Row("12: a folder without files", {"seen/.hidden": "x"}, "seen", 2,
         ["seen: it is a folder without files"]),
-    Row("12: what is passed over in a folder", {
+    Row("12: what is skipped in a folder", {
         "seen/fifo": os.mkfifo, "seen/gone.json": lambda path: path.symlink_to("nowhere"),
         "seen/leaf1.json~": "{", "seen/leaf1/list": LEAF1,
         "seen/leaf1/latest": lambda path: path.symlink_to("..")}, "seen", 0, [
-            "seen/fifo: it is no file, and is passed over",
-            "seen/gone.json: it is a link that leads nowhere, and is passed over",
-            "seen/leaf1/latest: it is a link to a folder, and is passed over",
-            "seen/leaf1.json~: it is a copy that an editor left, and is passed over",
+            "seen/fifo: it is no file, and is skipped",
+            "seen/gone.json: it is a link that leads nowhere, and is skipped",
+            "seen/leaf1/latest: it is a link to a folder, and is skipped",
+            "seen/leaf1.json~: it is a copy that an editor left, and is skipped",
             "3 cables: 2 right, 0 wrong, 1 not looked at (host04, leaf2.lab)"]),
     Row("12: one of two files of a host is damaged", {
         "a": vendors.napalm({"swp1": RIGHT["swp1"]}), "b": "{"}, "leaf1:a leaf1:b", 1, [
-            "b: it begins like JSON, and is none",
-            "swp2  no data: wants host02 eth0 (b: it begins like JSON, and is none)",
+            "b: it begins like JSON, but is not valid JSON",
+            "swp2  no data: wants host02 eth0 (b: it begins like JSON, but is not valid JSON)",
             "3 cables: 1 right, 0 wrong, 2 not looked at (host02, host04, leaf2.lab)"]),
     Row("an empty Port ID", {"l": neighbor("swp1", "h", "", kind="local")}, "leaf1:l", 1, [
         'swp1  wrong: wants host01 eth0, has h ""', "swp2  no data: wants host02 eth0",

@@ -228,8 +228,8 @@ SEEN = {f"leaf{1 + side}": "".join(f"swp{at // 2 + 3} s1 e{at}\nswp{at // 2 + 1}
 OWN = {host: "".join(f"e{at} leaf{1 + at % 2} swp{at // 2 + first}\n" for at in range(4))
        for host, first in (("s1", 3), ("s2", 1))}
 RIGHT = {"s1": OWN["s2"], "s2": OWN["s1"]}
-NO_JSON = "it begins like JSON, and is none"
-EXCHANGED = ["s1  exchanged with s2: each answers at all links of the other (4 and 4)",
+NO_JSON = "it begins like JSON, but is not valid JSON"
+EXCHANGED = ["s1  exchanged with s2: each is seen at all links planned for the other (4 and 4)",
              "8 cables: 0 right, 8 wrong"]
 HOSTS = (
     situation("two servers in each other's place", FOUR_EACH, SEEN, 1, EXCHANGED),

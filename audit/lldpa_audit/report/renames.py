@@ -33,7 +33,7 @@ def exchange(faults: Faults, host: str, other: str, some: Sequence[End]) -> Repa
     counts = [sum(end.host == one for end in some) for one in (host, other)]
     ends = [far for end in some for far in (faults.far(end), end) if far is not None]
     return Repair("exchanged", End(faults.plan.hosts[host], some[0].port),
-                  f"exchanged with {names[1]}: each answers at all links of the other "
+                  f"exchanged with {names[1]}: each is seen at all links planned for the other "
                   f"({counts[0]} and {counts[1]})", faults.take(ends), names[0])
 
 

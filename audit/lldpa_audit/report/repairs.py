@@ -26,7 +26,7 @@ TO_DO = {
     "extra": "take the second device away",
     "doubled": "look for a hub, or two devices of one name",
     "one-sided": "look for a fiber that is broken, or a side that does not send",
-    "disagrees": "look at the other end again",
+    "disagrees": "get new data from both ends",
     "no data": "give what is seen there",
     "unplanned": "take the cable out, or plan it",
     "mismatch": "give both ends the same setting, that of the plan if it has one",

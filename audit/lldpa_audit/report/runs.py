@@ -76,7 +76,7 @@ def broken_out(faults: Faults) -> Iterator[Repair]:
             text = f"not broken out: {of_ports(faults, group)} are planned"
             yield repair(faults, "not broken out", [whole, *group], text, [whole])
         elif one.verdict in HAVE_NOBODY and not any(are_planned):
-            text = f"broken out: it is planned whole, and {of_ports(faults, group)} are there"
+            text = f"broken out: the plan has one port, but {of_ports(faults, group)} are seen"
             yield repair(faults, "broken out", [whole, *group], text, [whole])
 
 

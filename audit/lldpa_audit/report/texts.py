@@ -58,7 +58,7 @@ class FaultTexts:
         if other.verdict is Verdict.DISAGREES:
             return f"{text}; {at} hears it"
         if other.verdict is Verdict.NO_DATA:
-            return f"{text}; of {at} nothing is known"
+            return f"{text}; nothing is known of {at}"
         return f"{text}; {at} has {self.neighbors(other)}" if other.has else (
             f"{text}; {at} hears nobody")
 

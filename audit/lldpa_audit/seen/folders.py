@@ -13,7 +13,7 @@ Say = Callable[[str], None]
 
 
 def read_whats(words: Sequence[str], ours: str, say: Say) -> Iterator[What]:
-    """Yields what words name, each file of a folder by itself, and says what is passed over. Raises
+    """Yields what words name, each file of a folder by itself, and says what is skipped. Raises
     OSError, and ValueError if a folder is empty."""
     for word in words:
         what = read_what(word, ours)
@@ -45,7 +45,7 @@ def of_host(host: str, folder: str, say: Say) -> Iterator[What]:
             port = without_ending(entry.name) if is_of_one_port(entry.path) else ""
             yield What(host, port, entry.path, True)
         else:
-            say(f"{entry.path}: it is a link to a folder, and is passed over")
+            say(f"{entry.path}: it is a link to a folder, and is skipped")
 
 
 def entries(folder: str, say: Say) -> Iterator["os.DirEntry[str]"]:
@@ -56,7 +56,7 @@ def entries(folder: str, say: Say) -> Iterator["os.DirEntry[str]"]:
     for one in there:
         why = why_passed_over(one)
         if why:
-            say(f"{one.path}: {why}, and is passed over")
+            say(f"{one.path}: {why}, and is skipped")
         else:
             yield one
 

@@ -33,7 +33,7 @@ CAUSES = (
                  "neighbors`"),
     (r"\s*<(?:!DOCTYPE html|html)", "it is a web page, such as that of a login"),
     (r"\s*<", "it is XML, but no list of neighbors that is known"),
-    (r"\s*[{\[]", "it begins like JSON, and is none"),
+    (r"\s*[{\[]", "it begins like JSON, but is not valid JSON"),
     (r"(?is:.{0,4000}?(?:traceback \(most|invalid (?:input|command)|command not found|"
      r"permission denied|connection (?:refused|timed)|unknown command|syntax error))",
      FAILED),

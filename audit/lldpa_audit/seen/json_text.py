@@ -41,7 +41,7 @@ def decoded(text: str, begin: int) -> Any:
     except Twice:
         raise fault_of_twice(text, begin) from None
     except RecursionError:
-        raise SeenFault("it is JSON whose parts are too deep in one another") from None
+        raise SeenFault("its JSON is nested too deeply") from None
     if BEGIN.search(text, end) or len(text[end:].strip()) > LONGEST_BANNER:
         raise SeenFault("it has more than JSON and a prompt: give one answer")
     return tree
