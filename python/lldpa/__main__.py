@@ -1,5 +1,4 @@
 """Prints what the package has: `python3 -m lldpa`."""
-from __future__ import annotations
 
 from . import __version__
 
@@ -14,7 +13,6 @@ lldpa {__version__}, the Python package of an agent for LLDP
 Each prints help with --help. In Python, `from lldpa import Agent` runs an agent, and
 `from lldpa.client import Client` asks a running lldpa-live.
 """
-
 
 if __name__ == "__main__":
     print(TEXT, end="")

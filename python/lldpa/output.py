@@ -1,5 +1,4 @@
 """Standard streams, and reports of output that fails: it is closed, full, or not read."""
-from __future__ import annotations
 
 import io
 import os
@@ -15,7 +14,6 @@ INPUT, OUTPUT, ERRORS = 0, 1, 2
 
 class OutputFault(LldpaFault):
     """Says why standard output failed; empty if its reader has gone."""
-
 
 class StandardOutput(io.FileIO):
     """Standard output. Its faults differ from those of other files."""

@@ -2,7 +2,6 @@
 
 A neighbor's text is octets, mostly UTF-8. Shows have them escaped; `shown_octets` returns them.
 """
-# no `annotations` of __future__: see agent/shown.py
 import unicodedata
 from functools import lru_cache
 from typing import Any, Dict, Iterator, Optional, Tuple

@@ -1,37 +1,26 @@
 """For tests: what tshark must show of what is read here of organizationally specific TLVs."""
 
-from __future__ import annotations
-
-from functools import singledispatch
-from typing import Any, Dict, List, Tuple
+from typing import Any, Callable, Dict, List, Tuple
 
 from lldpa.organizational import LinkAggregation, Tlv
 
-# What tshark shows and is not compared, with the reason.
+# what tshark shows and is not compared, by the reason: keys, or parts of keys
 LEFT_OUT = {
-    "lldp.tlv.": "type and length of the TLV",
-    "lldp.orgtlv.oui": "tells which TLV it is",
-    "lldp.ieee.802_1.subtype": "tells which TLV it is",
-    "lldp.ieee.802_3.subtype": "tells which TLV it is",
-    "lldp.media.subtype": "tells which TLV it is",
-    "lldp.iana.subtype": "tells which TLV it is",
-    "_ws.": "tshark's own remarks",
-    "lldp.tlv_deprecated": "tshark's own remark",
-    "caps_inv.": "the same bits read in the wrong order, which tshark shows besides",
-    "porttype": "bits that are reserved in IEEE 802.1AB",
-    "reserved": "bits that mean nothing",
-    "lldp.ieee.802_3.bt_power_down": "an octet or more whose parts are compared",
-    "lldp.ieee.802_3.bt_autoclass": "an octet whose parts are compared",
-    "lldp.ieee.802_3.bt_power_status": "octets whose parts are compared",
-    "lldp.ieee.802_3.bt_system_setup": "an octet of which tshark shows one part, which is compared",
-    "lldp.ieee.802_3.mdi_power_support": "an octet whose parts are compared",
-    "lldp.ieee.802_3.mac_phy_auto_neg_status": "an octet whose parts are compared",
-    "lldp.ieee.802_1.port_and_vlan_id_flag": "an octet whose parts are compared",
-    "lldp.ieee.802_1.aggregation_status": "an octet whose parts are compared",
-    "lldp.ieee.802_3.aggregation_status": "an octet whose parts are compared",
+    "which TLV it is, and its length": (
+        "lldp.tlv.", "lldp.orgtlv.oui", "lldp.ieee.802_1.subtype", "lldp.ieee.802_3.subtype",
+        "lldp.media.subtype", "lldp.iana.subtype"),
+    "tshark's own remarks": ("_ws.", "lldp.tlv_deprecated"),
+    "the same bits read in the wrong order, which tshark shows besides": ("caps_inv.",),
+    "bits that mean nothing, or are reserved in IEEE 802.1AB": ("reserved", "porttype"),
+    "octets whose parts are compared": (
+        "lldp.ieee.802_3.bt_power_down", "lldp.ieee.802_3.bt_autoclass",
+        "lldp.ieee.802_3.bt_power_status", "lldp.ieee.802_3.bt_system_setup",
+        "lldp.ieee.802_3.mdi_power_support", "lldp.ieee.802_3.mac_phy_auto_neg_status",
+        "lldp.ieee.802_1.port_and_vlan_id_flag", "lldp.ieee.802_1.aggregation_status",
+        "lldp.ieee.802_3.aggregation_status"),
 }
-# the whole keys among them; the others are parts of keys
-EXACT = {key for key in LEFT_OUT if key.startswith("lldp.") and not key.endswith(".")}
+KEYS = {key for keys in LEFT_OUT.values() for key in keys}
+EXACT = {key for key in KEYS if key.startswith("lldp.") and not key.endswith(".")}
 Pairs = List[Tuple[str, str]]
 
 
@@ -42,7 +31,7 @@ def compared(pairs: List[Any]) -> Pairs:
 
 def is_left_out(key: str) -> bool:
     """Returns whether a key is not compared."""
-    return key in EXACT or any(part in key for part in LEFT_OUT if part not in EXACT)
+    return key in EXACT or any(part in key for part in KEYS - EXACT)
 
 
 def expected(front: str, values: Dict[str, Any]) -> Pairs:
@@ -57,14 +46,10 @@ def as_shown(value: Any) -> str:
     return value if isinstance(value, str) else str(int(value))
 
 
-# by class, the front of tshark's keys, and the rest of each with the field that it shows
+# By class, what tshark shows: the front of its keys, and the rest of each with the field that it
+# shows; or a function that returns it. tlvs.py fills both.
 FIELDS: Dict[type, Tuple[str, Dict[str, str]]] = {}
-
-
-@singledispatch
-def by_tshark(tlv: Any) -> Pairs:
-    """Returns what tshark shows of a TLV."""
-    return by_fields(tlv)
+SHOWN: Dict[type, Callable[[Any], Pairs]] = {}
 
 
 def by_fields(tlv: Any) -> Pairs:
@@ -80,7 +65,7 @@ def enumerated(values: Tuple[int, ...]) -> Dict[str, int]:
 
 def wanted(kind: Tuple[str, int], tlv: Tlv) -> Pairs:
     """Returns what tshark must show of a TLV of a kind."""
-    pairs = by_tshark(tlv)
+    pairs = SHOWN.get(type(tlv), by_fields)(tlv)
     if isinstance(tlv, LinkAggregation):
         front = "lldp.ieee.802_1." if kind[0] == "0080c2" else "lldp.ieee.802_3."
         return [(front + key, value) for key, value in pairs]

@@ -1,11 +1,10 @@
 """For tests: receives what a service reports to systemd, at a socket of the test's own."""
 
-from __future__ import annotations
-
 import os
 import select
 import socket
 import time
+from pathlib import Path
 
 from patience import SECONDS
 
@@ -13,8 +12,8 @@ from patience import SECONDS
 class Heard:
     """A datagram socket as NOTIFY_SOCKET names one, and what it has received."""
 
-    def __init__(self, folder: str) -> None:
-        self.path = os.path.join(folder, "notify")
+    def __init__(self, folder: Path) -> None:
+        self.path = str(folder / "notify")
         self.socket = socket.socket(socket.AF_UNIX, socket.SOCK_DGRAM)
         self.socket.bind(self.path)
         os.chmod(self.path, 0o777)
@@ -46,5 +45,4 @@ class Heard:
             pass
 
     def close(self) -> None:
-        """Closes the socket."""
         self.socket.close()

@@ -1,20 +1,15 @@
 """For tests: what lldpcli and tshark show of a frame, and what is read of it here."""
 
-from __future__ import annotations
-
 from typing import Any, Iterable, Iterator, List, NamedTuple, Tuple
 
-import tlvs_dot1  # noqa: F401  the samples register themselves
-import tlvs_dot3  # noqa: F401
-import tlvs_med  # noqa: F401
 from by_tshark import compared, unknown_octets, wanted
-from encoding import SAMPLES
 from lldpa import Agent, Neighbor, Show
 from lldpa.agent.show import Port
 from lldpa.lldpcli_forms.shows import Depth, Told, neighbors
 from lldpa.lldpcli_forms.writing import whole
 from lldpa.organizational import read_tlv
 from served import PROGRAM
+import tlvs  # noqa: F401  which fills what `wanted` reads
 
 Pair = Tuple[str, Any]
 # the keys of lldpcli that are about TLVs of organizations

@@ -4,7 +4,6 @@
 at swp1; `none.*` are of no frame. lldpcli 1.0.16 wrote them with `show neighbors details`; it
 writes no XML if a name is not UTF-8.
 """
-from __future__ import annotations
 
 from pathlib import Path
 

@@ -1,5 +1,4 @@
 """For tests: captures that are made of frames, in nine forms, and frames to put into them."""
-from __future__ import annotations
 
 import struct
 from typing import Callable, Dict, List, Optional, Sequence, Tuple
@@ -32,7 +31,6 @@ def whole(octets: bytes, time: int = START) -> Frame:
 
 def pcap(frames: Sequence[Frame], order: str = "<", units: int = 10**6,
          link_type: int = ETHERNET) -> bytes:
-    """Returns a pcap file."""
     magic = {10**6: 0xA1B2C3D4, 10**9: 0xA1B23C4D}[units]
     parts = [struct.pack(order + "IHHiIII", magic, 2, 4, 0, 0, 65535, link_type)]
     for time, octets, length in frames:

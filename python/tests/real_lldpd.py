@@ -1,5 +1,4 @@
 """For tests and scripts: a real lldpd beside this repository's programs."""
-from __future__ import annotations
 
 import json
 import os
@@ -7,6 +6,7 @@ import re
 import shutil
 import subprocess
 import unittest
+from pathlib import Path
 from typing import Any
 
 from patience import eventually
@@ -17,9 +17,9 @@ beside_lldpd = unittest.skipUnless(shutil.which("lldpd"), "it needs Debian's pac
 class Lldpd:
     """A running lldpd, in a namespace, with its socket in a folder."""
 
-    def __init__(self, namespace: str, folder: str, *words: str) -> None:
+    def __init__(self, namespace: str, folder: Path, *words: str) -> None:
         os.makedirs("/run/lldpd", exist_ok=True)
-        self.socket = os.path.join(folder, namespace)
+        self.socket = str(folder / namespace)
         command = ["ip", "netns", "exec", namespace, "lldpd", "-d", "-u", self.socket, "-O",
                    "/dev/null"]
         self.process = subprocess.Popen([*command, *words], stdin=subprocess.DEVNULL,
@@ -47,6 +47,5 @@ class Lldpd:
         return set(re.findall(rf"^lldp\.{re.escape(key)}=(.*)$", shown, re.M))
 
     def close(self) -> None:
-        """Ends it."""
         self.process.terminate()
         self.process.wait()

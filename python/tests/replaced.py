@@ -1,11 +1,8 @@
 """For tests: an lldpa-live with neighbors, whose table must stay while another agent follows."""
 
-from __future__ import annotations
-
-import os
 import socket
+import subprocess
 import time
-from pathlib import Path
 from typing import Optional
 
 from lldpa import Neighbor, read_show
@@ -32,9 +29,13 @@ class Replaced(OnLinks):
 
     def setUp(self) -> None:
         super().setUp()
-        self.log = Path(self.wires.folder, "log")
-        os.chmod(self.wires.folder, 0o777)
+        self.folder.chmod(0o777)
         self.peers = [self.peer("peer0"), self.peer("peer1")]
+
+    def can_make(self, name: str, *words: str) -> bool:
+        """Makes an interface, and returns whether this kernel has its kind."""
+        command = ["ip", "-n", self.wires.here, "link", "add", "name", name, *words]
+        return subprocess.run(command, check=False, capture_output=True).returncode == 0
 
     def begun(self, *words: str) -> Live:
         """Starts an lldpa-live with a log and three neighbors, which came in different seconds."""

@@ -1,7 +1,5 @@
 """For tests: whether a log, replayed, gives the tables of some moments, and the frames sent."""
 
-from __future__ import annotations
-
 import re
 import shlex
 import subprocess

@@ -1,7 +1,5 @@
 """For tests on real links: running lldpa-lives, and what is ended after a test."""
 
-from __future__ import annotations
-
 import contextlib
 import os
 import shutil
@@ -10,21 +8,18 @@ import subprocess
 import time
 import unittest
 from pathlib import Path
-from typing import Any, Optional, Sequence
+from typing import Any, Iterator, Optional, Sequence
 
 from lldpa import Refused
 from lldpa.client import Client
 
 from patience import SECONDS, eventually
-from served import REPOSITORY
+from served import REPOSITORY, ctl, numbered
 from wires import Peer, Wires, inside
 
 LIVE = os.environ.get("LLDPA_LIVE") or str(REPOSITORY / "rust" / "live" / "out" / "lldpa-live")
 is_built = unittest.skipUnless(os.access(LIVE, os.X_OK),
                                "there is no lldpa-live: tools/release/live.sh builds it")
-on_links = unittest.skipUnless(
-    os.geteuid() == 0 and shutil.which("ip") and os.access(LIVE, os.X_OK),
-    "links want root, ip, and lldpa-live, which tools/release/live.sh builds")
 
 NO_ADDRESS = "there is no IPv4 address to announce\n"
 
@@ -33,12 +28,18 @@ signal.signal(signal.SIGINT, signal.default_int_handler)
 signal.signal(signal.SIGHUP, lambda *_: None)
 
 
+def run_live(*words: str) -> subprocess.CompletedProcess[str]:
+    """Runs an lldpa-live that ends by itself, without input."""
+    return subprocess.run([LIVE, *words], stdin=subprocess.DEVNULL, capture_output=True, text=True,
+                          timeout=SECONDS, check=False)
+
+
 class Live:
     """A running lldpa-live."""
 
     def __init__(self, wires: Wires, *words: str, side: str = "here", before: Sequence[str] = (),
                  awaits: bool = True, **options: Any) -> None:
-        self.control = os.path.join(wires.folder, f"control-{side}-{time.monotonic_ns()}")
+        self.control = str(wires.folder / f"control-{side}-{time.monotonic_ns()}")
         self.errors_path = Path(self.control + ".errors")
         own = [] if "--control" in words else ["--control", self.control]
         with inside(getattr(wires, side)), self.errors_path.open("wb") as errors:
@@ -74,6 +75,10 @@ class Live:
         except Refused as refused:
             return refused.text
         return ""
+
+    def ctl(self, *words: str) -> str:
+        """Returns what lldpa-ctl prints of it."""
+        return ctl(self.control, *words).stdout
 
     def told(self, what: str, key: str) -> str:
         """Returns the value that it gives a key in its answer."""
@@ -129,8 +134,14 @@ class Live:
         return self.ends()
 
     def signal(self, number: int) -> None:
-        """Sends it a signal."""
         self.process.send_signal(number)
+
+    @contextlib.contextmanager
+    def stopped(self) -> Iterator[None]:
+        """Stops it meanwhile."""
+        self.signal(signal.SIGSTOP)
+        yield
+        self.signal(signal.SIGCONT)
 
     def ends(self, seconds: float = SECONDS) -> Optional[int]:
         """Returns its status, or None if it does not end in time."""
@@ -150,6 +161,8 @@ class Live:
             raise AssertionError(self.errors())
 
 
+@unittest.skipUnless(os.geteuid() == 0 and shutil.which("ip") and os.access(LIVE, os.X_OK),
+                     "links want root, ip, and lldpa-live, which tools/release/live.sh builds")
 class OnLinks(unittest.TestCase):
     """A test with links that are removed after it, and what runs on them ended."""
 
@@ -158,6 +171,8 @@ class OnLinks(unittest.TestCase):
     def setUp(self) -> None:
         self.wires = Wires(self.links)
         self.addCleanup(self.wires.close)
+        self.folder = self.wires.folder
+        self.log = self.folder / "log"
 
     def live(self, *words: str, **options: Any) -> Live:
         """Starts an lldpa-live that is ended after the test."""
@@ -174,6 +189,12 @@ class OnLinks(unittest.TestCase):
     def receiving(self, *words: str) -> tuple[Live, Peer]:
         """Starts an lldpa-live of eth0 that only receives, and opens a sender at the other end."""
         return self.live(*words, "eth0", "--", "--receive-only"), self.peer()
+
+    def becomes_neighbor(self, live: Live, octets: bytes = numbered(1),
+                         peer: Optional[Peer] = None) -> None:
+        """Sends a frame, and waits until its sender is a neighbor of eth0."""
+        (peer or self.peer()).send(octets)
+        self.assertTrue(eventually(live.neighbors))
 
     def refuses(self, text: str, *words: str, status: int = 1, **options: Any) -> None:
         """Checks that an lldpa-live of these words does not start, and why."""

@@ -5,8 +5,10 @@ from __future__ import annotations
 import os
 import shutil
 import socket
+import subprocess
 import tempfile
 import threading
+import unittest
 from contextlib import suppress
 from pathlib import Path
 from typing import Any, Sequence
@@ -20,6 +22,7 @@ PROGRAM = os.environ.get("LLDPA") or str(REPOSITORY / "crates" / "lldpa" / "out"
 os.environ["PATH"] = os.path.dirname(PROGRAM) + os.pathsep + os.environ.get("PATH", os.defpath)
 CTL = str(REPOSITORY / "bin" / "lldpa-ctl")
 GROUP_ADDRESS = bytes.fromhex("0180c200000e")
+HOSTILE = b"\x1b[31m\r\n\x9b2J\x07"
 LIVE_LINES = b"""\
 live.began=2026-11-25T09:30:00Z
 live.agent=running
@@ -28,21 +31,17 @@ live.settings-refused=2
 live.ports-refused=1
 live.log=on
 live.log-lines-lost=5
-live.eth0.interface=present
-live.eth0.link=up
-live.eth0.kernel-drops=7
-live.eth0.limit-drops=6
-live.eth0.other-frames=8
-live.eth0.unsent=4
-live.eth0.left-out=3
-live.eth1.interface=awaited
-live.eth1.link=down
-live.eth1.kernel-drops=0
-live.eth1.limit-drops=0
-live.eth1.other-frames=0
-live.eth1.unsent=0
-live.eth1.left-out=0
 """.splitlines()
+OF_PORTS = "interface link kernel-drops limit-drops other-frames unsent left-out".split()
+for name, values in (("eth0", "present up 7 6 8 4 3"), ("eth1", "awaited down 0 0 0 0 0")):
+    LIVE_LINES += [f"live.{name}.{key}={value}".encode()
+                   for key, value in zip(OF_PORTS, values.split())]
+
+
+def ctl(path: str, *words: str, **options: Any) -> subprocess.CompletedProcess[str]:
+    """Runs lldpa-ctl at a control socket."""
+    return subprocess.run([CTL, "--control", path, *words], check=False, capture_output=True,
+                          text=True, **options)
 
 
 def tlv(kind: int, body: bytes) -> bytes:
@@ -78,7 +77,6 @@ class Served:
         self.start()
 
     def start(self) -> None:
-        """Begins to serve."""
         self.listener = socket.socket(socket.AF_UNIX)
         self.listener.bind(self.path)
         self.listener.listen(100)
@@ -86,7 +84,6 @@ class Served:
         threading.Thread(target=self.accept, args=[self.listener], daemon=True).start()
 
     def accept(self, listener: socket.socket) -> None:
-        """Serves each client that comes."""
         with suppress(OSError):
             while True:
                 client, _ = listener.accept()
@@ -123,17 +120,14 @@ class Served:
             return self.agent.ask(line)
 
     def frame(self, port: str, octets: bytes) -> None:
-        """Gives the agent a frame."""
         with self.asking:
             self.agent.frame(port, octets)
 
     def tick(self, seconds: int) -> None:
-        """Lets so many seconds pass."""
         with self.asking:
             self.agent.tick(seconds)
 
     def client(self) -> Client:
-        """Opens a new conversation."""
         return Client(self.path)
 
     def stop(self) -> None:
@@ -147,7 +141,6 @@ class Served:
                 client.shutdown(socket.SHUT_RDWR)
 
     def close(self) -> None:
-        """Ends all."""
         if os.path.exists(self.path):
             self.stop()
         self.agent.close()
@@ -158,3 +151,17 @@ class Served:
 
     def __exit__(self, *_: object) -> None:
         self.close()
+
+
+class Program(unittest.TestCase):
+    """lldpa-ctl as a program, with a control socket for it."""
+
+    def setUp(self) -> None:
+        self.served = Served()
+        self.addCleanup(self.served.close)
+
+    def run_ctl(self, *words: str, status: int = 0, said: str = "", **options: Any) -> str:
+        """Returns what lldpa-ctl prints; checks its status and its message."""
+        told = ctl(self.served.path, *words, **options)
+        self.assertEqual((told.stderr, told.returncode), (said and f"lldpa-ctl: {said}\n", status))
+        return told.stdout

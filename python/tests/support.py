@@ -1,28 +1,20 @@
-"""For tests: lldpa-capture, and files that tests make."""
-from __future__ import annotations
+"""For tests: lldpa-capture, and files and services that tests make."""
 
 import os
-import signal
+import socket
 import subprocess
 import sys
 import tempfile
+import threading
+import time
 import unittest
+from contextlib import suppress
 from pathlib import Path
-from typing import List, Optional, Tuple
+from typing import Optional, Tuple
 
 from served import REPOSITORY
 
 CAPTURE = str(REPOSITORY / "bin" / "lldpa-capture")
-# What a port eth0 sends if no option is given.
-DEFAULT_FRAME = bytes.fromhex(
-    "0180c200000e02000000000188cc02070402000000000104050565746830060200790804657468300a096c6f63"
-    "616c686f73740c056c6c6470610e04008000800000")
-
-
-def kill(number: Optional[int]) -> None:
-    """Kills a child by its number."""
-    assert number is not None
-    os.kill(number, signal.SIGKILL)
 
 
 class FilesCase(unittest.TestCase):
@@ -45,8 +37,30 @@ class FilesCase(unittest.TestCase):
         return done.stdout, done.stderr, done.returncode
 
 
-def run_capture(words: List[str], octets: Optional[bytes] = None,
-                folder: Optional[Path] = None) -> "subprocess.CompletedProcess[str]":
+class AnsweringCase(FilesCase):
+    """A test with services that answer as it likes."""
+
+    def answers(self, *octets: bytes, pause: float = 0) -> str:
+        """Returns the path of a socket at which each client is sent these octets."""
+        path = str(self.folder / f"control-{len(os.listdir(self.folder))}")
+        listening = socket.socket(socket.AF_UNIX, socket.SOCK_STREAM)
+        self.addCleanup(listening.close)
+        listening.bind(path)
+        os.chmod(path, 0o666)
+        listening.listen()
+
+        def serve() -> None:
+            connection, _ = listening.accept()
+            with connection, suppress(OSError):
+                for some in octets:
+                    connection.sendall(some)
+                    time.sleep(pause)
+        threading.Thread(target=serve, daemon=True).start()
+        return path
+
+
+def run_capture(words: list[str], octets: Optional[bytes] = None,
+                folder: Optional[Path] = None) -> subprocess.CompletedProcess[str]:
     """Runs lldpa-capture on these words, with these octets at standard input."""
     done = subprocess.run([sys.executable, CAPTURE, *words], input=octets, capture_output=True,
                           cwd=folder, check=False)

@@ -1,7 +1,5 @@
 """The management address of this host is followed: an agent that announces it takes over."""
 
-from __future__ import annotations
-
 import os
 import shutil
 import signal
@@ -16,8 +14,8 @@ from patience import by_the_clock, eventually
 from real_lldpd import Lldpd, beside_lldpd
 from replaced import Replaced
 from replays import Moments, differing, sent
-from running_live import NO_ADDRESS, on_links
-from wires import Peer, inside, ip
+from running_live import NO_ADDRESS
+from wires import inside, ip
 
 SECONDS_TO_PEERS = 8.0
 STEPS = ((["add 192.0.2.7/24"], "192.0.2.7"),
@@ -25,14 +23,6 @@ STEPS = ((["add 192.0.2.7/24"], "192.0.2.7"),
          (["del 198.51.100.7/24"], None))
 
 
-def makes(kind: str) -> bool:
-    """Returns whether this kernel has interfaces of a kind."""
-    made = [subprocess.run(["ip", "link", word, "lldpa-try", "type", kind], check=False,
-                           capture_output=True).returncode == 0 for word in ("add", "del")]
-    return all(made)
-
-
-@on_links
 @beside_lldpd
 @unittest.skipUnless(shutil.which("tshark"), "it needs Debian's package tshark")
 class AtPeers(Replaced):
@@ -40,7 +30,7 @@ class AtPeers(Replaced):
 
     def setUp(self) -> None:
         super().setUp()
-        self.lldpd = Lldpd(self.wires.there, self.wires.folder, "-r", "-I", "peer0,peer1")
+        self.lldpd = Lldpd(self.wires.there, self.folder, "-r", "-I", "peer0,peer1")
         self.addCleanup(self.lldpd.close)
         self.watched = self.output("lldpcli", "-u", self.lldpd.socket, "-f", "keyvalue", "watch")
         self.captured = self.output("tshark", "-l", "-n", "-i", "peer1", "-f",
@@ -50,7 +40,7 @@ class AtPeers(Replaced):
 
     def output(self, *words: str) -> Path:
         """Starts a program at the peer's side, and returns the file that it writes to."""
-        path = Path(self.wires.folder, words[0])
+        path = self.folder / words[0]
         with inside(self.wires.there), path.open("wb") as file:
             program = subprocess.Popen(words, stdin=subprocess.DEVNULL, stdout=file, stderr=file,
                                        start_new_session=True)
@@ -90,7 +80,8 @@ class AtPeers(Replaced):
         self.assertTrue(eventually(lambda: "lldp-deleted.peer1" in self.watched.read_text()))
         self.assertEqual(differing(self.log, moments), [])
         for port, peer in zip(("eth0", "eth1"), self.peers):
-            self.assertEqual(frames_of(peer), sent(self.log, port, self.wires.address(port)))
+            heard = list(iter(lambda: peer.hears(0.5), None))
+            self.assertEqual(heard, sent(self.log, port, self.wires.address(port)))
 
     @by_the_clock
     def test_an_address_of_a_port_is_at_the_peers(self) -> None:
@@ -98,9 +89,8 @@ class AtPeers(Replaced):
 
     def is_followed_above(self, kind: str) -> None:
         """Puts an interface of that kind above the first port, and follows its addresses."""
-        if not makes(kind):
+        if not self.can_make("above0", "type", kind):
             self.skipTest(f"it needs a kernel with {kind}s")
-        ip("-n", self.wires.here, "link", "add", "above0", "type", kind)
         for words in ("eth0 down", "eth0 master above0", "eth0 up", "above0 up"):
             ip("-n", self.wires.here, "link", "set", *words.split())
         eventually(self.wires.all_up)
@@ -119,23 +109,12 @@ class AtPeers(Replaced):
         self.is_followed_above("team")
 
 
-def frames_of(peer: Peer) -> list[bytes]:
-    """Returns the frames that a peer has heard."""
-    return list(iter(lambda: peer.hears(0.5), None))
-
-
-@on_links
 class Addresses(Replaced):
     """The management address of this host is followed."""
 
     def add(self, address: str, interface: str = "eth0", word: str = "add") -> None:
         """Gives this host an address, or removes it."""
         ip("-n", self.wires.here, "address", word, f"{address}/24", "dev", interface)
-
-    def can_make(self, name: str, *words: str) -> bool:
-        """Makes an interface, and returns whether this kernel has its kind."""
-        command = ["ip", "-n", self.wires.here, "link", "add", "name", name, *words]
-        return subprocess.run(command, check=False, capture_output=True).returncode == 0
 
     def test_an_address_of_a_bridge_is_left_when_the_port_leaves_the_bridge(self) -> None:
         here = self.wires.here

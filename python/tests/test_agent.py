@@ -1,5 +1,4 @@
 """Agents that run and that listen, asked plainly."""
-from __future__ import annotations
 
 import doctest
 import os
@@ -20,7 +19,13 @@ from lldpa.limits import LONGEST_LINE
 from made_captures import LLDP, OTHER
 from patience import eventually
 from served import PROGRAM
-from support import DEFAULT_FRAME, FilesCase, kill
+from support import FilesCase
+
+# what a port eth0 sends if no option is given
+DEFAULT_FRAME = bytes.fromhex(
+    "0180c200000e02000000000188cc02070402000000000104050565746830060200790804657468300a096c6f63"
+    "616c686f73740c056c6c6470610e04008000800000")
+
 
 def started(*ports: str, **options: lldpa.agent.synchronous.Option) -> Agent:
     """Starts an agent with these ports, or with eth0 if there are none."""
@@ -121,7 +126,7 @@ class EndedAgents(FilesCase):
 
     def test_a_killed_agent_is_told_by_its_signal(self) -> None:
         with started() as agent:
-            kill(agent.pid)
+            os.kill(agent.pid, signal.SIGKILL)
             with self.assertRaises(Ended) as ended:
                 agent.ask("tick")
             self.assertEqual(ended.exception.status, -signal.SIGKILL)
@@ -136,7 +141,7 @@ class EndedAgents(FilesCase):
     def test_a_name_is_no_list_of_ports(self) -> None:
         for ports in ("eth0", b"eth0"):
             with self.assertRaisesRegex(TypeError, "list of names"):
-                Agent.start(ports, PROGRAM)  # type: ignore[arg-type]
+                Agent.start(ports, PROGRAM)
 
     def test_a_program_that_does_not_answer(self) -> None:
         with self.assertRaises(Ended) as ended:
@@ -146,7 +151,6 @@ class EndedAgents(FilesCase):
     def test_an_agent_that_stops_is_waited_for_no_longer_than_its_timeout(self) -> None:
         with started() as agent:
             agent.timeout = 0.5
-            assert agent.pid is not None
             os.kill(agent.pid, signal.SIGSTOP)
             with self.assertRaises(Ended) as ended:
                 agent.neighbors()
@@ -171,7 +175,7 @@ class EndedAgents(FilesCase):
         number = agent.pid
         agent.close()
         with self.assertRaises(ProcessLookupError):
-            kill(number)
+            os.kill(number, 0)
         for call in (lambda: agent.ask("tick"), agent.neighbors, agent.update):
             with self.assertRaisesRegex(Closed, "the agent was closed"):
                 call()

@@ -1,5 +1,4 @@
 """Captures that are made, and the packets that are read from them."""
-from __future__ import annotations
 
 import gzip
 import io
@@ -30,7 +29,6 @@ class Dripping(io.RawIOBase):
 
 
 def packets(octets: bytes) -> list[Packet]:
-    """Returns all packets of a capture."""
     return list(packets_of(io.BytesIO(octets)))
 
 

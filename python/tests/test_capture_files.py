@@ -1,21 +1,18 @@
 """Captures as they come: compressed, from pipes, with clocks that were set and frames to skip."""
-from __future__ import annotations
 
-import gzip
 import os
 import random
 import subprocess
-import sys
 import threading
 import time
 from pathlib import Path
 
 from lldpa import read_show
 from made_captures import (FORMS, LLDP, OTHER, SECOND, START, TAGGED, Frame, interface, lldp_frame,
-                           packet, pcap, pcapng, section, whole)
+                           packet, pcap, section, whole)
 from patience import by_the_clock
 from served import PROGRAM
-from support import CAPTURE, FilesCase, run_capture
+from support import FilesCase
 
 RX = f"rx eth0 {LLDP.hex()}\n"
 PORTS = [f"swp{number}" for number in range(1, 49)]
@@ -23,17 +20,6 @@ PORTS = [f"swp{number}" for number in range(1, 49)]
 
 class Files(FilesCase):
     """lldpa-capture on files."""
-
-    def test_compressed(self) -> None:
-        self.file(gzip.compress(pcap([whole(LLDP), whole(LLDP, START + SECOND)])), "a.gz")
-        self.assertEqual(self.ran("a.gz"), (f"{RX}tick\n{RX}", "", 0))
-        self.file(gzip.compress(pcapng([whole(LLDP)], name="swp1")), "b.gz")
-        self.assertEqual(self.ran("--ports", "b.gz"), ("swp1\n", "", 0))
-        done = run_capture(["-"], (self.folder / "b.gz").read_bytes())
-        self.assertEqual(done.stdout, RX.replace("eth0", "swp1"))
-        self.file(gzip.compress(pcap([whole(LLDP)] * 2), 0)[:-50], "cut.gz")
-        said = "lldpa-capture: cut.gz: its gzip data is cut short\n"
-        self.assertEqual(self.ran("cut.gz"), (RX, said, 1))
 
     def test_fifo(self) -> None:
         fifo = str(self.folder / "fifo")
@@ -43,12 +29,6 @@ class Files(FilesCase):
             writer.start()
             self.assertEqual(self.ran(fifo), (RX, "", 0))
             writer.join()
-
-    def test_process_substitution(self) -> None:
-        self.file(pcapng([whole(LLDP)], name="swp1"), "k.pcapng")
-        done = subprocess.run(["bash", "-c", f"{sys.executable} {CAPTURE} <(cat k.pcapng)"],
-                              cwd=self.folder, capture_output=True, text=True, check=True)
-        self.assertEqual((done.stdout, done.stderr), (RX.replace("eth0", "swp1"), ""))
 
     def test_many_frames_that_are_skipped(self) -> None:
         frames = [whole(TAGGED, START + number * 1000) for number in range(20_000)]
@@ -72,23 +52,21 @@ class Clocks(FilesCase):
         late: Frame = whole(LLDP, START // SECOND * SECOND)
         self.file(pcap([whole(LLDP, 5 * SECOND), late, whole(LLDP, late[0] + 2 * SECOND)]), "a")
         begin = time.monotonic()
-        done = run_capture(["--show", "a"], None, self.folder)
-        shown = subprocess.run([PROGRAM, "--receive-only", "eth0"], input=done.stdout, text=True,
+        trace, said, _ = self.ran("--show", "a")
+        shown = subprocess.run([PROGRAM, "--receive-only", "eth0"], input=trace, text=True,
                                capture_output=True, check=True).stdout
         self.assertLess(time.monotonic() - begin, 5)
-        self.assertEqual(done.stdout.splitlines()[:5],
+        self.assertEqual(trace.splitlines()[:5],
                          [RX.strip(), "tick 65535", RX.strip(), "tick 2", RX.strip()])
-        self.assertEqual(done.stderr, "lldpa-capture: a: no packet for 1699999995 s (was the clock "
-                                      "set?): only 65535 are counted, after which no neighbor is "
-                                      "left\n")
+        self.assertEqual(said, "lldpa-capture: a: no packet for 1699999995 s (was the clock set?): "
+                               "only 65535 are counted, after which no neighbor is left\n")
         self.assertIn("lldp.eth0.ageouts=1\n", shown)
 
     def test_time_in_which_nothing_happens(self) -> None:
         for seconds, ticks in ((65535, "tick 65535"), (65536, "tick 65535"), (300, "tick 300")):
             self.file(pcap([whole(LLDP), whole(OTHER, START + seconds * SECOND)]), "a")
-            done = run_capture(["a"], None, self.folder)
-            self.assertEqual(done.stdout, f"{RX}{ticks}\n")
-            self.assertEqual(done.stderr.count("\n"), seconds > 65535)
+            trace, said, _ = self.ran("a")
+            self.assertEqual((trace, said.count("\n")), (f"{RX}{ticks}\n", seconds > 65535))
 
 
 class Ports(FilesCase):
@@ -107,15 +85,13 @@ class Ports(FilesCase):
 
     def compare(self, *words: str) -> None:
         """Checks that an agent finds the neighbors in what lldpa-capture writes."""
-        done = run_capture(list(words))
-        self.assertEqual((done.stderr, done.returncode), ("", 0))
+        trace, *ended = self.ran(*words)
+        self.assertEqual(ended, ["", 0])
         shown = subprocess.run([PROGRAM, "--receive-only", *PORTS], text=True, check=True,
-                               input=done.stdout + "show neighbors\n", capture_output=True).stdout
+                               input=trace + "show neighbors\n", capture_output=True).stdout
         found = {(one.port, one.chassis.text, one.port_id.text)
                  for one in read_show(shown.splitlines()).neighbors}
-        wanted: set[tuple[str, str, str]] = {(port, mac.hex(":"), peer)
-                                             for port, mac, peer in self.neighbors}
-        self.assertEqual(found, wanted)
+        self.assertEqual(found, {(port, mac.hex(":"), peer) for port, mac, peer in self.neighbors})
 
     def test_a_capture_of_each(self) -> None:
         dice = random.Random(48)
@@ -131,4 +107,4 @@ class Ports(FilesCase):
         path = self.file(head + b"".join(packet(frame, place=place)
                                          for frame, place in sorted(frames)))
         self.compare(path)
-        self.assertEqual(run_capture(["--ports", path]).stdout.split(), PORTS)
+        self.assertEqual(self.ran("--ports", path)[0].split(), PORTS)

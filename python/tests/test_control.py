@@ -1,15 +1,13 @@
 """The control socket of a running lldpa-live: what is answered, and to whom."""
 
-from __future__ import annotations
-
 import socket
-import threading
 import time
-from contextlib import ExitStack
+from concurrent.futures import ThreadPoolExecutor
+from contextlib import ExitStack, suppress
 
 from lldpa import Refused, read_show
 from lldpa.client import Client
-from running_live import OnLinks, on_links
+from running_live import OnLinks
 from patience import SECONDS, eventually
 from served import numbered, tlv
 
@@ -21,14 +19,10 @@ SECONDS_TO_READ = 10
 def rest_of(connection: socket.socket) -> bytes:
     """Returns all that is read up to the end."""
     octets = b""
-    while True:
-        try:
-            more = connection.recv(65536)
-        except ConnectionResetError:
-            return octets
-        if not more:
-            return octets
-        octets += more
+    with suppress(ConnectionResetError):
+        while more := connection.recv(65536):
+            octets += more
+    return octets
 
 
 class Answered(OnLinks):
@@ -64,7 +58,6 @@ class Answered(OnLinks):
             self.assertTrue(eventually(lambda: self.served.neighbors(f"eth{port}") == 128))
 
 
-@on_links
 class Questions(Answered):
     """What is answered, and how."""
 
@@ -111,7 +104,6 @@ class Questions(Answered):
                          b"=1\nerror: line too long\n=1\nerror: unknown command\n")
 
 
-@on_links
 class Clients(Answered):
     """Many clients, and bad ones."""
 
@@ -162,23 +154,16 @@ class Clients(Answered):
                          (wanted + 1, b"=%d" % wanted))
 
     def test_answers_are_whole_under_load(self) -> None:
-        faults: list[Exception] = []
-
         def ask_often() -> None:
-            try:
-                with Client(self.served.control) as client:
-                    for _ in range(10):
-                        read_show(client.ask("show neighbors"))
-                        self.assertEqual(len(client.ask("show chassis")), 4)
-            except Exception as fault:  # pylint: disable=broad-except
-                faults.append(fault)
+            with Client(self.served.control) as client:
+                for _ in range(10):
+                    read_show(client.ask("show neighbors"))
+                    self.assertEqual(len(client.ask("show chassis")), 4)
 
-        threads = [threading.Thread(target=ask_often) for _ in range(16)]
-        for thread in threads:
-            thread.start()
-        peer = self.peer("peer1")
-        for number in range(200):
-            peer.send(numbered(number % 100, 100 + number))
-        for thread in threads:
-            thread.join()
-        self.assertEqual(faults, [])
+        with ThreadPoolExecutor(16) as pool:
+            asking = [pool.submit(ask_often) for _ in range(16)]
+            peer = self.peer("peer1")
+            for number in range(200):
+                peer.send(numbered(number % 100, 100 + number))
+        for one in asking:
+            one.result()  # raises what went wrong

@@ -1,7 +1,5 @@
 """Which process has the path of the control socket, and what users may do there."""
 
-from __future__ import annotations
-
 import os
 import shutil
 import signal
@@ -12,7 +10,7 @@ from pathlib import Path
 
 from lldpa.client.connection import Client, Gone
 from patience import eventually
-from running_live import Live, OnLinks, on_links
+from running_live import Live, OnLinks
 
 IN_USE = "another lldpa-live answers at this control path"
 ASKER = """
@@ -34,8 +32,6 @@ class AtAPath(OnLinks):
 
     def setUp(self) -> None:
         super().setUp()
-        self.folder = Path(self.wires.folder)
-        self.folder.chmod(0o755)
         self.path = str(self.folder / "control")
 
     def at_path(self, *words: str) -> Live:
@@ -50,7 +46,6 @@ class AtAPath(OnLinks):
         self.refuses(text, "--control", path or self.path, "eth0")
 
 
-@on_links
 class Paths(AtAPath):
     """The processes that have a path."""
 
@@ -102,16 +97,14 @@ class Paths(AtAPath):
         self.assertEqual(os.stat(self.path).st_mode & 0o777, 0o660)
         (self.folder / "lldpa").chmod(0o777)
         for removed in ([self.path], [self.path, self.path + ".lock"], [self.folder / "lldpa"]):
-            live.signal(signal.SIGSTOP)
-            for path in removed:
-                shutil.rmtree(path) if os.path.isdir(path) else os.unlink(path)
-            live.signal(signal.SIGCONT)
+            with live.stopped():
+                for path in removed:
+                    shutil.rmtree(path) if os.path.isdir(path) else os.unlink(path)
             self.assertTrue(eventually(live.ask_quietly), removed)
             self.assertEqual(os.stat(self.path).st_mode & 0o777, 0o600)
         self.fails(IN_USE)
 
 
-@on_links
 class Permission(AtAPath):
     """What users may do that are neither root nor the owner."""
 

@@ -1,7 +1,5 @@
 """lldpa-ctl as a program, against a control socket with the real agent behind it."""
 
-from __future__ import annotations
-
 import fcntl
 import json
 import os
@@ -16,11 +14,10 @@ import threading
 from contextlib import ExitStack
 from typing import Sequence
 
-from asked import HOSTILE, Program
 from lldpa.client import Client
 from lldpa.client.people import port_vlan_of
 from lldpa.organizational import organizational_object, said_by
-from served import LIVE_LINES, CTL, REPOSITORY, frame, numbered, tlv
+from served import CTL, HOSTILE, LIVE_LINES, REPOSITORY, Program, frame, numbered, tlv
 
 
 class Answers(Program):

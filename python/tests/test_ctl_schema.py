@@ -1,5 +1,4 @@
 """What `lldpa-ctl --json` prints conforms to its schema."""
-from __future__ import annotations
 
 import json
 import unittest
@@ -11,10 +10,9 @@ try:
 except ImportError:  # Debian: python3-jsonschema
     jsonschema = None
 
-from asked import Program
 from lldpa import Agent
 from lldpa.client import neighbor_object
-from served import PROGRAM, REPOSITORY, frame, numbered, tlv
+from served import PROGRAM, REPOSITORY, Program, frame, numbered, tlv
 
 SCHEMA = json.loads((REPOSITORY / "docs" / "lldpa-ctl.schema.json").read_text())
 JUDGED = json.loads((Path(__file__).parent / "judged.json").read_text())

@@ -1,7 +1,5 @@
 """lldpa-ctl watch, against a control socket with the real agent behind it."""
 
-from __future__ import annotations
-
 import json
 import os
 import select
@@ -10,9 +8,8 @@ import subprocess
 import time
 from typing import Sequence
 
-from asked import HOSTILE, Program
 from patience import SECONDS, by_the_clock, eventually, mostly
-from served import CTL, numbered, tlv
+from served import CTL, HOSTILE, Program, numbered, tlv
 
 TIME = r"[0-9]{4}-[0-9]{2}-[0-9]{2}T[0-9]{2}:[0-9]{2}:[0-9]{2}[+-][0-9]{4}"
 

@@ -1,7 +1,5 @@
 """What neighbors say in words: `details`, `watch`, and one neighbor as JSON."""
 
-from __future__ import annotations
-
 import json
 import unittest
 
@@ -9,7 +7,7 @@ from lldpa import Neighbor, Port
 from lldpa.client.as_json import neighbor_object
 from lldpa.client.details import details
 from lldpa.agent.shown import Identifier
-from judges import SAMPLES
+from tlvs import SAMPLES
 
 ORG = tuple((f"org.{oui}.{sample.kind[1]}", bytes.fromhex(sample.octets).hex())
             for sample in SAMPLES for oui in (sample.kind[0],))
@@ -27,7 +25,6 @@ SINCE = {("eth0", SWITCH.id): "2026-11-23T19:45:02Z"}
 
 
 def port(*neighbors: Neighbor) -> Port:
-    """Returns a port with neighbors."""
     return Port("eth0", len(neighbors), 20, False, neighbors)
 
 

@@ -1,20 +1,15 @@
 """Clients of an lldpa-live that was taken over, or that is a stranger in its place."""
 
-from __future__ import annotations
-
 import os
-import socket
 import subprocess
-import threading
 import time
 import unittest
-from contextlib import suppress
 from pathlib import Path
 
 from lldpa.client.connection import Client, Gone
 from patience import SECONDS, by_the_clock, eventually
-from served import CTL, REPOSITORY
-from support import FilesCase
+from served import CTL, REPOSITORY, ctl
+from support import AnsweringCase
 from test_publishing import DOWN
 
 LLDPCTL = str(REPOSITORY / "bin" / "lldpctl")
@@ -26,33 +21,14 @@ def rights_of(number: int) -> list[str]:
     return [line for line in lines if line.startswith(("Uid:", "Gid:", "Groups:"))]
 
 
-class Hostile(FilesCase):
+class Hostile(AnsweringCase):
     """An lldpa-live that was taken over."""
-
-    def answers(self, *octets: bytes, pause: float = 0) -> str:
-        """Returns the path of a socket at which each client is sent these octets."""
-        path = str(self.folder / f"control-{len(os.listdir(self.folder))}")
-        listening = socket.socket(socket.AF_UNIX, socket.SOCK_STREAM)
-        self.addCleanup(listening.close)
-        listening.bind(path)
-        os.chmod(path, 0o666)
-        listening.listen()
-
-        def serve() -> None:
-            connection, _ = listening.accept()
-            with connection, suppress(OSError):
-                for some in octets:
-                    connection.sendall(some)
-                    time.sleep(pause)
-        threading.Thread(target=serve, daemon=True).start()
-        return path
 
     def test_nothing_raw_is_printed(self) -> None:
         for words in (["show", "chassis"], ["live"], ["configure", "x"], ["update"]):
             path = self.answers(b"=1\nlocal-chassis.name=\x1b]0;x\x07\x9b2J\xe2\x80\xae\n")
-            told = subprocess.run([CTL, "--control", path, *words], capture_output=True,
-                                  check=False)
-            self.assertEqual(told.stdout.decode(), "local-chassis.name=\\x1b]0;x\\x07\\x9b2J"
+            told = ctl(path, *words)
+            self.assertEqual(told.stdout, "local-chassis.name=\\x1b]0;x\\x07\\x9b2J"
                              "\\xe2\\x80\\xae\n")
 
     @by_the_clock
@@ -70,8 +46,7 @@ class Hostile(FilesCase):
     @by_the_clock
     def test_metrics_are_written_although_an_answer_drips(self) -> None:
         path = self.answers(b"=99999999999\n", *[b"live.seconds=1\n"] * 600, pause=0.1)
-        ran = subprocess.run([CTL, "--control", path, "metrics"], capture_output=True, text=True,
-                             check=False)
+        ran = ctl(path, "metrics")
         self.assertEqual((ran.stderr, ran.returncode), (
             f"lldpa-ctl: {path}: no complete answer within 10 seconds\n", 1))
         self.assertEqual(ran.stdout.splitlines()[-1], "lldpa_up 0")
@@ -84,8 +59,7 @@ class Hostile(FilesCase):
                              (b"=1\nlive.began=now\n=0\n=0\n", "not an answer of lldpa-live: not "
                               "a time as lldpa-live writes it: 'now'"),
                              (b"=0\n=1\nx\n=0\n", "line 1")):
-            told = subprocess.run([CTL, "--control", self.answers(answer), "metrics", "--output",
-                                   str(file)], check=False, capture_output=True, text=True)
+            told = ctl(self.answers(answer), "metrics", "--output", str(file))
             self.assertEqual((told.returncode, file.read_text()), (1, DOWN), answer)
             self.assertIn(said, told.stderr)
             file.unlink()

@@ -1,39 +1,27 @@
 """Who this host is: its chassis ID whenever interfaces come, its name, what it announces."""
 
-from __future__ import annotations
-
 import os
 import signal
 import subprocess
 import time
-from pathlib import Path
 
-from running_live import Live, OnLinks, on_links
+from running_live import Live, OnLinks
 from patience import eventually
-from real_lldpd import Lldpd, beside_lldpd
-from served import numbered
 from wires import ip, tlvs_of
 
 
 # in a mount namespace of its own, one file stands for another while a program runs
 MOUNTED = ["unshare", "--mount", "sh", "-c", 'mount --bind "$1" "$2" && shift 2 && exec "$@"', "sh"]
-
-
-@on_links
 class TestLate(OnLinks):
     """An lldpa-live that is started before its interface."""
 
     links = 0
 
-    def others(self) -> None:
-        """Makes interfaces that are neither ports nor hardware: a bridge and a pair of veths."""
-        ip("-n", self.wires.here, "link", "add", "docker0", "type", "bridge")
-        ip("-n", self.wires.here, "link", "add", "vethA", "type", "veth", "peer", "name", "vethB")
-        for name in ("docker0", "vethA", "vethB"):
-            ip("-n", self.wires.here, "link", "set", name, "up")
-
     def test_interface_that_comes_names_the_host(self) -> None:
-        self.others()
+        here = self.wires.here  # which has interfaces that are neither ports nor hardware
+        ip("-n", here, "link", "add", "docker0", "up", "type", "bridge")
+        ip("-n", here, "link", "add", "vethA", "up", "type", "veth", "peer", "name", "vethB")
+        ip("-n", here, "link", "set", "vethB", "up")
         live = self.live("eth0", "eth1", awaits=False)
         self.assertTrue(live.says("eth0 eth1: no such interface yet; waiting for it"))
         live.comes_to("live.agent=waiting")
@@ -46,45 +34,17 @@ class TestLate(OnLinks):
         self.assertIn(f"local-chassis.mac={self.wires.address('eth0').hex(':')}",
                       live.ask("show chassis"))
         self.assertTrue(live.says("eth0: the interface is there, and in use"))
-        self.peer().send(numbered(1))
-        self.assertTrue(eventually(live.neighbors))
+        self.becomes_neighbor(live)
 
     def test_it_sleeps_and_ends_while_it_waits(self) -> None:
-        live = self.live("--state", str(Path(self.wires.folder, "state")), "eth0", awaits=False)
+        live = self.live("--state", str(self.folder / "state"), "eth0", awaits=False)
         live.comes_to("live.agent=waiting")
         before = live.used()
         time.sleep(2)
         self.assertLess(live.used() - before, 0.1)
         self.assertEqual(live.ended(), 0, live.errors())
 
-    @beside_lldpd
-    def test_two_late_hosts_are_two_neighbors(self) -> None:
-        """Starts both before their interface; a real lldpd hears them."""
-        self.others()
-        ip("-n", self.wires.there, "link", "add", "br0", "type", "bridge")
-        ip("-n", self.wires.there, "link", "set", "br0", "up")
-        lives = [self.live(f"eth{number}", awaits=False) for number in range(2)]
-        for live in lives:
-            self.assertTrue(live.says("waiting for it"))
-        for number in range(2):
-            self.wires.add_link(number)
-        os.chmod(self.wires.folder, 0o755)
-        lldpd = Lldpd(self.wires.there, self.wires.folder, "-r", "-I", "peer0,peer1")
-        self.addCleanup(lldpd.close)
-        for live in lives:
-            self.assertTrue(eventually(live.answers))
 
-        def chassis() -> set[str]:
-            for live in lives:
-                live.ask("update")
-            return lldpd.values("peer0.chassis.mac") | lldpd.values("peer1.chassis.mac")
-
-        wanted = {self.wires.address(end).hex(":") for end in ("eth0", "eth1")}
-        self.assertEqual(len(wanted), 2)
-        self.assertTrue(eventually(lambda: chassis() == wanted), chassis())
-
-
-@on_links
 class TestAnnounced(OnLinks):
     """What the agent says of this host, and with which source address."""
 
@@ -102,7 +62,7 @@ class TestAnnounced(OnLinks):
         self.assertIn("local-chassis.mgmt=192.0.2.9,1,0,", shown)
 
     def test_description_is_the_pretty_name(self) -> None:
-        path = Path(self.wires.folder, "os-release")
+        path = self.folder / "os-release"
         for text, wanted in (('NAME=x\nPRETTY_NAME="Debian GNU/Linux 12"\n', "Debian GNU/Linux 12"),
                              ("PRETTY_NAME=Plain\n", "Plain"), ("NAME=x\n", "lldpa"),
                              ("PRETTY_NAME='caf\\\xe9 \"q\"'\n", r"caf\\ q"),
@@ -160,11 +120,3 @@ class TestAnnounced(OnLinks):
         self.assertTrue(live.says("eth0: a frame was not sent: "))
         self.assertTrue(eventually(lambda: live.number("eth0.unsent") > 1))
         self.assertEqual(live.errors().count("a frame was not sent"), 1)
-
-    def test_frames_of_a_standstill_that_were_left_out_are_counted(self) -> None:
-        live = self.live("eth0")
-        live.ask("configure lldp tx-interval 1")
-        live.signal(signal.SIGSTOP)
-        time.sleep(5)
-        live.signal(signal.SIGCONT)
-        self.assertTrue(eventually(lambda: live.number("eth0.left-out") >= 1))

@@ -1,7 +1,5 @@
 """What a program of root inherits, or finds in the folders of others, gives nobody rights."""
 
-from __future__ import annotations
-
 import os
 import shutil
 import stat
@@ -11,9 +9,9 @@ import unittest
 from pathlib import Path
 from unittest import mock
 
-from running_live import LIVE, OnLinks, on_links
+from running_live import LIVE, OnLinks
 from patience import eventually
-from served import REPOSITORY, numbered
+from served import REPOSITORY
 from support import FilesCase
 
 # makes a user namespace as nobody without any capability, and prints those that it has there
@@ -42,27 +40,21 @@ class OthersFolders(FilesCase):
             self.assertFalse(mark.exists(), program)
 
 
-@on_links
 class OfRoot(OnLinks):
     """Rights of root are not redirected, and nothing of it is kept."""
-
-    def setUp(self) -> None:
-        super().setUp()
-        self.folder = Path(self.wires.folder)
-        self.folder.chmod(0o755)
 
     def test_a_link_to_a_folder_is_followed_in_a_folder_of_the_own_user_alone(self) -> None:
         target, theirs = self.folder / "target", self.folder / "theirs"
         for folder in (target, theirs):
             folder.mkdir()
-        for link in (self.folder / "log", theirs / "log"):
+        for link in (self.log, theirs / "log"):
             link.symlink_to(target)
         for change in (lambda: os.chown(theirs, 12345, -1), lambda: theirs.chmod(0o777)):
             os.chown(theirs, 0, -1)
             change()
             self.refuses(str(theirs / "log"), "--log", str(theirs / "log"), "eth0")
             self.assertEqual(target.stat().st_uid, 0)
-        self.live("--log", str(self.folder / "log"), "eth0")
+        self.live("--log", str(self.log), "eth0")
         self.assertEqual(target.stat().st_uid, 65534)
         self.assertTrue(eventually(lambda: list(target.iterdir())))
 
@@ -103,5 +95,4 @@ class OfRoot(OnLinks):
                              awaits=False)
         live.control = str(root / "run" / "control")
         self.assertTrue(eventually(live.ask_quietly), live.errors())
-        self.peer().send(numbered(1))
-        self.assertTrue(eventually(live.neighbors))
+        self.becomes_neighbor(live)

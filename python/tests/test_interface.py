@@ -1,10 +1,7 @@
 """Which frames of an interface reach the agent, and which are counted."""
 
-from __future__ import annotations
 
-import signal
-
-from running_live import Live, OnLinks, on_links
+from running_live import Live, OnLinks
 from patience import eventually
 from served import numbered
 from wires import ip
@@ -13,7 +10,6 @@ LONGEST_FRAME = 1514
 OTHERS = "it hears LLDP frames that are tagged, to another address or longer than 1,514 octets"
 
 
-@on_links
 class TestFrames(OnLinks):
     """A sender at the other end of a link."""
 
@@ -77,7 +73,6 @@ class TestFrames(OnLinks):
             self.assertIn(f"lldp.eth0.received={count}", self.port.ask("show statistics"))
 
 
-@on_links
 class TestNews(OnLinks):
     """News of interfaces that the kernel could not deliver."""
 
@@ -85,19 +80,17 @@ class TestNews(OnLinks):
 
     def test_what_the_kernel_lost_is_asked_for(self) -> None:
         live = self.live("eth0", "eth1", "--", "--receive-only")
-        live.signal(signal.SIGSTOP)
-        for _ in range(300):
+        with live.stopped():
+            for _ in range(300):
+                self.wires.set_link("eth1", "down")
+                self.wires.set_link("eth1", "up")
+            self.wires.remove_link("eth0")
             self.wires.set_link("eth1", "down")
-            self.wires.set_link("eth1", "up")
-        self.wires.remove_link("eth0")
-        self.wires.set_link("eth1", "down")
-        live.signal(signal.SIGCONT)
         self.assertTrue(eventually(lambda: state_of(live) == ["awaited", "down", "down"]))
         self.wires.add_link(0)
         self.wires.set_link("eth1", "up")
         self.assertTrue(eventually(lambda: state_of(live) == ["present", "up", "up"]))
-        self.peer().send(numbered(1))
-        self.assertTrue(eventually(live.neighbors))
+        self.becomes_neighbor(live)
 
 
 def state_of(live: Live) -> list[str]:

@@ -4,8 +4,6 @@
 showed of each; `tools/by-hand/try-details.py --save` asks them again.
 """
 
-from __future__ import annotations
-
 import json
 import unittest
 

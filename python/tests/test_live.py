@@ -1,20 +1,9 @@
 """The words of lldpa-live, and what it needs to begin."""
 
-from __future__ import annotations
-
 import os
-import subprocess
 import unittest
-from pathlib import Path
 
-from running_live import LIVE, OnLinks, is_built, on_links
-from patience import SECONDS
-
-
-def run(*words: str) -> "subprocess.CompletedProcess[str]":
-    """Runs it without input."""
-    return subprocess.run([LIVE, *words], stdin=subprocess.DEVNULL, capture_output=True, text=True,
-                          timeout=SECONDS, check=False)
+from running_live import OnLinks, is_built, run_live
 
 
 @is_built
@@ -47,28 +36,27 @@ class TestWords(unittest.TestCase):
                 (["eth0", "--", "--tx-intervall", "7"], "--tx-intervall"),
                 (["eth0", "--", "--management"], "--management")):
             with self.subTest(words):
-                ended = run(*words)
+                ended = run_live(*words)
                 self.assertEqual(ended.returncode, 2)
                 self.assertIn(text, ended.stderr)
                 self.assertEqual(ended.stdout, "")
 
     def test_help(self) -> None:
-        ended = run("--help")
+        ended = run_live("--help")
         self.assertEqual(ended.returncode, 0)
         for option in ("--only-existing", "--forget-on-down", "--log-most", "--control-group"):
             self.assertIn(option, ended.stdout)
 
     @unittest.skipIf(os.geteuid() == 0, "root may become another user")
     def test_only_root_becomes_another(self) -> None:
-        self.assertEqual(run("--user", "nobody", "eth0").returncode, 2)
+        self.assertEqual(run_live("--user", "nobody", "eth0").returncode, 2)
 
 
-@on_links
 class TestStart(OnLinks):
     """What it needs to begin."""
 
     def test_what_keeps_it_from_starting(self) -> None:
-        folder = Path(self.wires.folder, "of-somebody-else")
+        folder = self.folder / "of-somebody-else"
         folder.mkdir(mode=0o755)
         file = folder / "file"
         file.touch()
@@ -86,7 +74,7 @@ class TestStart(OnLinks):
             self.refuses(text, *words, status=status)
 
     def test_without_any_right_it_says_what_it_needs(self) -> None:
-        Path(self.wires.folder).chmod(0o777)
+        self.folder.chmod(0o777)
         self.refuses("CAP_NET_RAW", "eth0",
                      before=["setpriv", "--reuid=1", "--regid=1", "--clear-groups"])
 

@@ -1,18 +1,14 @@
 """Many frames and ports: nobody has to wait, and nothing grows."""
 
-from __future__ import annotations
-
 import contextlib
 import re
-import signal
 import subprocess
 import sys
 import time
-from pathlib import Path
 
 from lldpa.client import Client
 
-from running_live import Live, OnLinks, on_links
+from running_live import Live, OnLinks
 from patience import by_the_clock, eventually, mostly
 from served import numbered
 from wires import flood, inside
@@ -50,7 +46,6 @@ def numbers(live: Live) -> dict[str, int]:
             for name in ("kernel-drops", "limit-drops", "received")}
 
 
-@on_links
 class TestFlood(OnLinks):
     """A neighbor that sends as fast as it can."""
 
@@ -90,9 +85,8 @@ class TestFlood(OnLinks):
     def test_what_the_kernel_dropped_is_told_once_a_minute(self) -> None:
         live = self.live("eth0", "--", "--receive-only")
         for count in (20_000, 40_000):
-            live.signal(signal.SIGSTOP)
-            flood(self.wires, "peer0", FRAMES, 20_000).wait()
-            live.signal(signal.SIGCONT)
+            with live.stopped():
+                flood(self.wires, "peer0", FRAMES, 20_000).wait()
             self.assertTrue(live.says("the kernel has dropped"))
             eventually(lambda: sum(numbers(live).values()) == count)
             told = numbers(live)
@@ -117,8 +111,7 @@ class TestFlood(OnLinks):
     def test_a_real_neighbor_outlives_strangers_that_change_all_the_time(self) -> None:
         live, peer = self.receiving()
         held = numbered(99, 20)
-        peer.send(held)
-        self.assertTrue(eventually(live.neighbors))
+        self.becomes_neighbor(live, held, peer)
         with inside(self.wires.there):
             strangers = subprocess.Popen([sys.executable, "-c", STRANGERS])
         self.addCleanup(strangers.wait)
@@ -141,17 +134,16 @@ class TestFlood(OnLinks):
         self.assertLess((live.used() - before) / (time.monotonic() - began), 0.1)
 
 
-@on_links
 class TestManyPorts(OnLinks):
     """As many ports as an agent has."""
 
     links = 64
 
     def test_64_full_tables_take_little_and_outlive_a_restart(self) -> None:
-        state = Path(self.wires.folder, "state")
+        state = self.folder / "state"
         words = ["--state", str(state), *(f"eth{number}" for number in range(64)), "--",
                  "--receive-only"]
-        Path(self.wires.folder).chmod(0o777)
+        self.folder.chmod(0o777)
         live = self.live(*words)
         for port in range(64):
             peer = self.peer(f"peer{port}")
@@ -168,17 +160,15 @@ class TestManyPorts(OnLinks):
         self.assertLess(live.used(), 1)
 
     def test_frames_of_all_ports_go_in_by_their_stamps(self) -> None:
-        folder = Path(self.wires.folder, "log")
-        live = self.live("--log", str(folder), "eth0", "eth1", "eth2", "--", "--receive-only")
+        live = self.live("--log", str(self.log), "eth0", "eth1", "eth2", "--", "--receive-only")
         peers = [self.peer(f"peer{number}") for number in range(3)]
         frames = [numbered(number % 250, ttl=1000 + number) for number in range(600)]
-        live.signal(signal.SIGSTOP)
-        for number, frame in enumerate(frames):
-            peers[0 if number < 300 else number % 3].send(frame)
-        live.signal(signal.SIGCONT)
+        with live.stopped():
+            for number, frame in enumerate(frames):
+                peers[0 if number < 300 else number % 3].send(frame)
 
         def told() -> list[str]:
-            lines = next(folder.iterdir()).read_text().splitlines()
+            lines = next(self.log.iterdir()).read_text().splitlines()
             return [line.split()[2] for line in lines if line.startswith("rx")]
 
         self.assertTrue(eventually(lambda: len(told()) == 600))

@@ -1,7 +1,5 @@
 """The log of a session: a trace with the time of day, that fills no disk."""
 
-from __future__ import annotations
-
 import os
 import re
 import signal
@@ -11,7 +9,7 @@ from datetime import datetime, timezone
 from pathlib import Path
 
 from lldpa import read_show
-from running_live import Live, OnLinks, on_links
+from running_live import Live, OnLinks
 from patience import by_the_clock, eventually
 from replays import sent
 from served import numbered
@@ -19,25 +17,20 @@ from wires import Peer
 CLOCK = re.compile(r"# \d{4}-\d\d-\d\dT\d\d:\d\d:\d\dZ")
 
 
-@on_links
 class TestLog(OnLinks):
     """What a folder has of the sessions."""
 
-    def setUp(self) -> None:
-        super().setUp()
-        self.folder = Path(self.wires.folder, "log")
-
     def logs(self) -> list[Path]:
         """Returns the files of the folder, oldest first."""
-        return sorted(self.folder.iterdir(), key=lambda path: path.stat().st_mtime_ns)
+        return sorted(self.log.iterdir(), key=lambda path: path.stat().st_mtime_ns)
 
     @by_the_clock
     def test_replay_sends_what_was_sent_to_the_octet(self) -> None:
         peer = self.peer()
-        live = self.live("--log", str(self.folder), "eth0", "--", "--role", "router")
+        live = self.live("--log", str(self.log), "eth0", "--", "--role", "router")
         self.live_a_little(live, peer)
         self.assertEqual(live.ended(), 0)
-        replayed = sent(self.folder, "eth0", self.wires.address("eth0"))
+        replayed = sent(self.log, "eth0", self.wires.address("eth0"))
         heard = list(iter(lambda: peer.hears(0.5), None))
         # what it would have sent while the link was down, or stood still, was not sent
         left = iter(replayed)
@@ -60,15 +53,14 @@ class TestLog(OnLinks):
         self.wires.set_link("eth0", "down")
         live.comes_to("live.eth0.link=down")
         self.wires.set_link("eth0", "up")
-        live.signal(signal.SIGSTOP)
-        time.sleep(2.1)
-        live.signal(signal.SIGCONT)
+        with live.stopped():
+            time.sleep(2.1)
         live.spend(1)
 
     def test_each_session_has_a_file_of_its_own(self) -> None:
-        self.folder.mkdir(mode=0o755)  # of root, who gives it to lldpa-live's user
+        self.log.mkdir(mode=0o755)  # of root, who gives it to lldpa-live's user
         for _ in range(3):
-            self.assertEqual(self.live("--log", str(self.folder), "eth0").ended(), 0)
+            self.assertEqual(self.live("--log", str(self.log), "eth0").ended(), 0)
         self.assertEqual(len(self.logs()), 3)
         for path in self.logs():
             self.assertRegex(path.name, r"^\d{8}T\d{6}Z(-\d)?\.trace$")
@@ -78,7 +70,7 @@ class TestLog(OnLinks):
     @by_the_clock
     def test_clock_stands_before_what_came_in_its_second(self) -> None:
         began = time.time()
-        live, peer = self.live("--log", str(self.folder), "eth0"), self.peer()
+        live, peer = self.live("--log", str(self.log), "eth0"), self.peer()
         for number in range(4):
             peer.send(numbered(number))
             time.sleep(0.4)
@@ -93,10 +85,10 @@ class TestLog(OnLinks):
 
     @by_the_clock
     def test_full_device_stops_the_log_and_not_lldpa_live(self) -> None:
-        self.folder.mkdir()
-        subprocess.run(["mount", "-t", "tmpfs", "-o", "size=64k", "none", self.folder], check=True)
-        self.addCleanup(subprocess.run, ["umount", "-l", str(self.folder)], check=True)
-        peer, live = self.peer(), self.live("--log", str(self.folder), "eth0")
+        self.log.mkdir()
+        subprocess.run(["mount", "-t", "tmpfs", "-o", "size=64k", "none", self.log], check=True)
+        self.addCleanup(subprocess.run, ["umount", "-l", str(self.log)], check=True)
+        peer, live = self.peer(), self.live("--log", str(self.log), "eth0")
         self.assertIsNotNone(peer.hears())
         for number in range(60):
             peer.send(numbered(number).ljust(1500, b"\0"))
@@ -109,7 +101,6 @@ class TestLog(OnLinks):
         self.assertEqual(live.ends(2), 0)
 
 
-@on_links
 class TestOnce(OnLinks):
     """The neighbors, as soon as each port has one."""
 
@@ -130,7 +121,6 @@ class TestOnce(OnLinks):
         self.assertFalse(os.path.exists(live.control))
 
     def printed(self, live: Live) -> str:
-        """Returns what it has printed."""
         assert live.process.stdout is not None
         return live.process.stdout.read().decode()
 

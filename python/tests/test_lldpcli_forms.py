@@ -1,7 +1,5 @@
 """lldpcli's forms, compared with what lldpcli printed of the same frames."""
 
-from __future__ import annotations
-
 import json
 import re
 import unittest
@@ -18,7 +16,7 @@ from lldpa.node import Node
 from lldpa.organizational.location import fixed
 from served import PROGRAM, frame, tlv
 
-AGE = re.compile(r"0 day, [0-9:]{8}")
+AGE = re.compile(r"[0-9]+ days?, [0-9:]{8}")
 PORTS = ["swp1", "swp2"]
 
 
@@ -47,28 +45,24 @@ class BesideLldpcli(unittest.TestCase):
         """Compares what is printed with what lldpcli printed."""
         for form in forms:
             ours, theirs = FORMS[form](tree), lldpd_heard.sample(name, form).decode()
-            ours = re.sub(r"[0-9]+ days, [0-9:]{8}", "0 day, 00:00:00", ours)
-            theirs = AGE.sub("0 day, 00:00:00", theirs)
+            ours, theirs = AGE.sub("", ours), AGE.sub("", theirs)
             if form.startswith("json"):
                 theirs = theirs.replace('"ho\\01', '"ho\\\\01')  # a key, which it does not escape
                 self.assertEqual(json.loads(ours), json.loads(theirs, strict=False))
-            else:
-                self.assertEqual(ours.splitlines(), theirs.splitlines())
+                continue
+            theirs = theirs.replace("\r", "\\x0d")
+            if form == "plain":
+                theirs = theirs.replace("\ty", "y").replace("\ttab", "\\x09tab")
+            self.assertEqual(ours.split("\n"), theirs.rstrip("\n").split("\n"))
 
     def test_clean_ones(self) -> None:
         heard = [("swp1", one) for one in lldpd_heard.CLEAN] + [("swp2", lldpd_heard.CLEAN[0])]
         tree = tree_of(heard)
-        self.compare(tree, "clean", ("json", "json0"))
         self.assertEqual(len(tree.nodes), 13)
-        for form in ("plain", "keyvalue"):
-            theirs = AGE.sub("", lldpd_heard.sample("clean", form).decode()).replace("\r", "\\x0d")
-            if form == "plain":
-                theirs = theirs.replace("\ty", "y").replace("\ttab", "\\x09tab")
-            ours = re.sub(r"[0-9]+ days, [0-9:]{8}", "", FORMS[form](tree))
-            self.assertEqual(ours.split("\n"), theirs.split("\n")[:-1])
+        self.compare(tree, "clean", FORMS)
 
     def test_nobody(self) -> None:
-        self.compare(tree_of([]), "none", ("plain", "keyvalue", "json", "json0"))
+        self.compare(tree_of([]), "none", FORMS)
 
     def test_odd_names(self) -> None:
         self.compare(tree_of([("swp1", one) for one in lldpd_heard.ODD]), "odd", ("json0",))

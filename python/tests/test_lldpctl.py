@@ -1,7 +1,5 @@
 """lldpctl as a program, against a control socket with the real agent behind it."""
 
-from __future__ import annotations
-
 import json
 import os
 import pty

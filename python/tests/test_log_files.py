@@ -1,7 +1,5 @@
 """The files of a log: each replays alone, all stay in bounds, and no disk stops lldpa-live."""
 
-from __future__ import annotations
-
 import ctypes
 import os
 import shutil
@@ -10,9 +8,8 @@ import socket
 import subprocess
 import threading
 import time
-from pathlib import Path
 
-from running_live import Live, OnLinks, on_links
+from running_live import Live, OnLinks
 from patience import by_the_clock, eventually
 from replays import Moments, differing
 from served import numbered, tlv
@@ -37,7 +34,6 @@ class StoppedWriter:
         os.waitpid(self.thread, WALL)
 
     def trace(self, what: int) -> None:
-        """Calls ptrace."""
         if self.libc.ptrace(what, self.thread, None, None):
             raise OSError(ctypes.get_errno(), "ptrace")
 
@@ -50,22 +46,17 @@ class StoppedWriter:
         threading.Thread(target=os.waitpid, args=[self.thread, WALL], daemon=True).start()
 
 
-@on_links
 class TestFiles(OnLinks):
     """Logs that follow one another."""
 
     links = 2
 
-    def setUp(self) -> None:
-        super().setUp()
-        self.folder = Path(self.wires.folder, "log")
-
     def size(self) -> int:
         """Returns the octets of all logs."""
-        return sum(path.stat().st_size for path in self.folder.iterdir())
+        return sum(path.stat().st_size for path in self.log.iterdir())
 
     def test_each_file_replays_alone_to_the_tables_that_were_there(self) -> None:
-        live = self.live("--log", str(self.folder), "--log-most", "1", "--log-keep", "9",
+        live = self.live("--log", str(self.log), "--log-most", "1", "--log-keep", "9",
                          "eth0", "eth1", "--", "--max-neighbors", "20")
         peer, many, moments = self.peer("peer1"), self.peer("peer0"), Moments(live)
         live.ask('configure system description "a log\'s own"')
@@ -85,49 +76,49 @@ class TestFiles(OnLinks):
         self.wires.set_link("eth1", "down")
         live.comes_to("live.eth1.link=down")
         self.assertEqual(live.ended(), 0)
-        self.assertGreater(len(list(self.folder.iterdir())), 2)
+        self.assertGreater(len(list(self.log.iterdir())), 2)
         self.assertTrue(any(line == "lldp.eth0.too-many=yes" for line in
                             list(moments.answers.values())[-1]))
-        self.assertEqual(differing(self.folder, moments), [])
+        self.assertEqual(differing(self.log, moments), [])
 
     def test_oldest_files_give_way(self) -> None:
-        self.folder.mkdir()
-        shutil.chown(self.folder, "nobody")
+        self.log.mkdir()
+        shutil.chown(self.log, "nobody")
         for hour in range(3):
-            old = self.folder / f"2020010{hour + 1}T000000Z.trace"
+            old = self.log / f"2020010{hour + 1}T000000Z.trace"
             old.write_bytes(b"#" * 999_999)
-        (self.folder / "of-somebody-else").write_bytes(b"x")
-        live = self.live("--log", str(self.folder), "--log-most", "1", "--log-keep", "2", "eth0")
-        self.assertTrue(eventually(lambda: not (self.folder / "20200101T000000Z.trace").exists()))
-        self.assertTrue((self.folder / "of-somebody-else").exists())
+        (self.log / "of-somebody-else").write_bytes(b"x")
+        live = self.live("--log", str(self.log), "--log-most", "1", "--log-keep", "2", "eth0")
+        self.assertTrue(eventually(lambda: not (self.log / "20200101T000000Z.trace").exists()))
+        self.assertTrue((self.log / "of-somebody-else").exists())
         flood(self.wires, "peer0", LONG, 5_000).wait()
-        self.assertTrue(eventually(lambda: not list(self.folder.glob("2020*"))))
+        self.assertTrue(eventually(lambda: not list(self.log.glob("2020*"))))
         self.assertTrue(live.answers())
         self.assertLessEqual(self.size(), 2_000_001)
 
     @by_the_clock
     def test_file_or_folder_that_is_changed_or_removed_is_told_and_another_file_follows(
             self) -> None:
-        live = self.live("--log", str(self.folder), "eth0")
-        self.assertTrue(eventually(lambda: list(self.folder.iterdir())))
-        os.truncate(next(self.folder.iterdir()), 0)
+        live = self.live("--log", str(self.log), "eth0")
+        self.assertTrue(eventually(lambda: list(self.log.iterdir())))
+        os.truncate(next(self.log.iterdir()), 0)
         self.assertTrue(live.says("its file was changed by another program"))
         live.comes_to("live.log=on")
-        self.assertEqual(sorted(path.stat().st_size > 0 for path in self.folder.iterdir()),
+        self.assertEqual(sorted(path.stat().st_size > 0 for path in self.log.iterdir()),
                          [False, True])
-        shutil.rmtree(self.folder)
+        shutil.rmtree(self.log)
         self.assertTrue(live.says("its file was removed"))
         self.assertIn("live.log=stalled", live.ask("live"))
         self.assertTrue(eventually(lambda: live.number("log-lines-lost")))
-        os.chmod(self.wires.folder, 0o777)
+        self.folder.chmod(0o777)
         live.comes_to("live.log=on")
-        self.assertEqual(len(list(self.folder.iterdir())), 1)
+        self.assertEqual(len(list(self.log.iterdir())), 1)
         self.assertTrue(live.says("the log continues in"))
 
     @by_the_clock
     def test_log_that_stands_still_holds_nothing_up(self) -> None:
-        peer, live = self.peer(), self.live("--log", str(self.folder), "eth0")
-        self.assertTrue(eventually(lambda: list(self.folder.iterdir())))
+        peer, live = self.peer(), self.live("--log", str(self.log), "eth0")
+        self.assertTrue(eventually(lambda: list(self.log.iterdir())))
         writer = StoppedWriter(live)
         peer.send(numbered(1))
         self.assertTrue(live.says("has made no progress for 5 seconds"))
@@ -136,7 +127,7 @@ class TestFiles(OnLinks):
         self.assertTrue(eventually(lambda: live.neighbors() == 2, 1))
         writer.release()
         self.assertTrue(live.says("the log continues in"))
-        self.assertTrue(eventually(lambda: len(list(self.folder.iterdir())) == 2))
+        self.assertTrue(eventually(lambda: len(list(self.log.iterdir())) == 2))
         self.assertIn("live.log-lines-lost=0", live.ask("live"))
         StoppedWriter(live).bury()
         while peer.hears(0.1):
@@ -146,9 +137,9 @@ class TestFiles(OnLinks):
         self.assertEqual(live.ends(2), 0)
 
     def test_what_finds_no_room_is_counted_and_a_new_file_follows(self) -> None:
-        live = self.live("--log", str(self.folder), "--events", "eth0", "eth1", "--",
+        live = self.live("--log", str(self.log), "--events", "eth0", "eth1", "--",
                          "--receive-only", "--max-neighbors", "1")
-        self.assertTrue(eventually(lambda: list(self.folder.iterdir())))
+        self.assertTrue(eventually(lambda: list(self.log.iterdir())))
         writer = StoppedWriter(live)
         flood(self.wires, "peer0", LONG, 3_000).wait()
         flood(self.wires, "peer1", LONG, 3_000).wait()  # over 4 MB together, as text
@@ -159,35 +150,32 @@ class TestFiles(OnLinks):
         moments = Moments(live)
         moments.take()
         self.assertEqual(live.ended(), 0)
-        self.assertEqual(differing(self.folder, moments), [])
+        self.assertEqual(differing(self.log, moments), [])
 
 
-@on_links
 class TestFrozenDisk(OnLinks):
     """A file system that takes nothing for a while."""
 
     def setUp(self) -> None:
         super().setUp()
-        disk = Path(self.wires.folder, "disk")
-        self.folder = Path(self.wires.folder, "log")
-        self.folder.mkdir()
+        disk = self.folder / "disk"
+        self.log.mkdir()
         with disk.open("wb") as file:
             file.truncate(16_000_000)
         made = subprocess.run(["mkfs.ext4", "-q", disk], capture_output=True)
-        mounted = subprocess.run(["mount", "-o", "loop", disk, self.folder], capture_output=True)
+        mounted = subprocess.run(["mount", "-o", "loop", disk, self.log], capture_output=True)
         if made.returncode or mounted.returncode:
             self.skipTest("no loop-mounted file system is allowed here")
-        self.addCleanup(subprocess.run, ["umount", "-l", self.folder], check=False)
-        self.addCleanup(subprocess.run, ["fsfreeze", "-u", self.folder], capture_output=True)
+        self.addCleanup(subprocess.run, ["umount", "-l", self.log], check=False)
+        self.addCleanup(subprocess.run, ["fsfreeze", "-u", self.log], capture_output=True)
 
     def freeze(self) -> None:
-        """Freezes it."""
-        subprocess.run(["fsfreeze", "-f", self.folder], check=True)
+        subprocess.run(["fsfreeze", "-f", self.log], check=True)
 
     @by_the_clock
     def test_frames_answers_and_the_end_do_not_wait_for_it(self) -> None:
-        peer, live = self.peer(), self.live("--log", str(self.folder), "eth0")
-        self.assertTrue(eventually(lambda: list(self.folder.glob("*.trace"))))
+        peer, live = self.peer(), self.live("--log", str(self.log), "eth0")
+        self.assertTrue(eventually(lambda: list(self.log.glob("*.trace"))))
         self.freeze()
         self.assertTrue(live.says("has made no progress for 5 seconds"))
         live.ask("configure lldp tx-interval 1")
@@ -195,15 +183,15 @@ class TestFrozenDisk(OnLinks):
         began = time.monotonic()
         self.assertIn("lldp.eth0.neighbors=0", live.ask("show neighbors"))
         self.assertLess(time.monotonic() - began, 1)
-        subprocess.run(["fsfreeze", "-u", self.folder], check=True)
+        subprocess.run(["fsfreeze", "-u", self.log], check=True)
         self.assertTrue(live.says("the log continues in"))
-        self.assertTrue(eventually(lambda: len(list(self.folder.glob("*.trace"))) == 2))
+        self.assertTrue(eventually(lambda: len(list(self.log.glob("*.trace"))) == 2))
         self.freeze()
         live.spend(2)
         live.signal(signal.SIGTERM)
         self.assertIsNotNone(peer.hears(2, ttl=0))
         self.assertTrue(eventually(lambda: not is_served(live.control), 2))
-        subprocess.run(["fsfreeze", "-u", self.folder], check=True)
+        subprocess.run(["fsfreeze", "-u", self.log], check=True)
         self.assertEqual(live.ends(), 0)
 
 

@@ -1,7 +1,5 @@
 """Prometheus' text format, and the alerts of share/prometheus."""
 
-from __future__ import annotations
-
 import re
 import shutil
 import subprocess
@@ -10,7 +8,7 @@ import unittest
 from lldpa import read_show
 from lldpa.client.metrics import escaped, metrics
 from lldpa.agent.show import Counters
-from served import LIVE_LINES, CTL, REPOSITORY, Served, frame, numbered, tlv
+from served import LIVE_LINES, CTL, REPOSITORY, Served, ctl, frame, numbered, tlv
 
 FOLDER = REPOSITORY / "share" / "prometheus"
 RULES, TESTS = FOLDER / "lldpa.rules.yml", FOLDER / "lldpa.rules.test.yml"
@@ -172,9 +170,7 @@ class Rules(unittest.TestCase):
 
     def test_each_metric_is_one_that_is_told(self) -> None:
         with Served() as served:
-            told = subprocess.run([CTL, "--control", served.path, "metrics"], check=True,
-                                  capture_output=True, text=True).stdout
-        names = set(re.findall(r"^# TYPE (\S+)", told, re.M))
+            names = set(re.findall(r"^# TYPE (\S+)", ctl(served.path, "metrics").stdout, re.M))
         expressions = "\n".join(re.findall(r"^ +expr: (.*)$", RULES.read_text(), re.M))
         asked = set(re.findall(r"\blldpa_[a-z_]+", expressions))
         self.assertGreater(len(asked), 8)

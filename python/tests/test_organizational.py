@@ -1,11 +1,9 @@
 """Organizationally specific TLVs: what each says, and that nothing else is ever read from it."""
 
-from __future__ import annotations
-
 import unittest
 
 from encoding import Sample, encoded
-from judges import SAMPLES
+from tlvs import SAMPLES
 from lldpa.organizational import (Coordinates, LinkAggregation, MacPhy, PortVlan, Power, VlanName,
                                   known_to_lldpd, mau_of, read_tlv, said_by)
 from lldpa.organizational.kinds import READERS

@@ -1,5 +1,4 @@
 """Standard output that is closed, full or not read is reported, and the status says so."""
-from __future__ import annotations
 
 import os
 import subprocess

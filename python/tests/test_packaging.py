@@ -1,7 +1,5 @@
 """The package as pip installs it, and its programs as modules."""
 
-from __future__ import annotations
-
 import os
 import re
 import shutil
@@ -41,12 +39,6 @@ def lines() -> list[str]:
 FALSE = "from lldpa import Agent\nnumber: int = Agent.start(['eth0']).neighbors()\n"
 
 
-def without_network() -> list[str]:
-    """Returns what lets a command run without a network, if that is possible here."""
-    able = os.geteuid() == 0 and shutil.which("unshare")
-    return ["unshare", "-n"] if able else []
-
-
 class Installed(unittest.TestCase):
     """In a fresh environment, into which pip installs it without a network."""
 
@@ -66,8 +58,10 @@ class Installed(unittest.TestCase):
                             ignore=shutil.ignore_patterns("tests", "worked", "__pycache__"))
         plain = {key: value for key, value in os.environ.items() if not key.startswith("PIP_")}
         plain["PIP_NO_INDEX"] = "1"  # even if the network cannot be taken away
+        able = os.geteuid() == 0 and shutil.which("unshare")
+        alone = ["unshare", "-n"] if able else []
         done = subprocess.run(
-            [*without_network(), str(cls.bin("pip")), "install", "--no-cache-dir", "./python"],
+            [*alone, str(cls.bin("pip")), "install", "--no-cache-dir", "./python"],
             cwd=cls.folder, env=plain, capture_output=True, text=True, check=False)
         cls.said = done.stdout + done.stderr
         if done.returncode:

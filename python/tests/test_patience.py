@@ -1,7 +1,5 @@
 """Which tests are run again, and how often."""
 
-from __future__ import annotations
-
 import contextlib
 import io
 import unittest

@@ -1,17 +1,14 @@
 """Ports that are given by patterns, also those whose interfaces come later."""
 
-from __future__ import annotations
-
 from lldpa.client import since_of
 from patience import eventually
-from running_live import OnLinks, on_links
+from running_live import OnLinks
 from served import numbered
 from wires import Peer, ip
 
 MOST = 64  # ports
 
 
-@on_links
 class TestLaterPorts(OnLinks):
     """Interfaces that come later, and are given by a pattern."""
 

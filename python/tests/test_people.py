@@ -1,7 +1,5 @@
 """The table for people."""
 
-from __future__ import annotations
-
 import unittest
 
 from lldpa import Neighbor, Port
@@ -17,7 +15,6 @@ def neighbor(port: str, name: str, its_port: str, *said: tuple[str, str]) -> Nei
 
 
 def port(name: str, *neighbors: Neighbor, too_many: bool = False) -> Port:
-    """Returns a port and its neighbors."""
     return Port(name, len(neighbors), 20, too_many, neighbors)
 
 

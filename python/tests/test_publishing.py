@@ -1,19 +1,14 @@
 """lldpa-ctl metrics --output: a file that is whole, and says so if nobody answers."""
 
-from __future__ import annotations
-
 import os
 import resource
 import socket
 import stat
-import subprocess
 import threading
-import unittest
 from pathlib import Path
 from typing import Any, List
 
-from patience import SECONDS
-from served import LIVE_LINES, CTL, Served, numbered
+from served import LIVE_LINES, Program, numbered
 
 DOWN = """\
 # HELP lldpa_up Whether lldpa-live answers and its agent runs, 1 or 0.
@@ -22,25 +17,20 @@ lldpa_up 0
 """
 
 
-class Publishing(unittest.TestCase):
-    """With lldpa-live's socket, and a folder for the file."""
+class Publishing(Program):
+    """With a folder for the file."""
 
     def setUp(self) -> None:
-        self.served = Served()
-        self.addCleanup(self.served.close)
+        super().setUp()
         self.folder = Path(self.served.folder, "collected")
         self.folder.mkdir()
         self.file = self.folder / "lldpa.prom"
 
-    def ctl(self, *words: str, said: str = "", status: int = 0, **options: Any) -> str:
-        """Returns what lldpa-ctl prints; checks its status and its message."""
-        told = subprocess.run([CTL, "--control", self.served.path, "metrics", *words], check=False,
-                              capture_output=True, text=True, timeout=SECONDS, **options)
-        self.assertEqual((told.stderr, told.returncode), (said and f"lldpa-ctl: {said}\n", status))
-        return told.stdout
+    def ctl(self, *words: str, **options: Any) -> str:
+        """Returns the metrics that lldpa-ctl prints."""
+        return self.run_ctl("metrics", *words, **options)
 
     def names(self) -> List[str]:
-        """Returns the files in the folder."""
         return sorted(os.listdir(self.folder))
 
     def test_the_file_has_what_is_printed(self) -> None:

@@ -1,14 +1,11 @@
 """The words for people."""
 
-from __future__ import annotations
-
 import json
 from typing import Any
 
-from asked import Program
 from lldpa.client.questions import explanation, listed
 from lldpa.agent.shown import Counters
-from served import numbered, tlv
+from served import Program, numbered, tlv
 
 LIVE = [b"live.began=2026-11-23T19:40:00Z", b"live.eth0.interface=present",
           b"live.eth0.link=up", b"live.eth1.interface=awaited", b"live.eth1.link=down",

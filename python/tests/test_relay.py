@@ -1,33 +1,25 @@
 """An lldpa-live between an agent and real links, and faults that were once seen there."""
 
-from __future__ import annotations
-
-import os
-import signal
+import re
 import time
-from pathlib import Path
 
-from running_live import Live, OnLinks, on_links
+from running_live import Live, OnLinks
 from patience import by_the_clock, eventually
 from served import numbered
-from wires import Peer
 
 
-@on_links
 class TestTime(OnLinks):
     """Frames and seconds are passed on as they came, whenever that is."""
 
     @by_the_clock
     def test_stopped_lldpa_live_ages_out_nobody_who_was_heard(self) -> None:
         live, peer = self.receiving()
-        peer.send(numbered(1, ttl=10))
-        self.assertTrue(eventually(live.neighbors))
-        live.signal(signal.SIGSTOP)
-        for _ in range(6):
-            time.sleep(2)
-            sent = now()
-            peer.send(numbered(1, ttl=10))
-        live.signal(signal.SIGCONT)
+        self.becomes_neighbor(live, numbered(1, ttl=10), peer)
+        with live.stopped():
+            for _ in range(6):
+                time.sleep(2)
+                sent = now()
+                peer.send(numbered(1, ttl=10))
         shown = live.ask("show neighbors")
         self.assertIn("lldp.eth0.neighbors=1", shown)
         self.assertIn("lldp.eth0.ageouts=0", live.ask("show statistics"))
@@ -37,32 +29,29 @@ class TestTime(OnLinks):
         live, peer = self.receiving()
         peer.send(numbered(1, ttl=2))
         self.assertTrue(eventually(lambda: "lldp.eth0.received=1" in live.ask("show statistics")))
-        live.signal(signal.SIGSTOP)
-        time.sleep(3.2)
-        sent = now()
-        peer.send(numbered(2))
-        live.signal(signal.SIGCONT)
+        with live.stopped():
+            time.sleep(3.2)
+            sent = now()
+            peer.send(numbered(2))
         shown = live.ask("show neighbors")
         self.assertIn("lldp.eth0.neighbors=1", shown)
         self.assertIn("lldp.eth0.1.port.ifname=p2", shown)
         self.assertGreater(seconds_left(shown), 120 - (now() - sent) - 1)
 
     def test_no_second_is_lost_or_told_twice(self) -> None:
-        live = self.live("--log", os.path.join(self.wires.folder, "log"), "eth0")
+        live = self.live("--log", str(self.log), "eth0")
         begins = begins_of_its_seconds(live)
-        live.signal(signal.SIGSTOP)
-        time.sleep(2.5)
-        live.signal(signal.SIGCONT)
+        with live.stopped():
+            time.sleep(2.5)
         begins += begins_of_its_seconds(live)
         self.assertGreater(min(latest for _, latest in begins),
                            max(earliest for earliest, _ in begins))
         told = live.seconds_told()
         self.assertEqual(live.ended(), 0)
-        log = next(Path(self.wires.folder, "log").iterdir())
-        self.assertIn(ticks_of(log) - told, (0, 1))
+        ticks = re.findall("^tick ?(.*)$", next(self.log.iterdir()).read_text(), re.M)
+        self.assertIn(sum(int(seconds or 1) for seconds in ticks) - told, (0, 1))
 
 
-@on_links
 class TestQuestions(OnLinks):
     """What a question finds."""
 
@@ -72,26 +61,23 @@ class TestQuestions(OnLinks):
         live = self.live("eth0", "eth1", "--", "--receive-only", "--max-neighbors", "128")
         peers = [self.peer("peer0"), self.peer("peer1")]
         for round_ in range(5):
-            live.signal(signal.SIGSTOP)
-            for number in range(120):
-                for peer in peers:
-                    peer.send(numbered(number, 1000 + round_).ljust(1514, b"\0"))
-            live.signal(signal.SIGCONT)
+            with live.stopped():
+                for number in range(120):
+                    for peer in peers:
+                        peer.send(numbered(number, 1000 + round_).ljust(1514, b"\0"))
             shown = live.ask("show neighbors")
             for port in ("eth0", "eth1"):
                 self.assertIn(f"lldp.{port}.neighbors=120", shown)
             self.assertEqual(sum(line.endswith(f".ttl={1000 + round_}") for line in shown), 240)
 
 
-@on_links
 class TestLinks(OnLinks):
     """Links come up and go down, and interfaces come and go."""
 
     def test_link_that_goes_and_comes(self) -> None:
         peer, live = self.peer(), self.live("eth0")
         self.assertIsNotNone(peer.hears())
-        peer.send(numbered(1))
-        self.assertTrue(eventually(live.neighbors))
+        self.becomes_neighbor(live, numbered(1), peer)
         self.wires.set_link("peer0", "down")
         live.comes_to("live.eth0.link=down")
         self.assertEqual(live.neighbors(), 1)
@@ -125,8 +111,7 @@ class TestLinks(OnLinks):
         self.wires.add_link(0)
         self.assertTrue(live.says("eth0: the interface is there, and in use"))
         live.comes_to("live.eth0.link=up")
-        self.peer().send(numbered(1))
-        self.assertTrue(eventually(live.neighbors))
+        self.becomes_neighbor(live)
 
     def test_interface_that_is_renamed_and_named_back(self) -> None:
         live, peer = self.receiving()
@@ -144,25 +129,22 @@ class TestLinks(OnLinks):
         self.wires.set_link("ethX", "name", "eth0")
         self.wires.set_link("eth0", "up")
         live.comes_to("live.eth0.link=up")
-        peer.send(numbered(2))
-        self.assertTrue(eventually(live.neighbors))
+        self.becomes_neighbor(live, numbered(2), peer)
 
     def test_frames_of_a_link_that_went_and_came_meanwhile_count(self) -> None:
         live, peer = self.receiving()
         for count, state in ((1, "down"), (2, "up")):
-            live.signal(signal.SIGSTOP)
-            if state == "down":
-                peer.send(numbered(count))
-            self.wires.set_link("eth0", state)
-            if state == "up":
-                self.assertTrue(eventually(self.wires.all_up))
-                peer.send(numbered(count))
-            live.signal(signal.SIGCONT)
+            with live.stopped():
+                if state == "down":
+                    peer.send(numbered(count))
+                self.wires.set_link("eth0", state)
+                if state == "up":
+                    self.assertTrue(eventually(self.wires.all_up))
+                    peer.send(numbered(count))
             self.assertTrue(eventually(lambda: live.neighbors() == count), state)
             live.comes_to(f"live.eth0.link={state}")
 
 
-@on_links
 class TestSending(OnLinks):
     """What the agent sends is sent."""
 
@@ -179,10 +161,9 @@ class TestSending(OnLinks):
     def test_interface_that_is_replaced_during_a_standstill_is_used(self) -> None:
         live = self.live("eth0", "--", "--receive-only")
         for _ in range(3):
-            live.signal(signal.SIGSTOP)
-            self.wires.remove_link("eth0")
-            self.wires.add_link(0)
-            live.signal(signal.SIGCONT)
+            with live.stopped():
+                self.wires.remove_link("eth0")
+                self.wires.add_link(0)
             live.comes_to("live.eth0.link=up")
         self.peer().send(numbered(1))
         self.assertTrue(eventually(lambda: live.neighbors() == 1))
@@ -200,21 +181,13 @@ class TestSending(OnLinks):
         peer, live = self.peer(), self.live("eth0")
         live.ask("configure lldp tx-interval 2")
         self.assertIsNotNone(peer.hears())
-        live.signal(signal.SIGSTOP)
-        while peer.hears(0.1):
-            pass
-        time.sleep(8)
-        live.signal(signal.SIGCONT)
+        with live.stopped():
+            while peer.hears(0.1):
+                pass
+            time.sleep(8)
         self.assertIsNotNone(peer.hears(10))
-        self.assertEqual(heard_within(peer, 0.5), 0)
-
-
-def heard_within(peer: Peer, seconds: float) -> int:
-    """Returns how many frames come in so many seconds."""
-    last, count = time.monotonic() + seconds, 0
-    while (left := last - time.monotonic()) > 0:
-        count += peer.hears(left) is not None
-    return count
+        self.assertIsNone(peer.hears(0.5))
+        self.assertTrue(eventually(lambda: live.number("eth0.left-out") >= 1))
 
 
 def now() -> float:
@@ -238,9 +211,3 @@ def begins_of_its_seconds(live: Live) -> list[tuple[float, float]]:
         begins.append((before - told - 1, now() - told))
         time.sleep(0.02)
     return begins
-
-
-def ticks_of(log: Path) -> int:
-    """Returns the seconds of a log."""
-    lines = [line.split() for line in log.read_text().splitlines() if line.startswith("tick")]
-    return sum(int(words[1]) if words[1:] else 1 for words in lines)

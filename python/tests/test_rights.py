@@ -1,7 +1,5 @@
 """What an attacker who takes over lldpa-live gets: LLDP frames, and no right."""
 
-from __future__ import annotations
-
 import array
 import ctypes
 import os
@@ -12,8 +10,7 @@ import subprocess
 import sys
 from pathlib import Path
 
-from running_live import Live, OnLinks, on_links
-from patience import eventually
+from running_live import Live, OnLinks
 from served import numbered
 from wires import inside
 
@@ -65,7 +62,6 @@ def status_of(pid: int) -> dict[str, str]:
     return dict(line.split(":\t", 1) for line in lines if ":\t" in line)
 
 
-@on_links
 class TestFilter(OnLinks):
     """The filter of a packet socket stays for good."""
 
@@ -78,8 +74,7 @@ class TestFilter(OnLinks):
         for one in found:
             self.assertEqual(what_is_refused(one), ["detach", "attach", "unlock"])
             one.close()
-        self.peer().send(numbered(1))
-        self.assertTrue(eventually(live.neighbors))
+        self.becomes_neighbor(live)
 
     def socket(self) -> socket.socket:
         """Returns the packet socket of an lldpa-live, the very same one."""
@@ -124,12 +119,11 @@ class TestFilter(OnLinks):
         one.setsockopt(SOL_PACKET, PACKET_RX_RING, struct.pack("IIII", 4096, 1024, 2048, 2048))
 
 
-@on_links
 class TestSets(OnLinks):
     """Capabilities and groups of lldpa-live."""
 
     def test_bounding_set_is_empty(self) -> None:
-        live = self.live("--log", os.path.join(self.wires.folder, "log"), "eth0")
+        live = self.live("--log", str(self.log), "eth0")
         pid = live.process.pid
         self.assertEqual(Path(f"/proc/{pid}/task/{pid}/children").read_text(), "")
         for thread in os.listdir(f"/proc/{pid}/task"):
@@ -149,7 +143,7 @@ class TestSets(OnLinks):
             self.assertEqual(set(status[kind].split()), {user}, kind)
 
     def test_groups_are_dropped_where_it_is_not_root(self) -> None:
-        Path(self.wires.folder).chmod(0o777)
+        self.folder.chmod(0o777)
         live = self.live("eth0", before=[
             "setpriv", "--reuid=1", "--regid=1", "--groups=4,24", "--inh-caps=+net_raw,+setgid",
             "--ambient-caps=+net_raw,+setgid"])
@@ -157,11 +151,10 @@ class TestSets(OnLinks):
         self.assertEqual(status["Groups"].strip(), "")
         for kind in ("CapInh", "CapPrm", "CapEff", "CapAmb"):
             self.assertEqual(int(status[kind], 16), 0, kind)
-        self.peer().send(numbered(1))
-        self.assertTrue(eventually(live.neighbors))
+        self.becomes_neighbor(live)
 
     def test_no_other_process_of_its_user_reaches_into_it(self) -> None:
-        Path(self.wires.folder).chmod(0o777)
+        self.folder.chmod(0o777)
         user = ["setpriv", "--reuid=1", "--regid=1", "--clear-groups"]
         live = self.live("eth0", before=[*user, "--inh-caps=+net_raw", "--ambient-caps=+net_raw"])
         for name in ("mem", "environ"):

@@ -1,40 +1,29 @@
 """lldpa-live as a service: what systemd receives, what metrics say, and the lines of --events."""
 
-from __future__ import annotations
-
 import os
 import re
 import signal
 import socket
-import subprocess
-from pathlib import Path
 from typing import Any
 
-from running_live import Live, OnLinks, on_links
+from running_live import Live, OnLinks
 from heard import Heard
 from patience import SECONDS, by_the_clock, eventually
-from served import CTL, numbered, tlv
+from served import numbered, tlv
 from wires import inside
 
 
-@on_links
 class Service(OnLinks):
     """An lldpa-live that is watched."""
 
     def setUp(self) -> None:
         super().setUp()
-        self.heard = Heard(self.wires.folder)
-        os.chmod(self.wires.folder, 0o755)
+        self.heard = Heard(self.folder)
         self.addCleanup(self.heard.close)
 
     def service(self, *words: str, seconds: float = 4, **options: Any) -> Live:
         """Starts an lldpa-live that reports to the test, with a sign of life in so many seconds."""
         return self.live(*words, env=self.heard.environment(seconds), **options)
-
-    def metrics(self, live: Live) -> str:
-        """Returns what Prometheus would get."""
-        return subprocess.run([CTL, "--control", live.control, "metrics"], check=False,
-                              capture_output=True, text=True).stdout
 
 
 class Systemd(Service):
@@ -46,7 +35,7 @@ class Systemd(Service):
             self.assertEqual(self.heard.next(), ["READY=1"])
             self.assertEqual(self.heard.next(), [f"STATUS=waiting for an interface: {part}"])
             self.assertIn("live.agent=waiting", live.ask("live"))
-            self.assertIn("\nlldpa_agent_state{state=\"waiting\"} 1\n", self.metrics(live))
+            self.assertIn("\nlldpa_agent_state{state=\"waiting\"} 1\n", live.ctl("metrics"))
             for _ in range(2):
                 self.assertEqual(self.heard.next(), ["WATCHDOG=1"])
             self.wires.add_link(comes)
@@ -84,10 +73,9 @@ class Systemd(Service):
         live = self.service("eth0", seconds=8)
         for _ in range(3):
             self.assertTrue(self.heard.hears("WATCHDOG=1", 8))
-        live.signal(signal.SIGSTOP)
-        self.heard.forget()
-        self.assertFalse(self.heard.hears("WATCHDOG=1", 4))
-        live.signal(signal.SIGCONT)
+        with live.stopped():
+            self.heard.forget()
+            self.assertFalse(self.heard.hears("WATCHDOG=1", 4))
         self.assertTrue(self.heard.hears("WATCHDOG=1"))
 
     def test_an_abstract_name_begins_with_an_at_sign(self) -> None:
@@ -107,19 +95,6 @@ class Systemd(Service):
             self.assertTrue(self.heard.hears("READY=1"), wanted)
             self.assertFalse(self.heard.hears("WATCHDOG=1", 1.5), wanted)
             live.close()
-
-    @by_the_clock
-    def test_nobody_who_reads_is_waited_for(self) -> None:
-        live, peer = self.service("eth0", "--", "--receive-only"), self.peer()
-        for number in range(200):  # more than the socket takes
-            live.signal(signal.SIGHUP)
-            peer.send(numbered(number))
-            self.assertTrue(eventually(live.ask_quietly, 5))
-        self.heard.close()
-        os.unlink(self.heard.path)
-        live.signal(signal.SIGHUP)
-        self.assertTrue(live.ask_quietly())
-        self.assertEqual(live.ended(), 0)
 
 
 class Events(Service):
@@ -174,14 +149,14 @@ class Events(Service):
 
     def test_the_journal_is_told_levels_in_place_of_the_name(self) -> None:
         journal = ["sh", "-c", 'JOURNAL_STREAM=$(stat -L -c %d:%i /dev/fd/2) exec "$@"', "sh"]
-        self.settings = Path(self.wires.folder, "settings.conf")
-        live = self.live("--events", "--config", str(self.settings), "eth0", "--",
+        settings = self.folder / "settings.conf"
+        live = self.live("--events", "--config", str(settings), "eth0", "--",
                          "--receive-only", before=journal)
         self.peer().send(numbered(1, 60, tlv(5, b"a")))
         self.assertTrue(live.says("<6>eth0 came: a p1\n"))
         live.signal(signal.SIGHUP)
         self.assertTrue(live.says("<5>the settings were read again\n"))
-        self.settings.write_text("configure lldp tx-hold 0\n")
+        settings.write_text("configure lldp tx-hold 0\n")
         live.signal(signal.SIGHUP)
         self.assertTrue(live.says("<4>1 setting was not applied\n"))
         self.assertNotIn("lldpa-live", live.errors())

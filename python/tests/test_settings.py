@@ -1,15 +1,12 @@
 """Settings that outlive a restart."""
 
-from __future__ import annotations
-
 import codecs
 import os
 import signal
 import unittest
-from pathlib import Path
 
 from heard import Heard
-from running_live import OnLinks, on_links
+from running_live import OnLinks
 from lldpa.client.refused import explained
 from patience import eventually
 from served import PROGRAM, numbered
@@ -47,7 +44,6 @@ class TestExplained(unittest.TestCase):
                          "not a number")
 
 
-@on_links
 class TestSettings(OnLinks):
     """Files of settings, at the start and at SIGHUP."""
 
@@ -55,23 +51,22 @@ class TestSettings(OnLinks):
 
     def setUp(self) -> None:
         super().setUp()
-        self.file = Path(self.wires.folder, "lldpa.conf")
-        self.folder = Path(self.wires.folder, "lldpa.d")
-        self.folder.mkdir()
-        Path(self.wires.folder).chmod(0o755)
+        self.file = self.folder / "lldpa.conf"
+        self.parts = self.folder / "lldpa.d"
+        self.parts.mkdir()
 
     def words(self) -> list[str]:
         """Returns the words of an lldpa-live with both."""
-        return ["--config", str(self.file), "--config", str(self.folder)]
+        return ["--config", str(self.file), "--config", str(self.parts)]
 
     def test_they_are_told_before_any_frame_goes_and_outlive_a_restart(self) -> None:
         self.file.write_text("# of this host\n\nconfigure lldp tx-interval 7\r\n"
                              "configure lldp tx-hold 9\n")
-        (self.folder / "20-hold.conf").write_text("configure lldp tx-hold 3")
-        (self.folder / "10-hold.conf").write_text("configure lldp tx-hold 5\n"
+        (self.parts / "20-hold.conf").write_text("configure lldp tx-hold 3")
+        (self.parts / "10-hold.conf").write_text("configure lldp tx-hold 5\n"
                                                   "configure ports eth1 lldp status rx-only\n"
                                                   'configure system description "a b"\n')
-        (self.folder / "30-hold.conf.bak").write_text("configure lldp tx-hold 8\n")
+        (self.parts / "30-hold.conf.bak").write_text("configure lldp tx-hold 8\n")
         for _ in range(2):
             peers = [self.peer("peer0"), self.peer("peer1")]
             live = self.live(*self.words(), "eth0", "eth1")
@@ -88,7 +83,7 @@ class TestSettings(OnLinks):
     def test_wrong_lines_at_the_start_are_told_and_the_agent_runs(self) -> None:
         self.file.write_text("configure lldp tx-hold 3\n#\nconfigure lldp tx-interval 3601\n"
                              "show neighbors\nconfigure lldp tx-interval 7\n")
-        heard = Heard(self.wires.folder)
+        heard = Heard(self.folder)
         self.addCleanup(heard.close)
         live = self.live(*self.words(), "eth0", "eth1", env=heard.environment())
         self.assertEqual(live.errors().splitlines(), [
@@ -153,14 +148,14 @@ class TestSettings(OnLinks):
     def test_what_cannot_be_read_is_told_and_the_rest_is_taken(self) -> None:
         self.file.write_bytes(codecs.BOM_UTF8 + b"configure lldp tx-hold 3\n")
         for name in ("10-locked.conf", "30.conf", ".#hidden.conf"):
-            (self.folder / name).write_text("configure lldp tx-interval 9\n")
-        (self.folder / "10-locked.conf").chmod(0)
-        (self.folder / ".#hidden.conf").chmod(0)
-        (self.folder / "11-dangling.conf").symlink_to("/no/such/file")
-        (self.folder / "12-folder.conf").mkdir()
-        os.mkfifo(self.folder / "13-pipe.conf")
-        (self.folder / "14-device.conf").symlink_to("/dev/zero")
-        told = [f"lldpa-live: {self.folder}/{name}.conf: {why}" for name, why in (
+            (self.parts / name).write_text("configure lldp tx-interval 9\n")
+        (self.parts / "10-locked.conf").chmod(0)
+        (self.parts / ".#hidden.conf").chmod(0)
+        (self.parts / "11-dangling.conf").symlink_to("/no/such/file")
+        (self.parts / "12-folder.conf").mkdir()
+        os.mkfifo(self.parts / "13-pipe.conf")
+        (self.parts / "14-device.conf").symlink_to("/dev/zero")
+        told = [f"lldpa-live: {self.parts}/{name}.conf: {why}" for name, why in (
             ("10-locked", "Permission denied"), ("11-dangling", "No such file or directory"),
             ("12-folder", "not a file"), ("13-pipe", "not a file"), ("14-device", "not a file"))]
         told.append("lldpa-live: 5 settings were not applied")
@@ -171,7 +166,7 @@ class TestSettings(OnLinks):
         live.signal(signal.SIGHUP)
         self.assertTrue(eventually(lambda: live.errors().splitlines() == 2 * told))
         self.assertEqual(live.number("settings-refused"), 5)
-        for path in self.folder.glob("1*.conf"):
+        for path in self.parts.glob("1*.conf"):
             path.rmdir() if path.is_dir() else path.unlink()
         live.signal(signal.SIGHUP)
         self.assertTrue(live.says("the settings were read again"))
@@ -187,8 +182,8 @@ class TestSettings(OnLinks):
         self.assertLess(max(map(len, live.errors().splitlines())), 500)
         self.assertEqual(live.number("settings-refused"), 2)
 
-    def test_a_flood_of_signals_is_survived(self) -> None:
-        heard = Heard(self.wires.folder)
+    def test_a_flood_of_signals_is_survived_and_nobody_who_reads_is_waited_for(self) -> None:
+        heard = Heard(self.folder)
         self.addCleanup(heard.close)
         self.file.write_text("configure lldp tx-hold 3\n")
         live = self.live(*self.words(), "eth0", env=heard.environment())
@@ -202,3 +197,8 @@ class TestSettings(OnLinks):
         live.comes_to("configuration.tx-hold=5", "show configuration")
         self.assertEqual(set(live.errors().splitlines()),
                          {"lldpa-live: the settings were read again"})
+        heard.close()
+        os.unlink(heard.path)
+        live.signal(signal.SIGHUP)
+        self.assertTrue(live.ask_quietly())
+        self.assertEqual(live.ended(), 0)

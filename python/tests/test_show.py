@@ -1,5 +1,4 @@
 """Shows that are read, and their very lines again."""
-from __future__ import annotations
 
 import subprocess
 import sys
@@ -122,7 +121,6 @@ class ThereAndBack(unittest.TestCase):
         for lines in (ALL, NEIGHBORS, STATISTICS, CHASSIS, CHASSIS[:4], CONFIGURATION, []):
             self.assertEqual(lines_of(read_show(lines)), lines)
             self.assertEqual(lines_of(read_show(line + "\n" for line in lines)), lines)
-
 
 
 class WhatIsRead(unittest.TestCase):

@@ -1,12 +1,10 @@
 """Since when lldpa-live hears each neighbor, and the numbers of chassis."""
 
-from __future__ import annotations
-
 import time
 from typing import Dict
 
 from lldpa import read_show
-from running_live import OnLinks, on_links
+from running_live import OnLinks
 from lldpa.client.live_lines import LiveLines, since_of
 from lldpa.client.times import seconds_of
 from patience import eventually
@@ -18,7 +16,6 @@ def id_of(number: int) -> str:
     return f"mac=02:00:00:00:00:{number:02x} ifname=p{number}"
 
 
-@on_links
 class OnARealLink(OnLinks):
     """lldpa-live reports it."""
 

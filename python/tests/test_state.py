@@ -1,11 +1,8 @@
 """lldpa-live is started again: it continues with the state that the one before left."""
 
-from __future__ import annotations
-
 import os
 import signal
 import time
-from pathlib import Path
 from typing import Iterator
 
 from lldpa import Neighbor
@@ -13,17 +10,15 @@ from lldpa.client import since_of
 from patience import eventually
 from replaced import LONG, Replaced
 from replays import Moments, differing
-from running_live import on_links
 from served import frame, numbered
 
 
-@on_links
 class Restarts(Replaced):
     """What one lldpa-live leaves, the next one takes."""
 
     def setUp(self) -> None:
         super().setUp()
-        self.state = Path(self.wires.folder, "state")
+        self.state = self.folder / "state"
 
     def ended(self) -> tuple[list[Neighbor], float, dict[tuple[str, str], str]]:
         """Lets one see neighbors and end; returns its neighbors, the moment, and since when each
@@ -84,7 +79,7 @@ class Restarts(Replaced):
     def test_a_state_of_somebody_else_is_not_used(self) -> None:
         self.ended()
         kept = self.state.read_bytes()
-        other = Path(self.wires.folder, "other")
+        other = self.folder / "other"
         other.write_text("of root")
         other.chmod(0o600)
         for change in (lambda: os.chown(self.state, 12345, -1),

@@ -1,7 +1,5 @@
 """Texts of neighbors as Unicode, and as a terminal may show them."""
 
-from __future__ import annotations
-
 import json
 import unicodedata
 import unittest

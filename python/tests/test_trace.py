@@ -1,6 +1,6 @@
 """Captures as a trace: by the package, and by lldpa-capture as people call it."""
-from __future__ import annotations
 
+import gzip
 import os
 import random
 import select
@@ -148,7 +148,9 @@ class Program(FilesCase):
 
     def test_words(self) -> None:
         self.file(pcap([whole(LLDP), whole(LLDP, START + SECOND)]), "a")
-        self.assertEqual(self.ran("a"), (f"{RX}tick\n{RX}", "", 0))
+        self.file(gzip.compress((self.folder / "a").read_bytes()), "a.gz")
+        for name in ("a", "a.gz"):
+            self.assertEqual(self.ran(name), (f"{RX}tick\n{RX}", "", 0))
         self.assertEqual(self.ran("a", "--no-seconds"), (RX + RX, "", 0))
         shown = f"{RX}tick\n{RX}show neighbors\nshow statistics\n"
         self.assertEqual(self.ran("--show", "a"), (shown, "", 0))

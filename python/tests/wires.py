@@ -1,7 +1,5 @@
 """For tests on real links: a pair of namespaces with veth pairs, and senders there."""
 
-from __future__ import annotations
-
 import contextlib
 import ctypes
 import os
@@ -11,6 +9,7 @@ import subprocess
 import sys
 import tempfile
 import time
+from pathlib import Path
 from typing import Iterator, Optional, Tuple
 
 from patience import SECONDS, eventually
@@ -19,7 +18,6 @@ CLONE_NEWNET = 0x40000000
 
 
 def ip(*words: str) -> None:
-    """Runs ip."""
     subprocess.run(["ip", *words], check=True, capture_output=True)
 
 
@@ -37,14 +35,16 @@ def inside(namespace: str) -> Iterator[None]:
 
 
 class Wires:
-    """Links eth0.. to peer0.. between the namespaces `here` and `there`, and a folder."""
+    """Links eth0.. to peer0.. between the namespaces `here` and `there`, and a folder, which others
+    may enter."""
 
     numbers = iter(range(1000))
 
     def __init__(self, links: int = 1) -> None:
         number = f"{os.getpid()}-{next(self.numbers)}"
         self.here, self.there = f"lldpa-here-{number}", f"lldpa-there-{number}"
-        self.folder = tempfile.mkdtemp()
+        self.folder = Path(tempfile.mkdtemp())
+        self.folder.chmod(0o755)
         for name in (self.here, self.there):
             ip("netns", "add", name)
             ip("-n", name, "link", "set", "lo", "up")
@@ -72,7 +72,6 @@ class Wires:
             ip("-n", name, "link", "set", end, "up")
 
     def side(self, end: str) -> str:
-        """Returns the namespace of an end."""
         return self.there if end.startswith(("peer", "far")) else self.here
 
     def set_link(self, end: str, *words: str) -> None:
@@ -80,17 +79,14 @@ class Wires:
         ip("-n", self.side(end), "link", "set", end, *words)
 
     def remove_link(self, end: str) -> None:
-        """Removes a link."""
         ip("-n", self.side(end), "link", "del", end)
 
     def address(self, end: str) -> bytes:
-        """Returns the address of an end."""
         shown = subprocess.run(["ip", "-n", self.side(end), "-br", "link", "show", end], text=True,
                                capture_output=True, check=True).stdout
         return bytes.fromhex(shown.split()[2].replace(":", ""))
 
     def close(self) -> None:
-        """Removes everything."""
         for name in (self.here, self.there):
             subprocess.run(["ip", "netns", "del", name], check=False)
         shutil.rmtree(self.folder)
@@ -129,7 +125,6 @@ class Peer:
             self.socket.bind((end, 0x88CC))
 
     def send(self, octets: bytes) -> None:
-        """Sends a frame."""
         self.socket.send(octets)
 
     def hears(self, seconds: float = SECONDS, ttl: Optional[int] = None) -> Optional[bytes]:
@@ -144,7 +139,6 @@ class Peer:
         return None
 
     def close(self) -> None:
-        """Closes the socket."""
         self.socket.close()
 
 

@@ -69,8 +69,8 @@ def metrics_of(report: Report) -> bytes:
         gauge("cables", "Planned cables by state.", "state", count.cables),
         gauge("ends", "Ends by verdict.", "verdict", {name: verdicts[name] for name in names}),
         gauge("repairs", "Repairs by kind.", "kind", {kind: kinds[kind] for kind in TO_DO}),
-        gauge("source_timestamp_seconds", "When the newest and the oldest source were made.", "source",
-              {name: now - age for name, age in ages.items()}),
+        gauge("source_timestamp_seconds", "When the newest and the oldest source were made.",
+              "source", {name: now - age for name, age in ages.items()}),
         gauge("run_timestamp_seconds", "Time of the audit.", "", {"": now})]).encode()
 
 

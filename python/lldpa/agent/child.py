@@ -1,5 +1,4 @@
 """Runs lldpa as a child process, and exchanges its trace over a socket."""
-from __future__ import annotations
 
 import errno
 import os

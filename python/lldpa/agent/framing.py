@@ -4,7 +4,6 @@ The agent does not mark the end of an answer. So a mark is written after the lin
 is one octet too long. The answer to the lines is what precedes `error: line too long`. Nothing else
 has this answer, since a line that is too long is never written.
 """
-from __future__ import annotations
 
 import re
 from typing import List, Optional, Union

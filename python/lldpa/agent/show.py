@@ -2,7 +2,6 @@
 
 Each line is `KEY=VALUE`; the manual page lldpa(1) lists every key.
 """
-from __future__ import annotations
 
 import re
 from functools import lru_cache
@@ -28,7 +27,6 @@ ESCAPE = rb"\\(\\|x[0-9a-f]{2})"
 
 class ShowFault(LldpaFault, ValueError):
     """Lines that are not a show: which line is wrong, and what was expected in its place."""
-
 
 def unescaped(text: str) -> bytes:
     """Returns the octets of an escaped text."""

@@ -1,5 +1,4 @@
 """What captures say of their interfaces and packets."""
-from __future__ import annotations
 
 from typing import NamedTuple, Optional, Tuple
 

@@ -3,7 +3,6 @@
     for packet in packets_of(open("lab.pcap", "rb")):
         print(packet.time, packet.octets.hex())
 """
-from __future__ import annotations
 
 from contextlib import suppress
 from typing import BinaryIO, Iterator, List, Optional

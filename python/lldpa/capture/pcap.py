@@ -2,7 +2,6 @@
 
 See https://datatracker.ietf.org/doc/draft-ietf-opsawg-pcap/.
 """
-from __future__ import annotations
 
 import struct
 from typing import Optional, Tuple

@@ -2,7 +2,6 @@
 
 See https://datatracker.ietf.org/doc/draft-ietf-opsawg-pcapng/.
 """
-from __future__ import annotations
 
 import struct
 from typing import Dict, List, Optional

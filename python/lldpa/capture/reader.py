@@ -1,5 +1,4 @@
 """Goes over the records of a capture in memory, and decodes only those that can matter."""
-from __future__ import annotations
 
 from typing import Iterator, Optional
 

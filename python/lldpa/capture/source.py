@@ -1,5 +1,4 @@
 """The files that a trace is made of, and the ports of their frames."""
-from __future__ import annotations
 
 import os
 import shutil

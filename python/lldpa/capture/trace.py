@@ -1,6 +1,5 @@
 """Captures as one trace for lldpa: their LLDP frames in the order of their time stamps, and the
 seconds between them."""
-from __future__ import annotations
 
 import os
 from collections import Counter
@@ -27,7 +26,6 @@ Tell = Callable[[str], None]
 
 class TooManyPorts(LldpaFault):
     """Captures with frames for more ports than an agent has."""
-
 
 class Told(NamedTuple):
     """Calls for a line about what is skipped (`note`), for what makes the trace incomplete

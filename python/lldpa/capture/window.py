@@ -1,5 +1,4 @@
 """A stretch of a file in memory, which moves from the file's begin to its end."""
-from __future__ import annotations
 
 from typing import Protocol
 
@@ -11,7 +10,6 @@ MOST_OCTETS = 1 << 24
 
 class BadCapture(LldpaFault):
     """Why a capture cannot be read further, and at which octet from its beginning."""
-
 
 class Readable(Protocol):
     """A source of octets: a file, or what unpacks one."""

@@ -4,8 +4,6 @@ Texts are Unicode if their octets are UTF-8. If they are not, a text is escaped 
 it, and `octets` beside it has the hexadecimal of each such text by its key.
 """
 
-from __future__ import annotations
-
 from typing import Any, Mapping, Optional
 
 from .live_lines import Since

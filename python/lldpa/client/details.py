@@ -1,7 +1,5 @@
 """Shows all that a neighbor sends, for people, in fewer lines than a terminal has."""
 
-from __future__ import annotations
-
 import time
 from itertools import islice
 from typing import Iterator, List, Mapping, Optional, Sequence, Tuple
@@ -55,7 +53,8 @@ def detail_lines(neighbor: Neighbor, since: Optional[str], width: int) -> list[s
 
 def pairs_of(neighbor: Neighbor, since: Optional[str]) -> Iterator[Pair]:
     """Returns what is known of a neighbor, under headings."""
-    yield "Heard", heard(neighbor, since)
+    left = f"{neighbor.expires} s of {neighbor.ttl} s left"
+    yield "Heard", left if since is None else f"since {local_time(since)}, {left}"
     yield "Chassis ID", with_kind(neighbor.chassis)
     yield "Port ID", with_kind(neighbor.port_id)
     yield "Port", readable(neighbor.port_descr or "")
@@ -79,12 +78,6 @@ def others_of(neighbor: Neighbor) -> Iterator[Pair]:
     for key, value in neighbor.said:
         if key not in SAID_KEYS and not key.startswith("org."):
             yield readable(key), readable(value)
-
-
-def heard(neighbor: Neighbor, since: Optional[str]) -> str:
-    """Returns when it came, and in how many seconds it will age out."""
-    left = f"{neighbor.expires} s of {neighbor.ttl} s left"
-    return left if since is None else f"since {local_time(since)}, {left}"
 
 
 def local_time(utc: str) -> str:

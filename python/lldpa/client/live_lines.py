@@ -1,7 +1,5 @@
 """Reads the state of lldpa-live from its lines `live.KEY=VALUE` and `live.PORT.KEY=VALUE`."""
 
-from __future__ import annotations
-
 from typing import Dict, Iterable, Mapping, Sequence, Tuple
 
 # when a neighbor came, by its port and its MSAP identifier

@@ -1,7 +1,5 @@
 """Writes the state, ports and neighbors of lldpa-live in Prometheus' text format."""
 
-from __future__ import annotations
-
 from typing import Iterable, Iterator, Mapping, Tuple
 
 from .live_lines import LiveLines

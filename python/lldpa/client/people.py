@@ -1,7 +1,5 @@
 """The tables for people, as wide as the terminal: neighbors, the state of ports, and counters."""
 
-from __future__ import annotations
-
 import os
 import socket
 import sys

@@ -4,8 +4,6 @@ If nobody answers, `lldpa_up 0` is written, so that a dead lldpa-live never look
 written whole or not at all.
 """
 
-from __future__ import annotations
-
 import os
 from contextlib import suppress
 from typing import Iterable, Optional
@@ -21,15 +19,11 @@ from ..organizational.kinds import load
 SECONDS_TO_ANSWER = 10.0  # for each question; the timer asks again soon
 
 
-class NotWritten(LldpaFault):
-    """A file that could not be written, and why."""
-
-
 def publish(path: str, file: Optional[str]) -> None:
     """Writes the metrics of lldpa-live at a control socket to a file, or to standard output.
 
     After that it raises what `Client` raises if nobody answers, and Refused if the agent waits for
-    an interface. Raises NotWritten if the file can't be written.
+    an interface. Raises LldpaFault if the file can't be written.
     """
     try:
         told, lines = asked(path, file is None)
@@ -72,7 +66,7 @@ def write(lines: Iterable[str], file: Optional[str]) -> None:
     try:
         replace(file, text)
     except OSError as error:
-        raise NotWritten(f"{file}: {error.strerror}") from None
+        raise LldpaFault(f"{file}: {error.strerror}") from None
 
 
 def replace(file: str, text: str) -> None:

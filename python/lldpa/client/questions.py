@@ -1,7 +1,6 @@
 """The commands for people: what each asks, and how the answers are shown. Modules that only one
 command needs are loaded with it."""
 
-# no `annotations` of __future__: see agent/shown.py
 from typing import Any, Callable, Dict, List, NamedTuple, Sequence, Tuple
 
 from .live_lines import LiveLines, since_of

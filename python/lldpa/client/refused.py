@@ -1,7 +1,5 @@
 """Why a command was refused: which of its words, and what the help of the agent says of it."""
 
-from __future__ import annotations
-
 import re
 import subprocess
 from functools import lru_cache

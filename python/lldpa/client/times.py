@@ -1,7 +1,5 @@
 """Reads the times that lldpa-live writes. (`datetime` needs 0.4 MB, so few questions load it.)"""
 
-from __future__ import annotations
-
 import re
 from datetime import datetime
 

@@ -1,7 +1,5 @@
 """What happens to neighbors between two shows: which came, changed and left."""
 
-from __future__ import annotations
-
 import json
 import time
 from typing import Dict, Iterable, Iterator, List, NamedTuple, Sequence, Tuple

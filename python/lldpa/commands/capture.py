@@ -1,5 +1,4 @@
 """lldpa-capture: writes the LLDP frames of captures as a trace for lldpa."""
-from __future__ import annotations
 
 import argparse
 import os

@@ -1,6 +1,5 @@
 """lldpa-ctl: asks a running lldpa-live at its control socket, and prints what it answers."""
 
-# no `annotations` of __future__: see agent/shown.py
 import getopt
 import sys
 from typing import Callable, List, NamedTuple, Optional, Sequence

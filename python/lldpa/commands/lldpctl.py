@@ -1,5 +1,4 @@
 """lldpctl, also under the name lldpcli: asks a running lldpa-live, and prints lldpcli's forms."""
-from __future__ import annotations
 
 import getopt
 import os

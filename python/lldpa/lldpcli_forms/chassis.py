@@ -1,5 +1,4 @@
 """The nodes of a chassis, a port, the identifiers and unknown TLVs."""
-from __future__ import annotations
 
 from typing import Iterable, Iterator, Mapping, Optional, Tuple
 

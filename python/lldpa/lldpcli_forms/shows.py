@@ -1,5 +1,4 @@
 """The trees of the shows, each with its title, from what lldpa-live answers."""
-from __future__ import annotations
 
 from enum import Enum
 from typing import (Callable, Dict, Iterable, Iterator, List, Mapping, NamedTuple, Optional,

@@ -1,5 +1,4 @@
 """Reads the commands: the words of lldpcli, and the ports after lldpctl."""
-from __future__ import annotations
 
 from typing import List, NamedTuple, Optional, Sequence, Union
 
@@ -9,16 +8,14 @@ from ..client.refused import forms_of, in_full
 from .shows import TREES, Depth, Told
 from ..node import Node
 
-# what may follow each show, except its ports
-SHOWS = {"neighbors": ("details", "summary", "hidden"),
-         "interfaces": ("details", "summary", "hidden"),
-         "chassis": ("details", "summary"),
-         "statistics": ("summary",),
-         "configuration": ()}
-WITHOUT_PORTS = ("chassis", "configuration")
-COMMANDS = ("show", "watch", "configure", "update")
-OF_WATCH = ("details", "summary", "hidden", "limit", "ports")
 PORTS, LIMIT = "ports", "limit"
+# what may follow each show
+SHOWS = {"neighbors": ("details", "summary", "hidden", PORTS),
+         "interfaces": ("details", "summary", "hidden", PORTS),
+         "chassis": ("details", "summary"),
+         "statistics": ("summary", PORTS),
+         "configuration": ()}
+COMMANDS = ("show", "watch", "configure", "update")
 
 
 class Question(NamedTuple):
@@ -70,12 +67,11 @@ def of_lldpcli(words: Sequence[str]) -> Command:
             raise Refused(f"unknown word: {rest[0]} (nothing follows)")
         return Lines([first])
     if first == "watch":
-        return Watching(*read_rest(rest, list(OF_WATCH)))
+        return read_rest(rest, ["details", "summary", "hidden", LIMIT, PORTS])
     if not rest:
         raise Refused(f"show what: {', '.join(SHOWS)}")
     show = meant(rest.pop(0), tuple(SHOWS))
-    able = [*SHOWS[show], *([] if show in WITHOUT_PORTS else [PORTS])]
-    depth, ports, _ = read_rest(rest, able)
+    depth, ports, _ = read_rest(rest, list(SHOWS[show]))
     return Question(show, depth, ports)
 
 

@@ -1,5 +1,4 @@
 """The forms of a tree: for people, as keys and values, and as JSON."""
-from __future__ import annotations
 
 import json
 import unicodedata

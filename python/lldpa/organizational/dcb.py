@@ -35,13 +35,11 @@ class EtsTables:
         return cls(classes, tuple(octets[4:12]), tuple(octets[12:]))
 
     def words(self) -> str:
-        """Returns it in words."""
         classes, shares = " ".join(map(str, self.classes)), " ".join(map(str, self.bandwidths))
         algorithms = " ".join(SHORT.get(one, str(one)) for one in self.algorithms)
         return f"classes {classes}, percent {shares}, algorithms {algorithms}"
 
     def value(self) -> Object:
-        """Returns its value in JSON."""
         return {"classes": list(self.classes), "bandwidths": list(self.bandwidths),
                 "algorithms": [ALGORITHMS.get(one) for one in self.algorithms]}
 
@@ -129,7 +127,6 @@ class ApplicationPriority:
     protocol: int
 
     def words(self) -> str:
-        """Returns it in words."""
         selector = SELECTORS.get(self.selector, f"selector {self.selector}")
         protocol = f"{self.protocol:#06x}" if self.selector == 1 else str(self.protocol)
         return f"{selector} {protocol} priority {self.priority}"

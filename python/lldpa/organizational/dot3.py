@@ -1,5 +1,4 @@
 """TLVs of IEEE 802.3 (OUI 00-12-0F) about frames and the link, and Link Aggregation of 802.1."""
-from __future__ import annotations
 
 from dataclasses import dataclass
 from typing import Any, List, Optional, Tuple

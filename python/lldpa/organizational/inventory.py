@@ -7,7 +7,7 @@ from typing import Any, List, Optional
 
 from ..node import Node, said_text
 from ..texts import readable_octets, with_text
-from .kinds import IANA, MED, Object, Said, Tlv, of, register, watts
+from .kinds import IANA, MED, Object, Said, Tlv, of, watts
 from .power import LLDPCLI_PD_SOURCES, PD_SOURCES, PRIORITIES, PSE_SOURCES
 
 DEVICES = {0: "PSE", 1: "PD"}
@@ -102,7 +102,7 @@ class Inventory(Tlv):
 
 
 for place, name in enumerate(INVENTORY):
-    register(Inventory, MED, 5 + place, reader=partial(Inventory, name))
+    of(MED, 5 + place, reader=partial(Inventory, name))(Inventory)
 
 
 @of(IANA, 1, is_of_lldpd=False)

@@ -162,22 +162,18 @@ KINDS: List[Type[Tlv]] = []
 OF_LLDPD: Set[str] = set()  # OUI and subtype of the kinds that lldpd knows
 
 
-def of(oui: str, subtype: int, is_of_lldpd: bool = True) -> Callable[[Kind], Kind]:
-    """Registers the class below for an OUI and a subtype."""
+def of(oui: str, subtype: int, is_of_lldpd: bool = True,
+       reader: Optional[Reader] = None) -> Callable[[Kind], Kind]:
+    """Registers a class for an OUI and a subtype, which it reads itself if no reader is given."""
     def registered(kind: Kind) -> Kind:
-        register(kind, oui, subtype, is_of_lldpd)
+        tlv: Type[Tlv] = kind
+        READERS[oui, subtype] = reader or tlv.read
+        if is_of_lldpd:
+            OF_LLDPD.add(f"{oui}.{subtype}")
+        if kind not in KINDS:
+            KINDS.append(kind)
         return kind
     return registered
-
-
-def register(kind: Type[Tlv], oui: str, subtype: int, is_of_lldpd: bool = True,
-             reader: Optional[Reader] = None) -> None:
-    """Registers a class for an OUI and a subtype, which it reads itself if no reader is given."""
-    READERS[oui, subtype] = reader or kind.read
-    if is_of_lldpd:
-        OF_LLDPD.add(f"{oui}.{subtype}")
-    if kind not in KINDS:
-        KINDS.append(kind)
 
 
 @lru_cache

@@ -7,7 +7,7 @@ from typing import Any, Dict, List, Optional, Tuple, Type
 
 from ..node import Node, capital, lldpcli_text
 from ..texts import readable_octets, with_text
-from .kinds import MED, Said, Tlv, register
+from .kinds import MED, Said, Tlv, of
 
 LONGEST_ELIN = 25
 ALTITUDES = {1: "meters", 2: "floors"}
@@ -194,4 +194,4 @@ def read_location(octets: bytes) -> Optional[Location]:
     return None if form is None else form.read(octets[1:])
 
 
-register(Location, MED, 3, reader=read_location)
+of(MED, 3, reader=read_location)(Location)

@@ -2,7 +2,6 @@
 
 The numbers are those of IANA-MAU-MIB (dot3MauType), and the bits those of ifMauAutoNegCapability.
 """
-from __future__ import annotations
 
 import re
 from typing import Dict, NamedTuple, Optional, Tuple

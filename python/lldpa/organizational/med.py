@@ -1,5 +1,4 @@
 """TLVs of LLDP-MED (OUI 00-12-BB) about a device and its policies."""
-from __future__ import annotations
 
 from dataclasses import dataclass
 from typing import Any, List, Optional, Tuple

@@ -43,7 +43,6 @@ class PowerRequest(Fields):
     allocated: int
 
     def words(self) -> str:
-        """Returns it in words."""
         told = self.value()
         return (f"{told['type']}, source {told['source']}, priority {told['priority']}, "
                 f"requested {watts(self.requested)}, allocated {watts(self.allocated)}")
@@ -94,7 +93,6 @@ class PowerOfPairs(Fields):
     down_seconds: int
 
     def words(self) -> str:
-        """Returns it in words."""
         return (f"at most {watts(self.most_available)}, A {watts(self.requested_a)} requested and "
                 f"{watts(self.allocated_a)} allocated, B {watts(self.requested_b)} and "
                 f"{watts(self.allocated_b)}")

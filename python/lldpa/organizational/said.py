@@ -1,5 +1,4 @@
 """What a neighbor sends in TLVs of organizations: as objects, as rows for people, as JSON."""
-from __future__ import annotations
 
 from typing import Dict, Iterable, List, Optional, Tuple
 
