@@ -5,6 +5,7 @@
 
 use crate::links::Mac;
 use crate::options::AgentOptions;
+use crate::packet::LONGEST_FRAME;
 use crate::said::Hex;
 use lldpa::{Agent, Msap, OpenFault, Options, Sent, Show, Status};
 use std::cmp::Reverse;
@@ -14,7 +15,6 @@ use std::net::Ipv4Addr;
 const MOST_TTL: u32 = 65535;
 const FRONT: [u8; 14] = [0x01, 0x80, 0xc2, 0, 0, 0x0e, 0, 0, 0, 0, 0, 0, 0x88, 0xcc];
 const END: [u8; 2] = [0, 0];
-const LONGEST_FRAME: usize = 1514;
 
 #[derive(Clone, Debug, PartialEq)]
 pub enum Line {
@@ -71,7 +71,6 @@ pub fn set_text(what: &str, text: &str) -> Line {
     Line::Command(format!("configure system {what} \"{text}\""))
 }
 
-/// Returns the line of a neighbor's LLDPDU.
 fn frame(port: &str, octets: &[u8]) -> Line {
     let mut frame = [&FRONT[..], octets].concat();
     if frame.len() + END.len() <= LONGEST_FRAME {
@@ -134,21 +133,17 @@ impl Running {
 
     /// Gives the agent a line. One that it refuses changes nothing. Returns which ports send.
     pub fn take(&mut self, line: &Line) -> Vec<Sent> {
-        let port = match line {
-            Line::Frame(name, _) | Line::Link(name, _) => self.number(name),
-            Line::Command(_) | Line::Ticks(_) => None,
-        };
-        let sent = match (line, port) {
-            (Line::Command(line), _) => self.agent.command(line).map(|done| done.sent).ok(),
-            (Line::Frame(_, octets), Some(port)) => self.agent.frame(port, octets).ok(),
-            (Line::Link(_, is_up), Some(port)) => self.agent.link(port, *is_up).ok(),
-            (Line::Ticks(count), _) => Some(self.pass(*count)),
-            (Line::Frame(..) | Line::Link(..), None) => None,
+        let sent = match line {
+            Line::Command(line) => self.agent.command(line).map(|done| done.sent).ok(),
+            Line::Frame(name, octets) => {
+                self.number(name).and_then(|port| self.agent.frame(port, octets).ok())
+            }
+            Line::Link(name, is_up) => self.number(name).and_then(|port| self.agent.link(port, *is_up).ok()),
+            Line::Ticks(count) => Some(self.pass(*count)),
         };
         sent.unwrap_or_default()
     }
 
-    /// Gives the agent so many seconds.
     fn pass(&mut self, mut left: u32) -> Vec<Sent> {
         let mut sent = Vec::new();
         while left > 0 {

@@ -14,8 +14,6 @@ const MOST_AT_ONCE: i64 = SECOND / 10;
 /// Between looks for what nothing reports: on some systems a new name of the host, or a control socket that was
 /// removed.
 const BETWEEN_LOOKS: i64 = 10 * SECOND;
-const OF_THE_BRIDGE: [&str; 4] = ["tick", "rx", "up", "down"];
-const CHANGING: [&str; 2] = ["configure", "update"];
 
 impl Live {
     /// Answers one question of each client, and follows the host's name.
@@ -46,7 +44,7 @@ impl Live {
             return self.about();
         }
         if self.running.is_none() {
-            return format!("error: waiting for an interface: {}\n", self.awaited());
+            return format!("error: waiting for an interface: {}\n", self.given.parts.join(" "));
         }
         self.command(line).unwrap_or_else(|refusal| refusal + "\n")
     }
@@ -119,7 +117,6 @@ impl Live {
         }
     }
 
-    /// Gives the agent settings, and reports those that are refused.
     fn apply(&mut self, settings: &[Setting]) {
         for setting in settings {
             if let Some(why) = self.why_refused(setting) {
@@ -153,9 +150,9 @@ pub fn refusal(line: &[u8], may_change: bool) -> Option<&'static str> {
     let first = line.iter().find(|octet| !b" \t".contains(octet));
     match &word[..] {
         _ if line.len() > LONGEST_LINE => Some("error: line too long\n"),
-        _ if OF_THE_BRIDGE.contains(&&word[..]) => Some("error: for lldpa-live alone\n"),
+        "tick" | "rx" | "up" | "down" => Some("error: for lldpa-live alone\n"),
         _ if matches!(first, None | Some(b'#')) => Some(""),
-        _ if CHANGING.contains(&&word[..]) && !may_change => Some("error: no permission\n"),
+        "configure" | "update" if !may_change => Some("error: no permission\n"),
         "live" | "show" | "configure" | "update" => None,
         _ => Some("error: unknown command\n"),
     }

@@ -4,25 +4,28 @@ use crate::sys;
 
 pub const SECOND: i64 = 1_000_000_000;
 pub const MILLISECOND: i64 = 1_000_000;
-/// The least change between the two clocks that counts: less may be due to reading them.
-const LEAST_CHANGE: i64 = MILLISECOND;
-/// What two stamps may differ in their order from two moments.
-pub const INEXACT: i64 = LEAST_CHANGE;
+/// A change between the two clocks that may be due to reading them, and by which a stamp may differ from a moment.
+pub const INEXACT: i64 = MILLISECOND;
 
-pub fn now() -> i64 {
-    sys::clock(7)
+/// Reads a clock, in nanoseconds: 0 the wall's since 1970, 1 that since the boot but for sleep, 7 that since the boot.
+pub fn read(number: i32) -> i64 {
+    let mut time = [0; 2];
+    let _ = sys::time(number, &mut time);
+    time[0] * SECOND + time[1]
 }
 
-/// The present time by the wall clock, in nanoseconds since 1970.
+pub fn now() -> i64 {
+    read(7)
+}
+
 pub fn wall() -> i64 {
-    sys::clock(0)
+    read(0)
 }
 
 /// Counts whole seconds from its beginning on. Each is given once and none is lost, however late it is asked for,
 /// and whatever is done to the wall clock.
 pub struct Clock {
     begin: i64,
-    /// How many seconds were given.
     pub given: i64,
     ahead: i64,
 }
@@ -36,7 +39,7 @@ impl Clock {
     /// stamps have the order of the stamps.
     pub fn note_wall_clock(&mut self) {
         let ahead = wall_clock_ahead();
-        if (ahead - self.ahead).abs() > LEAST_CHANGE {
+        if (ahead - self.ahead).abs() > INEXACT {
             self.ahead = ahead;
         }
     }

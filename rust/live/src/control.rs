@@ -4,10 +4,12 @@
 
 use crate::clock::SECOND;
 use crate::listening::{Listening, Peer};
-use crate::live::Polled;
 use crate::reports::warn;
 use crate::rights::text_of;
 use crate::settings::LONGEST_LINE;
+use crate::waiting::{Awaited, IN, OUT};
+use std::collections::VecDeque;
+use std::fs::File;
 use std::io::{ErrorKind, Read, Result, Write};
 use std::os::unix::net::UnixStream;
 
@@ -26,15 +28,13 @@ pub struct Question {
 }
 
 struct Client {
-    stream: UnixStream,
+    stream: Awaited<UnixStream>,
     peer: Peer,
     asked: Vec<u8>,
     is_at_end: bool,
-    answer: Vec<u8>,
-    sent: usize,
+    answer: VecDeque<u8>,
     /// Since when it has not read its whole answer, or has asked nothing.
     since: i64,
-    is_served: bool,
     is_over: bool,
 }
 
@@ -42,7 +42,7 @@ impl Client {
     /// Whether a line can be answered. At the end of what is asked it may lack its line feed.
     fn has_line(&self) -> bool {
         let is_whole = self.asked.contains(&b'\n') || self.is_at_end && !self.asked.is_empty();
-        self.answer.is_empty() && is_whole
+        self.answer.is_empty() && is_whole && !self.is_over
     }
 
     /// Whether it has ended its questions, and read all answers.
@@ -65,12 +65,11 @@ impl Client {
             if !self.answer.is_empty() || self.is_at_end || self.asked.contains(&b'\n') {
                 return;
             }
-            match self.stream.read(&mut room) {
+            match self.stream.file.read(&mut room) {
                 Ok(0) => self.is_at_end = true,
                 Ok(length) => self.take(&room[..length]),
-                Err(fault) if fault.kind() == ErrorKind::WouldBlock => return,
-                Err(_) => {
-                    self.is_over = true;
+                Err(fault) => {
+                    self.is_over |= fault.kind() != ErrorKind::WouldBlock;
                     return;
                 }
             }
@@ -86,20 +85,16 @@ impl Client {
     }
 
     fn send(&mut self) {
-        while self.sent < self.answer.len() {
-            match self.stream.write(&self.answer[self.sent..]) {
-                Ok(length) => self.sent += length,
-                Err(fault) if fault.kind() == ErrorKind::WouldBlock => return,
-                Err(fault) if fault.kind() == ErrorKind::Interrupted => (),
-                Err(_) => {
-                    self.is_over = true;
+        while !self.answer.is_empty() {
+            match self.stream.file.write(self.answer.as_slices().0) {
+                Ok(length) => drop(self.answer.drain(..length)),
+                Err(fault) => {
+                    self.is_over |= fault.kind() != ErrorKind::WouldBlock;
                     return;
                 }
             }
         }
-        self.answer = Vec::new();
-        self.sent = 0;
-        self.is_over |= !self.is_served;
+        self.answer = VecDeque::new(); // which gives its room back
     }
 }
 
@@ -121,15 +116,12 @@ impl Control {
         Ok(Control { listening, clients: Vec::new(), next: 0, pause: 0, is_lost: false })
     }
 
-    pub fn polled(&self, now: i64) -> Vec<Polled> {
-        let mut set = Vec::new();
-        if now >= self.pause {
-            set.push(Polled::new(&self.listening.socket, Polled::IN));
+    pub fn await_clients(&mut self, epoll: &File, now: i64) {
+        self.listening.socket.wait_for(epoll, if now >= self.pause { IN } else { 0 });
+        self.listening.watch.iter_mut().for_each(|watch| watch.wait_for(epoll, IN));
+        for client in &mut self.clients {
+            client.stream.wait_for(epoll, if client.answer.is_empty() { IN } else { OUT });
         }
-        set.extend(self.listening.watch.as_ref().map(|watch| Polled::new(watch, Polled::IN)));
-        let wanted = |client: &Client| if client.answer.is_empty() { Polled::IN } else { Polled::OUT };
-        set.extend(self.clients.iter().map(|client| Polled::new(&client.stream, wanted(client))));
-        set
     }
 
     pub fn deadline(&self, now: i64) -> Option<i64> {
@@ -140,7 +132,7 @@ impl Control {
 
     /// Accepts, reads and sends what can be; makes the socket again if it was removed.
     pub fn turn(&mut self, now: i64, is_asked: bool) {
-        let _ = self.listening.watch.as_mut().map(|watch| watch.read(&mut [0u8; 256]));
+        let _ = self.listening.watch.as_mut().map(|watch| watch.file.read(&mut [0u8; 256]));
         if !self.listening.is_there() {
             let renewed = self.listening.renew();
             let was_lost = std::mem::replace(&mut self.is_lost, renewed.is_err());
@@ -162,7 +154,7 @@ impl Control {
 
     fn accept(&mut self, now: i64) {
         for _ in 0..MOST_CLIENTS {
-            match self.listening.socket.accept() {
+            match self.listening.socket.file.accept() {
                 Ok((stream, _)) if stream.set_nonblocking(true).is_ok() => self.admit(stream, now),
                 Ok(_) => (),
                 Err(fault) => {
@@ -175,23 +167,23 @@ impl Control {
 
     /// Gives a client a place, if need be that of the client that has been idle longest, for a minute or more. If
     /// there is none, the answer says so.
-    fn admit(&mut self, stream: UnixStream, now: i64) {
+    fn admit(&mut self, mut stream: UnixStream, now: i64) {
         let peer = Peer::of(&stream);
         let most = if peer.is_preferred(&self.listening.path) { MOST_CLIENTS + KEPT } else { MOST_CLIENTS };
-        let served = || self.clients.iter().filter(|client| client.is_served).count();
-        let mut is_served = served() < most;
-        if !is_served {
+        let mut is_over = false;
+        if self.clients.iter().filter(|client| !client.is_over).count() >= most {
             let is_idle = |client: &Client| client.answer.is_empty() && now - client.since >= IDLENESS;
             let idle = (0..self.clients.len()).filter(|place| is_idle(&self.clients[*place]));
-            if let Some(longest) = idle.min_by_key(|place| self.clients[*place].since) {
-                self.clients.remove(longest);
-                is_served = true;
+            match idle.min_by_key(|place| self.clients[*place].since) {
+                Some(longest) => drop(self.clients.remove(longest)),
+                None => {
+                    let _ = stream.write(b"=1\nerror: too many clients\n");
+                    is_over = true; // at the next turn, so that it can ask before it reads this
+                }
             }
         }
-        let answer = if is_served { Vec::new() } else { b"=1\nerror: too many clients\n".to_vec() };
-        let (asked, is_at_end, sent, since, is_over) = (Vec::new(), false, 0, now, false);
-        let mut client = Client { stream, peer, asked, is_at_end, answer, sent, since, is_served, is_over };
-        client.send();
+        let (asked, answer, stream) = (Vec::new(), VecDeque::new(), Awaited::new(stream));
+        let mut client = Client { stream, peer, asked, is_at_end: false, answer, since: now, is_over };
         client.read();
         self.clients.extend(Some(client).filter(|client| !client.is_left()));
     }
@@ -212,7 +204,7 @@ impl Control {
     pub fn reply(&mut self, question: &Question, text: &str, now: i64) {
         let count = text.bytes().filter(|octet| *octet == b'\n').count();
         let client = &mut self.clients[question.place];
-        client.answer = format!("={count}\n{text}").into_bytes();
+        client.answer = format!("={count}\n{text}").into_bytes().into();
         client.since = now;
         client.send();
         self.end_slowest();
@@ -224,16 +216,11 @@ impl Control {
 
     /// While too many octets wait for their readers, ends the connection that has waited longest.
     fn end_slowest(&mut self) {
-        let left = |client: &Client| client.answer.len() - client.sent;
-        while self.clients.iter().map(left).sum::<usize>() > MOST_UNREAD {
+        while self.clients.iter().map(|client| client.answer.len()).sum::<usize>() > MOST_UNREAD {
             let waiting = self.clients.iter_mut().filter(|client| !client.answer.is_empty());
-            match waiting.min_by_key(|client| client.since) {
-                Some(slowest) => {
-                    slowest.is_over = true;
-                    slowest.answer = Vec::new();
-                    slowest.sent = 0;
-                }
-                None => return,
+            if let Some(slowest) = waiting.min_by_key(|client| client.since) {
+                slowest.is_over = true;
+                slowest.answer = VecDeque::new();
             }
         }
     }

@@ -4,7 +4,7 @@
 use crate::clock;
 use crate::rights::{at, own_user, User};
 use crate::sys;
-use std::fs::{self, DirBuilder, File, OpenOptions};
+use std::fs::{self, DirBuilder, DirEntry, File, OpenOptions};
 use std::io::{Error, ErrorKind, Result, Write};
 use std::ops::RangeInclusive;
 use std::os::unix::fs::{DirBuilderExt, MetadataExt, OpenOptionsExt};
@@ -13,6 +13,7 @@ use std::path::Path;
 
 const O_DIRECTORY: i32 = if cfg!(target_arch = "aarch64") { 0o40_000 } else { 0o200_000 };
 pub const O_NOFOLLOW: i32 = if cfg!(target_arch = "aarch64") { 0o100_000 } else { 0o400_000 };
+pub const O_NONBLOCK: i32 = 0o4_000;
 pub const EBADF: i32 = 9;
 const ENOSPC: i32 = 28;
 const OF_FULL_DISKS: [i32; 3] = [ENOSPC, 122, 27]; // EDQUOT, EFBIG
@@ -54,7 +55,7 @@ pub fn enter(path: &str, user: Option<User>) -> Result<()> {
         let is_other = |name: &str| place_of(name).is_none() && name != LOST_FOUND;
         if !is_for_all
             && folder.metadata()?.uid() != user
-            && !names().map_err(at(path))?.iter().any(|name| is_other(name))
+            && !names(".").map_err(at(path))?.iter().any(|name| is_other(name))
         {
             sys::give(".", user, u32::MAX).map_err(at(path))?;
         }
@@ -72,10 +73,9 @@ fn new_file(name: &str, mode: u32) -> Result<File> {
     OpenOptions::new().append(true).create_new(true).mode(mode).custom_flags(O_NOFOLLOW).open(name)
 }
 
-fn names() -> Result<Vec<String>> {
-    let names: Result<Vec<_>> =
-        fs::read_dir(".")?.map(|entry| entry.map(|entry| entry.file_name())).collect();
-    Ok(names?.into_iter().map(|name| name.to_string_lossy().into_owned()).collect())
+pub fn names(path: &str) -> Result<Vec<String>> {
+    let name = |entry: Result<DirEntry>| Ok(entry?.file_name().to_string_lossy().into_owned());
+    fs::read_dir(path)?.map(name).collect()
 }
 
 /// Returns the second when the file of that name began, and its number within it. None if it is not a log.
@@ -101,7 +101,7 @@ impl Files {
             fs::create_dir_all(&self.path)?;
             std::env::set_current_dir(&self.path)?;
         }
-        let mut names = names()?;
+        let mut names = names(".")?;
         names.retain(|name| place_of(name).is_some());
         names.sort_by(|one, other| place_of(one).cmp(&place_of(other)));
         let size = |name: String| fs::symlink_metadata(&name).ok().map(|told| (name, told.len()));

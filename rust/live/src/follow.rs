@@ -82,7 +82,6 @@ impl Live {
         found.unwrap_or(self.given.agent.management)
     }
 
-    /// Announces another address once it has stayed.
     fn follow_address(&mut self, now: i64) {
         let found = self.present_address();
         let other = self.other_management.filter(|other| other.0 == found).unwrap_or((found, now));

@@ -30,7 +30,6 @@ impl Live {
         }
     }
 
-    /// Returns the LLDPDU that the agent holds of a neighbor.
     fn said_before(&self, port: usize, msap: Msap<'_>) -> Option<Vec<u8>> {
         let mut neighbors = self.running.as_ref()?.agent.neighbors(port as u8).ok()?;
         let same = neighbors.find(|one| one.info().map(|info| info.msap()) == Some(msap))?;
@@ -87,7 +86,7 @@ impl Live {
         let (now, mut downs) = (clock::now(), Vec::new());
         for one in news {
             for place in 0..self.ports.all.len() {
-                for is_up in self.ports.all[place].take_link(&self.ports.sockets[place], one, now) {
+                for is_up in self.ports.all[place].take_link(&self.ports.sockets[place].file, one, now) {
                     self.tell_link(place, is_up);
                     downs.extend((!is_up).then(|| self.ports.all[place].name.clone()));
                 }

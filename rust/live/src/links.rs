@@ -2,8 +2,8 @@
 //! Listening needs no right, and messages that are not well formed are ignored. (linux/netlink.h, linux/rtnetlink.h,
 //! linux/if_link.h, linux/if_addr.h)
 
-use crate::live::Polled;
 use crate::sys;
+use crate::waiting::Awaited;
 use std::collections::BTreeMap;
 use std::fs::File;
 use std::io::{ErrorKind, Read, Result, Write};
@@ -44,7 +44,7 @@ pub struct Link {
 
 /// What is known of each interface, and which list named it last.
 pub struct Links {
-    pub socket: File,
+    pub socket: Awaited<File>,
     room: Vec<u8>,
     pub known: BTreeMap<i32, (Link, u64)>,
     /// Each with the index of its interface, in the kernel's order.
@@ -66,14 +66,14 @@ impl Links {
         let mut links = Links::over(socket);
         links.ask()?;
         while links.lists_to_come > 0 {
-            sys::wait(&mut [Polled::new(&links.socket, Polled::IN)], 1000);
-            links.read()?;
+            links.read()?; // without waiting: the kernel makes a list while it is read
         }
         Ok(links)
     }
 
     pub fn over(socket: File) -> Links {
-        let (known, addresses, room) = (BTreeMap::new(), Vec::new(), vec![0; LONGEST_MESSAGE]);
+        let (socket, known, addresses) = (Awaited::new(socket), BTreeMap::new(), Vec::new());
+        let room = vec![0; LONGEST_MESSAGE];
         Links { socket, room, known, addresses, changes: 0, list: 0, lists_to_come: 0, is_stale: false }
     }
 
@@ -90,7 +90,7 @@ impl Links {
         message.extend_from_slice(&[kind, REQUEST_DUMP].map(u16::to_ne_bytes).concat());
         message.extend_from_slice(&[0; 8]);
         message.extend_from_slice(body);
-        self.socket.write_all(&message)
+        self.socket.file.write_all(&message)
     }
 
     /// Returns the news that came, in their order. If the kernel lost some, asks for the list.
@@ -98,7 +98,7 @@ impl Links {
         let mut news = Vec::new();
         let mut room = std::mem::take(&mut self.room);
         let result = loop {
-            match self.socket.read(&mut room) {
+            match self.socket.file.read(&mut room) {
                 Ok(length) => {
                     messages(&room[..length]).for_each(|(kind, body)| self.take(kind, body, &mut news))
                 }

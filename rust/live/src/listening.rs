@@ -2,7 +2,8 @@
 
 use crate::files::O_NOFOLLOW;
 use crate::rights::at;
-use crate::sys;
+use crate::sys::{self, SOL_SOCKET};
+use crate::waiting::Awaited;
 use std::fs::{self, DirBuilder, File, OpenOptions, Permissions};
 use std::io::{Error, ErrorKind, Result};
 use std::os::unix::fs::{DirBuilderExt, FileTypeExt, MetadataExt, OpenOptionsExt, PermissionsExt};
@@ -16,7 +17,6 @@ use std::time::Duration;
 const LOCK_EX_NB: i32 = 2 | 4;
 const O_PATH: i32 = 0o10_000_000;
 const ONLY_OWNER: u32 = 0o177; // for umask
-const SOL_SOCKET: i32 = 1;
 const SO_PEERCRED: i32 = 17;
 const SO_PEERGROUPS: i32 = 59;
 const MOST_GROUPS: usize = 256;
@@ -26,9 +26,9 @@ pub struct Listening {
     pub path: String,
     group: Option<u32>,
     lock: Option<File>,
-    pub socket: UnixListener,
+    pub socket: Awaited<UnixListener>,
     /// Tells when the socket is removed.
-    pub watch: Option<File>,
+    pub watch: Option<Awaited<File>>,
 }
 
 impl Listening {
@@ -39,8 +39,8 @@ impl Listening {
         }
         let lock = locked(path)?;
         remove_stale(path)?;
-        let socket = listener(path, group).map_err(at(path))?;
-        Ok(Listening { path: path.into(), group, lock: Some(lock), socket, watch: sys::watch(path).ok() })
+        let socket = Awaited::new(listener(path, group).map_err(at(path))?);
+        Ok(Listening { path: path.into(), group, lock: Some(lock), socket, watch: watch(path) })
     }
 
     /// Whether the socket exists, as far as this user may look.
@@ -51,14 +51,12 @@ impl Listening {
     /// Makes the socket again, since it was removed. The group gets it if this user may still hand it over.
     pub fn renew(&mut self) -> Result<()> {
         if fs::symlink_metadata(lock_path(&self.path)).is_ok() {
-            self.socket = listener(&self.path, None)?;
+            self.socket = Awaited::new(listener(&self.path, None)?);
         } else {
             self.lock = None;
-            let new = Listening::open(&self.path, None)?;
-            self.lock = new.lock;
-            self.socket = new.socket;
+            *self = Listening { group: self.group, ..Listening::open(&self.path, None)? };
         }
-        self.watch = sys::watch(&self.path).ok();
+        self.watch = watch(&self.path);
         let _ = self.group.map(|group| hand_over(&self.path, group));
         Ok(())
     }
@@ -66,6 +64,10 @@ impl Listening {
     pub fn close(&self) {
         let _ = fs::remove_file(&self.path);
     }
+}
+
+fn watch(path: &str) -> Option<Awaited<File>> {
+    sys::watch(path).ok().map(Awaited::new)
 }
 
 fn lock_path(path: &str) -> String {

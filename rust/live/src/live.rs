@@ -11,27 +11,15 @@ use crate::ports::{ran_and_later, Ports};
 use crate::reports::Events;
 use crate::settings::Setting;
 use crate::sys;
+use crate::waiting::{self, Awaited, IN, PRIORITY};
 use crate::words::Given;
 use lldpa::Sent;
 use std::fs::File;
+use std::io::Result;
 use std::net::Ipv4Addr;
 use std::os::unix::io::AsRawFd;
 
 const MOST_TICKS: usize = 65535; // of one line
-
-/// A descriptor to wait for, what for, and what has happened.
-#[repr(C)]
-pub struct Polled(pub i32, pub i16, pub i16);
-
-impl Polled {
-    pub const IN: i16 = 1;
-    pub const PRIORITY: i16 = 2;
-    pub const OUT: i16 = 4;
-
-    pub fn new(file: &impl AsRawFd, wanted: i16) -> Polled {
-        Polled(file.as_raw_fd(), wanted, 0)
-    }
-}
 
 /// A frame that a port sends, and when it should have.
 struct Outgoing {
@@ -45,13 +33,13 @@ pub struct Turn {
     /// The agent was given everything up to this moment.
     moment: i64,
     pub has_signal: bool,
-    /// Whether there is something for [`Live::serve`].
     pub is_asked: bool,
 }
 
 pub struct Live {
     pub given: Given,
-    pub signals: File,
+    epoll: File,
+    pub signals: Awaited<File>,
     pub began: i64,
     pub clock: Clock,
     pub links: Links,
@@ -70,7 +58,7 @@ pub struct Live {
     pub not_taken: usize,
     pub host_name: String,
     /// Becomes ready when the host's name has changed.
-    pub name_file: Option<File>,
+    name_file: Option<Awaited<File>>,
     /// The changes of interfaces that the ports have followed.
     pub followed: u64,
     /// When the state is written again, and an agent may be opened again.
@@ -86,13 +74,14 @@ pub struct Live {
 }
 
 impl Live {
-    pub fn new(given: Given, signals: File, links: Links, ports: Ports, control: Option<Control>) -> Live {
-        Live {
+    pub fn new(given: Given, links: Links, ports: Ports, control: Option<Control>) -> Result<Live> {
+        Ok(Live {
+            epoll: sys::epoll()?,
+            signals: Awaited::new(sys::signals()?),
             began: clock::wall(),
             clock: Clock::new(),
             links,
             ports,
-            signals,
             running: None,
             log: Log::new(given.log.clone(), given.log_most, given.log_keep),
             control,
@@ -103,7 +92,7 @@ impl Live {
             settings: Vec::new(),
             not_taken: 0,
             host_name: sys::host_name(),
-            name_file: File::open("/proc/sys/kernel/hostname").ok(),
+            name_file: File::open("/proc/sys/kernel/hostname").ok().map(Awaited::new),
             followed: 0,
             next_state: 0,
             next_try: 0,
@@ -113,7 +102,7 @@ impl Live {
             last_number: 0,
             outgoing: Vec::new(),
             given,
-        }
+        })
     }
 
     /// Waits until something comes in or is due, up to that moment, and gives the agent what came in: frames by their
@@ -122,25 +111,31 @@ impl Live {
     pub fn turn(&mut self, last: i64, is_question: bool) -> Turn {
         let before = clock::now();
         let due = self.agent_due();
-        let mut set =
-            vec![Polled::new(&self.signals, Polled::IN), Polled::new(&self.links.socket, Polled::IN)];
-        set.extend(self.control.iter().flat_map(|control| control.polled(before)));
-        set.extend(self.name_file.iter().map(|file| Polled::new(file, Polled::PRIORITY)));
-        let ports = set.len();
-        if self.running.is_some() {
-            set.extend(self.ports.polled(if is_question { i64::MAX } else { before }));
-        }
+        self.await_files(before, is_question);
         let wait = if is_question { 0 } else { self.deadline(before, due).min(last) - before };
-        sys::wait(&mut set, ((wait.max(0) + MILLISECOND - 1) / MILLISECOND) as i32);
-        let news = if set[1].2 != 0 { self.links.read().unwrap_or_default() } else { Vec::new() };
-        let left = self.ports.read(&mut self.clock, &set[ports..]);
+        let found = waiting::ready(&self.epoll, ((wait.max(0) + MILLISECOND - 1) / MILLISECOND) as i32);
+        let has_signal = found.contains(&self.signals.file.as_raw_fd());
+        let has_news = found.contains(&self.links.socket.file.as_raw_fd());
+        let news = if has_news { self.links.read().unwrap_or_default() } else { Vec::new() };
+        let ready = self.ports.ready(&found);
+        let is_asked = found.len() > ready.len() + usize::from(has_signal) + usize::from(has_news);
+        let left = self.ports.read(&mut self.clock, &ready);
         // The agent acts in a second that is due. It is given once all frames before it are known to be read: if that
         // second ended while this waited, at the next turn.
         let now = clock::now();
         let all = if due.map_or(false, |due| due <= now) { before } else { now };
         let moment = left.map_or(all, |left| left.min(all));
         self.give(news, moment);
-        Turn { moment, has_signal: set[0].2 != 0, is_asked: set[2..ports].iter().any(|one| one.2 != 0) }
+        Turn { moment, has_signal, is_asked }
+    }
+
+    /// Waits for each file from which something may come now.
+    fn await_files(&mut self, now: i64, is_question: bool) {
+        self.signals.wait_for(&self.epoll, IN);
+        self.links.socket.wait_for(&self.epoll, IN);
+        self.name_file.iter_mut().for_each(|file| file.wait_for(&self.epoll, PRIORITY));
+        self.control.iter_mut().for_each(|control| control.await_clients(&self.epoll, now));
+        self.ports.await_frames(&self.epoll, if is_question { i64::MAX } else { now });
     }
 
     /// Gives the agent news of links, and the frames and seconds up to a moment.
@@ -216,7 +211,7 @@ impl Live {
 
     pub fn send(&mut self) {
         for one in std::mem::take(&mut self.outgoing) {
-            self.ports.all[one.port].send(&self.ports.sockets[one.port], one.frame);
+            self.ports.all[one.port].send(&self.ports.sockets[one.port].file, one.frame);
         }
     }
 }

@@ -8,6 +8,7 @@ use crate::files::{self, Files};
 use crate::reports::warn;
 use crate::rights::text_of;
 use crate::state;
+use std::collections::VecDeque;
 use std::fmt::{Display, Write};
 use std::io::{Error, Result};
 use std::sync::mpsc::{channel, Receiver, Sender};
@@ -22,22 +23,14 @@ const MEGABYTE: u64 = 1_000_000;
 /// Writes something, and returns the path of the file.
 type Work = Box<dyn FnOnce(&mut Files) -> Result<String> + Send>;
 
-/// What the thread is to do with so many octets and lines of the log, none for a state.
-struct Job(usize, u64, Work);
-
-/// What has become of it.
-struct Done(usize, u64, Result<String>);
-
 #[derive(Default)]
 pub struct Log {
-    /// The folder, if there is a log.
     path: Option<String>,
     most: u64,
     keep: u64,
-    thread: Option<(Sender<Job>, Receiver<Done>)>,
-    unanswered: usize,
-    waiting_octets: usize,
-    waiting_lines: u64,
+    thread: Option<(Sender<Work>, Receiver<Result<String>>)>,
+    /// The octets and lines of what the thread has not done yet; none for a state.
+    waiting: VecDeque<(usize, u64)>,
     /// How long the next answer was waited for, and when that was last looked at.
     waited: i64,
     looked: i64,
@@ -69,15 +62,15 @@ impl Log {
         self.second = None;
         if self.path.is_some() {
             let octets = format!("# lldpa {words}\n{lines}").into_bytes();
-            let is_late = !self.trouble.is_empty() || self.waiting_octets + octets.len() > MOST_WAITING;
-            if self.waiting_octets > 0 && is_late {
+            let is_late = !self.trouble.is_empty() || self.waiting_octets() + octets.len() > MOST_WAITING;
+            if self.waiting_octets() > 0 && is_late {
                 self.is_whole = false; // the file begins later
                 return;
             }
             self.size = octets.len() as u64;
             self.least = self.most.max(self.size + self.most / 2);
             self.is_whole = true;
-            self.send(Job(octets.len(), 0, Box::new(move |files| files.begin(&octets))));
+            self.send(octets.len(), 0, move |files| files.begin(&octets));
         }
     }
 
@@ -98,13 +91,13 @@ impl Log {
     fn hand_over(&mut self) {
         let (octets, lines) =
             (std::mem::take(&mut self.kept).into_bytes(), std::mem::take(&mut self.kept_lines));
-        self.is_whole &= self.waiting_octets + octets.len() <= MOST_WAITING;
+        self.is_whole &= self.waiting_octets() + octets.len() <= MOST_WAITING;
         if !self.is_whole && lines > 0 {
             self.lost += lines;
             self.stall("is behind, and lines are lost; lldpa-live continues");
         } else if lines > 0 {
             self.size += octets.len() as u64;
-            self.send(Job(octets.len(), lines, Box::new(move |files| files.write(&octets))));
+            self.send(octets.len(), lines, move |files| files.write(&octets));
         }
     }
 
@@ -112,31 +105,36 @@ impl Log {
     pub fn write_state(&mut self, path: &str, octets: Vec<u8>) {
         if self.waited < TO_STALL {
             let path = path.to_string();
-            self.send(Job(0, 0, Box::new(move |_| state::write(&path, &octets).map(|()| path))));
+            self.send(0, 0, move |_| state::write(&path, &octets).map(|()| path));
         }
     }
 
-    fn send(&mut self, job: Job) {
+    fn send<W>(&mut self, octets: usize, lines: u64, work: W)
+    where
+        W: FnOnce(&mut Files) -> Result<String> + Send + 'static,
+    {
         let files = Files::new(self.path.clone().unwrap_or_default(), self.keep);
-        let (jobs, _) = self.thread.get_or_insert_with(|| start(files));
-        self.looked = if self.unanswered == 0 { clock::now() } else { self.looked };
-        self.unanswered += 1;
-        self.waiting_octets += job.0;
-        self.waiting_lines += job.1;
-        let _ = jobs.send(job);
+        let (works, _) = self.thread.get_or_insert_with(|| start(files));
+        let _ = works.send(Box::new(work));
+        self.looked = if self.waiting.is_empty() { clock::now() } else { self.looked };
+        self.waiting.push_back((octets, lines));
+    }
+
+    fn waiting_octets(&self) -> usize {
+        self.waiting.iter().map(|one| one.0).sum()
     }
 
     /// Hands over what is kept, handles the answers that have come in, and notes if one is overdue. If this process
     /// itself stood still, that counts as a second.
     pub fn turn(&mut self) {
         self.hand_over();
-        while let Some(done) = self.thread.as_ref().and_then(|thread| thread.1.try_recv().ok()) {
-            self.take(done);
+        while let Some(result) = self.thread.as_ref().and_then(|thread| thread.1.try_recv().ok()) {
+            self.take(result);
         }
         let now = clock::now();
-        self.waited = if self.unanswered > 0 { self.waited + (now - self.looked).min(SECOND) } else { 0 };
+        self.waited = if self.waiting.is_empty() { 0 } else { self.waited + (now - self.looked).min(SECOND) };
         self.looked = now;
-        if self.waiting_octets > 0 && self.waited >= TO_STALL {
+        if self.waiting_octets() > 0 && self.waited >= TO_STALL {
             self.stall("has made no progress for 5 seconds; lldpa-live continues");
         }
     }
@@ -152,10 +150,8 @@ impl Log {
         warn(&format!("the log in {} {what}", self.path.as_deref().unwrap_or("")));
     }
 
-    fn take(&mut self, Done(octets, lines, result): Done) {
-        self.unanswered -= 1;
-        self.waiting_octets -= octets;
-        self.waiting_lines -= lines;
+    fn take(&mut self, result: Result<String>) {
+        let (octets, lines) = self.waiting.pop_front().unwrap_or_default();
         self.waited = 0;
         match result {
             Err(fault) if octets == 0 => warn(&format!("the state was not written: {}", text_of(&fault))),
@@ -192,12 +188,13 @@ impl Log {
         match self.least {
             0 => false,
             least if self.is_whole => self.trouble.is_empty() && self.size >= least,
-            _ => self.waiting_octets == 0 && clock::now() >= self.next_try,
+            _ => self.waiting_octets() == 0 && clock::now() >= self.next_try,
         }
     }
 
     pub fn deadline(&self, now: i64) -> Option<i64> {
-        let is_awaiting = self.unanswered > 0 || !self.trouble.is_empty() || self.least > 0 && !self.is_whole;
+        let is_awaiting =
+            !self.waiting.is_empty() || !self.trouble.is_empty() || self.least > 0 && !self.is_whole;
         is_awaiting.then(|| now + SECOND)
     }
 
@@ -213,26 +210,23 @@ impl Log {
     pub fn close(&mut self, patience: i64) {
         self.turn();
         let last = clock::now() + patience;
-        while self.unanswered > 0 && clock::now() < last {
+        while !self.waiting.is_empty() && clock::now() < last {
             thread::sleep(Duration::from_millis(5));
             self.turn();
         }
-        if self.waiting_lines > 0 {
-            self.tell(&format!("lacks its last {} lines", self.waiting_lines));
+        match self.waiting.iter().map(|one| one.1).sum::<u64>() {
+            0 => (),
+            lines => self.tell(&format!("lacks its last {lines} lines")),
         }
     }
 }
 
 /// Starts a thread that does what it is given, until nothing more can come.
-fn start(mut files: Files) -> (Sender<Job>, Receiver<Done>) {
-    let (jobs, theirs) = channel::<Job>();
+fn start(mut files: Files) -> (Sender<Work>, Receiver<Result<String>>) {
+    let (works, theirs) = channel::<Work>();
     let (ours, answers) = channel();
-    let work = move || {
-        theirs
-            .iter()
-            .try_for_each(|Job(octets, lines, work)| ours.send(Done(octets, lines, work(&mut files))))
-    };
+    let work = move || theirs.iter().try_for_each(|work| ours.send(work(&mut files)));
     // Without a thread all counts as waiting.
     let _ = thread::Builder::new().name("log".into()).stack_size(1 << 17).spawn(work);
-    (jobs, answers)
+    (works, answers)
 }

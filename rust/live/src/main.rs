@@ -32,6 +32,7 @@ mod start;
 mod state;
 #[allow(unsafe_code)]
 mod sys;
+mod waiting;
 mod words;
 
 use reports::{report, ERROR};
@@ -51,7 +52,6 @@ fn main() {
     std::process::exit(status);
 }
 
-/// Reports what is wrong with the words.
 pub fn wrong_words(why: &str) -> i32 {
     report(ERROR, &format!("error: {why}; lldpa-live --help lists the options"));
     WRONG_WORDS

@@ -1,7 +1,7 @@
 //! Reports the state of a service to systemd: datagrams to the socket that NOTIFY_SOCKET names, see sd_notify(3).
 //! A datagram that cannot be sent at once is lost, so that reporting never waits.
 
-use crate::clock::SECOND;
+use crate::clock::{self, SECOND};
 use crate::sys;
 use std::fs::File;
 use std::io::Write;
@@ -11,7 +11,6 @@ const SIGNS_A_SPAN: i64 = 4; // within the time after which systemd gives a serv
 
 /// The service manager that started this service, if there is one.
 pub struct Manager {
-    /// A socket, and the address to report to.
     socket: Option<(File, Vec<u8>)>,
     span: Option<i64>,
     next_sign: i64,
@@ -28,11 +27,8 @@ fn watchdog_span() -> Option<i64> {
     if variable("WATCHDOG_PID").map_or(false, is_other) {
         return None;
     }
-    variable("WATCHDOG_USEC")?
-        .parse()
-        .ok()
-        .filter(|span| (1..i64::MAX / 1000).contains(span))
-        .map(|span: i64| span * 1000)
+    let span: i64 = variable("WATCHDOG_USEC")?.parse().ok()?;
+    (1..i64::MAX / 1000).contains(&span).then(|| span * 1000)
 }
 
 /// The address of a socket by its name: a path, or `@` and an abstract name.
@@ -64,7 +60,7 @@ impl Manager {
 
     /// Reports that the service reads its settings again; `READY=1` follows.
     pub fn reloading(&self) {
-        self.tell(&format!("RELOADING=1\nMONOTONIC_USEC={}", sys::clock(1) / 1000));
+        self.tell(&format!("RELOADING=1\nMONOTONIC_USEC={}", clock::read(1) / 1000));
     }
 
     /// What `systemctl status` shows, if it differs from before.

@@ -84,17 +84,12 @@ impl Live {
         }
         self.is_awaiting = true;
         self.ports.all.iter_mut().for_each(|port| port.is_awaited = true);
-        let awaited = self.awaited();
+        let awaited = self.given.parts.join(" ");
         notice(&format!(
             "{awaited}: no such interface yet; waiting for it, and until then there is no agent"
         ));
         self.manager.tell("READY=1"); // so that it does not hold up the start of the system
         self.manager.show(format!("waiting for an interface: {awaited}"));
-    }
-
-    /// Returns the names and patterns of which it awaits an interface.
-    pub fn awaited(&self) -> String {
-        self.given.parts.join(" ")
     }
 
     /// Gives the agent the neighbors of an earlier lldpa-live, while its ports do not send. Nothing is reported of

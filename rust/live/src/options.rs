@@ -30,17 +30,16 @@ impl AgentOptions {
                 return Err(format!("--{name} is given twice"));
             }
             given.push(name);
-            match value {
-                _ if NOT_HERE.contains(&name) => {
-                    return Err(format!("--{name} cannot be used with lldpa-live"))
-                }
-                None if name == "receive-only" => {
-                    options.numbers.receive_only = true;
-                    options.words.push(word.clone());
-                }
-                Some(value) => options.take(name, value)?,
-                None => options.take(name, rest.next().ok_or(format!("--{name}: a value is required"))?)?,
+            if NOT_HERE.contains(&name) {
+                return Err(format!("--{name} cannot be used with lldpa-live"));
             }
+            if option == "receive-only" {
+                options.numbers.receive_only = true;
+                options.words.push(word.clone());
+                continue;
+            }
+            let value = value.or_else(|| rest.next().map(|next| &next[..]));
+            options.take(name, value.ok_or(format!("--{name}: a value is required"))?)?;
         }
         Ok(options)
     }
@@ -101,7 +100,6 @@ fn mac_of(text: &str) -> Option<Mac> {
         .filter(|mac: &Mac| mac.map(|octet| format!("{octet:02x}")).join(":") == text.to_lowercase())
 }
 
-/// Quotes a word for a shell.
 fn quoted(word: &str) -> String {
     let is_plain = |octet: u8| octet.is_ascii_alphanumeric() || b"@%+=:,./_-".contains(&octet);
     if !word.is_empty() && word.bytes().all(is_plain) {

@@ -1,12 +1,11 @@
 //! The packet socket of a port. Opening it needs CAP_NET_RAW; everything else needs no right: binding it to an
 //! interface, and again to one that came back, its groups, its stamps, reading and sending.
 
-use crate::sys;
+use crate::sys::{self, SOL_SOCKET};
 use std::fs::File;
 use std::io::Result;
 
 const AF_PACKET: u16 = 17;
-const SOL_SOCKET: i32 = 1;
 const SO_RCVBUF: i32 = 8;
 const SO_LOCK_FILTER: i32 = 44;
 const SOL_PACKET: i32 = 263;
@@ -19,6 +18,8 @@ const LOOPBACK: i32 = 1;
 const GROUPS: [u8; 3] = [0x0e, 0x03, 0x00];
 const ROOM_IN_KERNEL: i32 = 1 << 20;
 pub const LONGEST_FRAME: usize = 1514;
+pub const ROOMS: usize = 16; // frames that one call reads
+pub type Rooms = [[u8; LONGEST_FRAME]; ROOMS];
 /// What is read of a frame that is not kept: less than any frame has.
 const OF_ANOTHER: u32 = 13;
 

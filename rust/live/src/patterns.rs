@@ -1,6 +1,7 @@
 //! Ports that are given by patterns, like those of lldpd's option -I.
 
 use crate::links::{Link, Links};
+use crate::sys::matches;
 
 const LONGEST_NAME: usize = 15;
 const LONGEST_PATTERN: usize = 64;
@@ -35,19 +36,17 @@ pub fn gives(part: &str) -> bool {
     is_pattern(part) && (!part.starts_with('!') || part.starts_with("!!"))
 }
 
-/// Whether a pattern gives ports of that name.
 fn gives_name(part: &str, name: &str) -> bool {
-    gives(part) && matches(part.trim_start_matches('!').as_bytes(), name.as_bytes())
+    gives(part) && matches(part.trim_start_matches('!'), name)
 }
 
 /// Whether nothing takes a name away, or something gives it all the same.
 fn is_wanted(name: &str, parts: &[String]) -> bool {
-    let takes = |part: &&String| {
-        let rest = part.strip_prefix('!').filter(|rest| !rest.starts_with('!'));
-        rest.map_or(false, |rest| matches(rest.as_bytes(), name.as_bytes()))
+    let is_matched = |signs: usize| {
+        let of_signs = parts.iter().map(|part| (part, part.trim_start_matches('!')));
+        of_signs.filter(|(part, rest)| part.len() - rest.len() == signs).any(|(_, rest)| matches(rest, name))
     };
-    let is_given = parts.iter().any(|part| part.starts_with("!!") && gives_name(part, name));
-    is_given || !parts.iter().any(|part| takes(&part))
+    is_matched(2) || !is_matched(1)
 }
 
 /// Whether a pattern gives an interface. It must be hardware, or also named, unless the pattern begins with a letter
@@ -77,59 +76,4 @@ pub fn ports_of(parts: &[String], links: &Links) -> Vec<String> {
         }
     }
     given
-}
-
-/// Whether a pattern with `*`, `?` and `[..]` matches a whole name.
-fn matches(pattern: &[u8], name: &[u8]) -> bool {
-    let (first, rest) = match pattern.split_first() {
-        Some((first, rest)) => (*first, rest),
-        None => return name.is_empty(),
-    };
-    let set = Some(rest)
-        .filter(|_| first == b'[')
-        .and_then(|rest| rest.iter().skip(1).position(|end| *end == b']'));
-    match name.split_first() {
-        _ if first == b'*' && rest.first() == Some(&b'*') => matches(rest, name),
-        _ if first == b'*' => (0..=name.len()).any(|from| matches(rest, &name[from..])),
-        None => false,
-        Some((octet, further)) => match set {
-            Some(length) => is_among(&rest[..=length], *octet) && matches(&rest[length + 2..], further),
-            None => (first == b'?' || first == *octet) && matches(rest, further),
-        },
-    }
-}
-
-/// Whether an octet is among those of `[..]`, which may have ranges.
-fn is_among(set: &[u8], octet: u8) -> bool {
-    match *set {
-        [first, b'-', last, ..] => (first..=last).contains(&octet) || is_among(&set[3..], octet),
-        [first, ..] => first == octet || is_among(&set[1..], octet),
-        [] => false,
-    }
-}
-
-#[cfg(test)]
-mod tests {
-    use super::*;
-
-    #[test]
-    fn patterns_match_as_in_a_shell() {
-        let matched = [
-            "swp* swp12",
-            "*1*2 a1b12",
-            "**a*** a",
-            "swp[12] swp2",
-            "swp[1-3x] swpx",
-            "a[]b] a]",
-            "a[-b] a-",
-            "[a [a",
-        ];
-        let others = ["*1*2 a1b13", "eth? eth", "swp[1-3] swp4", "swp1 swp12", "[ab]c ac1"];
-        for (text, wanted) in
-            matched.iter().map(|one| (one, true)).chain(others.iter().map(|one| (one, false)))
-        {
-            let (pattern, name) = text.split_once(' ').expect("two words");
-            assert_eq!(matches(pattern.as_bytes(), name.as_bytes()), wanted, "{text}");
-        }
-    }
 }

@@ -14,7 +14,6 @@ const LEAST_FRAME: usize = 14;
 const A_SECOND: i64 = 64; // frames that a port may receive
 const AT_ONCE: i64 = 1024; // 128 neighbors in fast start send 128 a second for four seconds, and are accepted
 
-/// A frame that a port received.
 pub struct Frame {
     pub moment: i64,
     pub port: usize,
@@ -36,7 +35,6 @@ pub struct Port {
     pub is_awaited: bool,
     /// Its link as the agent was told.
     pub is_up: Option<bool>,
-    /// When its interface went, if it is gone.
     pub gone_since: Option<i64>,
     /// The moment from which on the frames that it may receive have accumulated.
     allowed_since: i64,
@@ -105,7 +103,6 @@ impl Port {
         self.fault = fault;
     }
 
-    /// Lets go of an interface that is gone.
     fn lose(&mut self, socket: &File, what: &str, now: i64) -> Option<bool> {
         packet::release(socket);
         self.index = None;

@@ -2,27 +2,27 @@
 
 use crate::clock::{self, Clock, MILLISECOND, SECOND};
 use crate::links::{Link, Links};
-use crate::live::Polled;
-use crate::packet::{self, LONGEST_FRAME};
+use crate::packet::{self, Rooms, LONGEST_FRAME, ROOMS};
 use crate::patterns;
 use crate::port::{Frame, Port};
 use crate::reports::{notice, warn};
 use crate::sys;
+use crate::waiting::{Awaited, IN};
 use std::collections::hash_map::RandomState;
 use std::fs::File;
 use std::io::ErrorKind;
+use std::os::unix::io::{AsRawFd, RawFd};
 
 pub const MOST_PORTS: usize = 64;
 const MOST_AT_ONCE: usize = 1024; // frames that are read at a turn, of all ports together
-const ROOMS: usize = 16; // frames that one call reads
 const REST: i64 = 15 * MILLISECOND; // of ports that receive more than they may: all are read together then
 const BETWEEN_REPORTS: i64 = 60 * SECOND;
 
 pub struct Ports {
     pub all: Vec<Port>,
     /// One for each port, in their order, and then those for ports that come later.
-    pub sockets: Vec<File>,
-    rooms: Vec<[u8; LONGEST_FRAME]>,
+    pub sockets: Vec<Awaited<File>>,
+    rooms: Box<Rooms>,
     /// Frames that were read, by their moments.
     waiting: Vec<Frame>,
     /// What their LLDPDUs are digested with.
@@ -31,7 +31,6 @@ pub struct Ports {
     pub refused: Vec<String>,
     /// How many drops were reported, and when the next may be: of the kernel, and of the limit.
     told: [(u64, i64); 2],
-    /// When to look for drops, if there may be some.
     pub look_at: Option<i64>,
 }
 
@@ -39,12 +38,13 @@ impl Ports {
     /// Opens the sockets of these ports, and if `may_grow`, also those of ports that may come later.
     pub fn open(names: &[String], parts: &[String], may_grow: bool) -> std::io::Result<Ports> {
         let count = if may_grow { MOST_PORTS } else { names.len() };
-        let sockets = (0..count).map(|_| packet::open()).collect::<std::io::Result<Vec<_>>>()?;
+        let sockets =
+            (0..count).map(|_| packet::open().map(Awaited::new)).collect::<std::io::Result<Vec<_>>>()?;
         let all = names.iter().map(|name| Port::new(name, parts.contains(name))).collect();
         Ok(Ports {
             all,
             sockets,
-            rooms: vec![[0; LONGEST_FRAME]; ROOMS],
+            rooms: Box::new([[0; LONGEST_FRAME]; ROOMS]),
             waiting: Vec::new(),
             state: RandomState::new(),
             refused: Vec::new(),
@@ -93,30 +93,35 @@ impl Ports {
         }
     }
 
-    /// Returns what to wait for. A port is not read while frames of it wait, so that few wait, however many come; nor
-    /// while it rests.
-    pub fn polled(&self, now: i64) -> Vec<Polled> {
-        let is_waiting = |place: usize| self.waiting.iter().any(|frame| frame.port == place);
-        let one = |(place, port): (usize, &Port)| match now < port.rests_until || is_waiting(place) {
-            true => Polled(-1, 0, 0),
-            false => Polled::new(&self.sockets[place], Polled::IN),
-        };
-        self.all.iter().enumerate().map(one).collect()
+    /// Waits for frames. A port is not read while frames of it wait, so that few wait, however many come; nor while it
+    /// rests.
+    pub fn await_frames(&mut self, epoll: &File, now: i64) {
+        for (place, socket) in self.sockets.iter_mut().enumerate() {
+            let port = self.all.get_mut(place).filter(|port| now >= port.rests_until);
+            let has_frames = self.waiting.iter().any(|frame| frame.port == place);
+            let is_read = port.is_some() && !has_frames;
+            socket.wait_for(epoll, if is_read { IN } else { 0 });
+        }
+    }
+
+    /// Returns which ports are among the files that are ready.
+    pub fn ready(&self, found: &[RawFd]) -> Vec<usize> {
+        let is_ready = |place: &usize| found.contains(&self.sockets[*place].file.as_raw_fd());
+        (0..self.all.len()).filter(is_ready).collect()
     }
 
     /// Reads some frames of the ports that were found ready. Returns up to which moment all frames were read, if some
     /// of those that came before may be left.
-    pub fn read(&mut self, clock: &mut Clock, set: &[Polled]) -> Option<i64> {
-        let ready: Vec<usize> = (0..set.len()).filter(|place| set[*place].2 != 0).collect();
+    pub fn read(&mut self, clock: &mut Clock, ready: &[usize]) -> Option<i64> {
         if !ready.is_empty() {
             clock.note_wall_clock();
         }
-        for place in &ready {
+        for place in ready {
             self.read_port(*place, (MOST_AT_ONCE / ready.len()).max(1), clock);
         }
         self.waiting.sort_by_key(|frame| frame.moment);
-        let is_left = |(port, polled): &(&Port, &Polled)| port.has_more || polled.0 < 0;
-        self.all.iter().zip(set).filter(is_left).map(|(port, _)| port.read_to).min()
+        let is_left = |(port, socket): &(&Port, &Awaited<File>)| port.has_more || !socket.is_awaited();
+        self.all.iter().zip(&self.sockets).filter(is_left).map(|(port, _)| port.read_to).min()
     }
 
     /// Reads a port, about so many frames at most. If it receives more than it may, it rests then.
@@ -125,7 +130,7 @@ impl Ports {
         let before = port.limit_drops + port.other_frames;
         port.has_more = true;
         while port.has_more && count < most {
-            let read = match sys::receive(&self.sockets[place], &mut self.rooms) {
+            let read = match sys::receive(&self.sockets[place].file, &mut self.rooms) {
                 Err(fault) if fault.kind() != ErrorKind::WouldBlock => {
                     count += 1; // its interface went down, which the kernel says once; frames may follow
                     continue;
@@ -134,7 +139,7 @@ impl Ports {
             };
             port.has_more = read.len() == self.rooms.len();
             count += read.len();
-            for ((length, stamp), room) in read.into_iter().zip(&self.rooms) {
+            for ((length, stamp), room) in read.into_iter().zip(&*self.rooms) {
                 self.waiting.extend(port.take(place, &room[..length], clock.moment(stamp), &self.state));
             }
         }
@@ -148,7 +153,6 @@ impl Ports {
         }
     }
 
-    /// Takes the frames up to a moment.
     pub fn frames_until(&mut self, moment: i64) -> Vec<Frame> {
         let count = self.waiting.partition_point(|frame| frame.moment <= moment);
         self.waiting.drain(..count).collect()
@@ -190,7 +194,7 @@ impl Ports {
 
     pub fn count_drops(&mut self) {
         for (port, socket) in self.all.iter_mut().zip(&self.sockets) {
-            port.kernel_drops += packet::drops(socket);
+            port.kernel_drops += packet::drops(&socket.file);
         }
     }
 }

@@ -2,8 +2,8 @@
 //! A line is lost if it cannot be written at once.
 
 use crate::clock::{self, SECOND};
-use crate::live::Polled;
-use crate::sys::wait;
+use crate::sys;
+use crate::waiting::{ready, Awaited, OUT};
 use std::collections::BTreeMap;
 use std::fs::File;
 use std::io::Write;
@@ -25,11 +25,18 @@ pub fn report(level: u8, text: &str) {
     let mut line = (front + &text).into_bytes();
     line.truncate(MOST_AT_ONCE);
     line.push(b'\n');
-    let mut errors = [Polled::new(&std::io::stderr(), Polled::OUT)];
-    wait(&mut errors, 0);
-    if errors[0].2 != 0 {
+    if can_take() {
         let _ = std::io::stderr().write(&line);
     }
+}
+
+/// Whether standard error takes a line at once, as a file does, which cannot be waited for.
+fn can_take() -> bool {
+    let mut errors = Awaited::new(std::io::stderr());
+    sys::epoll().map_or(false, |epoll| {
+        errors.wait_for(&epoll, OUT);
+        !errors.is_awaited() || !ready(&epoll, 0).is_empty()
+    })
 }
 
 pub fn warn(text: &str) {
@@ -80,9 +87,7 @@ pub fn counted(count: usize, what: &str) -> String {
 /// Neighbors that come, change and leave, as lines on standard error: a service's history.
 #[derive(Default)]
 pub struct Events {
-    /// Whether somebody wants to know.
     pub are_wanted: bool,
-    /// How many events each port had in this minute.
     counts: BTreeMap<String, usize>,
     next_minute: i64,
 }

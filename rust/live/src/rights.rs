@@ -3,8 +3,6 @@
 use crate::sys;
 use std::io::{Error, Result};
 
-const NOBODY: &str = "nobody";
-const NUMBER_OF_NOBODY: u32 = 65534;
 /// The number of keyctl, or of no call.
 const KEYCTL: std::os::raw::c_long = if cfg!(target_arch = "x86_64") {
     250
@@ -14,7 +12,6 @@ const KEYCTL: std::os::raw::c_long = if cfg!(target_arch = "x86_64") {
     -1
 };
 
-/// A user, and its first group.
 #[derive(Clone, Copy)]
 pub struct User {
     pub user: u32,
@@ -57,8 +54,8 @@ pub fn user_to_be(name: Option<&str>) -> std::result::Result<Option<User>, Strin
     if own_user() != 0 {
         return name.map_or(Ok(None), |_| Err("--user: only root can become another user".into()));
     }
-    let nobody = User { user: NUMBER_OF_NOBODY, group: NUMBER_OF_NOBODY };
-    name.map_or(Ok(user_of(NOBODY).unwrap_or(nobody)), user_of).map(Some)
+    let nobody = User { user: 65534, group: 65534 };
+    name.map_or(Ok(user_of("nobody").unwrap_or(nobody)), user_of).map(Some)
 }
 
 /// Keeps no right, for good; becomes that user, if one is given.

@@ -5,7 +5,6 @@ use lldpa::{tlv_text, Info, Msap, Tlv};
 use std::net::Ipv6Addr;
 
 const PORT_VLAN: &[u8] = &[0x00, 0x80, 0xc2, 1];
-/// Types of TLVs.
 const CHASSIS_ID: u8 = 1;
 const PORT_ID: u8 = 2;
 const PORT_DESCRIPTION: u8 = 4;
@@ -14,7 +13,6 @@ const SYSTEM_DESCRIPTION: u8 = 6;
 const MANAGEMENT: u8 = 8;
 const ORGANIZATIONAL: u8 = 127;
 
-/// Octets in hexadecimal.
 pub struct Hex<'a>(pub &'a [u8]);
 
 impl std::fmt::Display for Hex<'_> {

@@ -1,17 +1,16 @@
 //! Settings that outlive a restart: lines `configure ..` in files.
 
+use crate::files::{names, O_NONBLOCK};
 use crate::reports::readable;
 use crate::rights::{at, text_of};
 use std::fs::{self, OpenOptions};
 use std::io::{Error, ErrorKind, Read, Result};
 use std::os::unix::fs::OpenOptionsExt;
 
-const O_NONBLOCK: i32 = 0o4_000;
 const MOST_OCTETS: u64 = 1_000_000; // of a file
 const MOST_SHOWN: usize = 200; // characters of a refused line
 pub const LONGEST_LINE: usize = 4096;
 
-/// A line that sets something, and its place.
 #[derive(Clone, Debug)]
 pub struct Setting {
     path: String,
@@ -52,13 +51,8 @@ fn files_of(path: &str) -> Result<Vec<String>> {
     if !fs::metadata(path).map_or(false, |told| told.is_dir()) {
         return Ok(fs::symlink_metadata(path).map_or(Vec::new(), |_| vec![path.into()]));
     }
-    let mut names = Vec::new();
-    for entry in fs::read_dir(path).map_err(at(path))? {
-        let name = entry.map_err(at(path))?.file_name().to_string_lossy().into_owned();
-        if name.ends_with(".conf") && !name.starts_with('.') {
-            names.push(name);
-        }
-    }
+    let mut names = names(path).map_err(at(path))?;
+    names.retain(|name| name.ends_with(".conf") && !name.starts_with('.'));
     names.sort();
     Ok(names.into_iter().map(|name| format!("{}/{name}", path.trim_end_matches('/'))).collect())
 }
@@ -78,7 +72,6 @@ fn lines_of(path: &str) -> Result<Vec<Setting>> {
     Ok(settings_in(path, &octets))
 }
 
-/// The settings of a file's octets.
 pub fn settings_in(path: &str, octets: &[u8]) -> Vec<Setting> {
     let octets = octets.strip_prefix(b"\xef\xbb\xbf").unwrap_or(octets);
     let mut settings = Vec::new();

@@ -6,7 +6,6 @@ use lldpa::{Agent, Msap};
 use std::collections::hash_map::RandomState;
 use std::hash::{BuildHasher, Hasher};
 
-/// A neighbor that the agent holds.
 pub struct Held {
     chassis: Vec<u8>,
     port: Vec<u8>,
@@ -40,7 +39,6 @@ pub fn digest(state: &RandomState, frame: &[u8]) -> u64 {
     hasher.finish()
 }
 
-/// Removes and returns those that the agent no longer holds.
 pub fn take_gone(held: &mut Vec<Held>, agent: &Agent, port: u8) -> Vec<Held> {
     if agent.neighbors(port).map_or(0, |all| all.len()) == held.len() {
         return Vec::new();

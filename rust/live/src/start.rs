@@ -28,10 +28,7 @@ pub fn run(given: Given) -> i32 {
         .and_then(|user| Ok((user, given.control_group.as_deref().map(group_of).transpose()?)));
     match users {
         Err(why) => wrong_words(&why),
-        Ok((user, group)) => match begun(given, user, group) {
-            Ok(live) => work(live),
-            Err(fault) => fail(&fault),
-        },
+        Ok((user, group)) => begun(given, user, group).map_or_else(|fault| fail(&fault), work),
     }
 }
 
@@ -55,12 +52,11 @@ fn begun(mut given: Given, user: Option<rights::User>, group: Option<u32>) -> Re
     given.log.as_deref().map_or(Ok(()), |path| files::enter(path, user))?;
     give_up(user)?;
     given.log.as_deref().map_or(Ok(()), files::check)?;
-    let signals = sys::signals()?;
     let past = past.unwrap_or_else(|why| {
         warn(&format!("{}: the state is not used: {why}", given.state.as_deref().unwrap_or("")));
         state::Past::default()
     });
-    let mut live = Live::new(given, signals, links, ports, control);
+    let mut live = Live::new(given, links, ports, control)?;
     live.open(past).map_err(|fault| Error::new(ErrorKind::Other, fault.to_string()))?;
     Ok(live)
 }
@@ -105,7 +101,7 @@ fn work(mut live: Live) -> i32 {
             0
         }
     }));
-    while live.signals.read(&mut [0u8; 128]).is_ok() {}
+    while live.signals.file.read(&mut [0u8; 128]).is_ok() {}
     sys::block_signals(1); // no more: a second one ends it at once
     live.end();
     drop(live); // so that nothing is held if the disk hangs, and the thread of the log with it
@@ -125,7 +121,7 @@ fn turn(live: &mut Live, last: i64) -> bool {
     }
     live.report_state();
     let mut room = [0u8; 128];
-    while let Ok(128) = if turn.has_signal { live.signals.read(&mut room) } else { Ok(0) } {
+    while let Ok(128) = if turn.has_signal { live.signals.file.read(&mut room) } else { Ok(0) } {
         if room[0] != SIGHUP {
             return true;
         }

@@ -4,7 +4,8 @@
 
 use crate::agent::{lines_text, Line};
 use crate::clock::{self, MILLISECOND};
-use crate::files::O_NOFOLLOW;
+use crate::files::{O_NOFOLLOW, O_NONBLOCK};
+use crate::packet::LONGEST_FRAME;
 use crate::rights::{own_user, text_of, User};
 use crate::said;
 use crate::since::Held;
@@ -17,17 +18,13 @@ use std::os::unix::fs::{MetadataExt, OpenOptionsExt};
 const FRONT: &str = "# lldpa-live state 1 ";
 const END: &str = "# end\n";
 const INCOMPLETE: &str = "it is not complete";
-const O_NONBLOCK: i32 = 0o4_000;
 const MOST_APART: i64 = 5_000; // milliseconds by the two clocks, within one boot
 const MOST_LINES: usize = 64 * 128 * 4; // of each neighbor two, one of since when, and one of seconds
 const MOST_OCTETS: u64 = 64 * 128 * 2 * 4096;
-const LONGEST_FRAME: usize = 1514;
 const MOST_SECONDS: u32 = 65535;
 
-/// What a state says.
 #[derive(Debug, Default)]
 pub struct Past {
-    /// The lines that lead to the tables.
     pub lines: Vec<Line>,
     /// When each neighbor came, in milliseconds since 1970, by its port and its identifier.
     pub came: HashMap<(String, String), i64>,

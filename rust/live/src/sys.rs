@@ -1,12 +1,11 @@
-//! What `std` lacks, over functions of the C library, with all `unsafe` of the program: packet, netlink and signal
-//! sockets, poll, clocks, locks, who asks, and giving up rights. Reading and writing go through `File`.
+//! What `std` lacks, over functions of the C library, with all `unsafe` of the program.
 
-use crate::live::Polled;
-use crate::packet::Step;
+use crate::packet::{Rooms, Step, ROOMS};
+use std::array::from_fn;
 use std::ffi::{c_void, CString};
 use std::fs::File;
 use std::io::{Error, Result};
-use std::os::raw::{c_char, c_int, c_long, c_uint, c_ulong};
+use std::os::raw::{c_char, c_int, c_long, c_uint};
 use std::os::unix::io::{AsRawFd, FromRawFd, RawFd};
 use std::ptr::{null, null_mut};
 
@@ -16,25 +15,20 @@ extern "C" {
     fn setsockopt(fd: c_int, level: c_int, name: c_int, value: *const c_void, length: u32) -> c_int;
     fn getsockopt(fd: c_int, level: c_int, name: c_int, value: *mut c_void, length: *mut u32) -> c_int;
     fn recvmmsg(fd: c_int, messages: *mut Received, count: c_uint, flags: c_int, time: *mut c_void) -> c_int;
-    fn poll(fds: *mut Polled, count: c_ulong, milliseconds: c_int) -> c_int;
-    fn sigaction(number: c_int, new: *const c_void, old: *mut [u64; 19]) -> c_int;
-    fn sigprocmask(how: c_int, set: *const [u64; 16], old: *mut [u64; 16]) -> c_int;
-    fn signalfd(fd: c_int, set: *const [u64; 16], flags: c_int) -> c_int;
-    fn clock_gettime(clock: c_int, to: *mut [i64; 2]) -> c_int;
     fn inotify_add_watch(fd: c_int, path: *const c_char, mask: c_uint) -> c_int;
     fn access(path: *const c_char, mode: c_int) -> c_int;
     fn chown(path: *const c_char, user: c_uint, group: c_uint) -> c_int;
-    fn gethostname(name: *mut u8, length: usize) -> c_int;
-    fn setgroups(count: usize, groups: *const c_uint) -> c_int;
+    fn fnmatch(pattern: *const c_char, text: *const c_char, flags: c_int) -> c_int;
     fn prctl(option: c_int, ...) -> c_int;
-    fn capset(header: *const [u32; 2], data: *const [u32; 6]) -> c_int;
     fn syscall(number: c_long, ...) -> c_long;
 }
 
 const CLOEXEC_NONBLOCK: c_int = 0o2_004_000;
-const SOL_SOCKET: c_int = 1;
+pub const SOL_SOCKET: c_int = 1;
 const SO_ATTACH_FILTER: c_int = 26;
 pub const SO_TIMESTAMPNS: c_int = 35;
+pub const EVENT: usize = if cfg!(target_arch = "x86_64") { 3 } else { 4 };
+pub type Events = [[u32; EVENT]; 256];
 
 fn checked(answer: c_int) -> Result<c_int> {
     Some(answer).filter(|answer| *answer >= 0).ok_or_else(Error::last_os_error)
@@ -45,26 +39,36 @@ fn opened(fd: c_int) -> Result<File> {
     checked(fd).map(|fd| unsafe { File::from_raw_fd(fd) })
 }
 
-/// Declares functions of the C library that are given numbers alone.
-macro_rules! plain {
-    ($($name:ident = $call:ident($($word:ident: $kind:ty),*);)*) => {
+/// Declares functions of the C library that are given numbers, and memory of which they use no more than its type has.
+macro_rules! calls {
+    ($($seen:vis $name:ident = $call:ident($($word:ident: $kind:ty),*);)*) => {
         extern "C" { $(fn $call($($word: $kind),*) -> c_int;)* }
-        $(pub fn $name($($word: $kind),*) -> Result<c_int> {
-            // SAFETY: no memory is lent.
+        $($seen fn $name($($word: $kind),*) -> Result<c_int> {
+            // SAFETY: memory is lent during the call, and its type has the length.
             checked(unsafe { $call($($word),*) })
         })*
     };
 }
 
-plain! {
-    new_watch = inotify_init1(flags: c_int);
+calls! {
     new_socket = socket(domain: c_int, kind: c_int, protocol: c_int);
-    lock = flock(fd: RawFd, how: c_int);
-    change_folder = fchdir(fd: RawFd);
-    set_umask = umask(mask: c_uint);
-    user = geteuid();
+    pub lock = flock(fd: RawFd, how: c_int);
+    pub change_folder = fchdir(fd: RawFd);
+    pub set_umask = umask(mask: c_uint);
+    pub user = geteuid();
     set_group = setresgid(real: c_uint, effective: c_uint, saved: c_uint);
     set_user = setresuid(real: c_uint, effective: c_uint, saved: c_uint);
+    set_groups = setgroups(count: usize, groups: Option<&c_uint>);
+    set_capabilities = capset(header: &[u32; 2], sets: &[u32; 6]);
+    new_watch = inotify_init1(flags: c_int);
+    new_epoll = epoll_create1(flags: c_int);
+    pub set_event = epoll_ctl(epoll: RawFd, what: c_int, file: RawFd, event: &[u32; EVENT]);
+    wait = epoll_wait(epoll: RawFd, events: &mut Events, most: c_int, milliseconds: c_int);
+    handler = sigaction(number: c_int, new: Option<&[u64; 19]>, old: &mut [u64; 19]);
+    mask_signals = sigprocmask(how: c_int, set: &[u64; 16], old: Option<&mut [u64; 16]>);
+    new_signals = signalfd(fd: RawFd, set: &[u64; 16], flags: c_int);
+    pub time = clock_gettime(clock: c_int, time: &mut [i64; 2]);
+    name = gethostname(name: &mut [u8; 256], length: usize);
 }
 
 pub fn raw_socket(domain: c_int) -> Result<File> {
@@ -107,15 +111,14 @@ struct Received(Message, c_uint);
 
 /// Reads as many frames as there are, each into a room. Returns for each how long it is, and when it came by the wall
 /// clock in nanoseconds, if the kernel says so.
-pub fn receive<const N: usize>(file: &File, rooms: &mut [[u8; N]]) -> Result<Vec<(usize, Option<i64>)>> {
-    let pieces: Vec<[usize; 2]> = rooms.iter_mut().map(|room| [room.as_mut_ptr() as usize, N]).collect();
-    let mut notes = vec![[0u64; 4]; rooms.len()];
-    let mut messages: Vec<_> = (pieces.iter().zip(&mut notes))
-        .map(|(piece, note)| Received(Message(null_mut(), 0, piece, 1, note, 32, 0), 0))
-        .collect();
-    let (start, most) = (messages.as_mut_ptr(), messages.len() as c_uint);
+pub fn receive(file: &File, rooms: &mut Rooms) -> Result<Vec<(usize, Option<i64>)>> {
+    let pieces: [_; ROOMS] = from_fn(|place| [rooms[place].as_mut_ptr() as usize, rooms[place].len()]);
+    let mut notes = [[0u64; 4]; ROOMS];
+    let mut messages: [Received; ROOMS] =
+        from_fn(|place| Received(Message(null_mut(), 0, &pieces[place], 1, &mut notes[place], 32, 0), 0));
+    let start = messages.as_mut_ptr();
     // SAFETY: each room and each note exists during the call, and is as long as its message says.
-    let count = checked(unsafe { recvmmsg(file.as_raw_fd(), start, most, 0, null_mut()) })?;
+    let count = checked(unsafe { recvmmsg(file.as_raw_fd(), start, ROOMS as c_uint, 0, null_mut()) })?;
     let frame = |(message, note): (&Received, &[u64; 4])| {
         let is_stamp = note[1] == (SO_TIMESTAMPNS as u64) << 32 | SOL_SOCKET as u64;
         (message.1 as usize, is_stamp.then(|| note[2] as i64 * 1_000_000_000 + note[3] as i64))
@@ -123,37 +126,28 @@ pub fn receive<const N: usize>(file: &File, rooms: &mut [[u8; N]]) -> Result<Vec
     Ok(messages.iter().zip(&notes).take(count as usize).map(frame).collect())
 }
 
-pub fn wait(set: &mut [Polled], milliseconds: i32) {
-    // SAFETY: the set is as long as is told.
-    unsafe { poll(set.as_mut_ptr(), set.len() as c_ulong, milliseconds) };
+pub fn epoll() -> Result<File> {
+    opened(new_epoll(0o2_000_000)?) // CLOEXEC
+}
+
+pub fn events(epoll: RawFd, events: &mut Events, milliseconds: c_int) -> Result<usize> {
+    wait(epoll, events, events.len() as c_int, milliseconds).map(|count| count as usize)
 }
 
 /// Blocks SIGHUP, SIGINT and SIGTERM by 0, and unblocks the last two by 1, but for those that are ignored.
 pub fn block_signals(how: c_int) -> [u64; 16] {
-    let (mut set, mut told) = ([0; 16], [0u64; 19]);
-    // SAFETY: what is told of a signal has 152 octets, the handler first; a set has 128.
-    unsafe {
-        for number in [1, 2, 15].into_iter().skip(how as usize) {
-            let is_wanted = sigaction(number, null(), &mut told) == 0 && told[0] != 1;
-            set[0] |= u64::from(is_wanted) << (number - 1);
-        }
-        sigprocmask(how, &set, null_mut());
+    let (mut set, mut told) = ([0; 16], [0u64; 19]); // of which the first is the handler
+    for number in [1, 2, 15].into_iter().skip(how as usize) {
+        let is_wanted = handler(number, None, &mut told).is_ok() && told[0] != 1;
+        set[0] |= u64::from(is_wanted) << (number - 1);
     }
+    let _ = mask_signals(how, &set, None);
     set
 }
 
 /// A file that tells of these signals, 128 octets each, in place of their effect.
 pub fn signals() -> Result<File> {
-    // SAFETY: a set has 128 octets.
-    opened(unsafe { signalfd(-1, &block_signals(0), CLOEXEC_NONBLOCK) })
-}
-
-/// Nanoseconds of a clock: 0 the wall, 1 since boot but for sleep, 7 since boot.
-pub fn clock(number: c_int) -> i64 {
-    let mut time = [0i64; 2];
-    // SAFETY: a time has two numbers of 64 bits on the machines of this program.
-    unsafe { clock_gettime(number, &mut time) };
-    time[0] * 1_000_000_000 + time[1]
+    opened(new_signals(-1, &block_signals(0), CLOEXEC_NONBLOCK)?)
 }
 
 /// A file that tells when the file at a path is removed, renamed, or gets other rights.
@@ -175,26 +169,32 @@ pub fn may_write(path: &str) -> Result<()> {
     checked(unsafe { access(CString::new(path)?.as_ptr(), 3) }).map(drop)
 }
 
+/// Whether a pattern with `*`, `?` and `[..]` matches a text.
+pub fn matches(pattern: &str, text: &str) -> bool {
+    let texts = CString::new(pattern).and_then(|pattern| Ok((pattern, CString::new(text)?)));
+    // SAFETY: both texts end with a zero.
+    texts.map_or(false, |(pattern, text)| unsafe { fnmatch(pattern.as_ptr(), text.as_ptr(), 0) == 0 })
+}
+
 pub fn host_name() -> String {
-    let mut room = [0u8; 256];
-    unsafe { gethostname(room.as_mut_ptr(), 255) }; // SAFETY: the room is as long as is said; its last octet stays 0
+    let mut room = [0; 256];
+    let _ = name(&mut room, 255);
     String::from_utf8_lossy(room.split(|octet| *octet == 0).next().unwrap_or(&[])).into_owned()
 }
 
 /// Keeps no capability, no group and no key of the session, for good; becomes a user with its group, if one is given.
 /// No other process of the user may look into this one. (Without the right to drop groups these stay.)
 pub fn keep_no_right(user: Option<(c_uint, c_uint)>, keyctl: c_long) -> Result<()> {
-    // SAFETY: the options have numbers alone; of no groups nothing is read; the sets have the form of version 3.
-    unsafe {
-        (0..64u64).for_each(|one| drop(checked(prctl(24, one))));
-        syscall(keyctl, 1u64, null::<u8>());
-        let groups = checked(setgroups(0, null()));
-        if let Some((user, group)) = user {
-            groups.and(set_group(group, group, group)).and(set_user(user, user, user))?;
-        }
-        checked(prctl(38, 1u64, 0u64, 0u64, 0u64))?;
-        checked(prctl(47, 4u64, 0u64, 0u64, 0u64))?;
-        checked(capset(&[0x2008_0522, 0], &[0; 6]))?;
-        checked(prctl(4, 0u64)).map(drop)
+    // SAFETY: the options have numbers alone, and of the key nothing is read.
+    let option = |name: c_int, value: u64| checked(unsafe { prctl(name, value, 0u64, 0u64, 0u64) });
+    (0..64).for_each(|one| drop(option(24, one)));
+    unsafe { syscall(keyctl, 1u64, null::<u8>()) };
+    let groups = set_groups(0, None);
+    if let Some((user, group)) = user {
+        groups.and(set_group(group, group, group)).and(set_user(user, user, user))?;
     }
+    option(38, 1)?;
+    option(47, 4)?;
+    set_capabilities(&[0x2008_0522, 0], &[0; 6])?;
+    option(4, 0).map(drop)
 }

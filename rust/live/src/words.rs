@@ -4,8 +4,6 @@ use crate::options::AgentOptions;
 use crate::patterns;
 use crate::ports::MOST_PORTS;
 
-/// Options of earlier versions that say what is always so now.
-const ALWAYS_SO: [&str; 2] = ["--stay", "--own-source"];
 const HELP: &str = "\
 usage: lldpa-live [OPTION...] PORT... [-- OPTIONS OF LLDPA]
        lldpa-live [--control PATH] --ask LINE
@@ -45,10 +43,8 @@ example: lldpa-live --log /var/lib/lldpa eth0 eth1 -- --role router
 lldpa-live(8) describes the options, lldpa(1) those after --.
 ";
 
-/// What was given on the command line.
 #[derive(Clone, Debug, Default)]
 pub struct Given {
-    /// Names of ports, and patterns.
     pub parts: Vec<String>,
     pub config: Vec<String>,
     pub control: String,
@@ -68,13 +64,11 @@ pub struct Given {
     pub agent: AgentOptions,
 }
 
-/// What is to be done.
 pub enum Wanted {
     Run(Box<Given>),
     Print(String),
 }
 
-/// Reads the words, or says what is wrong with them.
 pub fn read(words: &[String]) -> Result<Wanted, String> {
     let cut = words.iter().position(|word| word == "--").unwrap_or(words.len());
     let control = "/run/lldpa/control".into();
@@ -106,7 +100,7 @@ impl Given {
             number(&text, last).ok_or(format!("{name}: {text} is not a number from 1 to {last}"))
         };
         match (name, given) {
-            _ if ALWAYS_SO.contains(&word) => (),
+            ("--stay" | "--own-source", None) => (), // of earlier versions: it is always so now
             ("--events", None) => self.events = true,
             ("--forget-on-down", None) => self.forget_on_down = true,
             ("--no-description", None) => self.no_description = true,
