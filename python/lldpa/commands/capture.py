@@ -17,7 +17,7 @@ NAME = "lldpa-capture"
 SUMMARY = "Writes the LLDP frames of captures as a trace for lldpa, with the seconds between them."
 FILE_HELP = """a capture of Ethernet, pcap or pcapng, or - for standard input; PORT=FILE names the
 port of all its frames"""
-PORT_HELP = """the port of all frames, or with INTERFACE=NAME of the frames of one interface
+PORT_HELP = """use NAME as the port of all frames; INTERFACE=NAME: of the frames of that interface
 (default: the interface that a pcapng file names, or eth0)"""
 EPILOG = """\
 example: lldpa-capture --show lab.pcap | lldpa --receive-only eth0

@@ -37,8 +37,8 @@ commands (without a command, a table of all neighbors is printed):
   interfaces [PORT..]      print the state of the ports
   statistics [PORT..]      print the counters as a table
   statistics summary       print the sums of the counters
-  show neighbors [PORT..]  print the neighbors in the agent's lines
-  show statistics [PORT..] print the counters in the agent's lines
+  show neighbors [PORT..]  print the neighbors as lines KEY=VALUE
+  show statistics [PORT..] print the counters as lines KEY=VALUE
   show chassis             print what this host announces
   show configuration       print the settings, and the status of each port
   configure ...            change a setting, see lldpa(1)
@@ -47,7 +47,7 @@ commands (without a command, a table of all neighbors is printed):
   watch [PORT..]           print a line when a neighbor comes, changes or goes
   metrics                  print metrics for Prometheus
   help                     print this help
-Separate ports by spaces or commas, also in configure ports. You may shorten a
+Separate several ports by spaces or commas. You may shorten a
 word if no other word begins with the same letters.
 
 example: lldpa-ctl --json show neighbors eth0,eth1

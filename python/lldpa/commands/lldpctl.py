@@ -22,7 +22,7 @@ from .ctl import answer as answer_of, said_of
 
 LLDPCTL, LLDPCLI = "lldpctl", "lldpcli"
 HELP = f"""\
-usage: NAME [-u PATH] [-f FORM] [COMMAND]
+usage: NAME [-u PATH] [-f FORM] [PORT... | COMMAND]
 
 Asks a running lldpa-live, and prints the answer like lldpcli of lldpd.
 
@@ -32,9 +32,9 @@ Asks a running lldpa-live, and prints the answer like lldpcli of lldpd.
   -h, --help     print this help
   -v, --version  print the version
 
-Without a command, lldpctl prints the details of all neighbors, or of those of
-the ports that you name, and lldpcli reads commands from standard input until
-exit. The commands are:
+Without a command, lldpctl prints the details of all neighbors, or of those on
+the given ports. Under its second name, lldpcli, it then reads commands from
+standard input until the command exit. The commands are:
   show neighbors [details | summary] [ports PORT,..]
   show interfaces [details | summary] [ports PORT,..]
   show chassis [details | summary]

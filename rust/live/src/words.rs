@@ -15,8 +15,8 @@ Runs lldpa on Ethernet interfaces, until it is ended.
 options:
   -h, --help             print this help
   -V, --version          print the version
-  --ask LINE             print the answer of a running lldpa-live, such as to
-                         'show neighbors'
+  --ask LINE             send LINE, such as 'show neighbors', to a running
+                         lldpa-live, and print its answer
   --config PATH          read settings from a file or a folder of *.conf; may
                          be repeated
   --control PATH         the control socket (default /run/lldpa/control)
@@ -31,8 +31,8 @@ options:
                          64)
   --no-description       do not announce the operating system of this host
   --no-management        do not announce an address of this host
-  --once N               print the neighbors when each port has one, or after
-                         N seconds
+  --once N               wait until each port has a neighbor, at most N seconds;
+                         print the neighbors, and exit
   --only-existing        refuse to start if an interface does not exist
   --state FILE           save the tables there each minute and at the end, and
                          restore them at the start
