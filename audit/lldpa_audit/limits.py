@@ -3,6 +3,7 @@ from __future__ import annotations
 
 import resource
 import signal
+import sys
 from contextlib import contextmanager, suppress
 from typing import Iterator
 
@@ -26,6 +27,8 @@ def limit_memory() -> None:
     hard = resource.getrlimit(resource.RLIMIT_DATA)[1]
     with suppress(OSError, ValueError):  # a lower limit stays
         resource.setrlimit(resource.RLIMIT_DATA, (most, hard))
+    # a generator that is closed without memory would print a traceback
+    sys.unraisablehook = lambda _: None
 
 
 @contextmanager
