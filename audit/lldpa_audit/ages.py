@@ -1,6 +1,4 @@
 """How old what is seen is, in seconds and in words."""
-from __future__ import annotations
-
 import re
 from typing import NamedTuple, Sequence
 

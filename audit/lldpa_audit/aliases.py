@@ -1,6 +1,4 @@
 """Further names of hosts and ports, from a file of rows `host,port,alias`."""
-from __future__ import annotations
-
 from .names import Aliases, End, Names
 from .plan import Faults
 from .rows import table_of

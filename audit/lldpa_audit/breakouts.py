@@ -1,6 +1,4 @@
 """Breakout cables of NetBox: one port at one side, and the ends of its lanes at the other."""
-from __future__ import annotations
-
 import re
 from typing import Iterator, Optional, Sequence
 

@@ -1,6 +1,4 @@
 """Which aggregates of two hosts belong together, by the numbers that ends of links announce."""
-from __future__ import annotations
-
 from collections import Counter
 from typing import Optional
 

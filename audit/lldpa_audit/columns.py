@@ -1,6 +1,4 @@
 """Which columns of a CSV file name the two ends of a link: our own, NetBox's, or those given."""
-from __future__ import annotations
-
 import re
 from typing import Mapping, Optional, Sequence, Union
 
@@ -17,12 +15,9 @@ NETBOX = (
     ("device_a", "termination_a", "device_b", "termination_b"),
     ("side_a", "termination_a", "side_b", "termination_b"),
 )
-SIDES_A = ("side_a_type", "termination_a_type")
-SIDES_B = ("side_b_type", "termination_b_type")
 
 # what patch panels are listed by: `panel,front,rear`, and NetBox's export of front ports
 PANELS = (("panel", "front", "panel", "rear"), ("device", "name", "device", "rear_port"))
-POSITIONS = ("rear_port_position", "position")
 
 
 class Columns:
@@ -38,9 +33,10 @@ class Columns:
         self.can_read = self._has_all(line)
         if self.can_read:
             self._places = [self._names.index(name) for name in self._columns]
-        self._sides = [self._place_of(*SIDES_A), self._place_of(*SIDES_B)]
+        self._sides = [self._place_of(f"side_{side}_type", f"termination_{side}_type")
+                       for side in "ab"]
         self._type, self._status = self._place_of("type"), self._place_of("status")
-        self._position = self._place_of(*POSITIONS)
+        self._position = self._place_of("rear_port_position", "position")
         self._others = [at for at, name in enumerate(header) if at not in self._places and name]
         self.others = [header[at].strip() for at in self._others]
 

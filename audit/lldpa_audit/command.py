@@ -1,6 +1,4 @@
 """lldpa-audit: what is wrong with the cabling, by a plan of it."""
-from __future__ import annotations
-
 import argparse
 import datetime
 import gc
@@ -134,7 +132,6 @@ class Audit:
         output.complain(NAME, harmless(text))
 
     def say_all(self, texts: Iterable[str]) -> None:
-        """Writes lines on standard error."""
         for text in texts:
             self.say(text)
 

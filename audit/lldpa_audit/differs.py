@@ -1,6 +1,4 @@
 """What alone keeps a neighbor from answering: the case, the domain, or the vendor's spelling."""
-from __future__ import annotations
-
 from typing import Optional
 
 from .names import End, Names, Seen
@@ -40,7 +38,6 @@ class Differences:
 
 
 def words_of(differences: tuple[str, ...]) -> str:
-    """Differences in words."""
     if len(differences) == 1:
         return f"only the {differences[0]} differs"
     return f"only {', '.join(differences[:-1])} and {differences[-1]} differ"

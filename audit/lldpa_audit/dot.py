@@ -4,8 +4,6 @@
 
 Attributes, nodes and defaults are skipped; what else DOT has, such as subgraphs, is refused.
 """
-from __future__ import annotations
-
 import re
 from typing import Iterator
 
@@ -38,7 +36,8 @@ def edges_of(text: str, faults: Faults) -> Iterator[Cable]:
         before = at
         found = EDGE.match(text, at)
         if found is not None:
-            names = [unquoted(name) for name in found.groups()]
+            names = [name[1:-1].replace('\\"', '"') if name.startswith('"') else name
+                     for name in found.groups()]
             if not all(names):
                 faults.add(line, "a name in it is empty")
             yield Cable((names,), line)
@@ -57,11 +56,6 @@ def after_skipped(text: str, at: int) -> int:
     """Returns the place after blanks and comments."""
     found = SKIPPED.match(text, at)
     return found.end() if found else at
-
-
-def unquoted(name: str) -> str:
-    """Returns a name without its quotes."""
-    return name[1:-1].replace('\\"', '"') if name.startswith('"') else name
 
 
 def refused(text: str, at: int) -> str:

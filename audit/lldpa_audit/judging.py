@@ -1,6 +1,4 @@
 """Judges what is seen at the ports of hosts by a plan. audit/README.md defines each verdict."""
-from __future__ import annotations
-
 from collections import defaultdict
 from enum import Enum
 from functools import cached_property

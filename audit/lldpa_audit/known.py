@@ -1,6 +1,4 @@
 """Faults that are known: ends and hosts whose silence is excused, each with a reason and a day."""
-from __future__ import annotations
-
 import datetime
 from typing import NamedTuple, Optional, Sequence
 

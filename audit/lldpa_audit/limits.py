@@ -1,6 +1,4 @@
 """The limits of a run: memory for all of it, and time of the processor for each file."""
-from __future__ import annotations
-
 import resource
 import signal
 import sys
@@ -50,5 +48,4 @@ def limited(file: str, seconds: float = SECONDS) -> Iterator[None]:
 
 
 def stop(*_: object) -> None:
-    """Ends what is being done."""
     raise TooLong

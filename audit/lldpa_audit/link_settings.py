@@ -1,6 +1,4 @@
 """What a port says of its link: maximum frame size, PVID, speed, duplex, aggregation."""
-from __future__ import annotations
-
 import re
 from functools import lru_cache
 from typing import NamedTuple, Optional
@@ -10,10 +8,8 @@ SPEED = re.compile(r"(?P<whole>[0-9]{1,4})(?:[p.](?P<part>[0-9]))?(?P<giga>G(?:i
                    re.I)
 HALF = re.compile(r"half duplex|HD\b", re.I)
 FULL = re.compile(r"full duplex|(?:FD|DF)\b", re.I)  # one name of lldpd's has the letters twisted
-GIGA = 1000
 NUMBER = re.compile(r"[0-9]{1,5}")
 ID = re.compile(r"[0-9]{1,10}")
-MOST = 65535
 MOST_KEPT = 4096
 
 
@@ -51,8 +47,7 @@ def none_if_empty(settings: Settings) -> Optional[Settings]:
 
 def number(text: str) -> Optional[int]:
     """Returns a number of two octets, or None if the text is not one."""
-    found = int(text) if NUMBER.fullmatch(text) else MOST + 1
-    return found if found <= MOST else None
+    return int(text) if NUMBER.fullmatch(text) and int(text) <= 65535 else None
 
 
 def speed_and_duplex(mau_type: str) -> tuple[Optional[int], Optional[str]]:
@@ -62,4 +57,4 @@ def speed_and_duplex(mau_type: str) -> tuple[Optional[int], Optional[str]]:
     if found is None:
         return None, duplex
     tenths = int(found["whole"]) * 10 + int(found["part"] or 0)
-    return tenths * (GIGA if found["giga"] else 1) // 10, duplex
+    return tenths * (1000 if found["giga"] else 1) // 10, duplex

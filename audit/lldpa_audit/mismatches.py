@@ -1,6 +1,4 @@
 """In what the two ends of right links differ, by what both say of the link and by the plan."""
-from __future__ import annotations
-
 from itertools import combinations
 from typing import Iterable, Iterator, Mapping, NamedTuple, Optional, Union
 
@@ -10,8 +8,6 @@ from .link_settings import NO_SETTINGS, Settings, number
 from .names import End
 from .plan import Plan
 from .seen.tables import Tables
-
-Value = Union[bool, int, str]
 
 # the settings that are compared, each with its unit, and the columns of a plan with the first ones
 NAMES = (("MTU", ""), ("PVID", ""), ("speed", " Mb/s"), ("duplex", ""), ("aggregation", ""))
@@ -63,13 +59,10 @@ def mismatches(findings: Iterable[Finding], tables: Tables, plan: Plan) -> dict[
 
 def compared(findings: Iterable[Finding], tables: Tables, plan: Plan) -> bool:
     """Returns whether any right link has settings that can be compared."""
-    return any(are_alike(one, other) for _, *settings in said_of_links(findings, tables, plan)
-               for one, other in combinations(settings, 2))
-
-
-def are_alike(one: Settings, other: Settings) -> bool:
-    """Returns whether both have a value of some setting."""
-    return any(value is not None and its is not None for value, its in zip(one[:5], other[:5]))
+    return any(value is not None and its is not None
+               for _, *settings in said_of_links(findings, tables, plan)
+               for one, other in combinations(settings, 2)
+               for value, its in zip(one[:5], other[:5]))
 
 
 def mismatch(said: Said) -> Optional[Mismatch]:
@@ -118,6 +111,6 @@ def planned(plan: Plan, key: End) -> Settings:
     return wanted
 
 
-def worded(value: Value) -> str:
+def worded(value: Union[bool, int, str]) -> str:
     """Returns a value as a line shows it."""
     return str(value) if not isinstance(value, bool) else "yes" if value else "no"

@@ -11,7 +11,7 @@ from .link_settings import Settings
 from .spelling import is_aggregate, plain, plain_port
 
 
-LONGEST = 255
+LONGEST = 255  # no neighbor says a longer name
 
 
 class End(NamedTuple):

@@ -1,12 +1,10 @@
 """NetBox's cables: which ends each joins, and which of them are left out."""
-from __future__ import annotations
-
 import json
 import re
 from itertools import product
 from typing import Any, Iterable, Iterator, NamedTuple, Optional, Sequence, Union
 
-from .plan import FIRST, Faults
+from .plan import FIRST, NO_END, Faults
 
 
 # what else of a cable is reported with its faults
@@ -20,7 +18,6 @@ CIRCUIT = "circuittermination"
 OTHER_PORT = re.compile(r"(?:(?:rj45|(?:mini-?)?usb)[ _-]?)?"
                         r"(?:psu?|pem|pwr|power|outlet|inlet|con|console|serial|tty[a-z]?|aux)"
                         r"(?:[ _-]?(?:supply|feed|port))?[ _:/.-]?[a-z]?[0-9]{0,3}", re.I)
-NOT_THERE = ("planned", "decommissioning")
 
 # why a cable of NetBox is left out
 POWER, ABSENT, FREE, UNPAIRED = ("of power or consoles", "planned or decommissioning",
@@ -29,8 +26,6 @@ POWER, ABSENT, FREE, UNPAIRED = ("of power or consoles", "planned or decommissio
 
 # the host and the port of an end, and of the two ends that are joined
 Pair = tuple[str, str]
-Row = Sequence[str]
-NO_END = ("", "")
 AT_NO_PANEL = (False, False)
 
 
@@ -39,7 +34,7 @@ class Cable(NamedTuple):
     the plan. `texts` has what else the plan says of it, `at_panels` whether each side is at a
     panel, and `position` where a front port of a panel is at its rear port."""
 
-    rows: Sequence[Row]
+    rows: Sequence[Sequence[str]]
     line: Optional[int] = None
     texts: Sequence[str] = ()
     at_panels: tuple[bool, bool] = AT_NO_PANEL
@@ -63,7 +58,7 @@ def between(one: Side, other: Side, kind: str, status: str, line: Optional[int],
     """Returns the cable between two sides, or why it is left out. It joins the first two ends, the
     second two .., or each with the only one of the other side."""
     kinds, ends = [*one.kinds, *other.kinds], [*one.ends, *other.ends]
-    if status in NOT_THERE:
+    if status in ("planned", "decommissioning"):
         return ABSENT
     if kind == "power" or any(its and not its.endswith((*PORTS, CIRCUIT)) for its in kinds):
         return POWER

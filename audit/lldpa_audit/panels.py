@@ -1,6 +1,4 @@
 """Patch panels: a cable that ends at a panel goes on at the panel's other side."""
-from __future__ import annotations
-
 from collections import Counter
 from typing import Iterable, Iterator, NamedTuple, Optional, Sequence, Union
 

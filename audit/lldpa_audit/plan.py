@@ -1,6 +1,4 @@
 """A plan of the cabling: which end is to be joined to which, and what is wrong with its file."""
-from __future__ import annotations
-
 from collections import defaultdict
 from functools import cached_property
 from typing import Iterable, Mapping, NamedTuple, Optional, Sequence, Set

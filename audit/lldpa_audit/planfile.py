@@ -1,13 +1,11 @@
 """Reads plans: links in DOT, CSV or NetBox's JSON, through patch panels."""
-from __future__ import annotations
-
 from collections import Counter
 from sys import intern
 from typing import Iterable, Iterator, Mapping, Optional, Sequence, Union
 
 from .columns import Columns
 from .dot import edges_of, is_dot
-from .names import End, Names
+from .names import LONGEST, End, Names
 from .netbox import DETAILS, Cable, cables_of, is_json
 from .panels import Panels, fewest_links
 from .plan import NO_DETAIL, Detail, Faults, Link, Plan
@@ -15,7 +13,6 @@ from .progress import Progress
 from .rows import rows_of, text_of
 
 MOST_NAMED = 3
-LONGEST_NAME = 255  # no neighbor says a longer one
 
 
 class PlanFile:
@@ -71,9 +68,9 @@ class PlanFile:
         links = []
         for row in rows:
             longest = max(map(len, row))
-            if longest > LONGEST_NAME:
+            if longest > LONGEST:
                 self.faults.add(line, f"a name in it has {longest} characters; the longest name "
-                                      f"that LLDP can send has {LONGEST_NAME}")
+                                      f"that LLDP can send has {LONGEST}")
             host, port, peer, peer_port = map(intern, row)  # names are in many rows
             links.append(Link(End(host, port), End(peer, peer_port), line, None, detail, None,
                               position))

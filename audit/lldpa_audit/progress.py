@@ -1,13 +1,10 @@
 """Shows on a terminal how far a program is, if it takes longer than people wait gladly."""
-from __future__ import annotations
-
 import os
 import sys
 import time
 from contextlib import suppress
 from typing import Iterable, Iterator, Optional, TypeVar
 
-ERRORS = 2
 PATIENCE = 2.0
 BETWEEN = 0.2
 CLEARED = "\r\x1b[K"
@@ -46,4 +43,4 @@ class Progress:
 
     def _write(self, text: str) -> None:
         with suppress(OSError):
-            os.write(ERRORS, text.encode(errors="replace"))
+            os.write(2, text.encode(errors="replace"))  # standard error

@@ -1,6 +1,4 @@
 """The rows of a CSV file, each with the number of the line in which it begins."""
-from __future__ import annotations
-
 import csv
 import re
 from pathlib import Path
@@ -10,7 +8,6 @@ from .plan import Faults, PlanFault
 
 
 LINE = re.compile(r"[^\n]*\n|[^\n]+")  # all lines at once may take much memory
-SEPARATORS = ",;\t"
 COMMENT = "#"
 
 
@@ -75,7 +72,7 @@ def worded(fault: str) -> str:
 def separator_of(text: str) -> str:
     """Returns the separator that the header has most often."""
     header = next((line[0] for line in LINE.finditer(text) if begins_header(line[0])), "")
-    return max(SEPARATORS, key=header.count)
+    return max(",;\t", key=header.count)
 
 
 class Lines:

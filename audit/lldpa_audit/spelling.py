@@ -1,6 +1,4 @@
 """One spelling for names that vendors spell in several ways: ports, MAC addresses, IP addresses."""
-from __future__ import annotations
-
 import ipaddress
 import re
 import unicodedata

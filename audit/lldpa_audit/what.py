@@ -1,6 +1,4 @@
 """What an audit is given: files of hosts and of ports, as words name them."""
-from __future__ import annotations
-
 import os
 from typing import Iterable, Iterator, NamedTuple
 

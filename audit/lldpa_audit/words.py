@@ -1,6 +1,4 @@
 """The words of lldpa-audit."""
-from __future__ import annotations
-
 import argparse
 import socket
 from math import inf
@@ -12,7 +10,6 @@ from lldpa.version import add_version
 from .ages import seconds_of
 from .columns import COLUMNS
 
-USAGE = "lldpa-audit [OPTION ..] PLAN WHAT .."
 WORDS = """\
 PLAN is CSV, NetBox's export or API answer of cables, or a topology in DOT. Each WHAT is:
   FOLDER          files of many hosts, each named after its host: leaf1.json, or files in leaf1/
@@ -38,7 +35,8 @@ The manual page lldpa-audit(1) describes the verdicts.
 def read_words(words: Optional[Sequence[str]]) -> argparse.Namespace:
     """Reads the words of the program. Ends it with status 2 if they are wrong."""
     parser = argparse.ArgumentParser(
-        prog="lldpa-audit", allow_abbrev=False, epilog=WORDS, usage=USAGE,
+        prog="lldpa-audit", allow_abbrev=False, epilog=WORDS,
+        usage="lldpa-audit [OPTION ..] PLAN WHAT ..",
         description="Compares a plan of the cabling with the neighbors seen at each port, and "
                     "prints one line for each repair.",
         formatter_class=argparse.RawDescriptionHelpFormatter)

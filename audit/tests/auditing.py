@@ -1,6 +1,4 @@
 """For tests of lldpa-audit: it is run in a folder, and the six ports of a rack are served."""
-from __future__ import annotations
-
 import json
 import os
 import re
@@ -9,7 +7,7 @@ import sys
 import tempfile
 import unittest
 from pathlib import Path
-from typing import Any, List, Mapping, NamedTuple, Optional, Sequence, Tuple, Union
+from typing import Any, List, Mapping, NamedTuple, Optional, Sequence, Tuple
 
 import rack
 from served import PROGRAM, REPOSITORY
@@ -90,8 +88,7 @@ class InAFolder(unittest.TestCase):
         self.folder = Path(holder.name)
         self.plan = self.file("plan.csv", rack.csv_plan())
 
-    def file(self, name: str, content: Union[str, bytes]) -> str:
+    def file(self, name: str, content: Any) -> str:
         """Writes a file and returns its name."""
-        octets = content if isinstance(content, bytes) else content.encode()
-        (self.folder / name).write_bytes(octets)
+        write(self.folder / name, content)
         return str(self.folder / name)

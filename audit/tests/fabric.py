@@ -5,8 +5,6 @@ What is plugged where is kept as pairs of ends, and what each end hears follows 
 fault changes what is plugged, a host's name, or what a host says and hears. It has ends of its own,
 so that each end in the audit's answer is of one fault, or of none.
 """
-from __future__ import annotations
-
 import random
 from collections import defaultdict
 from typing import Dict, Iterator, List, NamedTuple, Sequence, Set, Tuple
@@ -54,7 +52,6 @@ class Fabric:
                 plant()
 
     def join(self, one: End, other: End) -> None:
-        """Plugs a cable in."""
         self.peer[one], self.peer[other] = other, one
 
     def cut(self, *ends: End) -> List[End]:
@@ -63,12 +60,6 @@ class Fabric:
         for other in others:
             del self.peer[other]
         return others
-
-    def rotate(self, ends: Sequence[End]) -> None:
-        """Gives each end the cable of the next one, and the last one that of the first."""
-        peers = [self.peer[end] for end in ends]
-        for end, peer in zip(ends, [*peers[1:], peers[0]]):
-            self.join(end, peer)
 
     def server(self) -> List[End]:
         """Returns the ends of a server that has no fault yet, eth0 to eth3."""
@@ -93,7 +84,9 @@ class Fabric:
                 ("swapped", [self.port(), self.port()], "swapped", 1),
                 ("rotated", [self.port(), self.port(), self.port()], "wrong,shifted", 3),
                 ("turned", list(lanes_of(self.lanes.pop())), "turned", 1)):
-            self.rotate(ends)
+            peers = [self.peer[end] for end in ends]
+            for end, peer in zip(ends, [*peers[1:], peers[0]]):  # each gets the cable of the next
+                self.join(end, peer)
             self.told(kind, ends, repairs, most)
 
     def unplug_cables(self) -> None:
@@ -204,7 +197,6 @@ def lags() -> Iterator[Tuple[End, Tuple[str, int]]]:
 
 
 def lanes_of(number: int) -> Iterator[End]:
-    """Yields the four lanes of a breakout."""
     leaf, port = f"leaf{number % LEAFS + 1:02}", 60 + number // LEAFS
     for lane in range(4):
         yield leaf, f"swp{port}s{lane}"

@@ -1,6 +1,4 @@
 """For tests: lists that were once refused as a whole, or right for the wrong reason."""
-from __future__ import annotations
-
 import gzip
 import json
 import os

@@ -1,6 +1,4 @@
 """For tests: a switch `leaf1` of six ports with known faults, as captures and as a show."""
-from __future__ import annotations
-
 from functools import partial
 from typing import Dict, List, Sequence
 

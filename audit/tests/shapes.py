@@ -1,6 +1,4 @@
 """For tests: files that once took more than 30 seconds or 500 MB, and a run that is measured."""
-from __future__ import annotations
-
 import gzip
 import json
 import os

@@ -2,8 +2,6 @@
 
 A list is `PORT HOST PORT`, one neighbor a line, and `PORT` alone for a port that hears nobody.
 """
-from __future__ import annotations
-
 import json
 from typing import Any, List, Mapping, Sequence
 
@@ -56,32 +54,29 @@ BY_LINK = (
                                                           for at in range(1, 5))}),
 )
 NAS = HEAD + "leaf1,swp1,nas1,e0\nleaf1,swp2,srv2,e0\n"
-SILENT_NAS = {"known": KNOWN + "nas1,,sends no LLDP,\n"}
-KNOWN_FAULTS = (
-    situation("silence is excused", NAS, {"leaf1": "swp2 srv2 e0"}, 0,
-              ["2 cables: 1 right, 0 wrong, 1 known"], "--known known", SILENT_NAS),
-    situation("a rogue is not", NAS, {"leaf1": "swp1 rogue-ap p\nswp2 srv2 e0"}, 1,
-              ["swp1  wrong: wants nas1 e0, has rogue-ap p", "2 cables: 1 right, 1 wrong"],
-              "--known known", SILENT_NAS),
-    situation("an exchange is not", NAS, {"leaf1": "swp1 srv2 e0"}, 1, [
-        "swp1  wrong: wants nas1 e0, has srv2 e0 (planned at swp2)",
-        "swp2  silent: wants srv2 e0 (seen at swp1)", "2 cables: 0 right, 2 wrong"],
-        "--known known", SILENT_NAS),
-    situation("a verdict is excused by its name", NAS, {"leaf1": "swp1 rogue-ap p\nswp2 srv2 e0"},
-              0, ["2 cables: 1 right, 0 wrong, 1 known"], "--known known",
-              {"known": KNOWN_VERDICT + "nas1,,an access point,,wrong\n"}),
-    situation("and no other one", NAS, {"leaf1": "swp2 srv2 e0"}, 1,
-              ["swp1  silent: wants nas1 e0", "2 cables: 1 right, 1 wrong"], "--known known",
-              {"known": KNOWN_VERDICT + "nas1,,an access point,,wrong\n"}),
-    situation("a row of nothing planned", NAS, {"leaf1": "swp1 nas1 e0\nswp2 srv2 e0"}, 0, [
-        "known: line 2: nas9 is not planned", "known: line 3: leaf1 swp9 is not planned",
-        "2 cables: 2 right, 0 wrong"], "--known known",
-        {"known": KNOWN + "nas9,,sends no LLDP,\nleaf1,swp9,spare,\n"}),
-    situation("a bad verdict", NAS, {"leaf1": "swp1 nas1 e0"}, 2, [
-        "known: line 2: 'quiet' is not a verdict: wrong, swapped, silent, extra, doubled, "
-        "one-sided, disagrees, unplanned, no data"], "--known known",
-        {"known": KNOWN_VERDICT + "nas1,,x,,quiet\n"}),
-)
+SILENT_NAS = KNOWN + "nas1,,sends no LLDP,\n"
+WRONG_NAS = KNOWN_VERDICT + "nas1,,an access point,,wrong\n"
+KNOWN_FAULTS = [
+    situation(name, NAS, {"leaf1": seen}, status, lines, "--known known", {"known": known})
+    for name, seen, known, status, lines in (
+        ("silence is excused", "swp2 srv2 e0", SILENT_NAS, 0,
+         ["2 cables: 1 right, 0 wrong, 1 known"]),
+        ("a rogue is not", "swp1 rogue-ap p\nswp2 srv2 e0", SILENT_NAS, 1,
+         ["swp1  wrong: wants nas1 e0, has rogue-ap p", "2 cables: 1 right, 1 wrong"]),
+        ("an exchange is not", "swp1 srv2 e0", SILENT_NAS, 1,
+         ["swp1  wrong: wants nas1 e0, has srv2 e0 (planned at swp2)",
+          "swp2  silent: wants srv2 e0 (seen at swp1)", "2 cables: 0 right, 2 wrong"]),
+        ("a verdict is excused by its name", "swp1 rogue-ap p\nswp2 srv2 e0", WRONG_NAS, 0,
+         ["2 cables: 1 right, 0 wrong, 1 known"]),
+        ("and no other one", "swp2 srv2 e0", WRONG_NAS, 1,
+         ["swp1  silent: wants nas1 e0", "2 cables: 1 right, 1 wrong"]),
+        ("a row of nothing planned", "swp1 nas1 e0\nswp2 srv2 e0",
+         KNOWN + "nas9,,sends no LLDP,\nleaf1,swp9,spare,\n", 0,
+         ["known: line 2: nas9 is not planned", "known: line 3: leaf1 swp9 is not planned",
+          "2 cables: 2 right, 0 wrong"]),
+        ("a bad verdict", "swp1 nas1 e0", KNOWN_VERDICT + "nas1,,x,,quiet\n", 2,
+         ["known: line 2: 'quiet' is not a verdict: wrong, swapped, silent, extra, doubled, "
+          "one-sided, disagrees, unplanned, no data"]))]
 PANELED = HEAD + "".join(f"leaf1,swp{at},pp1,F{at}\npp1,R{at},pp2,R{at}\npp2,F{at},srv{at},e0\n"
                          for at in range(1, 5))
 TRUNK = HEAD + "pp1,R1,pp2,R1\nleaf1,swp5,pp1,F5\npp2,F1,srv1,e0\nleaf1,swp6,srv6,e0\n"
@@ -135,27 +130,19 @@ PORT_IDS = (
 )
 SW1 = HEAD + "a,1,sw1,p1\na,2,sw1,p2\n"
 DC = HEAD + "a,1,sw1.dc1,p1\na,2,sw1.dc2,p1\n"
-NAMES = (
-    situation("two domains answer by one planned name", SW1,
-              {"a": "1 sw1.dc1 p1\n2 sw1.dc2 p2"}, 1, [
-                  "sw1  doubled: it is sw1.dc1 at a 1, sw1.dc2 at a 2",
-                  "2 cables: 0 right, 2 wrong"], "--short-names"),
-    situation("one domain does", SW1, {"a": "1 sw1.dc1 p1\n2 sw1 p2"}, 0,
-              ["2 cables: 2 right, 0 wrong"], "--short-names"),
-    situation("domains are compared if both have one", DC, {"a": "1 sw1.dc2 p1\n2 sw1.dc1 p1"}, 1, [
-        "1  swapped with 2: wants sw1.dc1 p1, has sw1.dc2 p1", "2 cables: 0 right, 2 wrong"],
-        "--short-names"),
-    situation("and not if one has none", DC, {"a": "1 sw1 p1\n2 sw1.dc2 p1"}, 0,
-              ["2 cables: 2 right, 0 wrong"], "--short-names"),
-    situation("the domain is another one", HEAD + "a,1,sw1.dc1,p1\n", {"a": "1 sw1.dc9 p1"}, 1, [
-        "1  wrong: wants sw1.dc1 p1, has sw1.dc9 p1 (only the domain differs)",
-        "1 cable: 0 right, 1 wrong"],
-        "--short-names"),
-    situation("two chassis IDs of one name", SW1 + "a,3,sw1,p3\n",
-              {"a": "1 sw1 p1 c1 -\n2 sw1 p2 c2 -\n3 sw1 p3 c2 -"}, 0, [
-                  "sw1 answers with 2 chassis IDs (c1 at a 1, c2 at a 3): two devices may have one "
-                  "name", "3 cables: 3 right, 0 wrong"]),
-)
+NAMES = [
+    situation(name, plan, {"a": seen}, status, lines, "--short-names")
+    for name, plan, seen, status, lines in (
+        ("two domains answer by one planned name", SW1, "1 sw1.dc1 p1\n2 sw1.dc2 p2", 1,
+         ["sw1  doubled: it is sw1.dc1 at a 1, sw1.dc2 at a 2", "2 cables: 0 right, 2 wrong"]),
+        ("one domain does", SW1, "1 sw1.dc1 p1\n2 sw1 p2", 0, ["2 cables: 2 right, 0 wrong"]),
+        ("domains are compared if both have one", DC, "1 sw1.dc2 p1\n2 sw1.dc1 p1", 1,
+         ["1  swapped with 2: wants sw1.dc1 p1, has sw1.dc2 p1", "2 cables: 0 right, 2 wrong"]),
+        ("and not if one has none", DC, "1 sw1 p1\n2 sw1.dc2 p1", 0,
+         ["2 cables: 2 right, 0 wrong"]),
+        ("the domain is another one", HEAD + "a,1,sw1.dc1,p1\n", "1 sw1.dc9 p1", 1,
+         ["1  wrong: wants sw1.dc1 p1, has sw1.dc9 p1 (only the domain differs)",
+          "1 cable: 0 right, 1 wrong"]))]
 PAIR = HEAD + "leaf1,swp1,host01,eth0\n"
 SHOWS = {"leaf1": neighbor("swp1", "host01", "eth0", size=0x5dc, tlvs=["0080c2.1=0014"]),
          "host01": neighbor("eth0", "leaf1", "swp1", size=9216)}
@@ -253,6 +240,10 @@ MEMBERS = {"leaf1": "".join(neighbor(f"swp{at}", "host01", f"bond{bond}", aggreg
 LANES = HEAD + "".join(f"leaf1,swp1s{at},leaf2,swp1s{at}\n" for at in range(4))
 RUN = HEAD + "".join(f"s,p{at},x{at},e0\n" for at in range(6))
 MORE = (
+    situation("two chassis IDs of one name", SW1 + "a,3,sw1,p3\n",
+              {"a": "1 sw1 p1 c1 -\n2 sw1 p2 c2 -\n3 sw1 p3 c2 -"}, 0, [
+                  "sw1 answers with 2 chassis IDs (c1 at a 1, c2 at a 3): two devices may have one "
+                  "name", "3 cables: 3 right, 0 wrong"]),
     situation("a label like a comment", "label," + HEAD + "#17,leaf1,swp1,host01,eth0\n"
               "# of rack 2\n#18,leaf1,swp2,host01,eth1\n",
               {"leaf1": neighbor("swp1", "host09", "eth9")}, 1, [

@@ -3,8 +3,6 @@
 It shares no code with the package, only its ends and neighbors, and each question goes over whole
 lists.
 """
-from __future__ import annotations
-
 import re
 from typing import Dict, List, Optional, Sequence, Tuple
 

@@ -1,6 +1,4 @@
 """The verdicts of an audit, as audit/README.md defines them; random ones beside a slow judge."""
-from __future__ import annotations
-
 import os
 import random
 import sys

@@ -1,6 +1,4 @@
 """lldpa-audit as people call it: words, statuses, captures, shows, pipes and a running agent."""
-from __future__ import annotations
-
 import gzip
 import json
 import os
@@ -9,7 +7,6 @@ import sys
 import threading
 import time
 from pathlib import Path
-from typing import Tuple
 
 import rack
 from auditing import AUDIT, WITH_AGENT, InAFolder, neighbor, run, run_whole, without_ages
@@ -20,7 +17,6 @@ from served import REPOSITORY, Served
 
 HEAD = "host,port,peer,peer_port\n"
 RIGHT = "1 cable: 1 right, 0 wrong\n"
-CTL = str(REPOSITORY / "bin" / "lldpa-ctl")
 
 
 class Audits(InAFolder):
@@ -30,7 +26,7 @@ class Audits(InAFolder):
         super().setUp()
         self.plan = self.file("plan", f"{HEAD}leaf1,swp1,host01,eth0\n")
 
-    def audit(self, *words: str) -> Tuple[int, str, str]:
+    def audit(self, *words: str) -> tuple[int, str, str]:
         """Returns the status of an audit of leaf1, its output, and what it said."""
         ran = run(self.plan, "--host", "leaf1", *words)
         return ran.returncode, ran.stdout, ran.stderr
@@ -54,7 +50,8 @@ class Forms(Audits):
             for port in rack.PORTS:
                 for octets in rack.frames(port):
                     served.frame(port, octets)
-            asked = [sys.executable, CTL, "--control", served.path, "--json"]
+            asked = [sys.executable, f"{REPOSITORY}/bin/lldpa-ctl", "--control", served.path,
+                     "--json"]
             told = subprocess.run(asked, capture_output=True, text=True, check=True).stdout
             ours = f"leaf1:{self.file('ours.json', told)}"
             for words in (captures, [whole], [show], [f"leaf1:{show}"], [ours],
@@ -94,8 +91,6 @@ class Forms(Audits):
 
 
 class Words(Audits):
-    """Statuses, options and what is said on standard error."""
-
     def test_what_is_refused(self) -> None:
         none = f"{self.folder}/none"
         bad = self.file("bad", f"{HEAD}a,1,b\n")
@@ -148,8 +143,6 @@ class Words(Audits):
 
 
 class Captures(Audits):
-    """Captures of all kinds."""
-
     def test_damaged_files_are_no_empty_ports(self) -> None:
         cut = gzip.compress(rack.pcap([rack.lldp_frame("host01", "eth0")]))[:-9]
         for octets, port, why in (
@@ -209,8 +202,6 @@ class Captures(Audits):
 
 
 class Sources(Audits):
-    """Old sources."""
-
     def test_ages(self) -> None:
         self.plan = self.file("two", f"{HEAD}leaf1,swp1,host01,eth0\nleaf2,swp1,host02,eth0\n")
         many = self.file("many", json.dumps({"leaf2": {"swp1": [{"hostname": "host02",

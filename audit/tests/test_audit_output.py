@@ -1,6 +1,4 @@
 """Standard output of lldpa-audit that is closed, full or read no more: the status says so."""
-from __future__ import annotations
-
 import os
 import unittest
 from pathlib import Path
@@ -12,8 +10,6 @@ from test_output import CLOSED, FULL, run_with, unread
 
 
 class Output(InAFolder):
-    """Each way in which its output fails."""
-
     def setUp(self) -> None:
         super().setUp()
         self.audit = [AUDIT, "--host", "leaf1", self.plan, self.file("show", rack.text_of_show())]

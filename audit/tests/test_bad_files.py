@@ -1,6 +1,4 @@
 """Files that once hung the audit, ended it with a traceback, or took all memory."""
-from __future__ import annotations
-
 import gzip
 import io
 import json
@@ -35,8 +33,6 @@ def captures() -> Iterator[Tuple[bytes, int, int]]:
 
 
 class Hostile(InAFolder):
-    """Each test has a folder."""
-
     def within(self, body: Callable[[], object], result: object) -> None:
         """Checks what a body returns, in fewer seconds of the processor than a square needs."""
         begin = sum(os.times()[:4])
@@ -45,8 +41,6 @@ class Hostile(InAFolder):
 
 
 class Captures(Hostile):
-    """Captures, as their readers take them."""
-
     def test_long_ones(self) -> None:
         for octets, interfaces, packets in captures():
             with self.subTest(begin=octets[:60]):
@@ -83,8 +77,6 @@ class Captures(Hostile):
 
 
 class Lists(Hostile):
-    """Lists of neighbors."""
-
     def test_two_protocols_at_one_port(self) -> None:
         heard = [{"name": "eth0", "via": "LLDP" if at % 2 else "CDPv2",
                   "chassis": {"id": {"type": "local", "value": f"c{at}"}},
@@ -103,11 +95,9 @@ class Lists(Hostile):
     def test_many_unplanned_hosts(self) -> None:
         rows = "".join(f"sw{at},1,sw{at},2\n" for at in range(3000))
         plan = self.file("many", f"{HEADER}\n{rows}")
-        seen = self.folder / "seen"
-        seen.mkdir()
         for at in range(400):
-            (seen / f"x{at}.show").write_text("")
-        self.within(lambda: run(plan, str(seen)).returncode, 2)
+            self.file(f"seen/x{at}.show", "")
+        self.within(lambda: run(plan, f"{self.folder}/seen").returncode, 2)
 
 
 class Shapes(InAFolder):

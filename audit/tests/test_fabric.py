@@ -1,6 +1,4 @@
 """A fabric of 2,000 links with 100 faults in many forms: each is reported, and nothing else."""
-from __future__ import annotations
-
 import json
 import os
 import random
@@ -22,8 +20,6 @@ FORMS: Dict[str, Any] = {**cabling.FORMS, **vendors.FORMS}
 
 
 class Faults(InAFolder):
-    """The fabric as a folder of lists."""
-
     def setUp(self) -> None:
         super().setUp()
         print(f"test_fabric: seed {SEED}", flush=True)
@@ -34,7 +30,6 @@ class Faults(InAFolder):
         self.words = ["--panels", self.file("panels.csv", panels()), "--settings", "--vendor-names"]
         self.lags = {(fabric.names.get(end[0], end[0]), fabric.said(end)): number
                      for end, (_, number) in fabric.lags.items()}
-        (self.folder / "seen").mkdir()
         self.write_lists()
 
     def write_lists(self) -> None:

@@ -1,6 +1,4 @@
 """What both ends of right links say of them: the mismatches are reported, and no other link."""
-from __future__ import annotations
-
 import unittest
 from typing import List, Sequence
 
@@ -34,8 +32,6 @@ def found(said: Sequence[str], its: Sequence[str]) -> List[str]:
 
 
 class Mismatches(unittest.TestCase):
-    """Of one link."""
-
     def test_each_setting(self) -> None:
         for said, its, text in (
                 (tlvs(kind=TYPES[0]), tlvs(kind=TYPES[1]),

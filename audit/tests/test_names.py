@@ -1,6 +1,4 @@
 """Names as vendors spell them, aliases, members of aggregates, and how names are shown."""
-from __future__ import annotations
-
 import unittest
 
 from auditing import InAFolder, neighbor, run
@@ -112,10 +110,7 @@ class Differences(unittest.TestCase):
 
 
 class FurtherNames(InAFolder):
-    """--aliases."""
-
     def aliases(self, text: str) -> Aliases:
-        """Returns the aliases of a file."""
         return read_aliases(self.file("aliases", text), Names())
 
     def test_rows(self) -> None:

@@ -1,6 +1,4 @@
 """The page of a report: what is on it, and how wide it is in a browser, if there is one."""
-from __future__ import annotations
-
 import html
 import json
 import os
@@ -22,7 +20,6 @@ from lldpa_audit.report.report import Report
 from test_report import report_of
 
 BROWSER = shutil.which("chromium") or shutil.which("chromium-browser")
-WIDTHS = (1280, 400)
 LONG = "a-long-name-of-a-host-as-some-have-them.rack17.row3.dc1.example.net"
 
 # what a browser is asked for: how wide the page is, how wide its window, and the widest picture
@@ -56,8 +53,6 @@ class Elements:
 
 
 class Content(InAFolder):
-    """What is on the page."""
-
     def test_rack(self) -> None:
         page, show = self.folder / "page.html", self.file("show", rack.text_of_show())
         more = self.file("more", self.folder.joinpath("plan.csv").read_text() + "leaf2,1,srv,1\n")
@@ -99,7 +94,7 @@ class InABrowser(InAFolder):
 
     def test_thousand_faults(self) -> None:
         page = page_of(many_faults(1000)).decode().replace("</body>", f"{ASKED}</body>")
-        for width in WIDTHS:  # in a frame, since a browser's window has a least width
+        for width in (1280, 400):  # in a frame, since a browser's window has a least width
             frame = f'<iframe width={width} height=900 srcdoc="{html.escape(page)}"></iframe>'
             file = self.file("page.html", f"<!DOCTYPE html><html><body>{frame}</body></html>")
             ran = subprocess.run(

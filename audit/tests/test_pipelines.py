@@ -1,6 +1,4 @@
 """What pipelines and people take from an audit: JSON, JUnit, metrics, known faults, groups."""
-from __future__ import annotations
-
 import json
 import shutil
 import subprocess

@@ -1,13 +1,9 @@
 """Plans in CSV, DOT and NetBox's forms: what is read of them, and what each fault says."""
-from __future__ import annotations
-
 import json
-import tempfile
-import unittest
 from argparse import ArgumentTypeError
-from pathlib import Path
 from typing import List, Mapping, Optional
 
+from auditing import InAFolder
 from lldpa_audit.names import Names
 from lldpa_audit.plan import Plan, PlanFault
 from lldpa_audit.planfile import read_plan
@@ -107,22 +103,17 @@ REFUSED = (
 )
 
 
-class Plans(unittest.TestCase):
-    """Each test writes plans and reads them."""
-
+class Plans(InAFolder):
     def setUp(self) -> None:
-        holder = tempfile.TemporaryDirectory()
-        self.addCleanup(holder.cleanup)
-        self.folder = Path(holder.name)
+        super().setUp()
         self.names = Names()
 
-    def plan(self, text: str, columns: Optional[Mapping[str, str]] = None,
+    def read(self, text: str, columns: Optional[Mapping[str, str]] = None,
              panels: Optional[str] = None, encoding: str = "utf-8") -> Plan:
         """Returns the plan of a text, through the panels of another."""
-        (self.folder / "plan").write_text(text, encoding)
-        (self.folder / "panels").write_text(panels or "")
-        return read_plan(str(self.folder / "plan"), self.names, columns,
-                         None if panels is None else str(self.folder / "panels"))
+        plan = self.file("plan", text.encode(encoding))
+        of_panels = None if panels is None else self.file("panels", panels)
+        return read_plan(plan, self.names, columns, of_panels)
 
     def links(self, plan: Plan) -> List[str]:
         """Returns its links, each once, as `a 1 - b 2`."""
@@ -135,17 +126,15 @@ class Plans(unittest.TestCase):
     def fault(self, text: str, panels: Optional[str] = None, encoding: str = "utf-8") -> str:
         """Returns what is said of a plan, without the names of files."""
         with self.assertRaises(PlanFault) as raised:
-            self.plan(text, None, panels, encoding)
+            self.read(text, None, panels, encoding)
         return str(raised.exception).replace(f"{self.folder}/plan: ", "")
 
 
 class Texts(Plans):
-    """The tables above."""
-
     def test_what_is_read(self) -> None:
         for text, links in READ:
             for encoding in ("utf-8", "utf-8-sig"):
-                self.assertEqual(self.links(self.plan(text, encoding=encoding)), links, text)
+                self.assertEqual(self.links(self.read(text, encoding=encoding)), links, text)
 
     def test_what_is_refused(self) -> None:
         for text, said in REFUSED:
@@ -162,7 +151,7 @@ class Texts(Plans):
 
     def test_names_that_are_the_same(self) -> None:
         text = HEAD + "a.x,p,b,1\nA.x,P,c,1\n"
-        self.assertEqual(len(self.links(self.plan(text))), 2)
+        self.assertEqual(len(self.links(self.read(text))), 2)
         self.names = Names(True, True)
         self.assertEqual(self.fault(text), "line 3: A.x P is planned already in line 2")
         self.names = Names(True, True)
@@ -172,9 +161,9 @@ class Texts(Plans):
     def test_named_columns(self) -> None:
         text = "From;Interface;To Device;To Interface;host\nleaf1;swp1;host01;eth0;x\n"
         given = columns("host=from,port=Interface,peer=to device,peer_port=To Interface")
-        self.assertEqual(self.links(self.plan(text, given)), ["leaf1 swp1 - host01 eth0"])
+        self.assertEqual(self.links(self.read(text, given)), ["leaf1 swp1 - host01 eth0"])
         with self.assertRaisesRegex(PlanFault, "line 1: the column none is missing"):
-            self.plan(text, columns("host=from,port=none"))
+            self.read(text, columns("host=from,port=none"))
         for bad in ("host", "host=", "hosts=a", "host=a,host=b", ""):
             self.assertRaises(ArgumentTypeError, columns, bad)
 
@@ -183,7 +172,7 @@ class NetBox(Plans):
     """NetBox's cables: what cannot be judged is left out, counted and told once."""
 
     def test_what_is_left_out(self) -> None:
-        plan = self.plan(NETBOX)
+        plan = self.read(NETBOX)
         self.assertEqual(self.notes(plan), [
             "plan: 5 cables are left out: 2 of power or consoles, 2 without a port of a device at "
             "both ends, 1 planned or decommissioning",
@@ -195,7 +184,7 @@ class NetBox(Plans):
         rows = "".join(f"{name},leaf1,pdu1,{other}\n" for name, other in (
             ("PSU1", "Outlet 3"), ("Power Supply 2", "A2"), ("PEM 0", "x"), ("eth9", "con 0"),
             ("x", "Console Port 1"), ("USB Console", "ttyS1")))
-        plan = self.plan("Termination A,Device A,Device B,Termination B\nswp1,leaf1,host01,eth0\n"
+        plan = self.read("Termination A,Device A,Device B,Termination B\nswp1,leaf1,host01,eth0\n"
                          f"{rows}pwr-sw1,a,b,contrail0\n")
         self.assertEqual(self.links(plan), ["leaf1 swp1 - host01 eth0", "a pwr-sw1 - b contrail0"])
         self.assertEqual(self.notes(plan), ["plan: 6 cables are left out: 6 of power or consoles"])
@@ -210,7 +199,7 @@ class NetBox(Plans):
                   cable_between(7, [("a", "7")] * 2, [("b", "7")] * 3), None]
         pages = [{"next": "x", "results": cables[:2]}, {"next": None, "results": cables[2:]}]
         for text in (json.dumps(pages), json.dumps({"results": cables})):
-            plan = self.plan(text)
+            plan = self.read(text)
             self.assertEqual(self.links(plan), ["a 1 - b 1", "a 2 - b 2", "a 3 - b 3"])
             self.assertEqual(self.notes(plan), [
                 "plan: 6 cables are left out: 3 without a port of a device at both ends, 1 of "
@@ -218,19 +207,17 @@ class NetBox(Plans):
                 "paired"])
         nameless = cable_between(1, [("a", "1")], [("b", "1")])
         nameless["b_terminations"][0]["object"]["device"] = {"name": None, "display": "EX (7)"}
-        self.assertEqual(self.links(self.plan(json.dumps({"results": [nameless]}))),
+        self.assertEqual(self.links(self.read(json.dumps({"results": [nameless]}))),
                          ['a 1 - "EX (7)" 1'])
 
 
 class Panels(Plans):
-    """--panels."""
-
     PLAN = HEAD + ("leaf1,swp1,pp1,F1\npp1,R1,pp2,R1\n# two panels\npp2,F1,host01,eth0\n"
                    "host02,eth0,pp1,F2\npp1,R2,leaf1,swp2\nleaf1,swp3,host03,eth0\n")
     PAIRS = HEAD + "pp1,F1,pp1,R1\npp1,R2,pp1,F2\npp2,F1,pp2,R1\npp1,F9,pp1,R9\n"
 
     def test_links_go_on(self) -> None:
-        plan = self.plan(self.PLAN, panels=self.PAIRS)
+        plan = self.read(self.PLAN, panels=self.PAIRS)
         self.assertEqual(self.links(plan), ["leaf1 swp1 - host01 eth0", "host02 eth0 - leaf1 swp2",
                                             "leaf1 swp3 - host03 eth0"])
         self.assertEqual((self.notes(plan), plan.not_judged), ([], 0))
@@ -240,7 +227,7 @@ class Panels(Plans):
         for pairs in ("panel,front,rear\npp1,F1,R1\npp1,F2,R2\npp2,F1,R1\n",
                       "Device,Name,Rear Port\npp1,F1,R1\npp1,F2,R2\npp2,F1,R1\n",
                       "graph { pp1:F1 -- pp1:R1; pp1:F2 -- pp1:R2; pp2:F1 -- pp2:R1 }"):
-            self.assertEqual(len(self.links(self.plan(self.PLAN, panels=pairs))), 3)
+            self.assertEqual(len(self.links(self.read(self.PLAN, panels=pairs))), 3)
 
     def test_faults(self) -> None:
         ring = HEAD + "pp1,R1,pp2,R1\npp2,F1,pp1,F1\n"
@@ -264,6 +251,6 @@ class Panels(Plans):
                     at = f"pp{panel},R{link}"
                 rows.append(f"{at},b,{link}")
                 wanted.append({f"a {link}", f"b {link}"})
-            plan = self.plan("\n".join([HEAD[:-1], *rows[::-1]]),
+            plan = self.read("\n".join([HEAD[:-1], *rows[::-1]]),
                              panels="\n".join([*pairs, "x,1,x,2"]))
             self.assertCountEqual([set(text.split(" - ")) for text in self.links(plan)], wanted)

@@ -1,6 +1,4 @@
 """The line of each fault, with what helps to find the cable."""
-from __future__ import annotations
-
 import unittest
 from typing import Sequence, Tuple
 
@@ -107,8 +105,6 @@ def report_of(links: str, known: str) -> Report:
 
 
 class Lines(unittest.TestCase):
-    """The table above."""
-
     def test_lines(self) -> None:
         for links, known, lines in ROWS:
             self.assertEqual(report_of(links, known).lines(), lines)

@@ -1,6 +1,4 @@
 """The neighbors of a show: their names, and what is wrong with it."""
-from __future__ import annotations
-
 import random
 import re
 import unittest
@@ -50,8 +48,6 @@ DAMAGED_SHOWS = 4000
 
 
 class Neighbors(unittest.TestCase):
-    """The names of neighbors."""
-
     def test_names(self) -> None:
         ports = read_ports(SHOW)
         self.assertEqual(list(ports), ["ge-0/0/1", "b", "c"])

@@ -1,6 +1,4 @@
 """Lists of neighbors that are damaged or of something else: what is wrong with them is said."""
-from __future__ import annotations
-
 import gzip
 import random
 import re

@@ -1,6 +1,4 @@
 """What once was said to be right and was not, or took many lines, or was refused."""
-from __future__ import annotations
-
 import unittest
 from concurrent.futures import ThreadPoolExecutor
 
@@ -10,8 +8,6 @@ from auditing import audited
 
 
 class Situations(unittest.TestCase):
-    """Each situation ends with its status and its lines."""
-
     def test_each(self) -> None:
         rows = [*situations.ROWS, *list_points.ROWS]
         with ThreadPoolExecutor() as pool:

@@ -1,6 +1,4 @@
 """Lists of neighbors in each form, and what is read in them."""
-from __future__ import annotations
-
 import json
 import unittest
 from typing import Any, Dict, List, Sequence, Tuple
@@ -62,8 +60,6 @@ def names_of(listing: Listing) -> Dict[str, List[Tuple[str, str]]]:
 
 
 class Forms(unittest.TestCase):
-    """Lists of vendors and tools."""
-
     def test_each_form(self) -> None:
         for form, write in vendors.FORMS.items():
             with self.subTest(form=form):
@@ -179,13 +175,11 @@ class Lldpcli(unittest.TestCase):
 
 
 def metric(instance: str, port: str, of: str, value: str = "1", **labels: str) -> Any:
-    """Returns a series of Prometheus."""
     return {"metric": {"__name__": of, "instance": instance, "port": port, **labels},
             "value": [1700000000.5, value]}
 
 
 def neighbor(instance: str, port: str, host: str, **labels: str) -> Any:
-    """Returns the series of a neighbor."""
     return metric(instance, port, "lldpa_neighbor_info", chassis="02:00:00:00:00:01", name=host,
                   **{"port_id_kind": "ifname", "port_id": "eth0", "management": "", **labels})
 
@@ -196,8 +190,6 @@ def answer(*result: Any) -> Listing:
 
 
 class Prometheus(unittest.TestCase):
-    """A saved answer of its API."""
-
     def test_neighbors_alone(self) -> None:
         listing = answer(neighbor("leaf1:9100", "swp1", "h1"), neighbor("leaf1:9200", "swp1", "h1"),
                          neighbor("[2001:db8::1]:9100", "p", "h2"))

@@ -3,8 +3,6 @@ real switch printed them. The walk has the lines that snmpwalk printed of a real
 
 Each writer takes a host's ports with their neighbors, as pairs of host and port.
 """
-from __future__ import annotations
-
 import json
 import re
 from pathlib import Path
@@ -28,7 +26,6 @@ def each(ports: Ports, write: Callable[[str, str, str], Any]) -> list[Any]:
 
 
 def eos(ports: Ports) -> Any:
-    """Writes EOS."""
     return {"lldpNeighbors": {port: {"lldpNeighborInfo": [{
         "chassisIdType": "macAddress", "chassisId": chassis_of(host), "systemName": host,
         "systemDescription": "Arista Networks EOS version 4.31.2F",
@@ -61,14 +58,12 @@ def junos_rows(ports: Ports) -> Sequence[Mapping[str, str]]:
 
 
 def junos(ports: Ports) -> Any:
-    """Writes Junos in JSON."""
     entries = [{name: [{"data": text}] for name, text in row.items()} for row in junos_rows(ports)]
     return {"lldp-neighbors-information": [
         {"attributes": {"junos:style": "detail"}, "lldp-neighbor-information": entries}]}
 
 
 def junos_xml(ports: Ports) -> str:
-    """Writes Junos in XML."""
     entries = "".join(
         "".join(["<lldp-neighbor-information>\n",
                  *[f"<{name}>{text}</{name}>\n" for name, text in row.items()],
@@ -160,7 +155,6 @@ PROMPT = "Last login: Mon Nov 23\n{master:0}\nadmin@leaf1> show lldp neighbors d
 # the same neighbors in what programs put around a list, and as other octets
 LISTS: Mapping[str, Any] = {
     "5, 10: salt": {"comment": "", "result": True, "out": NAPALM},
-    "13: rows as netmiko returns them": ROWS,
     "13: rows of TextFSM itself": [{name.upper(): text for name, text in row.items()}
                                    for row in ROWS],
     "13: rows of brief lists": each(PORTS, lambda port, host, at: {
@@ -179,7 +173,6 @@ LISTS: Mapping[str, Any] = {
     "14: the routing engines of Junos in XML": XML.replace(
         "<lldp-neighbors-information", f"{ENGINE}<lldp-neighbors-information").replace(
         "</rpc-reply>", f"{ENGINE_END}</rpc-reply>"),
-    "14: OpenConfig": OPENCONFIG,
     "14: OpenConfig below its module": {"openconfig-lldp:lldp": {"interfaces": {
         "interface": OPENCONFIG["openconfig-lldp:interface"]}}},
     "14: gnmic": [{"source": "leaf1:57400", "timestamp": 1, "updates": [{
@@ -189,7 +182,6 @@ LISTS: Mapping[str, Any] = {
     "14: UTF-16": json.dumps(EOS).encode("utf-16"),
     "14: a mark of UTF-8": b"\xef\xbb\xbf" + json.dumps(EOS).encode(),
     "14: lines of Windows": f'<?xml version="1.0"?>\n{XML}'.replace("\n", "\r\n"),
-    "15: LLDP-MIB by snmpwalk": walk(PORTS),
     "15: a walk with names": re.sub(
         r"iso\.0\.8802\.1\.1\.2\.1\.([0-9.]+?)\.(?=[0-9.]+ =)(.*?)INTEGER: 5",
         r"iso.0.8802.1.1.2.1.\1.\2INTEGER: interfaceName(5)", walk(PORTS)),

@@ -73,7 +73,6 @@ class Trial:
 
 
 def main():
-    """Makes the links and tries them."""
     lack = next((f"{name} is not installed" for name in NEEDED if not shutil.which(name)), "")
     if lack or os.geteuid() != 0:
         print(f"skipped: {lack or 'it wants root'}\n0 passed, 0 failed")

@@ -1,6 +1,4 @@
 """The count of an audit, by cable: right, wrong, known, not looked at, and not judged."""
-from __future__ import annotations
-
 import time
 from collections import Counter
 from typing import Mapping, NamedTuple, Optional, Sequence

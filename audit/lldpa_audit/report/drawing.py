@@ -1,6 +1,4 @@
 """Pictures of a host for a page, so narrow that a telephone's screen has room for them."""
-from __future__ import annotations
-
 import html
 from typing import Iterator, Sequence
 

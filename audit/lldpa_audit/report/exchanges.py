@@ -1,6 +1,4 @@
 """Two cables that are exchanged are seen from both their sides, and mended once: one line."""
-from __future__ import annotations
-
 from typing import NamedTuple, Optional
 
 from ..judging import Verdict

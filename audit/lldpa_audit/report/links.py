@@ -1,9 +1,7 @@
 """Repairs of one link, or of two that are exchanged."""
-from __future__ import annotations
-
 from typing import Iterator, Sequence
 
-from ..judging import Finding, Verdict
+from ..judging import Verdict
 from ..names import End
 from .repairs import Faults, Repair
 from .texts import FaultTexts
@@ -34,16 +32,12 @@ def of_links(faults: Faults, texts: FaultTexts) -> Iterator[Repair]:
             continue
         far = faults.far(key)
         ends = [key] if far is None or far not in faults.left else [key, far]
-        ends.sort(key=lambda end: rank(faults.left[end]))
+        # a wrong end comes first, and of two the one that hears the other
+        ends.sort(key=lambda end: (RANKS.index(faults.left[end].verdict), not faults.left[end].has))
         moved = ports_beside(faults, ends)
         mends = faults.take(ends)
         text = texts.of_link(mends[0], mends[1] if len(mends) > 1 else None)
         yield Repair(mends[0].verdict.value, mends[0].end, text, [*mends, *faults.take(moved)])
-
-
-def rank(fault: Finding) -> tuple[int, bool]:
-    """Returns the key that sorts a wrong end first, and of two the one that hears the other."""
-    return RANKS.index(fault.verdict), not fault.has
 
 
 def ports_beside(faults: Faults, ends: Sequence[End]) -> list[End]:

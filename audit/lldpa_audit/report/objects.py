@@ -1,6 +1,4 @@
 """An audit as objects for JSON. Texts are Unicode: octets that are not UTF-8 are escaped."""
-from __future__ import annotations
-
 from typing import Dict, Optional, Sequence, Union
 
 from ..judging import Finding, Verdict
@@ -9,7 +7,6 @@ from .repairs import TO_DO, Repair
 from .report import Report
 from .whole_hosts import MISMATCH
 
-FORM = 2
 Json = Union[None, str, int, float, Sequence["Json"], Dict[str, "Json"]]
 
 
@@ -18,7 +15,7 @@ def json_of(report: Report) -> Json:
     count, ages = report.count, report.count.ages
     cables = {state.replace(" ", "_"): number for state, number in count.cables.items()}
     return {
-        "form": FORM,
+        "form": 2,
         "cables": {"planned": count.planned, **cables},
         "unplanned": count.unplanned,
         "mismatches": count.mismatches,
@@ -48,7 +45,6 @@ def json_of_repair(report: Report, number: int, repair: Repair) -> Json:
 
 
 def json_of_finding(report: Report, finding: Finding) -> Json:
-    """Returns a finding."""
     text = report.texts.text(finding)
     is_mismatch = finding.verdict is Verdict.RIGHT and bool(text)
     return {

@@ -1,6 +1,4 @@
 """Findings in the order in which a person walks along them."""
-from __future__ import annotations
-
 import re
 from typing import Iterable, TypeVar, Union
 

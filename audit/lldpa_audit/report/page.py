@@ -1,6 +1,4 @@
 """A report as one page in HTML, which needs no other file and runs no script."""
-from __future__ import annotations
-
 import html
 import re
 from collections import Counter
@@ -22,7 +20,6 @@ WORD = re.compile(r"[^\s<>&;]+")
 
 
 def page_of(report: Report) -> bytes:
-    """Returns the page."""
     return "".join(parts(report)).encode(errors="backslashreplace")
 
 

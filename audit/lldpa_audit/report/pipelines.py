@@ -1,6 +1,4 @@
 """An audit for pipelines: a report of JUnit's form, and metrics for node_exporter."""
-from __future__ import annotations
-
 import time
 from collections import Counter
 from typing import Mapping

@@ -1,6 +1,4 @@
 """Hosts that answer by another name at their links: one line each, and none for their links."""
-from __future__ import annotations
-
 from typing import Iterator, Mapping, Sequence
 
 from ..judging import Verdict
@@ -8,9 +6,6 @@ from ..names import End, Seen, shown
 from .repairs import HAVE_ANOTHER, Faults, Repair
 
 FEWEST = 2
-
-# the ends at which a name is heard, each with the neighbor, by that name
-Heard = Mapping[str, Sequence[tuple[End, Seen]]]
 
 
 def exchanged(faults: Faults) -> Iterator[Repair]:
@@ -47,8 +42,9 @@ def renamed(faults: Faults) -> Iterator[Repair]:
             yield repair(faults, host, some)
 
 
-def other_names(faults: Faults) -> Mapping[str, Heard]:
-    """Returns the other names that are heard in place of planned hosts, at the planned ports."""
+def other_names(faults: Faults) -> Mapping[str, Mapping[str, Sequence[tuple[End, Seen]]]]:
+    """Returns the other names that are heard in place of planned hosts, at the planned ports: by
+    host and name the ends at which it is heard, each with the neighbor."""
     heard: dict[str, dict[str, list[tuple[End, Seen]]]] = {}
     for key, fault in faults:
         neighbor, wanted = faults.only(fault), faults.far(key)

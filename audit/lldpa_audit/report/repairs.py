@@ -1,6 +1,4 @@
 """What is to be done: each fault is of one repair, and one repair may mend many of them."""
-from __future__ import annotations
-
 from typing import Iterable, Iterator, NamedTuple, Optional, Sequence
 
 from ..differs import Differences

@@ -1,6 +1,4 @@
 """The report of an audit: its lines, and what its JSON, its page and other files are made of."""
-from __future__ import annotations
-
 from typing import Iterator, Mapping, Optional, Sequence
 
 from lldpa.texts import printable

@@ -1,6 +1,4 @@
 """Faults of several ports of one host that have one cause: shifted cables, lanes, and loops."""
-from __future__ import annotations
-
 import re
 from collections import Counter
 from typing import Iterator, Optional, Sequence

@@ -1,6 +1,4 @@
 """What is wrong at an end, in words."""
-from __future__ import annotations
-
 from typing import Mapping, Optional, Sequence
 
 from ..judging import Finding, Verdict

@@ -1,6 +1,4 @@
 """Faults of whole hosts: without data, silent, two of one name, or of another setting."""
-from __future__ import annotations
-
 from collections import Counter
 from typing import Iterator, Mapping, Sequence
 

@@ -1,6 +1,4 @@
 """The neighbors of ports at the end of captures: those of an agent that hears what was taken."""
-from __future__ import annotations
-
 import os
 from contextlib import suppress
 from itertools import islice

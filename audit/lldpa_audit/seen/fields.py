@@ -4,8 +4,6 @@ A way is names that lead from object to object; a list on the way is each of its
 is each name of an object. `?NAME` passes only an object in which NAME is true, and `@` leads to the
 name that the last `*` stands for. Of ways between commas the first that leads to a text counts.
 """
-from __future__ import annotations
-
 import re
 from itertools import product
 from typing import Any, Iterator, NamedTuple, Optional

@@ -1,6 +1,4 @@
 """Reads files of neighbors in any form, with a process for each processor if there are many."""
-from __future__ import annotations
-
 import os
 from concurrent.futures import ProcessPoolExecutor
 from typing import BinaryIO, Iterator, Optional, Sequence

@@ -1,13 +1,9 @@
 """The files of a folder, as a collector leaves them: HOST.json, or files below HOST/."""
-from __future__ import annotations
-
 import os
 from typing import Callable, Iterator, Sequence
 
 from ..what import What, read_what, without_ending
 from .captures import is_of_one_port
-
-LEFT_BY_EDITORS = ("~", ".bak", ".orig", ".swp", ".tmp")
 
 Say = Callable[[str], None]
 
@@ -63,7 +59,7 @@ def entries(folder: str, say: Say) -> Iterator["os.DirEntry[str]"]:
 
 def why_passed_over(entry: "os.DirEntry[str]") -> str:
     """Returns why an entry cannot be a list or a capture, or an empty text if it can."""
-    if entry.name.endswith(LEFT_BY_EDITORS):
+    if entry.name.endswith(("~", ".bak", ".orig", ".swp", ".tmp")):
         return "it is a copy that an editor left"
     if entry.is_dir() or entry.is_file():
         return ""

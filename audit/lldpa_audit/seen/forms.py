@@ -1,6 +1,4 @@
 """The forms in which neighbors are listed, and the likely cause if a file has none of them."""
-from __future__ import annotations
-
 import codecs
 import re
 from typing import Any, Callable
@@ -38,8 +36,8 @@ CAUSES = (
      r"permission denied|connection (?:refused|timed)|unknown command|syntax error))",
      FAILED),
     (r"\s*\Z", "it is empty"),
+    ("", "it looks like text of a switch: give its JSON, or rows of ntc-templates"),
 )
-OTHER_TEXT = "it looks like text of a switch: give its JSON, or rows of ntc-templates"
 
 
 def read_list(octets: bytes) -> Listing:
@@ -51,7 +49,7 @@ def read_list(octets: bytes) -> Listing:
     found = BEGIN.search(text, 0, LONGEST_BANNER)
     if found:
         return listing_of(tree_of(text, found.end()))
-    cause = next((cause for begins, cause in CAUSES if re.match(begins, text)), OTHER_TEXT)
+    cause = next(cause for begins, cause in CAUSES if re.match(begins, text))
     raise SeenFault(f"{cause}: {last_line(text)}" if cause == FAILED else cause)
 
 

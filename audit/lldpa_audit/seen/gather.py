@@ -1,6 +1,4 @@
 """What an audit is given, as tables: files of any form, captures, and lldpa-live that runs."""
-from __future__ import annotations
-
 import time
 from math import inf
 from typing import Callable, Iterator, Sequence
@@ -19,7 +17,6 @@ from .shows import read_ports
 from .tables import Tables
 
 SECONDS_BETWEEN_LOOKS = 0.5
-SKIPPED = "is skipped"
 
 
 class Gathering:
@@ -66,7 +63,7 @@ class Gathering:
             return
         if not found.ports:
             self.tables.add_reason(host, port, f"{files[0]}: it names no Ethernet interface")
-        skipped = next((note for note in found.notes if SKIPPED in note), "")
+        skipped = next((note for note in found.notes if "is skipped" in note), "")
         names = self.tables.names
         for name, heard in found.ports.items():
             own = names.end(End(host, name))

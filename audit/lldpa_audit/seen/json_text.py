@@ -1,6 +1,4 @@
 """JSON as devices and tools print it: behind a prompt or a banner, and with odd names."""
-from __future__ import annotations
-
 import json
 import re
 from typing import Any

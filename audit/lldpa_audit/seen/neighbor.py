@@ -1,6 +1,4 @@
 """A neighbor as an audit looks at it, from what a form says of it."""
-from __future__ import annotations
-
 import ipaddress
 from contextlib import suppress
 from functools import lru_cache
@@ -11,11 +9,6 @@ from ..link_settings import Settings
 
 LONGEST = 512
 MOST_KEPT = 32768
-# the kinds of a Port ID that is the name or the alias of an interface
-OF_INTERFACES = ("ifname", "ifalias")
-
-# what stands for a host or a port whose neighbor has no readable name at all
-UNNAMED = ("",)
 
 
 def neighbor(chassis: str, kind: str, port_id: str, name: str = "", descr: str = "",
@@ -24,7 +17,7 @@ def neighbor(chassis: str, kind: str, port_id: str, name: str = "", descr: str =
     empty; `kind` is that of the Port ID, by lldpcli's word. The System Name reads best, and so does
     the Port Description, unless the Port ID is an interface's name or alias."""
     chassis, port_id = clean(chassis), clean(port_id)
-    is_named = kind in OF_INTERFACES and port_id != ""
+    is_named = kind in ("ifname", "ifalias") and port_id != ""
     ports = texts(port_id, descr) if is_named else texts(descr, port_id)
     aggregated = settings is not None and bool(settings.is_aggregated)
     return Seen(names_of_host(name, chassis, *addresses), ports, chassis, port_id,
@@ -41,8 +34,8 @@ def names_of_host(name: str, chassis: str, *addresses: str) -> tuple[str, ...]:
 
 @lru_cache(MOST_KEPT)
 def texts(*names: str) -> tuple[str, ...]:
-    """Returns those names that are not empty, each as `clean` has it."""
-    return tuple([clean(name) for name in names if name]) or UNNAMED
+    """Returns those names that are not empty, each as `clean` has it, or one empty name."""
+    return tuple([clean(name) for name in names if name]) or ("",)
 
 
 @lru_cache(MOST_KEPT)

@@ -1,8 +1,6 @@
 """A saved answer of Prometheus' API (https://prometheus.io/docs/prometheus/latest/querying/api/)
 with what `lldpa-ctl metrics` of each host writes: neighbors by `lldpa_neighbor_info`, each port by
 `lldpa_too_many`, and their time by `node_textfile_mtime_seconds`."""
-from __future__ import annotations
-
 import re
 from collections import defaultdict
 from typing import Any, Iterator
@@ -17,7 +15,6 @@ PORTS, TIMES = "lldpa_too_many", "node_textfile_mtime_seconds"
 # a host in an instance such as leaf1:9100 or [2001:db8::1]:9100
 HOST = re.compile(r"\[(.+)\](?::[0-9]+)?|(.+?)(?::[0-9]+)?")
 EXPORTED = "exported_"  # precedes a label of lldpa's if a target has a label of this name
-Labels = dict[str, str]
 
 
 def read_prometheus(tree: Any) -> Listing:
@@ -48,7 +45,7 @@ def read_prometheus(tree: Any) -> Listing:
         for host, ports in heard.items()})
 
 
-def samples(tree: Any) -> Iterator[tuple[str, Labels, float]]:
+def samples(tree: Any) -> Iterator[tuple[str, dict[str, str], float]]:
     """Yields the host, the labels and the value of each series. Raises SeenFault."""
     try:
         for one in tree["data"]["result"]:

@@ -1,7 +1,5 @@
 """The ports of `show neighbors` and their neighbors. An audit of a large network spends most of its
 time here, so an expression takes a whole neighbor."""
-from __future__ import annotations
-
 import re
 from functools import lru_cache
 from sys import intern

@@ -1,6 +1,4 @@
 """LLDP-MIB as `snmpwalk` prints it, with names or with numbers, which are below 1.0.8802.1.1.2."""
-from __future__ import annotations
-
 import re
 from ipaddress import ip_address
 

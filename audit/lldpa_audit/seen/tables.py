@@ -1,6 +1,4 @@
 """What is known of the audited hosts: the neighbors of their ports."""
-from __future__ import annotations
-
 from itertools import filterfalse
 from typing import Mapping, NamedTuple, Sequence
 

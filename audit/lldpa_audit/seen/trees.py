@@ -1,6 +1,4 @@
 """Which form JSON has, and what programs put around it: answers of APIs, lists of many hosts."""
-from __future__ import annotations
-
 from typing import Any, Optional
 
 from lldpa.texts import printable
