@@ -40,7 +40,6 @@ def expected(front: str, values: Dict[str, Any]) -> Pairs:
 
 
 def as_shown(value: Any) -> str:
-    """Returns a value as tshark writes it."""
     if isinstance(value, bytes):
         return value.decode()
     return value if isinstance(value, str) else str(int(value))
@@ -59,7 +58,6 @@ def by_fields(tlv: Any) -> Pairs:
 
 
 def enumerated(values: Tuple[int, ...]) -> Dict[str, int]:
-    """Returns values by their places."""
     return {str(place): value for place, value in enumerate(values)}
 
 

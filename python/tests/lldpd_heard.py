@@ -21,12 +21,10 @@ def mac(number: int) -> bytes:
 
 
 def name(text: bytes) -> bytes:
-    """Returns the System Name."""
     return tlv(5, text)
 
 
 def org(oui: str, subtype: int, content: bytes) -> bytes:
-    """Returns an organizationally specific TLV."""
     return tlv(127, bytes.fromhex(oui) + bytes([subtype]) + content)
 
 

@@ -41,25 +41,21 @@ def pcap(frames: Sequence[Frame], order: str = "<", units: int = 10**6,
 
 
 def block(order: str, kind: int, body: bytes) -> bytes:
-    """Returns a block of pcapng."""
     body += bytes(-len(body) % 4)
     size = struct.pack(order + "I", 12 + len(body))
     return struct.pack(order + "I", kind) + size + body + size
 
 
 def option(order: str, code: int, value: bytes) -> bytes:
-    """Returns an option of a block."""
     return struct.pack(order + "HH", code, len(value)) + value + bytes(-len(value) % 4)
 
 
 def section(order: str = "<") -> bytes:
-    """Returns the block that begins a section."""
     return block(order, 0x0A0D0D0A, struct.pack(order + "IHHq", 0x1A2B3C4D, 1, 0, -1))
 
 
 def interface(order: str = "<", name: str = "", resolution: Optional[int] = None,
               link_type: int = ETHERNET, offset: int = 0) -> bytes:
-    """Returns the block that describes an interface."""
     options = option(order, 2, name.encode()) if name else b""
     if resolution is not None:
         options += option(order, 9, bytes([resolution]))

@@ -48,7 +48,6 @@ class Standstill:
         return self
 
     def nap(self) -> None:
-        """Naps until it is over."""
         while not self.is_over.is_set():
             begin = time.monotonic()
             time.sleep(NAP)

@@ -28,7 +28,6 @@ class Lldpd:
             raise SystemExit("no lldpd")
 
     def ask(self, *words: str) -> bytes:
-        """Returns what lldpcli writes."""
         command = ["lldpcli", "-u", self.socket, *words]
         return subprocess.run(command, capture_output=True, check=False).stdout
 

@@ -43,9 +43,9 @@ class Replaced(OnLinks):
         for number in (3, 1, 2):
             self.peers[0].send(numbered(number, LONG + number, tlv(5, b"sw%d" % number)))
             self.assertTrue(eventually(lambda: f"came: sw{number}" in live.errors()))
-            told = live.seconds_told()
+            told = live.number("seconds")
             # pylint: disable-next=cell-var-from-loop
-            self.assertTrue(eventually(lambda: live.seconds_told() > told))
+            self.assertTrue(eventually(lambda: live.number("seconds") > told))
         self.peers[1].send(numbered(9, LONG))
         self.assertTrue(eventually(lambda: live.neighbors("eth1") == 1))
         return live

@@ -35,8 +35,6 @@ def run_live(*words: str) -> subprocess.CompletedProcess[str]:
 
 
 class Live:
-    """A running lldpa-live."""
-
     def __init__(self, wires: Wires, *words: str, side: str = "here", before: Sequence[str] = (),
                  awaits: bool = True, **options: Any) -> None:
         self.control = str(wires.folder / f"control-{side}-{time.monotonic_ns()}")
@@ -64,7 +62,6 @@ class Live:
         return self.has("live.agent=running")
 
     def ask(self, line: str) -> list[str]:
-        """Returns what it answers at its control socket."""
         with contextlib.closing(Client(self.control)) as client:
             return client.ask(line)
 
@@ -77,7 +74,6 @@ class Live:
         return ""
 
     def ctl(self, *words: str) -> str:
-        """Returns what lldpa-ctl prints of it."""
         return ctl(self.control, *words).stdout
 
     def told(self, what: str, key: str) -> str:
@@ -85,21 +81,15 @@ class Live:
         return dict(line.split("=", 1) for line in self.ask(what))[key]
 
     def neighbors(self, port: str = "eth0") -> int:
-        """Returns how many neighbors a port has."""
         return int(self.told("show neighbors", f"lldp.{port}.neighbors"))
 
     def number(self, key: str) -> int:
-        """Returns a number that it gives of itself."""
         return int(self.told("live", f"live.{key}"))
-
-    def seconds_told(self) -> int:
-        """Returns how many seconds its agent was given."""
-        return self.number("seconds")
 
     def spend(self, seconds: int) -> None:
         """Waits until its agent was given so many more seconds."""
-        last = self.seconds_told() + seconds
-        if not eventually(lambda: self.seconds_told() >= last):
+        last = self.number("seconds") + seconds
+        if not eventually(lambda: self.number("seconds") >= last):
             raise AssertionError(f"no {seconds} seconds pass: {self.errors()}")
 
     def comes_to(self, line: str, what: str = "live") -> None:
@@ -116,7 +106,6 @@ class Live:
         return "".join(line for line in self.said().splitlines(True) if NO_ADDRESS not in line)
 
     def said(self) -> str:
-        """Returns all that it has said on standard error."""
         return self.errors_path.read_text()
 
     def says(self, text: str, seconds: float = SECONDS) -> bool:
@@ -138,7 +127,6 @@ class Live:
 
     @contextlib.contextmanager
     def stopped(self) -> Iterator[None]:
-        """Stops it meanwhile."""
         self.signal(signal.SIGSTOP)
         yield
         self.signal(signal.SIGCONT)

@@ -39,13 +39,11 @@ for name, values in (("eth0", "present up 7 6 8 4 3"), ("eth1", "awaited down 0 
 
 
 def ctl(path: str, *words: str, **options: Any) -> subprocess.CompletedProcess[str]:
-    """Runs lldpa-ctl at a control socket."""
     return subprocess.run([CTL, "--control", path, *words], check=False, capture_output=True,
                           text=True, **options)
 
 
 def tlv(kind: int, body: bytes) -> bytes:
-    """Returns a TLV as in a frame."""
     return (kind << 9 | len(body)).to_bytes(2, "big") + body
 
 
@@ -115,7 +113,6 @@ class Served:
             return [b"error: " + refused.text.encode()]
 
     def ask(self, line: bytes) -> list[str]:
-        """Asks the agent itself."""
         with self.asking:
             return self.agent.ask(line)
 

@@ -110,8 +110,6 @@ class AtPeers(Replaced):
 
 
 class Addresses(Replaced):
-    """The management address of this host is followed."""
-
     def add(self, address: str, interface: str = "eth0", word: str = "add") -> None:
         """Gives this host an address, or removes it."""
         ip("-n", self.wires.here, "address", word, f"{address}/24", "dev", interface)

@@ -33,8 +33,6 @@ def started(*ports: str, **options: lldpa.agent.synchronous.Option) -> Agent:
 
 
 class Asked(unittest.TestCase):
-    """A child that is asked."""
-
     def test_the_example_of_the_package(self) -> None:
         path = f"{Path(PROGRAM).parent}{os.pathsep}{os.environ['PATH']}"
         with mock.patch.dict(os.environ, PATH=path):

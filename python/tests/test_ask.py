@@ -16,8 +16,6 @@ def asked(path: str, line: str) -> "subprocess.CompletedProcess[str]":
 
 
 class Asked(OnLinks):
-    """With an lldpa-live that answers."""
-
     def test_the_answer_is_printed(self) -> None:
         live = self.live("eth0", "--", "--receive-only")
         self.peer().send(numbered(1))

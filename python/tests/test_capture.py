@@ -88,8 +88,6 @@ class Read(unittest.TestCase):
 
 
 class Compressed(unittest.TestCase):
-    """Captures that gzip compressed."""
-
     def test_parts_and_zeros_after_them(self) -> None:
         file = pcap(FRAMES)
         packed = gzip.compress(file[:100]) + gzip.compress(file[100:]) + bytes(512)

@@ -19,8 +19,6 @@ PORTS = [f"swp{number}" for number in range(1, 49)]
 
 
 class Files(FilesCase):
-    """lldpa-capture on files."""
-
     def test_fifo(self) -> None:
         fifo = str(self.folder / "fifo")
         os.mkfifo(fifo)

@@ -17,7 +17,6 @@ SECONDS_TO_READ = 10
 
 
 def rest_of(connection: socket.socket) -> bytes:
-    """Returns all that is read up to the end."""
     octets = b""
     with suppress(ConnectionResetError):
         while more := connection.recv(65536):
@@ -43,7 +42,6 @@ class Answered(OnLinks):
         return connection
 
     def said_to(self, octets: bytes) -> bytes:
-        """Returns all that is answered to these octets."""
         connection = self.raw()
         connection.sendall(octets)
         connection.shutdown(socket.SHUT_WR)
@@ -59,8 +57,6 @@ class Answered(OnLinks):
 
 
 class Questions(Answered):
-    """What is answered, and how."""
-
     def test_an_answer_is_counted(self) -> None:
         mac = self.wires.address("eth0").hex(":")
         self.served.ask("configure system hostname a")
@@ -105,8 +101,6 @@ class Questions(Answered):
 
 
 class Clients(Answered):
-    """Many clients, and bad ones."""
-
     def test_64_clients_are_served_and_some_of_the_owner(self) -> None:
         with ExitStack() as stack:
             clients = [stack.enter_context(Client(self.served.control))

@@ -35,7 +35,6 @@ class AtAPath(OnLinks):
         self.path = str(self.folder / "control")
 
     def at_path(self, *words: str) -> Live:
-        """Starts an lldpa-live at the path."""
         live = self.live("--control", self.path, *words, "eth0", awaits=False)
         live.control = self.path
         self.assertTrue(eventually(live.answers))
@@ -47,8 +46,6 @@ class AtAPath(OnLinks):
 
 
 class Paths(AtAPath):
-    """The processes that have a path."""
-
     def test_a_path_in_use_is_left_alone(self) -> None:
         first = self.at_path()
         for _ in range(2):

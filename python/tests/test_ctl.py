@@ -21,8 +21,6 @@ from served import CTL, HOSTILE, LIVE_LINES, REPOSITORY, Program, frame, numbere
 
 
 class Answers(Program):
-    """Questions, and what is printed."""
-
     def test_alone_it_prints_the_table(self) -> None:
         self.assertEqual(self.run_ctl(), "no neighbors on 2 ports.\neth1: no such interface\n")
         name = tlv(5, b"n" * 255)
@@ -140,8 +138,6 @@ class Answers(Program):
 
 
 class Faults(Program):
-    """What goes wrong."""
-
     def test_a_client_for_whom_there_is_no_room_waits_for_it(self) -> None:
         path = self.served.path + "-full"
         with socket.socket(socket.AF_UNIX, socket.SOCK_STREAM) as full, ExitStack() as stack:

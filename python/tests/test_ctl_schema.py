@@ -25,7 +25,6 @@ class Schema(Program):
     """Each answer, and neighbors of real senders and made ones."""
 
     def told(self, *words: str) -> Any:
-        """Returns what a command prints."""
         return json.loads(self.run_ctl("--json", *words))
 
     def test_answers(self) -> None:

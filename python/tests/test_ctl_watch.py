@@ -15,8 +15,6 @@ TIME = r"[0-9]{4}-[0-9]{2}-[0-9]{2}T[0-9]{2}:[0-9]{2}:[0-9]{2}[+-][0-9]{4}"
 
 
 class Watching(Program):
-    """lldpa-ctl watch."""
-
     def setUp(self) -> None:
         super().setUp()
         self.times: list[float] = []

@@ -29,8 +29,6 @@ def port(*neighbors: Neighbor) -> Port:
 
 
 class ForPeople(unittest.TestCase):
-    """`lldpa-ctl details`."""
-
     def test_a_neighbor(self) -> None:
         lines = details([port(SWITCH)], {}, 80)
         self.assertEqual(lines, [

@@ -8,8 +8,6 @@ from running_live import OnLinks, is_built, run_live
 
 @is_built
 class TestWords(unittest.TestCase):
-    """Words that it refuses, and those that it hands on."""
-
     def test_words_that_are_refused(self) -> None:
         for words, text in (
                 ([], "PORT"),
@@ -53,8 +51,6 @@ class TestWords(unittest.TestCase):
 
 
 class TestStart(OnLinks):
-    """What it needs to begin."""
-
     def test_what_keeps_it_from_starting(self) -> None:
         folder = self.folder / "of-somebody-else"
         folder.mkdir(mode=0o755)

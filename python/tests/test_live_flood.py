@@ -77,9 +77,9 @@ class TestFlood(OnLinks):
 
     def test_frames_of_other_kinds_hold_no_second_up(self) -> None:
         live, _ = self.flooded([one[:12] + b"\x81\0\0\5" + one[12:] for one in FRAMES])
-        began, told = time.monotonic(), live.seconds_told()
+        began, told = time.monotonic(), live.number("seconds")
         time.sleep(5)
-        passed = live.seconds_told() - told
+        passed = live.number("seconds") - told
         self.assertGreaterEqual(passed, int(time.monotonic() - began) - 1)
 
     def test_what_the_kernel_dropped_is_told_once_a_minute(self) -> None:
@@ -135,8 +135,6 @@ class TestFlood(OnLinks):
 
 
 class TestManyPorts(OnLinks):
-    """As many ports as an agent has."""
-
     links = 64
 
     def test_64_full_tables_take_little_and_outlive_a_restart(self) -> None:

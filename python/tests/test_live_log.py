@@ -18,8 +18,6 @@ CLOCK = re.compile(r"# \d{4}-\d\d-\d\dT\d\d:\d\d:\d\dZ")
 
 
 class TestLog(OnLinks):
-    """What a folder has of the sessions."""
-
     def logs(self) -> list[Path]:
         """Returns the files of the folder, oldest first."""
         return sorted(self.log.iterdir(), key=lambda path: path.stat().st_mtime_ns)

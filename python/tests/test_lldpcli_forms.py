@@ -42,7 +42,6 @@ class BesideLldpcli(unittest.TestCase):
     """The forms of frames that a real lldpd heard."""
 
     def compare(self, tree: Node, name: str, forms: Iterable[str]) -> None:
-        """Compares what is printed with what lldpcli printed."""
         for form in forms:
             ours, theirs = FORMS[form](tree), lldpd_heard.sample(name, form).decode()
             ours, theirs = AGE.sub("", ours), AGE.sub("", theirs)
@@ -146,8 +145,6 @@ class Numbers(unittest.TestCase):
 
 
 class Commands(unittest.TestCase):
-    """The words that are accepted."""
-
     def test_of_lldpcli(self) -> None:
         for words, wanted in (
                 ("show neighbors", Question("neighbors", Depth.NORMAL, None)),

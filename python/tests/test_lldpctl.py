@@ -35,8 +35,6 @@ class Program(unittest.TestCase):
 
 
 class Answers(Program):
-    """Questions, and what is printed."""
-
     def test_alone_it_prints_neighbors_in_detail(self) -> None:
         lines = self.run_it(LLDPCTL).splitlines()
         self.assertRegex(lines[3], r"^Interface:    eth1, via: LLDP, RID: 12, Time: \d{4} days, ")

@@ -38,7 +38,6 @@ class StoppedWriter:
             raise OSError(ctypes.get_errno(), "ptrace")
 
     def release(self) -> None:
-        """Lets it go on."""
         self.trace(PTRACE_DETACH)
 
     def bury(self) -> None:
@@ -47,12 +46,9 @@ class StoppedWriter:
 
 
 class TestFiles(OnLinks):
-    """Logs that follow one another."""
-
     links = 2
 
     def size(self) -> int:
-        """Returns the octets of all logs."""
         return sum(path.stat().st_size for path in self.log.iterdir())
 
     def test_each_file_replays_alone_to_the_tables_that_were_there(self) -> None:

@@ -39,14 +39,11 @@ def series_of(lines: list[str]) -> Series:
 
 
 class Metrics(unittest.TestCase):
-    """What lldpa-live reports to Prometheus."""
-
     def setUp(self) -> None:
         self.served = Served(max_neighbors=3)
         self.addCleanup(self.served.close)
 
     def shown(self) -> Series:
-        """Returns the present metrics."""
         with self.served.client() as client:
             lines = client.ask("show neighbors") + client.ask("show statistics")
             return series_of(metrics(read_show(lines), client.ask("live")))

@@ -116,8 +116,6 @@ class Forms(unittest.TestCase):
 
 
 class OfANeighbor(unittest.TestCase):
-    """All TLVs of a neighbor."""
-
     def test_together(self) -> None:
         said = said_by([("0080c2.1", "0078"), ("0080c2.3", "0078026162"), ("0080c2.3", "00790163"),
                         ("00120f.4", "05f2"), ("001122.5", "68"), ("0012bb.5", "41"),

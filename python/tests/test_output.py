@@ -34,8 +34,6 @@ def unread(words: Sequence[str]) -> Tuple[int, str]:
 
 
 class Output(FilesCase):
-    """Each program, and each way in which its output fails."""
-
     def setUp(self) -> None:
         super().setUp()
         self.capture = self.file(pcap([whole(LLDP)] * 5000))

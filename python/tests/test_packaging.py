@@ -132,7 +132,6 @@ class Modules(unittest.TestCase):
     """The package in its folder."""
 
     def run_module(self, *words: str) -> str:
-        """Returns what a module prints."""
         path = os.pathsep.join(str(REPOSITORY / name) for name in ("python", "audit"))
         return subprocess.run([sys.executable, "-m", *words], capture_output=True, text=True,
                               check=True, env={**os.environ, "PYTHONPATH": path}).stdout

@@ -50,8 +50,6 @@ class Tried(unittest.TestCase):
 
 
 class Measured(unittest.TestCase):
-    """What counts as a standstill."""
-
     def test_naps_count_that_take_more_than_twice_their_time(self) -> None:
         standstill = Standstill()
         standstill.overslept, standstill.stolen_before = 0.0, 5.0
@@ -77,8 +75,6 @@ class Mostly(unittest.TestCase):
 
 
 class Awaited(unittest.TestCase):
-    """What is waited for."""
-
     def test_it_ends_once_it_holds_and_not_later_than_it_is_to(self) -> None:
         values = iter((0, "", 7, 8))
         self.assertEqual(eventually(lambda: next(values)), 7)

@@ -9,7 +9,6 @@ from lldpa.texts import cut
 
 
 def neighbor(port: str, name: str, its_port: str, *said: tuple[str, str]) -> Neighbor:
-    """Returns a neighbor with a name."""
     return Neighbor(port, 1, Identifier("mac", "02:00:00:00:00:01"),
                     Identifier("ifname", its_port), 120, 98, (("chassis.name", name), *said))
 
@@ -19,8 +18,6 @@ def port(name: str, *neighbors: Neighbor, too_many: bool = False) -> Port:
 
 
 class Table(unittest.TestCase):
-    """The lines of the table."""
-
     def test_a_line_a_neighbor_and_a_count(self) -> None:
         ports = [port("eth0", neighbor("eth0", "switch-2", "swp1",
                                        ("chassis.mgmt", "192.0.2.2,2,2,"),

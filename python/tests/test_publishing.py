@@ -18,8 +18,6 @@ lldpa_up 0
 
 
 class Publishing(Program):
-    """With a folder for the file."""
-
     def setUp(self) -> None:
         super().setUp()
         self.folder = Path(self.served.folder, "collected")
@@ -27,7 +25,6 @@ class Publishing(Program):
         self.file = self.folder / "lldpa.prom"
 
     def ctl(self, *words: str, **options: Any) -> str:
-        """Returns the metrics that lldpa-ctl prints."""
         return self.run_ctl("metrics", *words, **options)
 
     def names(self) -> List[str]:

@@ -13,8 +13,6 @@ LIVE = [b"live.began=2026-11-23T19:40:00Z", b"live.eth0.interface=present",
 
 
 class Words(Program):
-    """What is printed."""
-
     def setUp(self) -> None:
         super().setUp()
         self.served.live_lines = LIVE
@@ -22,11 +20,9 @@ class Words(Program):
         self.served.frame("eth1", numbered(2, 60))
 
     def told(self, line: str) -> list[str]:
-        """Returns the lines that a command prints."""
         return self.run_ctl(*line.split()).splitlines()
 
     def object(self, line: str) -> Any:
-        """Returns what a command prints as JSON."""
         return json.loads(self.run_ctl("--json", *line.split()))
 
     def test_tables(self) -> None:

@@ -46,15 +46,13 @@ class TestTime(OnLinks):
         begins += begins_of_its_seconds(live)
         self.assertGreater(min(latest for _, latest in begins),
                            max(earliest for earliest, _ in begins))
-        told = live.seconds_told()
+        told = live.number("seconds")
         self.assertEqual(live.ended(), 0)
         ticks = re.findall("^tick ?(.*)$", next(self.log.iterdir()).read_text(), re.M)
         self.assertIn(sum(int(seconds or 1) for seconds in ticks) - told, (0, 1))
 
 
 class TestQuestions(OnLinks):
-    """What a question finds."""
-
     links = 2
 
     def test_show_sees_every_frame_that_came_before_it(self) -> None:
@@ -72,8 +70,6 @@ class TestQuestions(OnLinks):
 
 
 class TestLinks(OnLinks):
-    """Links come up and go down, and interfaces come and go."""
-
     def test_link_that_goes_and_comes(self) -> None:
         peer, live = self.peer(), self.live("eth0")
         self.assertIsNotNone(peer.hears())
@@ -146,8 +142,6 @@ class TestLinks(OnLinks):
 
 
 class TestSending(OnLinks):
-    """What the agent sends is sent."""
-
     @by_the_clock
     def test_fast_start(self) -> None:
         peer = self.peer()
@@ -191,7 +185,6 @@ class TestSending(OnLinks):
 
 
 def now() -> float:
-    """Returns the moment by lldpa-live's clock."""
     return time.clock_gettime(time.CLOCK_BOOTTIME)
 
 
@@ -207,7 +200,7 @@ def begins_of_its_seconds(live: Live) -> list[tuple[float, float]]:
     last, begins = now() + 1.2, []
     while (before := now()) < last:
         live.ask("show chassis")  # which it answers after the seconds up to now
-        told = live.seconds_told()
+        told = live.number("seconds")
         begins.append((before - told - 1, now() - told))
         time.sleep(0.02)
     return begins

@@ -120,8 +120,6 @@ class TestFilter(OnLinks):
 
 
 class TestSets(OnLinks):
-    """Capabilities and groups of lldpa-live."""
-
     def test_bounding_set_is_empty(self) -> None:
         live = self.live("--log", str(self.log), "eth0")
         pid = live.process.pid

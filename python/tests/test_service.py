@@ -14,8 +14,6 @@ from wires import inside
 
 
 class Service(OnLinks):
-    """An lldpa-live that is watched."""
-
     def setUp(self) -> None:
         super().setUp()
         self.heard = Heard(self.folder)
@@ -27,8 +25,6 @@ class Service(OnLinks):
 
 
 class Systemd(Service):
-    """Datagrams."""
-
     def test_it_is_ready_also_while_it_waits_and_says_for_what(self) -> None:
         for part, comes in (("eth1", 1), ("e*2", 2)):
             live = self.service(part, awaits=False)
@@ -98,8 +94,6 @@ class Systemd(Service):
 
 
 class Events(Service):
-    """Neighbors that come, change and leave."""
-
     def told(self, live: Live) -> list[str]:
         """Returns the lines of neighbors on standard error."""
         return re.findall("^lldpa-live: (eth0 (?:came|changed|gone): .*)$", live.errors(), re.M)

@@ -35,8 +35,6 @@ def whole(text: str, place: str) -> str:
 
 
 class TestExplained(unittest.TestCase):
-    """What lldpa-ctl says of a refused line."""
-
     def test_words_and_ranges(self) -> None:
         for line, text, place in REFUSED:
             self.assertEqual(explained(line, text, PROGRAM), whole(text, place))
@@ -45,8 +43,6 @@ class TestExplained(unittest.TestCase):
 
 
 class TestSettings(OnLinks):
-    """Files of settings, at the start and at SIGHUP."""
-
     links = 2
 
     def setUp(self) -> None:

@@ -124,8 +124,6 @@ class ThereAndBack(unittest.TestCase):
 
 
 class WhatIsRead(unittest.TestCase):
-    """What a show says."""
-
     def test_a_neighbor(self) -> None:
         neighbor = read_show(NEIGHBORS).neighbors[0]
         self.assertEqual((neighbor.port, neighbor.place), ("eth0", 1))

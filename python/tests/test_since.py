@@ -17,8 +17,6 @@ def id_of(number: int) -> str:
 
 
 class OnARealLink(OnLinks):
-    """lldpa-live reports it."""
-
     links = 2
 
     def test_lldpa_live_knows_since_when(self) -> None:

@@ -21,8 +21,6 @@ NEVER = ("\x00", "\x07", "\x1b", "\x7f", "\x80", "\x9b", "\x85", "\xa0", "\xad",
 
 
 class ForPeople(unittest.TestCase):
-    """What reaches a terminal."""
-
     def test_letters_and_signs_are_shown_as_they_are(self) -> None:
         for letter in SHOWN:
             self.assertEqual(readable(shown_text(f"a{letter}b".encode())), f"a{letter}b")
@@ -76,8 +74,6 @@ class ForPeople(unittest.TestCase):
 
 
 class ForPrograms(unittest.TestCase):
-    """Texts in JSON."""
-
     def test_unicode_where_the_octets_are_utf8(self) -> None:
         for octets in (b"", b"abc", "café 京 😀".encode(), b"\x00\x1b", b"a\\b"):
             self.assertEqual(text_of(octets), (octets.decode(), None))

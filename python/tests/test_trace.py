@@ -36,8 +36,6 @@ def slow_trace(frames: Sequence[Frame]) -> List[str]:
 
 
 class Traces(FilesCase):
-    """The lines that the package returns."""
-
     def trace(self, *sources: Source, seconds: bool = True) -> List[str]:
         """Returns the trace; `notes` and `faults` get what was reported."""
         self.notes: List[str] = []
@@ -144,8 +142,6 @@ class Traces(FilesCase):
 
 
 class Program(FilesCase):
-    """lldpa-capture."""
-
     def test_words(self) -> None:
         self.file(pcap([whole(LLDP), whole(LLDP, START + SECOND)]), "a")
         self.file(gzip.compress((self.folder / "a").read_bytes()), "a.gz")

@@ -154,5 +154,4 @@ def tlvs_of(octets: bytes) -> Iterator[Tuple[int, bytes]]:
 
 
 def ttl_of(octets: bytes) -> int:
-    """Returns the time to live of a frame."""
     return int.from_bytes(dict(tlvs_of(octets))[3][:2], "big")

@@ -137,7 +137,6 @@ class Reader:
         return Neighbor(port, place, chassis, port_id, ttl, expires, tuple(said))
 
     def identifier(self, front: str, kinds: set[str]) -> Identifier:
-        """Reads a chassis ID or port ID."""
         line = self.next()
         self.at += 1
         kind, mark, text = line[len(front):].partition("=")
@@ -155,7 +154,6 @@ class Reader:
             yield name, Counters(*map(self.number, keys))
 
     def chassis(self) -> LocalChassis:
-        """Reads the lines of `show chassis`."""
         keys = LocalChassis._fields[:-1]
         told = LocalChassis(**{key: self.text(f"local-chassis.{key}") for key in keys})
         if self.next().startswith("local-chassis.mgmt="):
@@ -163,7 +161,6 @@ class Reader:
         return told
 
     def configuration(self) -> Configuration:
-        """Reads the lines of `show configuration`."""
         names = [name for name in Configuration._fields if name != "statuses"]
         numbers = {name: self.number(f"configuration.{shown_key(name)}") for name in names}
         begin, count, statuses = self.at, self.number("configuration.ports"), {}
@@ -210,7 +207,6 @@ def port_lines(port: Port) -> Iterator[str]:
 
 
 def neighbor_lines(neighbor: Neighbor) -> Iterator[str]:
-    """Returns the lines of one neighbor."""
     front = f"lldp.{neighbor.port}.{neighbor.place}."
     yield f"{front}chassis.{neighbor.chassis}"
     yield f"{front}port.{neighbor.port_id}"
@@ -221,7 +217,6 @@ def neighbor_lines(neighbor: Neighbor) -> Iterator[str]:
 
 
 def configuration_lines(configuration: Configuration) -> Iterator[str]:
-    """Returns the lines of `show configuration`."""
     for name, number in configuration._asdict().items():
         if name != "statuses":
             yield f"configuration.{shown_key(name)}={number}"

@@ -30,14 +30,8 @@ def show_object(show: Show, since: Since = NOBODY) -> dict[str, Any]:
 
 
 def port_object(port: Port, since: Since = NOBODY) -> dict[str, Any]:
-    """Returns a port and its neighbors."""
-    return {
-        "name": port.name,
-        "neighbors_held": port.neighbors_held,
-        "octets": port.octets,
-        "too_many": port.too_many,
-        "neighbors": [neighbor_object(neighbor, since) for neighbor in port.neighbors],
-    }
+    neighbors = [neighbor_object(neighbor, since) for neighbor in port.neighbors]
+    return {**port._asdict(), "neighbors": neighbors}
 
 
 def neighbor_object(neighbor: Neighbor, since: Since = NOBODY) -> dict[str, Any]:
@@ -74,5 +68,4 @@ def with_texts(told: dict[str, Any], shown: Mapping[str, Optional[str]]) -> dict
 
 
 def identifier_object(identifier: Identifier) -> dict[str, Any]:
-    """Returns a chassis ID or port ID."""
     return with_texts({"kind": identifier.kind}, {"text": identifier.text})

@@ -35,7 +35,6 @@ def discarded(counters: Mapping[str, Counters]) -> list[str]:
 
 
 def detail_lines(neighbor: Neighbor, since: Optional[str], width: int) -> list[str]:
-    """Returns the lines of one neighbor."""
     head = f"{readable(neighbor.port)}: {name_of(neighbor)} {port_of(neighbor)}"
     pairs = [pair for pair in pairs_of(neighbor, since) if pair[1]]
     indent = max(len(heading) for heading, _ in pairs) + 4

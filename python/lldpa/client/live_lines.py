@@ -22,7 +22,6 @@ class LiveLines:
                 self.add(keys, value)
 
     def add(self, keys: Sequence[str], value: str) -> None:
-        """Adds the value of a line."""
         last = keys[-1] if keys else ""
         if len(keys) == 2 and keys[0] == "chassis" and last.isdecimal():
             self.numbers[value] = int(last)

@@ -113,7 +113,6 @@ def described(neighbor: Neighbor) -> dict[str, str]:
 
 
 def counter_lines(counters: Mapping[str, Counters]) -> Iterator[str]:
-    """Returns the metrics of each counter, by ports."""
     for name, counted in COUNTED.items():
         samples = [({"port": port}, getattr(of, name)) for port, of in counters.items()]
         yield from metric_lines(f"lldpa_{name}_total", "counter", counted, samples)

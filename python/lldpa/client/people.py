@@ -177,7 +177,6 @@ def interfaces(show: Show, live: Iterable[str]) -> list[Dict[str, Any]]:
 
 
 def interface_lines(ports: Sequence[Mapping[str, Any]], width: int) -> list[str]:
-    """Returns the table of `interfaces`."""
     rows: List[Sequence[str]] = [INTERFACES]
     for port in ports:
         rows.append([UNKNOWN if value is None else readable(str(value)) for value in port.values()])

@@ -61,7 +61,6 @@ def ask_neighbors(rest: Sequence[str]) -> Question:
 
 
 def ask_details(rest: Sequence[str]) -> Question:
-    """Asks for all that neighbors say."""
     from .details import details, discarded
     from ..organizational.kinds import load
     load()
@@ -83,7 +82,6 @@ def shown_object(answers: Answers, ports: Sequence[str] = ()) -> Any:
 
 
 def ask_interfaces(rest: Sequence[str]) -> Question:
-    """Asks for the state of the ports."""
     ports = listed(rest)
 
     def found(answers: Answers) -> List[Dict[str, Any]]:
@@ -114,7 +112,6 @@ def ask_statistics(rest: Sequence[str]) -> Question:
 
 
 def ask_live(rest: Sequence[str]) -> Question:
-    """Asks for lldpa-live's own lines."""
     if rest:
         raise Refused(f"extra word: {rest[0]} (nothing follows)")
     return Question(["live"], lambda answers, width: list(answers[0]), lambda answers: {
@@ -171,7 +168,6 @@ def listed(words: Sequence[str]) -> List[str]:
 
 
 def ports_of(show: Show) -> List[str]:
-    """Returns the ports of a show."""
     return list(dict.fromkeys([*(port.name for port in show.ports), *show.counters]))
 
 

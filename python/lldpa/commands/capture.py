@@ -33,7 +33,6 @@ def note(text: str) -> None:
 
 
 def parser_of_words() -> argparse.ArgumentParser:
-    """Returns the parser of the program's words."""
     parser = argparse.ArgumentParser(
         prog=NAME, description=SUMMARY, epilog=EPILOG, allow_abbrev=False,
         formatter_class=argparse.RawDescriptionHelpFormatter)

@@ -57,7 +57,6 @@ OPTIONS = ["control=", "json", "output=", "help", "version"]
 
 
 class Given(NamedTuple):
-    """The words of the program."""
     control: str
     json: bool
     output: Optional[str]
@@ -69,7 +68,6 @@ class WrongWords(LldpaFault):
 
 
 def print_answer(client: Client, asked: Question, as_json: bool) -> None:
-    """Prints what is answered to a command."""
     answers = [answer(client, line) for line in asked.lines]
     if as_json:
         answers += [answer(client, line) for line in asked.further]

@@ -53,7 +53,6 @@ HAPPENED = {"came": "added", "changed": "updated", "gone": "deleted"}
 
 
 class Given(NamedTuple):
-    """The words of the program."""
     path: str
     form: str
     is_help: bool

@@ -9,16 +9,14 @@ from ..node import Node, said_text, lldpcli_text
 
 CAPABILITIES = ("Other", "Repeater", "Bridge", "Router", "Wlan", "Tel", "Docsis", "Station")
 BY_INTERFACE = 2  # the interface number is an ifIndex
-# the subtypes of Chassis ID and Port ID that hold an address
-MAC_OF_CHASSIS, IP_OF_CHASSIS = 4, 5
-MAC_OF_PORT, IP_OF_PORT = 3, 4
+# lldpd's kinds for the subtypes of Chassis ID and Port ID that hold an address
+KINDS_OF_CHASSIS = {4: "mac", 5: "ip"}
+KINDS_OF_PORT = {3: "mac", 4: "ip"}
 
 
 def chassis_of(neighbor: Neighbor, is_brief: bool) -> Node:
-    """Returns the chassis of a neighbor."""
-    known = {MAC_OF_CHASSIS: "mac", IP_OF_CHASSIS: "ip"}
-    return chassis_node(identifier_node("ChassisID", neighbor.chassis, known), neighbor.said,
-                        neighbor.capabilities or {}, is_brief)
+    identifier = identifier_node("ChassisID", neighbor.chassis, KINDS_OF_CHASSIS)
+    return chassis_node(identifier, neighbor.said, neighbor.capabilities or {}, is_brief)
 
 
 def local_chassis(chassis: LocalChassis, is_brief: bool) -> Node:
@@ -82,8 +80,8 @@ def managements(said: Iterable[Tuple[str, str]]) -> Iterator[Tuple[str, Optional
 
 def port_of(neighbor: Neighbor) -> Node:
     """Returns the port of a neighbor, without what IEEE 802.3 says of it."""
-    known = {MAC_OF_PORT: "mac", IP_OF_PORT: "ip"}
-    node = Node("port", "Port", nodes=[identifier_node("PortID", neighbor.port_id, known)])
+    identifier = identifier_node("PortID", neighbor.port_id, KINDS_OF_PORT)
+    node = Node("port", "Port", nodes=[identifier])
     node.add("descr", "PortDescr", first(neighbor.said, "port.descr"))
     node.add("ttl", "TTL", neighbor.ttl)
     return node

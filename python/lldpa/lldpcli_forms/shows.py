@@ -23,7 +23,6 @@ LINES = ("show neighbors", "show statistics", "show chassis", "show configuratio
 
 
 class Depth(Enum):
-    """How much is shown."""
     SUMMARY = "summary"
     NORMAL = "normal"
     DETAILS = "details"
@@ -53,7 +52,6 @@ def neighbors(told: Told, ports: Ports, depth: Depth) -> Node:
 
 
 def neighbor_node(told: Told, neighbor: Neighbor, depth: Depth) -> Node:
-    """Returns a neighbor."""
     node = Node("interface", "Interface", [("name", "", neighbor.port), ("via", "via", "LLDP")])
     if depth is not Depth.SUMMARY:
         node.attributes += presence(told, neighbor)
@@ -105,7 +103,6 @@ def interfaces(told: Told, ports: Ports, depth: Depth) -> Node:
 
 
 def chassis(told: Told, _: Ports, depth: Depth) -> Node:
-    """Returns `show chassis`."""
     return Node("local-chassis", "Local chassis",
                 nodes=[local_chassis(reported(told.show.chassis, OF_HOST),
                                      depth is Depth.SUMMARY)])

@@ -43,7 +43,6 @@ class Watching(NamedTuple):
 
 
 class Lines(NamedTuple):
-    """Lines for the agent."""
     lines: Sequence[str]
 
 

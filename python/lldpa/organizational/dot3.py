@@ -5,7 +5,7 @@ from typing import Any, List, Optional, Tuple
 
 from ..node import Node, yes
 from .kinds import DOT1, DOT3, Row, Said, Tlv, ability, of
-from .mau import MAU_TEXTS, Mau, advertised_names, mau_of
+from .mau import Mau, advertised_names, mau_of, mau_text
 
 # lldpcli's names of the advertised modes, with the bits of half and full duplex
 ADVERTISED = (("10Base-T", 0x4000, 0x2000), ("100Base-T4", 0x1000, 0x1000),
@@ -101,5 +101,5 @@ class MacPhy(Tlv):
                     mode.attributes += [("hd", "HD", yes(bool(self.advertised & half))),
                                         ("fd", "FD", yes(bool(self.advertised & full)))]
                 node.nodes.append(mode)
-        node.add("current", "MAU oper type", MAU_TEXTS.get(self.mau_type, "unknown"))
+        node.add("current", "MAU oper type", mau_text(self.mau_type))
         return node

@@ -3,6 +3,7 @@
 
 use crate::clock::{self, SECOND};
 use crate::sys;
+use std::env::var;
 use std::fs::File;
 use std::io::Write;
 
@@ -17,17 +18,13 @@ pub struct Manager {
     status: String,
 }
 
-fn variable(name: &str) -> Option<String> {
-    std::env::var(name).ok()
-}
-
 /// Returns after how many nanoseconds without a sign of life systemd ends this process.
 fn watchdog_span() -> Option<i64> {
     let is_other = |pid: String| pid != std::process::id().to_string();
-    if variable("WATCHDOG_PID").map_or(false, is_other) {
+    if var("WATCHDOG_PID").map_or(false, is_other) {
         return None;
     }
-    let span: i64 = variable("WATCHDOG_USEC")?.parse().ok()?;
+    let span: i64 = var("WATCHDOG_USEC").ok()?.parse().ok()?;
     (1..i64::MAX / 1000).contains(&span).then(|| span * 1000)
 }
 
@@ -42,7 +39,7 @@ fn address_of(name: &str) -> Option<Vec<u8>> {
 
 impl Manager {
     pub fn new() -> Manager {
-        let address = variable("NOTIFY_SOCKET").and_then(|name| address_of(&name));
+        let address = var("NOTIFY_SOCKET").ok().and_then(|name| address_of(&name));
         let socket = address.and_then(|address| Some((sys::raw_socket(AF_UNIX.into()).ok()?, address)));
         Manager { socket, span: watchdog_span(), next_sign: 0, status: String::new() }
     }
