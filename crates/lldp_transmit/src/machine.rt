@@ -167,6 +167,7 @@ impl Transmit {
 
 impl Parts {
     fn step(&mut self, cause: Cause, interval: u16) -> Mark
+        requires { self.old.credit ≤ self.old.credit_max }
         ensures next { self.new ≡ (stepped self.old cause interval).0 }
         ensures answer { result ≡ (stepped self.old cause interval).1 }
     {
@@ -199,6 +200,7 @@ impl Parts {
     }
 
     fn tick(&mut self, interval: u16) -> Mark
+        requires { self.old.credit ≤ self.old.credit_max }
         ensures next { self.new ≡ (ticked self.old interval).0 }
         ensures answer { result ≡ (ticked self.old interval).1 }
     {
@@ -224,10 +226,13 @@ impl Parts {
 
     /// Adds a credit for a tick, up to txCreditMax.
     fn refill(&mut self)
+        requires { self.old.credit ≤ self.old.credit_max }
         ensures { self.new
             ≡ record self.old { credit = min self.old.credit_max (self.old.credit + 1) } }
     {
-        self.credit = self.credit.saturating_add(1).min(self.credit_max);
+        if self.credit < self.credit_max {
+            self.credit += 1;
+        }
     }
 
     /// Runs both clocks down.
