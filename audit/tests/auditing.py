@@ -62,7 +62,6 @@ def without_ages(text: str) -> str:
 
 
 def run_whole(*words: str, folder: Optional[str] = None) -> "subprocess.CompletedProcess[str]":
-    """Runs the program with these words."""
     return subprocess.run([sys.executable, AUDIT, *words], env=WITH_AGENT, cwd=folder,
                           capture_output=True, text=True, timeout=600, check=False)
 

@@ -208,7 +208,6 @@ def is_paneled(one: End) -> bool:
 
 
 def cables(links: Sequence[Tuple[End, End]]) -> Iterator[Tuple[End, End]]:
-    """Yields each cable of links."""
     trunks = set()
     for one, other in links:
         if not is_paneled(one):

@@ -121,7 +121,6 @@ class Lldpcli(unittest.TestCase):
     """What lldpcli of a real lldpd writes, and our agent of the same frames."""
 
     def check(self, seen: Sequence[Seen], settings: Dict[int, Settings]) -> None:
-        """Checks the neighbors at swp1."""
         self.assertEqual([(set(one.hosts), set(one.ports)) for one in seen],
                          [(set(hosts), set(ports)) for hosts, ports in HEARD])
         said = {at: one.settings for at, one in enumerate(seen) if one.settings}

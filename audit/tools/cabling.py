@@ -55,7 +55,6 @@ FORMS = {"show": show_of, **{form: lambda *words, write=write: write(tree_of(*wo
 
 
 def show_of_port(neighbors, tlvs):
-    """Yields what a show says of a port."""
     yield from (f"neighbors={len(neighbors)}", f"octets={110 * len(neighbors)}", "too-many=no")
     for place, (host, port_id) in enumerate(neighbors, 1):
         high, low = divmod(sum(map(ord, host)), 256)

@@ -43,11 +43,9 @@ class Trial:
         self.wires, self.leaf1, self.room, self.counts = wires, leaf1, pathlib.Path(wires.folder), Counts()
 
     def lldpcli(self, form):
-        """Returns what lldpcli of leaf1 writes."""
         return self.leaf1.ask("-f", form, "show", "neighbors", "details")
 
     def walk(self):
-        """Returns what snmpwalk gets of leaf1."""
         return subprocess.run(["ip", "netns", "exec", self.wires.here, "snmpwalk", "-v2c", "-c", "public",
                                "127.0.0.1:1161", "1.0.8802.1.1.2.1"], capture_output=True).stdout
 
