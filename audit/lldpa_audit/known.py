@@ -79,7 +79,7 @@ def read_known(file: str, names: Names, today: datetime.date) -> Known:
 
 
 def place_of(end: End) -> str:
-    """Returns an end, or the host alone if there is no port."""
+    """Returns an end, or only the host if the port is empty."""
     return " ".join(shown(name) for name in end if name)
 
 

@@ -117,7 +117,7 @@ PARTS = (
         "seen/fifo": os.mkfifo, "seen/gone.json": lambda path: path.symlink_to("nowhere"),
         "seen/leaf1.json~": "{", "seen/leaf1/list": LEAF1,
         "seen/leaf1/latest": lambda path: path.symlink_to("..")}, "seen", 0, [
-            "seen/fifo: it is no file, and is skipped",
+            "seen/fifo: it is not a file, and is skipped",
             "seen/gone.json: it is a link that leads nowhere, and is skipped",
             "seen/leaf1/latest: it is a link to a folder, and is skipped",
             "seen/leaf1.json~: it is a copy that an editor left, and is skipped",

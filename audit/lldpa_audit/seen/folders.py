@@ -63,4 +63,4 @@ def why_passed_over(entry: "os.DirEntry[str]") -> str:
         return "it is a copy that an editor left"
     if entry.is_dir() or entry.is_file():
         return ""
-    return "it is a link that leads nowhere" if entry.is_symlink() else "it is no file"
+    return "it is a link that leads nowhere" if entry.is_symlink() else "it is not a file"

@@ -34,7 +34,7 @@ def names_of_host(name: str, chassis: str, *addresses: str) -> tuple[str, ...]:
 
 @lru_cache(MOST_KEPT)
 def texts(*names: str) -> tuple[str, ...]:
-    """Returns those names that are not empty, each as `clean` has it, or one empty name."""
+    """Returns the names that are not empty, each cleaned, or one empty name."""
     return tuple([clean(name) for name in names if name]) or ("",)
 
 
