@@ -1,4 +1,4 @@
--- What the laws rest on; no call does.
+-- Proofs for the laws alone.
 pub mod Sayings
 pub mod Lines
 pub mod OnlyLines

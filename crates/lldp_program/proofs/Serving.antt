@@ -1,4 +1,4 @@
--- What one more connection leaves.
+-- The calls and the faults after one more connection.
 use Rattle.std.proofs.Common.{suc, length, add-one, add-zero, ◌≡◌, ◌≤◌, ◌++◌, ℕ, List, [], ◌∷◌, Option, Some, None, Result, Ok, Err, ap, sym, refl, append_assoc, arith, ◌∙◌}
 use Rattle.lldp_engine.specs.AgentState.{AgentState}
 use Rattle.lldp_engine.specs.Past.{Past}
@@ -30,7 +30,7 @@ pub logged_then : {C : Type 0} → (first next : List (Call C)) (told : Option (
 logged_then first next None = refl
 logged_then first next (Some earlier) = ap Some (sym (append_assoc next first earlier))
 
--- a connection more was accepted and then run over
+-- one more connection was accepted and then run over
 pub logged_visit : {C : Type 0} → (visits : List (Visit C)) (visit : Visit C) (first told accepting running : Option (List (Call C)))
     → told ≡ logged (calls_of visits) first → accepting ≡ logged (accepted visit.connection ∷ []) told → running ≡ logged (ran visit ∷ []) accepting
     → running ≡ logged (calls_of (visit ∷ visits)) first
@@ -38,7 +38,7 @@ logged_visit visits visit first told accepting running before accepts runs =
     runs ∙ ap (logged (ran visit ∷ [])) (accepts ∙ ap (logged (accepted visit.connection ∷ [])) before ∙ logged_then (calls_of visits) (accepted visit.connection ∷ []) first)
     ∙ logged_then (accepted visit.connection ∷ calls_of visits) (ran visit ∷ []) first
 
--- the runs that ended with a fault are counted
+-- `faults_of` counts the runs that ended with a fault
 pub faults_counted : (results : List (Result (Unit {0}) RunFault)) → faults_of results ≡ length (filter is_err results)
 faults_counted [] = refl
 faults_counted (Ok done ∷ earlier) = add-zero (faults_of earlier) ∙ faults_counted earlier

@@ -1,4 +1,4 @@
--- Text on its way to a device.
+-- How an output gathers text and passes it to its sink.
 pub mod Written
 pub mod Taken
 pub mod Sent

@@ -1,4 +1,4 @@
--- What the code holds while it runs: text that waits, a part of a run. What public calls promise speaks of other
--- modules.
+-- The state of the code while it runs: text that waits, and a part of a run. Contracts of public
+-- calls use other definitions.
 pub mod Output
 pub mod Parts

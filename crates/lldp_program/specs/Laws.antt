@@ -1,4 +1,4 @@
--- What only laws say: the definitions in other words, by octets, positions and counts.
+-- What only the laws state: the definitions in other words, by octets, positions and counts.
 pub mod FixedNumbers
 pub mod Sayings
 pub mod Lines

@@ -1,4 +1,4 @@
--- What a run of the program leaves, over its streams or refused.
+-- What a run of the program does to its streams, or why it is refused.
 use Rattle.std.specs.Prelude.{◌≡◌, ◌≢◌, ◌<◌, ◌≤◌, ◌⊎◌, ℕ, List, true, Option, Some, None, Result, is_ok, codes}
 use Rattle.std.specs.Io.KnownBytes.{Consumes, Keeps}
 use Rattle.clap.specs.Walk.{Row, Text, one_of}
@@ -17,8 +17,9 @@ use Rattle.lldp_program.specs.declared.device.DeviceFault.{DeviceFault}
 use Rattle.lldp_program.specs.declared.fault.ProgramFault.TheVariants as program
 use Rattle.lldp_program.specs.declared.trace.RunFault.{RunFault}
 
--- The agent ran the trace that came, and what was written was flushed: with status 0 all of it, and with another status
--- it may have stopped at a fault. The status is that of the first fault of the two, which was reported.
+-- The agent ran the trace that was read, and the output was flushed. With status 0 it ran all of
+-- it; with another status it may have stopped at a fault. The status is that of the run's fault, or
+-- else of the flush's, and that fault was reported.
 pub record RanStreams (to_come left old new : Option (List ℕ)) (told_before told_after : Stream)
     (before after : AgentState) (status : ℕ) : Type 0 where
   pub result : Result (Unit {0}) RunFault
@@ -27,11 +28,11 @@ pub record RanStreams (to_come left old new : Option (List ℕ)) (told_before to
   pub flushed : Result (Unit {0}) DeviceFault
   pub ended : EndsBy (ended_by result flushed) told_before told_after status
 
--- a read failed, or a write or a flush did, or there were as many reads as a run makes at most
+-- a read failed, or a write or flush failed, or the run made as many reads as it may
 abbrev pub FailedBy : ℕ → ℕ → ℕ → Type 0
 FailedBy reads writes calls = 0 < reads ⊎ (0 < writes ⊎ 4294967295 ≤ calls)
 
--- An agent opened with these options ran the trace that came: what was read, and what was written for it.
+-- An agent opened with these options ran the trace: what was read, and what was written for it.
 pub record Ran (options : Options) (to_come left old new : Option (List ℕ)) (result : Result (Unit {0}) RunFault) :
     Type 0 where
   pub input : List ℕ
@@ -40,7 +41,7 @@ pub record Ran (options : Options) (to_come left old new : Option (List ℕ)) (r
   pub agent : AgentState
   pub ends : Ends (opened options) input left old new agent result
 
--- the same by the status of the program and the line that it wrote
+-- the same, with the status of the program and the line that it reported
 pub record RanBy (options : Options) (to_come left old new : Option (List ℕ)) (told_before told_after : Stream)
     (status : ℕ) : Type 0 where
   pub result : Result (Unit {0}) RunFault
@@ -49,8 +50,8 @@ pub record RanBy (options : Options) (to_come left old new : Option (List ℕ)) 
   pub flushed : Result (Unit {0}) DeviceFault
   pub ended : EndsBy (ended_by result flushed) told_before told_after status
 
--- What became of reader and writer, by the text of `--listen`: if there is none, the trace of the reader was run; if
--- there is one, nothing was read and nothing written, and the status is 0 or that of a socket, which was reported.
+-- What the program did. Without a text of `--listen` it ran the trace of the reader. With one it
+-- read and wrote nothing, and the status is 0 or that of a socket fault, which was reported.
 abbrev pub RanBut : Option Text → Options → Option (List ℕ) → Option (List ℕ) → Option (List ℕ) → Option (List ℕ) →
     Stream → Stream → ℕ → Type 0
 RanBut None options to_come left old new told_before told_after status =
@@ -58,14 +59,14 @@ RanBut None options to_come left old new told_before told_after status =
 RanBut (Some port) options to_come left old new told_before told_after status =
     Keeps to_come left × Keeps old new × EndsWellOr program.Socket told_before told_after status
 
--- the same by the words
+-- the same, for the text of `--listen` in these rows
 abbrev pub RanAs : List Row → Options → Option (List ℕ) → Option (List ℕ) → Option (List ℕ) → Option (List ℕ) →
     Stream → Stream → ℕ → Type 0
 RanAs rows options to_come left old new told_before told_after status =
     RanBut (one_of (codes "listen") rows) options to_come left old new told_before told_after status
 
--- The words have no fault by `clap`'s own specification; their options, of which each is the value of its words, have
--- no fault either; and the program did as they ask.
+-- The words have no fault by `clap`'s own specification. Their options, each with the value of its
+-- words, have no fault either. The program did as they ask.
 pub record HasRunWords (words : List Text) (to_come left old new : Option (List ℕ)) (told_before told_after : Stream)
     (status : ℕ) : Type 0 where
   pub rows : List Row
@@ -75,8 +76,9 @@ pub record HasRunWords (words : List Text) (to_come left old new : Option (List 
   pub sound : fault_of options ≡ None
   pub ran : RanAs rows options to_come left old new told_before told_after status
 
--- What a status other than 2 means: the words ask for help or the version, nothing was read, and the status is 0 or
--- that of a write, which was reported; or they were run.
+-- What a status other than 2 means. Either the words ask for help or the version, nothing was read,
+-- and the status is 0 or that of a failed write, which was reported; or they were run
+-- (`HasRunWords`).
 abbrev pub HasAnswered : List Text → Option (List ℕ) → Option (List ℕ) → Option (List ℕ) → Option (List ℕ) →
     Stream → Stream → ℕ → Type 0
 HasAnswered words to_come left old new told_before told_after status =
@@ -88,13 +90,13 @@ abbrev pub RefusesAddress : List Row → Stream → Stream → Type 0
 RefusesAddress rows told_before told_after =
     (fault : AddressFault) × HasBadAddress rows fault × IsTold (fault_of_address fault) told_before told_after
 
--- The options of the words open no agent, for the first check that fails or for lack of memory, and that was reported.
+-- Opening refuses the options, at the first failed check or for lack of memory. That was reported.
 abbrev pub RefusesOpening : List Row → Stream → Stream → Type 0
 RefusesOpening rows told_before told_after =
     (options : Options) × (fault : OpenFault) × Asks rows options × IsRefusal options fault
     × IsTold (fault_of_opening fault) told_before told_after
 
--- The words have a fault by `clap`'s own specification, other than that they ask for help or the version.
+-- The words have a fault for `clap` that is not a request for help or the version.
 abbrev pub AreWrong : List Text → Type 0
 AreWrong words = (kind : ErrorKind) × MayFail words kind × (kind ≢ DisplayHelp) × (kind ≢ DisplayVersion)
 

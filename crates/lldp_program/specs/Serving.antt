@@ -1,4 +1,4 @@
--- What serving connections leaves.
+-- What serving connections does.
 use Rattle.std.specs.Prelude.{◌≡◌, ◌<◌, ◌⊎◌, ℕ, ◌+◌, ◌==◌, if◌then◌else◌, List, [], ◌∷◌, length, Option, Result, Ok, Err}
 use Rattle.lldp_program.specs.Devices.Acceptors.{Call, accepted, bound, refused, ran, unbound, Visit, logged}
 use Rattle.lldp_engine.specs.AgentState.{AgentState}
@@ -9,37 +9,36 @@ use Rattle.lldp_program.specs.declared.device.DeviceFault.TheVariants.{Failed}
 use Rattle.lldp_program.specs.declared.trace.RunFault.{RunFault}
 use Rattle.lldp_program.specs.declared.serve.ServeFault.{ServeFault}
 
--- one for a run that ended with a fault
+-- 1 for a run that ended with a fault, else 0
 abbrev pub faults_in : Result (Unit {0}) RunFault → ℕ
 faults_in (Ok done) = 0
 faults_in (Err fault) = 1
 
--- how many of some runs ended with a fault
+-- how many of these runs ended with a fault
 abbrev pub faults_of : List (Result (Unit {0}) RunFault) → ℕ
 faults_of [] = 0
 faults_of (result ∷ earlier) = faults_of earlier + faults_in result
 
--- What the answer says of the runs. Ok: all were made, and this many of them ended with a fault. Err: fewer were.
+-- Ok: all runs were made, and this many of them ended with a fault. Err: not all were made.
 abbrev pub Tells : ℕ → List (Result (Unit {0}) RunFault) → Result ℕ ServeFault → Type 0
 Tells connections results (Ok faulty) = (length results ≡ connections) × (faulty ≡ faults_of results)
 Tells connections results (Err fault) = length results < connections
 
--- the answers of these runs
 abbrev pub results_of : {C : Type 0} → List (Visit C) → List (Result (Unit {0}) RunFault)
 results_of [] = []
 results_of (visit ∷ earlier) = visit.result ∷ results_of earlier
 
--- Each connection was accepted and then run over once, before the next was accepted: the last call first.
+-- The calls, the last one first: each connection was accepted and run over, one after another.
 abbrev pub calls_of : {C : Type 0} → List (Visit C) → List (Call C)
 calls_of [] = []
 calls_of (visit ∷ earlier) = ran visit ∷ accepted visit.connection ∷ calls_of earlier
 
--- the same with the refusal that an answer Err reports, after all of them
+-- the same calls, and after them a refused one if the answer is Err
 abbrev pub calls_with : {C : Type 0} → List (Visit C) → Result ℕ ServeFault → List (Call C)
 calls_with visits (Ok faulty) = calls_of visits
 calls_with visits (Err fault) = refused ∷ calls_of visits
 
--- a trace was run over each connection, and the agent passed from one to the next as it was
+-- a trace was run over each connection, and the agent kept its state from one to the next
 abbrev pub AreRun : {C : Type 0} → (C → Option (List ℕ)) → (C → Option (List ℕ)) → List (Visit C) → AgentState → AgentState →
     Type 0
 AreRun to_come taken [] before after = after ≡ before
@@ -47,8 +46,8 @@ AreRun to_come taken (visit ∷ earlier) before after =
     (between : AgentState) × AreRun to_come taken earlier before between
     × HasRun (to_come visit.connection) visit.left (taken visit.connection) visit.new between after visit.result
 
--- What an acceptor was asked, if it reports that: this many connections were accepted, each was run over once, and the
--- answer says how many of the runs ended with a fault; or fewer were, and then accepting was refused.
+-- The calls, if the acceptor reports them. Either this many connections were accepted, each was run
+-- over once, and the answer counts those with a fault; or fewer were, and then accepting failed.
 pub record HasAsked {C : Type 0} (to_come taken : C → Option (List ℕ)) (old new : Option (List (Call C)))
     (connections : ℕ) (before after : AgentState) (result : Result ℕ ServeFault) : Type 0 where
   pub visits : List (Visit C)
@@ -60,13 +59,13 @@ pub record HasAsked {C : Type 0} (to_come taken : C → Option (List ℕ)) (old 
 abbrev pub this_host : List ℕ
 this_host = 127 ∷ 0 ∷ 0 ∷ 1 ∷ []
 
--- Ok if serving ended without a fault and the answer counts no run with one
+-- Ok if serving ended without a fault and no run ended with one
 abbrev pub without_fault : Result ℕ ServeFault → Result (Unit {0}) DeviceFault
 without_fault (Ok faulty) = if faulty == 0 then Ok tt else Err Failed
 without_fault (Err fault) = Err Failed
 
--- The port of this host was bound first, and then this many connections were served, with a fault or without. Or it was
--- not bound, which is a fault, and nothing else was asked.
+-- The port of 127.0.0.1 was bound first, and then this many connections were served, with a fault
+-- or without. Or binding failed, which is a fault, and no other call was made.
 abbrev pub HasListened : {C : Type 0} → (C → Option (List ℕ)) → (C → Option (List ℕ)) → Option (List (Call C)) → Option (List (Call C)) →
     Listening → AgentState → AgentState → Result (Unit {0}) DeviceFault → Type 0
 HasListened to_come taken old new listening before after result =

@@ -1,4 +1,4 @@
--- A trace: its lines, what each asks for, and what a run over all of them leaves.
+-- A trace: its lines, what each asks for, and what a run over all of them does.
 pub mod Lines
 pub mod Sent
 pub mod Work

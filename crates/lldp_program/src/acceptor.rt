@@ -1,4 +1,4 @@
-//! Where connections come from, and adapters for std's listener.
+//! Acceptors of connections, and adapters for std's listener.
 ghost use Rattle.std.specs.Prelude.{◌≡◌, [], ◌∷◌, ℕ, List, Option};
 ghost use Rattle.lldp_engine.specs.Past.{Past};
 ghost use Rattle.lldp_engine.specs.Standing.{Stands};
@@ -10,7 +10,7 @@ use crate::trace::{RunFault, run_trace};
 use lldp_engine::Agent;
 use std::net::{Ipv4Addr, Net, TcpListener, TcpStream};
 
-/// What accepts connections, and runs the trace that comes over one.
+/// Accepts connections, and runs the trace that arrives over each of them.
 pub trait Acceptor {
     type Connection;
 
@@ -18,14 +18,14 @@ pub trait Acceptor {
     ghost asked: { Self → Option (List (Call Self.Connection)) };
     /// The octets that a connection will bring, or None if it does not report them.
     ghost to_come: { Self.Connection → Option (List ℕ) };
-    /// The octets that a connection has taken, or None if it does not report them.
+    /// The octets that were written to a connection, or None if it does not report them.
     ghost taken: { Self.Connection → Option (List ℕ) };
 
     /// Waits for the next connection.
     fn accept(&mut self) -> Result<Self::Connection, DeviceFault>
         ensures asked { asked self.new ≡ logged (accepting result ∷ []) (asked self.old) };
 
-    /// Runs the trace that comes over a connection, writes its text there, and closes it.
+    /// Runs the trace that arrives over a connection, writes its text there, and closes it.
     fn run(&mut self, connection: Self::Connection, agent: &mut Agent) -> Result<(), RunFault>
         ensures run { RanOver to_come taken connection (asked self.old) (asked self.new)
             agent.old agent.new result }
@@ -34,7 +34,7 @@ pub trait Acceptor {
 
 /// An acceptor that is bound before it accepts.
 pub trait Bind: Acceptor {
-    /// Binds a port of an address, where connections are accepted from then on.
+    /// Binds a port of an address. Connections are accepted there from then on.
     fn bind(&mut self, address: [u8; 4], port: u16) -> Result<(), DeviceFault>
         ensures asked { Self.asked self.new
             ≡ logged (binding address port result ∷ []) (Self.asked self.old) };
@@ -67,7 +67,7 @@ impl Acceptor for AtListener<'_> {
     }
 }
 
-/// An acceptor at a port of a network, once it is bound.
+/// An acceptor that binds a port of a network, and accepts connections there.
 #[derive(Drop)]
 pub struct AtPort<'a, N> {
     pub network: &'a N,
@@ -107,13 +107,13 @@ impl<N: Net<Listener = TcpListener, Stream = TcpStream>> Bind for AtPort<'_, N> 
     }
 }
 
-/// Runs the trace that comes over a connection of the system's, which does not report its octets.
+/// Runs the trace that arrives over a system connection, which does not report its octets.
 fn run_connection(connection: TcpStream, agent: &mut Agent) -> Result<(), RunFault>
     ensures run { HasRun Option.None Option.None Option.None Option.None
         agent.old agent.new result }
     ensures headline { (past : Past) → Stands past agent.old → KeepsOn past agent.new }
 {
-    // An answer need not wait until the client has acknowledged the one before it.
+    // Each answer is sent at once, without waiting for the client to acknowledge the one before.
     let _ = connection.set_nodelay(true);
     let (mut input, mut output) = (&connection, &connection);
     run_trace(

@@ -1,4 +1,4 @@
-//! Addresses as the program's options give them.
+//! Reads the addresses in the program's options.
 ghost use Rattle.std.specs.Prelude.{ℕ, List, MatchOption};
 ghost use Rattle.std.specs.Net.Grammar.{IsDotted};
 ghost use Rattle.lldp_program.specs.CommandLine.Addresses.{IsMac};

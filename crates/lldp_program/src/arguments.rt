@@ -39,19 +39,19 @@ const CONNECTIONS: &str = "connections";
 
 const PORT: &str = "PORT";
 
-const MAX_NEIGHBORS_HELP: &str = "Most neighbors of a port, 1 to 128";
+const MAX_NEIGHBORS_HELP: &str = "Neighbors kept per port, 1 to 128";
 
-const MAC_HELP: &str = "Source address of frames";
+const MAC_HELP: &str = "Source MAC, chassis ID";
 
 const HOSTNAME_HELP: &str = "System name, up to 255 octets";
 
-const TX_CREDIT_MAX_HELP: &str = "Most frames of a port at once, 1 to 10";
+const TX_CREDIT_MAX_HELP: &str = "Frames a port may send at once, 1 to 10";
 
-const TX_FAST_INIT_HELP: &str = "Frames for a new neighbor, 1 to 8";
+const TX_FAST_INIT_HELP: &str = "Fast frames for a new neighbor, 1 to 8";
 
-const REINIT_DELAY_HELP: &str = "Seconds from a stop to a start, 1 to 10";
+const REINIT_DELAY_HELP: &str = "Seconds before a port restarts, 1 to 10";
 
-const CONNECTIONS_HELP: &str = "Connections to serve, 1 to 65535";
+const CONNECTIONS_HELP: &str = "Exit after N connections, 1 to 65535";
 
 const ROLES: &[&str] = &["station", "bridge", "router"];
 
@@ -70,7 +70,7 @@ pub enum AddressFault {
     Management,
 }
 
-/// Declares an option that takes a whole number from 1 on.
+/// Declares an option whose value is a whole number from 1 to `greatest`.
 fn number<'a>(
     alloc: Global,
     name: &'a str,
@@ -86,7 +86,7 @@ fn number<'a>(
         .help(help)
 }
 
-/// Declares an option that takes a text.
+/// Declares an option whose value is a text.
 fn text<'a>(
     alloc: Global,
     name: &'a str,
@@ -99,7 +99,7 @@ fn text<'a>(
     valued(alloc, name, default).value_name(value).help(help)
 }
 
-/// Declares an option that takes a value, and this one by default.
+/// Declares an option with a value, which is `default` if the words give none.
 fn valued<'a>(alloc: Global, name: &'a str, default: &'a str) -> Arg<'a>
     ensures { rule_of result ≡ valued_rule name.entry.now default.entry.now }
 {
@@ -153,9 +153,9 @@ fn ports<'a>(alloc: Global) -> Arg<'a>
     Arg::new(alloc, PORT).num_args(0..).hide(true)
 }
 
-/// Reads the words, of which the first is the program's name, by `clap`'s own specification. Fails
-/// with an error of a kind that it names, or of memory, and also if they ask for help or the
-/// version.
+/// Parses the words, the first of which is the program's name, by `clap`'s own specification. Fails
+/// with one of the kinds of errors that it names, or for lack of memory. A request for help or the
+/// version is such an error too.
 pub fn parse<'a, S: AsStr>(alloc: Global, words: &'a [S]) -> Result<ArgMatches<'a>, Error>
     ensures options { IfOk result IsProgramParse }
     ensures words { IfOk result (λ m. IsParse (map S.text words.entry.now) (rows_of (found_of m))) }
@@ -214,8 +214,8 @@ fn command<'a>(alloc: Global) -> Result<Command<'a>, AllocError>
         .arg(ports(alloc))
 }
 
-/// Reads the options that the words give, each number in its range. The fault is Mac exactly if the
-/// MAC cannot be read, and Management exactly if the MAC can and the management address cannot.
+/// Reads the options from the parsed words, each number in its range. The fault is Mac exactly if
+/// the MAC cannot be read, and Management exactly if only the management address cannot be read.
 pub fn read_options<'m>(matches: &'m ArgMatches<'_>) -> Result<Options<'m>, AddressFault>
     requires parse { IsProgramParse matches.now }
     ensures range { IfOk result (λ options. InRange (options_of options)) }
@@ -256,7 +256,6 @@ pub fn listening_of(matches: &ArgMatches<'_>) -> Option<Listening>
     }
 }
 
-/// Returns the number of connections.
 fn connections_of(matches: &ArgMatches<'_>) -> u16
     requires given { GivesNumber 65535 (codes "connections") matches.now }
     ensures { WritesNumber (one_text (found_of matches.now) (codes "connections")) result }

@@ -1,12 +1,11 @@
-//! The buffer that a trace is read into. Its first octets are held: what was read of the line that
-//! is not yet ended.
+//! The buffer that a trace is read into. It holds the beginning of an unfinished line at its front.
 ghost use Rattle.std.specs.Prelude.{◌≡◌, ◌<◌, ◌≤◌, ◌+◌, ◌-◌, length, take, drop, IfOk, min};
 ghost use Rattle.lldp_program.specs.Devices.Counts.{one_more, failures_after, ends_after, ReadsMore};
 
 use crate::device::{DeviceFault, Source};
 use crate::line::LONGEST;
 
-/// Reads after the octets that are held.
+/// Reads more octets into the buffer, after those that are held.
 pub fn read_more<S: Source>(
     source: &mut S,
     buffer: &mut [u8],
@@ -25,8 +24,8 @@ pub fn read_more<S: Source>(
     source.read(&mut buffer[held..])
 }
 
-/// Moves the octets from start to end to the front, and holds them. Of a line that is already too
-/// long it holds one octet more than the longest line has, which is enough to know that.
+/// Moves the octets from `start` to `end` to the front, and returns how many are held there: at
+/// most 4,097, one more than the longest line has. That is enough to see that a line is too long.
 pub fn hold(buffer: &mut [u8], start: usize, end: usize) -> usize
     requires order { start ≤ end }
     requires within { end ≤ length buffer.old }

@@ -12,22 +12,23 @@ pub enum DeviceFault {
     Failed,
 }
 
-/// A source of octets. Its counts stop at the greatest u64. A device need not report its octets; a
-/// clause then says nothing of them.
+/// A source of octets. Its counts stop at 2^64 - 1. If a device does not report its octets, the
+/// clauses say nothing about them.
 pub trait Source {
     /// The octets still to come, or None if the device does not report them.
     ghost to_come: { Self → Option (List ℕ) };
-    /// How often it was read.
+    /// How many reads were made.
     ghost calls: { Self → ℕ };
     /// How many reads failed.
     ghost failures: { Self → ℕ };
-    /// How many reads returned the end, which is 0 octets.
+    /// How many reads returned the end, that is, 0 octets.
     ghost ends: { Self → ℕ };
-    /// Where it reads from, which no call changes: for an adapter the reference that it was lent.
+    /// Where it reads from, which no call changes. For an adapter this is the reference to its
+    /// reader.
     ghost place: { Self → GName };
 
-    /// Moves octets into the front of the room, and returns how many; 0 means that no more will
-    /// come. A read that fails moves none.
+    /// Reads octets into the front of the room, and returns how many; 0 means the end. A read that
+    /// fails reads none.
     fn read(&mut self, room: &mut [u8]) -> Result<usize, DeviceFault>
         requires { 0 < length room.old }
         ensures fits { IfOk result (λ n. n ≤ length room.new) }
@@ -38,17 +39,18 @@ pub trait Source {
         ensures place { place self.new ≡ place self.old };
 }
 
-/// A sink for octets. Its count stops at the greatest u64. A device need not report its octets; a
-/// clause then says nothing of them.
+/// A sink for octets. Its count stops at 2^64 - 1. If a device does not report its octets, the
+/// clauses say nothing about them.
 pub trait Sink {
-    /// The octets taken, or None if the device does not report them.
+    /// The octets that were written, or None if the device does not report them.
     ghost taken: { Self → Option (List ℕ) };
     /// How many writes failed.
     ghost failures: { Self → ℕ };
-    /// Where it writes to, which no call changes: for an adapter the reference that it was lent.
+    /// Where it writes to, which no call changes. For an adapter this is the reference to its
+    /// writer.
     ghost place: { Self → GName };
 
-    /// Takes octets from the front, at least one, and returns how many. A write that fails takes
+    /// Writes octets from the front, at least one, and returns how many. A write that fails writes
     /// none.
     fn write(&mut self, octets: &[u8]) -> Result<usize, DeviceFault>
         requires { 0 < length octets.now }
@@ -59,12 +61,12 @@ pub trait Sink {
         ensures place { place self.new ≡ place self.old };
 }
 
-/// A sink that can be asked to pass its octets on.
+/// A sink that can be flushed.
 pub trait Flush: Sink {
-    /// Whether it was asked to pass on all that it has taken.
+    /// True if `flush` was called after the last write.
     ghost is_flushed: { Self → Bool };
 
-    /// Passes on what was taken. A flush that fails counts as a failed write.
+    /// Passes on all octets that were written. A flush that fails counts as a failed write.
     fn flush(&mut self) -> Result<(), DeviceFault>
         ensures flushed { is_flushed self.new ≡ true }
         ensures octets { Keeps (Self.taken self.old) (Self.taken self.new) }
@@ -85,7 +87,7 @@ impl<'a, R: Read> FromReader<'a, R> {
     ghost use Rattle.std.specs.Prelude.{◌≡◌};
     ghost use Rattle.lldp_program.specs.Devices.Adapters.{source_to_come, source_calls, source_failures, source_ends, source_place};
 
-    /// Returns a source that reports what the reader reports, with no call, failure or end yet.
+    /// Returns a source with the octets that the reader reports, and no read, failure or end yet.
     pub fn new(reader: &'a mut R) -> Self
         ensures octets { source_to_come R.remaining result ≡ R.remaining reader.old }
         ensures calls { source_calls result ≡ 0 }
@@ -129,7 +131,7 @@ impl<R: Read> Source for FromReader<'_, R> {
     }
 }
 
-/// A sink that writes to a borrowed writer. If the writer takes no octet, the write has failed.
+/// A sink that writes to a borrowed writer. If the writer accepts no octet, the write has failed.
 #[derive(Drop)]
 pub struct ToWriter<'a, W> {
     writer: &'a mut W,
@@ -141,7 +143,7 @@ impl<'a, W: Write> ToWriter<'a, W> {
     ghost use Rattle.std.specs.Prelude.{◌≡◌};
     ghost use Rattle.lldp_program.specs.Devices.Adapters.{sink_taken, sink_failures, sink_place};
 
-    /// Returns a sink that reports what the writer reports, with no failure yet.
+    /// Returns a sink with the octets that the writer reports, and no failure yet.
     pub fn new(writer: &'a mut W) -> Self
         ensures octets { sink_taken W.contents result ≡ W.contents writer.old }
         ensures failures { sink_failures result ≡ 0 }

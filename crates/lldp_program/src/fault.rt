@@ -13,30 +13,30 @@ pub enum ProgramFault {
     Read,
     /// A write or a flush failed.
     Write,
-    /// The trace did not end within the most reads that a run makes.
+    /// The trace did not end within 4,294,967,295 reads.
     InputTooLong,
     /// The port could not be bound, accepting failed, or a connection ended with a fault.
     Socket,
-    /// There was no memory for the words or for opening.
+    /// There was no memory for the words or for opening the agent.
     Memory,
     /// No port was named.
     NoPorts,
     /// More than 64 ports were named.
     TooManyPorts,
-    /// A port's name is not the name of a port.
+    /// A port has a name that is not allowed.
     PortName,
     /// Two ports have the same name.
     SamePort,
-    /// The hostname is not a text.
+    /// The hostname is not an allowed text.
     Text,
-    /// `--mac` does not give a MAC.
+    /// The value of `--mac` is not a MAC address.
     Mac,
-    /// `--management` does not give an IPv4 address.
+    /// The value of `--management` is not an IPv4 address.
     Management,
 }
 
 impl ProgramFault {
-    /// Returns the line that reports it, with its LF.
+    /// Returns the line that reports the fault, with its LF.
     pub fn line(self) -> &'static [u8]
         ensures { result.now ≡ line_of self }
     {
@@ -69,7 +69,7 @@ impl ProgramFault {
         }
     }
 
-    /// Returns the fault of a run; its status is 1.
+    /// Returns the program's fault for a fault of a run. Its status is 1.
     pub fn of_run(fault: RunFault) -> ProgramFault
         ensures fault { result ≡ fault_of_run fault }
         ensures status { status_of result ≡ 1 }
@@ -81,7 +81,7 @@ impl ProgramFault {
         }
     }
 
-    /// Returns the refusal of an opening; its status is 2.
+    /// Returns the program's fault for a refused opening. Its status is 2.
     pub fn of_opening(fault: OpenFault) -> ProgramFault
         ensures fault { result ≡ fault_of_opening fault }
         ensures status { status_of result ≡ 2 }
@@ -96,7 +96,7 @@ impl ProgramFault {
         }
     }
 
-    /// Returns the fault of an address among the words; its status is 2.
+    /// Returns the program's fault for an address that cannot be read. Its status is 2.
     pub fn of_address(fault: AddressFault) -> ProgramFault
         ensures fault { result ≡ fault_of_address fault }
         ensures status { status_of result ≡ 2 }

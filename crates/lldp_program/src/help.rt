@@ -1,4 +1,4 @@
-//! What the program's help says besides its options. Its lines have at most 80 columns.
+//! The texts of the program's help, except those of its options. No line has over 80 columns.
 
 pub const VERSION: &str = "1.0.0";
 
@@ -7,7 +7,7 @@ pub const ABOUT: &str =
 from standard input or from connections, and writes the frames to send and the
 answers to the commands.
 
-Each PORT, 1 to 64 of them, is a name of 1 to 15 letters, digits, -, _, / and :.";
+Give 1 to 64 ports, each a name of 1 to 15 letters, digits, -, _, / and :.";
 
 pub const USAGE: &str = "lldpa [OPTIONS] PORT...";
 
@@ -15,11 +15,11 @@ pub const MORE: &str = "Lines of a trace:
   tick                                     one second passes
   tick N                                   N seconds pass, 1 to 65535
   rx PORT HEX                              a frame was received
-  up PORT, down PORT                       a link came up, went down
+  up PORT, down PORT                       a link came up or went down
   show neighbors                           the neighbors of each port
   show statistics                          the counters of each port
-  show chassis                             what the agent says about itself
-  show configuration                       settings, and the status of each port
+  show chassis                             what the agent announces
+  show configuration                       settings and the status of each port
   configure system hostname TEXT           up to 255 printable characters, in
                                            quotes if it has spaces
   configure system description TEXT        the same
@@ -29,7 +29,7 @@ pub const MORE: &str = "Lines of a trace:
                                            1 to 100 [default: 4]
   configure lldp max-neighbors N           1 to the number of --max-neighbors
   configure ports PORT lldp status STATUS  rx-and-tx, rx-only, tx-only, disabled
-  update                                   sends each port's frame again
+  update                                   each port sends its frame again
   # TEXT                                   a comment
 
 Examples:
@@ -38,5 +38,5 @@ Examples:
   lldpa --listen 4711 --connections 10 eth0
                                            talk to it with nc 127.0.0.1 4711
 
-See lldpa(1) for every form of line, what is shown, the error messages and the
-exit statuses.";
+See lldpa(1) for all forms of lines, the output, the error messages and the exit
+statuses.";

@@ -1,4 +1,4 @@
-//! The program except its `main`: words and streams in, the lines of a trace, frames and shows out.
+//! The program without its `main`: it reads words and a trace, and writes frames and shows.
 #![tactic(auto)]
 
 pub mod acceptor;

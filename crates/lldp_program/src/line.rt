@@ -13,17 +13,17 @@ use lldp_engine::{
     split, split_at_bare,
 };
 
-/// How many octets a line has at most, without its LF.
+/// The most octets that a line may have, without its LF.
 pub const LONGEST: usize = 4096;
 
 /// Why a line is refused.
 #[derive(Clone, Copy, Debug, PartialEq, Eq)]
 pub enum LineFault {
-    /// It has more octets than the longest line.
+    /// It has more than 4,096 octets.
     TooLong,
     /// A frame is not written in pairs of hexadecimal digits.
     Hex,
-    /// Every other fault.
+    /// Any other fault.
     Command(CommandFault),
 }
 
@@ -77,7 +77,7 @@ impl LineFault {
     }
 }
 
-/// Returns whether a line has only spaces and tabs, or `#` as the first other octet.
+/// Returns true if a line has only spaces and tabs, or `#` as the first other octet.
 fn is_skipped_line(line: &[u8]) -> bool
     ensures { result ≡ is_skipped line.now }
 {
@@ -89,7 +89,7 @@ fn is_skipped_line(line: &[u8]) -> bool
     true
 }
 
-/// Reads `tick` and `tick N`, after their first word.
+/// Reads `tick` or `tick N`, after its first word.
 #[tactic(auto, unfolding(crate::specs::Trace::Forms::tick_form))]
 fn read_tick<'l>(mut words: Words<'_>) -> Result<Work<'l>, LineFault>
     ensures read { on_ok work_of result ≡ tick_form words.entry }
@@ -114,7 +114,7 @@ fn decode<'l>(digits: &[u8], room: &'l mut [u8]) -> Result<&'l [u8], LineFault>
     if digits.len() % 2 == 0 && decode_digits(digits, octets) {
         return Ok(octets);
     }
-    // Few digits, or digits to be refused.
+    // There are few digits or an odd number of them, or one is bad.
     match hex::decode_to_slice(digits, octets) {
         Ok(()) => Ok(octets),
         Err(_) => Err(LineFault::Hex),
@@ -139,7 +139,7 @@ fn read_frame<'l>(
     Ok(Work::Frame { port, octets })
 }
 
-/// Reads `up PORT` and `down PORT`, after their first word.
+/// Reads `up PORT` or `down PORT`, after its first word.
 #[tactic(auto, unfolding(crate::specs::Trace::Forms::link_form))]
 fn read_link<'l>(agent: &Agent, mut words: Words<'_>, up: bool) -> Result<Work<'l>, LineFault>
     ensures read { on_ok work_of result ≡ link_form agent.now up words.entry }
@@ -150,7 +150,7 @@ fn read_link<'l>(agent: &Agent, mut words: Words<'_>, up: bool) -> Result<Work<'
     Ok(Work::Link { port, up })
 }
 
-/// Returns what follows this front, if the text begins with it.
+/// Returns the text after this front, or None if the text does not begin with it.
 fn behind<'l>(text: &'l [u8], front: &[u8]) -> Option<&'l [u8]>
     ensures { MatchOption result
         ((rest : List ℕ) → text.now ≢ front.now ++ rest)
@@ -160,7 +160,7 @@ fn behind<'l>(text: &'l [u8], front: &[u8]) -> Option<&'l [u8]>
 }
 
 /// Reads the port and the digits of `rx PORT HEX` in its usual form, with one space between words
-/// and no quotes. A line that is not in this form gives None, and is then read word by word.
+/// and no quotes. Returns None for a line in another form, which is then read word by word.
 fn plain_frame<'l>(agent: &Agent, line: &'l [u8]) -> Option<(u8, &'l [u8])>
     requires { length line.now ≤ 4096 }
     ensures reads { IfSome result (λ x. (octets : List ℕ) → decode_of x.1.now ≡ Ok octets →
@@ -186,8 +186,8 @@ fn plain_frame<'l>(agent: &Agent, line: &'l [u8]) -> Option<(u8, &'l [u8])>
 }
 
 /// Reads what a line, without its LF, asks of the agent, or its first fault. The agent accepts the
-/// events of what was read. The octets of a frame are in the room; for other lines nothing is
-/// promised of the room.
+/// events of the work that is returned. The octets of a frame are in the room; for other lines
+/// nothing is promised about the room.
 #[tactic(auto, unfolding(crate::specs::Trace::Forms::work_given, crate::specs::Trace::Forms::form_of))]
 pub fn read_line<'l>(
     agent: &Agent,
@@ -200,7 +200,7 @@ pub fn read_line<'l>(
     if line.len() > LONGEST {
         return Err(LineFault::TooLong);
     }
-    // Most lines are such frames. One with a bad digit is refused below, like every other line.
+    // Most lines are frames in the usual form. Those with a bad digit are refused below.
     if let Some((port, digits)) = plain_frame(agent, line) {
         let count = digits.len() / 2;
         if decode_digits(digits, &mut room[..count]) {

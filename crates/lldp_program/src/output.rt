@@ -1,4 +1,4 @@
-//! Text on its way to a sink. It is gathered, and written in large pieces.
+//! Gathers text for a sink, and writes it in large pieces.
 ghost use Rattle.std.specs.Prelude.{◌≡◌, ◌≤◌, ◌<◌, ◌+◌, ◌*◌, [], length, OnOk};
 ghost use Rattle.std.specs.List.{flat_map, AllByRecursion};
 ghost use Rattle.lldp_engine.specs.AgentState.{names_of, IsPort};
@@ -27,7 +27,7 @@ pub fn send<W: Sink>(sink: &mut W, octets: &[u8]) -> Result<(), DeviceFault>
     Ok(())
 }
 
-/// Writes text to a borrowed sink. A text is gathered, and once it is written none of it waits.
+/// Writes text to a borrowed sink. Each text is gathered; when it ends, all of it is written.
 #[derive(Drop)]
 pub struct Output<'w, W> {
     sink: &'w mut W,
@@ -36,7 +36,7 @@ pub struct Output<'w, W> {
 }
 
 impl<'w, W: Sink> Output<'w, W> {
-    /// Returns an output that reports what the sink reports.
+    /// Returns an output to this sink, with no text that waits.
     pub fn new(sink: &'w mut W) -> Self
         ensures taken { W.taken result.sink.now ≡ W.taken sink.old }
         ensures failures { W.failures result.sink.now ≡ W.failures sink.old }
@@ -71,7 +71,7 @@ impl<W: Sink> Output<'_, W> {
         }
     }
 
-    /// Writes what waits if less room than this is left.
+    /// Writes what waits if there is no room left for this many octets.
     fn make_room(&mut self, octets: usize)
         requires { octets ≤ ROOM }
         ensures puts { Between W.taken W.failures W.place self.old self.new (Puts []) }
@@ -91,7 +91,7 @@ impl<W: Sink> Output<'_, W> {
         self.answer
     }
 
-    /// Appends the line for a frame that a port sent to what waits.
+    /// Appends the line for a frame of a port to the text that waits.
     fn put_frame(&mut self, name: &[u8], frame: &[u8])
         requires name { length name.now ≤ 15 }
         requires frame { length frame.now ≤ 1514 }
@@ -108,7 +108,7 @@ impl<W: Sink> Output<'_, W> {
         }
     }
 
-    /// Appends the lines of what ports send to what waits.
+    /// Appends the lines for the frames that ports send to the text that waits.
     fn put_frames(&mut self, agent: &Agent, marks: &Marks)
         requires { AllByRecursion (λ mark. IsPort agent.now mark.0
             × IsSent mark.1) marks.now.items }
@@ -123,7 +123,7 @@ impl<W: Sink> Output<'_, W> {
         }
     }
 
-    /// Appends a line and its LF to what waits.
+    /// Appends a line and its LF to the text that waits.
     fn put_line(&mut self, line: &[u8])
         requires { length line.now ≤ 2048 }
         ensures { Between W.taken W.failures W.place self.old self.new (Puts (ended line.now)) }
@@ -156,7 +156,7 @@ impl<W: Sink> Output<'_, W> {
         self.end()
     }
 
-    /// Writes the lines of what ports send.
+    /// Writes the lines for the frames that ports send.
     pub fn write_marks(&mut self, agent: &Agent, marks: &Marks) -> Result<(), DeviceFault>
         requires { AllByRecursion (λ mark. IsPort agent.now mark.0
             × IsSent mark.1) marks.now.items }
@@ -164,7 +164,7 @@ impl<W: Sink> Output<'_, W> {
             (Writes (flat_map (mark_line (names_of agent.now) agent.now.configuration)
             marks.now.items) result) }
     {
-        // Most events send nothing, and change nothing here.
+        // Most events send nothing, so nothing is written.
         if marks.is_empty() {
             return Ok(());
         }
@@ -178,7 +178,7 @@ impl<W: Sink> LineSink for Output<'_, W> {
     ghost takes = { λ old new line.
         Between W.taken W.failures W.place old new (Puts (ended line)) };
 
-    /// Lends what waits, so that the next line is written after it.
+    /// Lends the text that waits, so that the next line is appended to it.
     fn begin_line(&mut self) -> Option<&mut Writer> {
         self.make_room(LINE_ROOM);
         if self.answer.is_err() {

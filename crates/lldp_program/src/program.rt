@@ -1,4 +1,4 @@
-//! The program, over arguments and streams that its caller passes.
+//! Runs the program with arguments and streams that its caller passes.
 ghost use Rattle.std.specs.Prelude.{◌≡◌, ◌≢◌, ◌≤◌, ◌⊎◌, ℕ, true, false, None, Ok, Err, map, if◌then◌else◌};
 ghost use Rattle.std.specs.Io.KnownBytes.{Keeps};
 ghost use Rattle.clap.specs.Values.{kind_of};
@@ -28,35 +28,32 @@ use std::net::{Net, TcpListener, TcpStream};
 /// All went well.
 const DONE: u8 = 0;
 
-/// The words are bad, an opening was refused, or there was no memory.
+/// The words are wrong, opening the agent was refused, or there was no memory.
 const REFUSED: u8 = 2;
 
-/// Runs the program on its arguments, of which the first is its name, and returns its status, 0, 1
-/// or 2. It and `arguments::parse`, which it calls, are the only public calls of this crate that
-/// take memory: for the arguments and for opening.
+/// Runs the program on its arguments, the first of which is its name, and returns its status: 0, 1
+/// or 2. Only this call and `arguments::parse`, which it calls, allocate memory in this crate: for
+/// the arguments and for opening the agent.
 ///
+/// The clauses say the following. With status 2 nothing was read and nothing was written. Either
+/// the arguments are wrong by `clap`'s own specification of the command line, or there was no
+/// memory for them, or an address cannot be read, or opening refuses the options, for the first
+/// check that fails or for lack of memory. The line of that fault was written to `faults`; for
+/// wrong arguments the text is `clap`'s. With another status either the arguments ask for help or
+/// the version, and nothing was read; or they have no fault, each option (also the MAC and the
+/// management address) is the value of its argument or its default and is in its range, and opening
+/// accepts the options. Then, without `--listen`, the trace from the reader was run over an agent
+/// with these options, as `run_trace` says, and all of it if the status is 0. With `--listen`
+/// nothing was read or written; the program listens at that port for as many connections as
+/// `--connections` says, 1 by default. Either the status is 0 and nothing was written to `faults`,
+/// or it is the status of the fault whose line was written: of the run, or else of the flush after
+/// it; of the socket with `--listen`; or of writing help or the version.
 ///
-/// The clauses say: with status 2 nothing was read and nothing written. Then the arguments are
-/// wrong by `clap`'s own specification of the command line, or there was no memory for them, or an
-/// address cannot be read, or opening refuses the options, for the first check that fails or for
-/// lack of memory. The line of that fault was written to `faults`; for wrong arguments the text is
-/// `clap`'s instead. With another status the arguments ask for help or the version, and nothing was
-/// read; or they have no fault, each option, the MAC and the management address included, is the
-/// value of its argument or its default and in its range, and opening finds no fault in them.
-/// Without `--listen` the trace of the reader was then run over an agent so opened, as `run_trace`
-/// says, all of it if the status is 0. With `--listen` nothing was read and nothing written; it
-/// listens at the port that `--listen` gives, for as many connections as `--connections` gives, 1
-/// by default. The status is 0 and nothing was written to `faults`, or it is that of the fault
-/// whose line was written: of the run, or else of the flush after it; of the socket with
-/// `--listen`; of the write of help or the version.
+/// The line of a fault is written whole, or up to a write that failed.
 ///
-///
-/// The whole line of a fault is written, or what comes before a write that failed.
-///
-///
-/// No clause says the following, and tests see it: that a write, a flush, a socket or memory whose
-/// fault is reported did fail; the texts of help, of the version and of wrong arguments; and that
-/// with `--listen` the traces come over connections to 127.0.0.1.
+/// Tests show what no clause says: that a reported fault of a write, a flush, a socket or memory
+/// did occur; the texts of help, of the version and of wrong arguments; and that with `--listen`
+/// the traces arrive over connections to 127.0.0.1.
 pub fn run_program<S: AsStr, R: Read, W: Write, E: Write>(
     rt: &impl Net<Listener = TcpListener, Stream = TcpStream>,
     alloc: Global,
@@ -66,13 +63,13 @@ pub fn run_program<S: AsStr, R: Read, W: Write, E: Write>(
     faults: &mut E,
 ) -> u8
     ensures status { result ≤ 2 }
-    // Help or the version was asked for, or the words have no fault, and the trace was run with
-    // their options.
+    // The words ask for help or the version, or they have no fault and the trace was run with their
+    // options.
     ensures answered { result ≢ 2 → (failed : ℕ) × HasAnswered (map S.text words.now)
         (R.remaining reader.old) (R.remaining reader.new)
         (W.contents writer.old) (W.contents writer.new)
         (stream (E.contents faults.old) 0) (stream (E.contents faults.new) failed) result }
-    // If it refuses, it has said why, and has read nothing and written nothing.
+    // If it refuses, it has reported why, and has read nothing and written nothing.
     ensures refused { result ≡ 2 → (failed : ℕ) × HasRefused (map S.text words.now)
         (stream (E.contents faults.old) 0) (stream (E.contents faults.new) failed) }
     ensures silent { result ≡ 2 →
@@ -171,7 +168,7 @@ fn write_help<W: Write, E: Sink>(error: &Error, writer: &mut W, faults: &mut E) 
     finish(writer.flush().is_ok(), faults)
 }
 
-/// Runs the trace that comes from the reader, and flushes the writer even if the run failed.
+/// Runs the trace from the reader, and flushes the writer even if the run failed.
 fn run_streams<R: Read, W: Write, E: Sink>(
     agent: &mut Agent,
     reader: &mut R,
@@ -190,9 +187,9 @@ fn run_streams<R: Read, W: Write, E: Sink>(
     run_devices(agent, &mut source, &mut sink, faults)
 }
 
-/// Runs the trace that comes from a source, and flushes the sink after the last write, even if the
-/// run failed. Status 0 means that no read, write or flush failed, status 1 that one did or that
-/// the trace was too long.
+/// Runs the trace from a source, and flushes the sink after the last write, even if the run failed.
+/// Status 0 means that no read, write or flush failed, status 1 that one did or that the trace was
+/// too long.
 fn run_devices<S: Source, W: Flush, E: Sink>(
     agent: &mut Agent,
     source: &mut S,
@@ -204,7 +201,7 @@ fn run_devices<S: Source, W: Flush, E: Sink>(
         (W.taken sink.old) (W.taken sink.new)
         (stream (E.taken faults.old) (E.failures faults.old))
         (stream (E.taken faults.new) (E.failures faults.new)) agent.old agent.new result }
-    // Status 0 says that no read, write or flush failed, and status 1 that one did or that the
+    // Status 0 means that no read, write or flush failed, and status 1 that one did or that the
     // trace was too long.
     ensures done { result ≡ 0 → (S.failures source.new ≡ S.failures source.old)
         × (W.failures sink.new ≡ W.failures sink.old) }
@@ -213,7 +210,7 @@ fn run_devices<S: Source, W: Flush, E: Sink>(
         FailedBy (S.failures source.new) (W.failures sink.new) (S.calls source.new) }
     ensures places { (S.place source.new ≡ S.place source.old)
         × (W.place sink.new ≡ W.place sink.old) }
-    // It was asked to pass on all that was written, even if the run failed.
+    // The sink was flushed after the last write, even if the run failed.
     ensures flushed { W.is_flushed sink.new ≡ true }
     ensures place { E.place faults.new ≡ E.place faults.old }
 {
@@ -225,7 +222,7 @@ fn run_devices<S: Source, W: Flush, E: Sink>(
     }
 }
 
-/// Runs the traces that come over connections to a port of this host.
+/// Runs the traces that arrive over connections to a port of this host.
 fn run_sockets<E: Sink>(
     rt: &impl Net<Listener = TcpListener, Stream = TcpStream>,
     agent: &mut Agent,
@@ -274,8 +271,8 @@ pub fn no_memory<E: Write>(faults: &mut E) -> u8
     tell(ProgramFault::Memory, &mut ToWriter::new(faults))
 }
 
-/// Writes the line of a fault: all of it, or what comes before a write that failed. Returns its
-/// status, which is the same if the line cannot be written.
+/// Writes the line of a fault, or a part of it if a write fails. Returns the status of the fault,
+/// which does not depend on whether the line was written.
 fn tell<E: Sink>(fault: ProgramFault, faults: &mut E) -> u8
     ensures status { result ≡ status_of fault }
     ensures told { IsTold fault

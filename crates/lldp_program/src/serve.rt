@@ -1,4 +1,4 @@
-//! Traces that come over connections, one after another.
+//! Runs traces that arrive over connections, one after another.
 ghost use Rattle.std.specs.Prelude.{◌≡◌, ◌≤◌, IfOk};
 ghost use Rattle.lldp_engine.specs.Past.{Past};
 ghost use Rattle.lldp_engine.specs.Standing.{Stands};
@@ -31,7 +31,7 @@ impl ServeFault {
     }
 }
 
-/// Returns how many faults a run ended with: one or none.
+/// Returns 1 if a run ended with a fault, else 0.
 fn count_fault(ran: Result<(), RunFault>) -> u16
     ensures { result ≡ faults_in ran }
 {
@@ -41,22 +41,23 @@ fn count_fault(ran: Result<(), RunFault>) -> u16
     }
 }
 
-/// Runs a trace on this many connections of an acceptor. Each is accepted and then run once before
-/// the next, and a fault of one does not keep the next from being served. Returns how many ended
-/// with a fault, at most that many. The agent keeps its state from one connection to the next. If
-/// accepting is refused it fails, and the agent stands for the fewer connections served so far. The
-/// acceptor is asked for nothing else, if it reports its calls. Either way the agent is promised
-/// for its past and some more allowed events.
+/// Accepts this many connections, one after another, and runs the trace that arrives over each
+/// before it accepts the next, even after a fault. Returns how many of them ended with a fault. The
+/// agent keeps its state from one connection to the next. If accepting fails, it returns that
+/// fault, and the agent has run the traces before it. An acceptor that reports its calls reports no
+/// others. In every case the promise holds for the agent, after its past and some more allowed
+/// events.
 pub fn serve_connections<D: Acceptor>(
     agent: &mut Agent,
     acceptor: &mut D,
     connections: u16,
 ) -> Result<u16, ServeFault>
-    // All that the acceptor was asked: connections, each run over once, or fewer and a refusal.
+    // The calls of the acceptor: each connection was accepted and run over once, or accepting
+    // failed before the last.
     ensures asked { HasAsked D.to_come D.taken (D.asked acceptor.old) (D.asked acceptor.new) connections
         agent.old agent.new result }
     ensures few { IfOk result (λ faulty. faulty ≤ connections) }
-    // Whatever came over the connections, and also if accepting failed.
+    // This holds whatever came over the connections, even if accepting failed.
     ensures headline { (past : Past) → Stands past agent.old → KeepsOn past agent.new }
 {
     let mut faulty = 0;
@@ -69,10 +70,10 @@ pub fn serve_connections<D: Acceptor>(
     Ok(faulty)
 }
 
-/// Binds a port of this host, 127.0.0.1, before anything else, and serves this many connections
-/// there. Ok exactly if all were served and none ended with a fault. Fails if it cannot bind, and
-/// then asks for nothing else; if accepting failed; and if a connection ended with a fault. The
-/// agent is promised either way.
+/// Binds a port of 127.0.0.1 first, and then serves this many connections there. Ok exactly if all
+/// were served and none ended with a fault. Fails if binding fails, with no further call of the
+/// acceptor; if accepting fails; or if a connection ends with a fault. The promise holds for the
+/// agent in every case.
 pub fn listen<D: Bind>(
     agent: &mut Agent,
     acceptor: &mut D,
@@ -91,13 +92,12 @@ pub fn listen<D: Bind>(
     }
 }
 
-/// Serves this many connections to a listener, as `serve_connections` does at an acceptor, and
-/// returns how many ended with a fault, at most that many. The toolchain's sockets do not report
-/// their octets, and a listener does not report its calls, so no clause says that any client is
-/// served.
+/// Serves this many connections to a listener, as `serve_connections` does, and returns how many of
+/// them ended with a fault. The toolchain's sockets do not report their octets, and a listener does
+/// not report its calls, so no clause says that any client is served.
 pub fn serve(agent: &mut Agent, listener: &TcpListener, connections: u16) -> Result<u16, ServeFault>
     ensures few { IfOk result (λ faulty. faulty ≤ connections) }
-    // Whatever came over the connections, and also if accepting failed.
+    // This holds whatever came over the connections, even if accepting failed.
     ensures headline { (past : Past) → Stands past agent.old → KeepsOn past agent.new }
 {
     serve_connections(agent, &mut AtListener { listener }, connections)

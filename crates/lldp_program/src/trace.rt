@@ -1,4 +1,4 @@
-//! A run over a trace.
+//! Runs a trace over an agent.
 ghost use Rattle.std.specs.Prelude.{◌≡◌, ◌<◌, ◌≤◌, ◌+◌, ◌^◌, [], ◌∷◌, length, take, drop, replicate, IfOk};
 ghost use Rattle.lldp_engine.specs.AgentState.{Allows};
 ghost use Rattle.lldp_text.specs.Answer.{on_ok};
@@ -25,7 +25,7 @@ const LF: u8 = b'\n';
 /// How many octets of the trace the buffer holds.
 const BUFFER: usize = 16384;
 
-/// How often a run reads at most.
+/// The most reads of a run.
 pub const MOST_READS: u32 = 4_294_967_295;
 
 /// Why a run ended before the end of its trace.
@@ -37,7 +37,7 @@ pub enum RunFault {
     /// A write failed.
     #[error("lldpa: write failed")]
     Write = 2,
-    /// The end was not reached within the most reads that a run makes.
+    /// The trace did not end within 4,294,967,295 reads.
     #[error("lldpa: input too long")]
     InputTooLong = 3,
 }
@@ -51,7 +51,7 @@ impl RunFault {
     }
 }
 
-/// Takes an event that the agent allows, and writes what ports send.
+/// Runs an event that the agent allows, and writes what ports send.
 fn run_event<W: Sink>(
     agent: &mut Agent,
     output: &mut Output<'_, W>,
@@ -65,7 +65,7 @@ fn run_event<W: Sink>(
     output.write_marks(agent, &marks)
 }
 
-/// Takes some ticks.
+/// Runs this many ticks.
 fn run_ticks<W: Sink>(
     agent: &mut Agent,
     output: &mut Output<'_, W>,
@@ -80,7 +80,7 @@ fn run_ticks<W: Sink>(
     Ok(())
 }
 
-/// Does what a line was read as.
+/// Does the work that was read from a line, or reports the line's fault.
 fn run_work<W: Sink>(
     agent: &mut Agent,
     output: &mut Output<'_, W>,
@@ -103,7 +103,7 @@ fn run_work<W: Sink>(
     }
 }
 
-/// A run over a trace: its agent, where its text is written, and room for the octets of a frame.
+/// A run over a trace: its agent, the output for its text, and room for the octets of a frame.
 #[derive(Drop)]
 struct Run<'a, 'w, W> {
     agent: &'a mut Agent,
@@ -123,8 +123,8 @@ impl<W: Sink> Run<'_, '_, W> {
         run_work(self.agent, &mut self.output, read)
     }
 
-    /// Does what each line asks for whose LF is among the octets. The first octets were searched
-    /// before. Returns where the rest begins.
+    /// Does what each line asks for, if its LF is among the octets. The first `searched` octets
+    /// have no LF. Returns where the unfinished line begins.
     fn lines(&mut self, octets: &[u8], searched: usize) -> Result<usize, DeviceFault>
         requires within { searched ≤ length octets.now }
         requires no_line { ended_lines (take searched octets.now) ≡ [] }
@@ -156,54 +156,50 @@ impl<W: Sink> Run<'_, '_, W> {
     }
 }
 
-/// Runs a trace over the agent: reads it to its end, does what each line asks for as soon as its LF
-/// was read, and writes the answers, however the octets were split over reads. It does not flush.
-/// Every failed read or write ends it. A last line without LF is a line too; one over 4,096 octets
-/// is skipped and refused.
+/// Runs a trace over the agent. It reads the trace to its end, does what each line asks for as soon
+/// as its LF was read, and writes the answers, however the octets are split over reads. It does not
+/// flush. The first failed read or write ends the run. A last line without LF is a line too. A line
+/// over 4,096 octets is refused, and does nothing.
 ///
-///
-/// For every past that the agent stood for. Ok: the end was reached, what was written is the text
-/// of the trace, and the agent stands for the past plus the events of the input. Read and
-/// InputTooLong: each line whose LF was read was done, and nothing else was written. Write: the
-/// agent stands for the events up to and including the item whose output failed; the text of the
-/// items before it was written, and a part of its own text, but not all. Each time the agent is
-/// promised for what it stands for. What was read, that the end was reached, and how many octets
-/// there were is said without any past. `headline` holds over any devices, even those that report
-/// no octets.
-///
+/// For every past that the agent stood for: Ok means that the end was reached, the text of the
+/// trace was written, and the agent stands for the past plus the events of the input. Read and
+/// InputTooLong mean that each line whose LF was read was done, and nothing else was written. Write
+/// means that the agent stands for the events up to and including the item whose output failed; the
+/// text of the items before it was written, and a part of its own text, but not all. In each case
+/// the promise holds for the agent after these events. What was read, that the end was reached, and
+/// how many octets there were do not depend on a past. `headline` holds over any devices, even
+/// those that report no octets.
 ///
 /// It reads at most 4,294,967,295 times. If it returns InputTooLong, and the source was read fewer
-/// than 2^63 times before, it has read exactly so often, and at least as many octets. Failed reads
-/// rise by one exactly if the answer is Read, failed writes exactly if it is Write; a count stops
-/// at 2^64 - 1. At Ok the end was returned once, at Read and InputTooLong by none of the reads. The
-/// devices are still those that were lent.
+/// than 2^63 times before, it has made exactly this many reads, and read at least this many octets.
+/// Failed reads rise by one exactly if the answer is Read, failed writes exactly if it is Write; a
+/// count stops at 2^64 - 1. With Ok one read returned the end, with Read and InputTooLong none did.
+/// The devices are still those that the caller passed.
 ///
-///
-/// It takes no memory: it and all that it calls are given no allocator, and its buffers have fixed
-/// sizes: 16,384 octets read, 8,192 to be written, 2,048 for a received frame, 1,514 for a sent
-/// one.
+/// It allocates no memory: neither it nor any call that it makes is given an allocator, and its
+/// buffers have fixed sizes: 16,384 octets for reading, 8,192 for writing, 2,048 for a received
+/// frame, 1,514 for a sent one.
 pub fn run_trace<S: Source, W: Sink>(
     agent: &mut Agent,
     reader: &mut S,
     writer: &mut W,
 ) -> Result<(), RunFault>
-    // What was read, what was written for it, and what the agent stands for then and keeps its
-    // promise for.
+    // What was read, what was written for it, and for which past the promise then holds.
     ensures run { HasRun (S.to_come reader.old) (S.to_come reader.new)
         (W.taken writer.old) (W.taken writer.new) agent.old agent.new result }
-    // Over any devices, even those that report no octets: the agent stands for its past and some more
-    // events. Then each table holds the last stored frames that have not expired, and each port has
-    // sent exactly what was due while its credit window was open; no run of events has more frames,
-    // nor more stops, than its bound, and no other choice has sent more up to any event.
+    // For any devices, even those that report no octets: the agent stands for its past and some
+    // more events. Each table holds the last stored frames that have not expired. Each port has
+    // sent exactly what was due while its credit window was open. No sequence of events has more
+    // frames, nor more stops, than its bound. No other choice would have sent more up to any event.
     ensures headline { (past : Past) → Stands past agent.old → KeepsOn past agent.new }
-    // Read is answered exactly if a read failed, Write exactly if a write did, once and as
-    // the last call; if the answer is another, InputTooLong among them, no device failed.
+    // The answer is Read exactly if a read failed, and Write exactly if a write did; that was the
+    // only failed call, and the last. With any other answer, also InputTooLong, no device failed.
     ensures reads { S.failures reader.new ≡ read_failures_after (S.failures reader.old) result }
     ensures writes { W.failures writer.new ≡ write_failures_after (W.failures writer.old) result }
-    // If the answer is Ok the last read answered the end; if it is Read or InputTooLong, none
-    // of the reads did.
+    // If the answer is Ok, the last read returned the end. If it is Read or InputTooLong, no read
+    // did.
     ensures ends { EndsTold (S.ends reader.old) (S.ends reader.new) result }
-    // The devices are the ones that were lent.
+    // The devices are still those that the caller passed.
     ensures places { (S.place reader.new ≡ S.place reader.old)
         × (W.place writer.new ≡ W.place writer.old) }
     ensures calls { S.calls reader.new ≤ S.calls reader.old + 4294967295 }

@@ -1,5 +1,5 @@
-//! What no clause says of `lldp_engine`: that opening works if there is memory, and what code
-//! answers that the program does not run.
+//! Tests of `lldp_engine` for what no clause says: that opening works if there is memory, and the
+//! answers to calls that the program does not make.
 mod embedded;
 mod memory;
 mod opening;
@@ -8,7 +8,7 @@ use lldp_engine::{Agent, OpenFault, Options, Role};
 use std::alloc::Allocator;
 use std::process::Abort;
 
-/// Names of as many ports as an agent can have.
+/// The names of 64 ports, as many as an agent can have.
 const NAMES: [&str; 64] = [
     "p00", "p01", "p02", "p03", "p04", "p05", "p06", "p07", "p08", "p09", "p10", "p11", "p12",
     "p13", "p14", "p15", "p16", "p17", "p18", "p19", "p20", "p21", "p22", "p23", "p24", "p25",
@@ -17,7 +17,7 @@ const NAMES: [&str; 64] = [
     "p52", "p53", "p54", "p55", "p56", "p57", "p58", "p59", "p60", "p61", "p62", "p63",
 ];
 
-/// Returns the options of agents with the program's defaults, except that the ports only receive.
+/// Returns the program's default options with these ports, this limit, and `receive_only`.
 pub fn only_receiving<'a>(ports: &'a [&'a str], max_neighbors: u8) -> Options<'a> {
     Options {
         ports,

@@ -1,5 +1,5 @@
 //! Tests of the other crates through their public calls. They are in a crate of their own, since a
-//! crate with tests is proved twice, with them and without.
+//! crate with tests is proved twice: with them and without.
 #![tactic(auto)]
 
 #[cfg(test)]

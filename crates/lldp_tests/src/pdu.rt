@@ -1,4 +1,4 @@
-//! TLVs that are read one by one.
+//! Tests that LLDPDUs are read TLV by TLV.
 mod altered;
 mod slow_reader;
 mod told;

@@ -1,5 +1,5 @@
-//! What no transcript of `examples/` can show: devices that read and write little at a time and
-//! fail, and connections.
+//! Tests what no transcript of `examples/` can show: devices that read and write little at a time
+//! and fail, and connections.
 
 mod devices;
 mod failing;

@@ -1,4 +1,4 @@
-//! The rows of examples/vectors.rows, of which tools/write/vectors.py writes `rows.rt`.
+//! Reads the rows of examples/vectors.rows, which tools/write/vectors.py copies to `rows.rt`.
 use crate::rows::ROWS;
 use std::alloc::{AllocError, Global};
 use std::test::Fail;

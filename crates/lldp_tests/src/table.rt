@@ -1,4 +1,4 @@
-//! The worked rows of a table, call by call, and its memory.
+//! Tests the worked examples of a table, call by call, and the memory that a table needs.
 ghost use Rattle.std.specs.Prelude.{◌≤◌, length};
 
 use linked_list_allocator::LocalHeap;
@@ -8,8 +8,8 @@ use std::alloc::Allocator;
 use std::process::Abort;
 use std::test::Fail;
 
-/// Returns a Chassis ID with the MAC 00:11:22:33:44:55, a Port ID with the interface name `eth` and
-/// this octet, a TTL and an End.
+/// Returns an LLDPDU: a Chassis ID with the MAC 00:11:22:33:44:55, a Port ID with the interface
+/// name `eth` and this octet, a TTL and an End.
 fn lldpdu(port: u8, ttl: u8) -> [u8; 22] {
     [
         0x02, 0x07, 0x04, 0x00, 0x11, 0x22, 0x33, 0x44, 0x55, 0x04, 0x05, 0x05, b'e', b't', b'h',
@@ -28,7 +28,7 @@ fn told<'a>(rt: &impl Abort, pdu: &'a [u8]) -> Info<'a>
     }
 }
 
-/// Checks that the neighbor at place `i` has this frame, with this many ticks left.
+/// Checks that the neighbor at place `i` has this LLDPDU, with this many ticks left.
 fn expect_entry<A: Allocator>(rt: &impl Abort, table: &Table<A>, i: u8, pdu: &[u8; 22], left: u16) {
     assert!(rt; i < table.len());
     let entry = table.entry(i);
@@ -41,17 +41,17 @@ fn expect_entry<A: Allocator>(rt: &impl Abort, table: &Table<A>, i: u8, pdu: &[u
     assert!(rt; entry.kept().next().is_none());
 }
 
-/// Gives the table a frame, and checks what it does with it.
+/// Passes an LLDPDU to the table, and checks what the table does with it.
 fn learns<A: Allocator>(rt: &impl Abort, table: &mut Table<A>, pdu: &[u8; 22], answer: Learned) {
     assert_eq!(rt; table.learn(&told(rt, pdu)), answer);
 }
 
-/// Withdraws the neighbor of the frame, and checks whether it was held.
+/// Removes the neighbor of the LLDPDU, and checks whether it was held.
 fn forgets<A: Allocator>(rt: &impl Abort, table: &mut Table<A>, pdu: &[u8; 22], held: bool) {
     assert_eq!(rt; table.forget(&told(rt, pdu).msap()), held);
 }
 
-/// Takes this many ticks, and checks that this many neighbors age out at each.
+/// Passes this many ticks to the table, and checks that this many neighbors age out at each.
 fn ticks<A: Allocator>(rt: &impl Abort, table: &mut Table<A>, count: u8, gone: u8) {
     for _ in 0..count {
         assert_eq!(rt; table.tick(), gone);
@@ -114,8 +114,8 @@ fn equal_expiries(rt: HostRuntime) -> Result<(), Fail> {
     Ok(())
 }
 
-/// Checks that the one allocation is for all neighbors, and is refused if there is less room, and
-/// that no call after it takes any, even if none is left.
+/// Checks that there is one allocation, for all neighbors; that it is refused if there is less
+/// room; and that no later call needs memory.
 #[test]
 fn memory(rt: HostRuntime) -> Result<(), Fail> {
     for limit in [1u8, 32, 128] {

@@ -1,9 +1,9 @@
-//! The worked examples of causes and their marks, by the rows of examples/vectors.rows.
+//! Tests the examples of causes and their marks in examples/vectors.rows.
 use crate::row::rows_of;
 use lldp_transmit::{Cause, Mark, Transmit};
 use std::test::Fail;
 
-/// Causes and marks by the numbers of the rows.
+/// The causes and the marks, in the order of their numbers in the rows.
 const CAUSES: &[Cause] = &[
     Cause::Tick,
     Cause::Change,

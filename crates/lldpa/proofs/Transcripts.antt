@@ -40,7 +40,7 @@ texts_of past (line ∷ lines) =
 abbrev texts : Past → List ℕ → List (List ℕ)
 texts past input = texts_of past (lines_of input)
 
--- texts, one behind another
+-- texts, one after another
 abbrev in_order : List (List ℕ) → List ℕ
 in_order [] = []
 in_order (line ∷ lines) = line ++ in_order lines
@@ -55,12 +55,12 @@ joined_lines past (line ∷ lines) =
 text_in_order : (past : Past) (input : List ℕ) → text past input ≡ in_order (texts past input)
 text_in_order past input = joined_lines past (lines_of input)
 
--- whether a line has this text
+-- true if a line contains this text
 abbrev has : List ℕ → List ℕ → Bool
 has sought [] = false
 has sought (octet ∷ line) = starts_with nat_eq (octet ∷ line) sought || has sought line
 
--- the lines that have one of some texts, and all where there are none
+-- the lines that contain one of these texts, or all lines if there is no text
 abbrev lines_with : List Text → List ℕ → List ℕ
 lines_with [] written = written
 lines_with (sought ∷ more) written =
@@ -70,19 +70,19 @@ lines_with (sought ∷ more) written =
 abbrev AsksFor : List Text → Options → Type 0
 AsksFor words options = (roles : Bor (List (Bor Text))) → Asks (matches_of (program roles) words) options
 
--- The words ask for options without a fault, and an agent opened with them writes these lines that have one of the
--- texts sought, a text for each line of the input.
+-- The words ask for options without a fault. For each line of the input, an agent with these
+-- options writes these lines, among those that contain one of the texts sought.
 record Shows (sought : List Text) (words : List Text) (input : List ℕ) (lines : List (List ℕ)) : Type 0 where
   options : Options
   asked : AsksFor words options
   sound : opening_fault options ≡ None
   written : map (lines_with sought) (texts (opened options) input) ≡ lines
 
--- the same of all lines
+-- the same, with all lines compared
 abbrev Writes : List Text → List ℕ → List (List ℕ) → Type 0
 Writes words input lines = Shows [] words input lines
 
--- one port, eth0, and all else as the program has it by default
+-- one port, eth0, and otherwise the defaults of the program
 abbrev usual : Options
 usual =
     record {
@@ -98,7 +98,7 @@ usual =
       receive_only = false;
     }
 
--- what a transcript computes with: each definition that opens by name alone
+-- the definitions that a transcript unfolds to compute, each of which has to be named
 computed : Unit {0}
 unfolding digits encode_with decode_pairs
     cut_within cut is_lldp_frame extent ended_incomplete ttl_of msap_of later_tlvs fault_of is_well_formed
@@ -1122,17 +1122,17 @@ wait_runs_on_while_down : Writes
 unfolding computed
 wait_runs_on_while_down = record { options = usual; asked = words_of_disabled_hears_nothing; sound = refl; written = refl }
 
--- the counters that receive-counters.rows looks at
+-- the counters that receive-counters.rows checks
 abbrev counters : List Text
 counters = codes "lldp.eth0.sent=" ∷ codes "lldp.eth0.shutdowns=" ∷ codes "lldp.eth0.received=" ∷ codes "lldp.eth0.discarded=" ∷ codes "lldp.eth0.errors=" ∷ codes "lldp.eth0.tlvs-discarded=" ∷ codes "lldp.eth0.unrecognized=" ∷ codes "lldp.eth0.ageouts=" ∷ codes "lldp.eth0.drops=" ∷ []
 
--- the lines of some counters with some values
+-- the lines of these counters with these values
 abbrev valued : List Text → List ℕ → List ℕ
 valued [] values = []
 valued (counter ∷ more) [] = []
 valued (counter ∷ more) (value ∷ values) = counter ++ decimal value ++ codes "\n" ++ valued more values
 
--- the lines of the counters, of what the agent of a transcript writes with `show statistics` behind its input
+-- the lines of the counters if `show statistics` follows the input of a transcript
 abbrev counted : {sought words : List Text} {input : List ℕ} {lines : List (List ℕ)}
     → Shows sought words input lines → List ℕ
 counted {input = input} shown =

@@ -1,4 +1,4 @@
-//! An LLDP agent over a trace: standard input to standard output, or over connections.
+//! Runs an LLDP agent over a trace, from standard input to standard output or over connections.
 #![tactic(auto)]
 
 use lldp_program::program;

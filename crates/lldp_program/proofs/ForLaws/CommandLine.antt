@@ -31,7 +31,7 @@ role_read Router = refl
 pub has_roles : (roles : Bor (List (Bor Text))) → HasRoles roles
 has_roles roles = record { all = (λ e. e, λ e. e); each = role_read }
 
--- the greatest number of an option is the one that stands there
+-- a number in the range of an option is in every equal range
 taken_to : (n most greatest : ℕ) → number_to most ≡ number_to greatest → 1 ≤ n → n ≤ greatest → (1 ≤ n) × (n ≤ most)
 taken_to n most greatest e low high = let same : most ≡ greatest = cc in (low, rw same high)
 

@@ -19,7 +19,7 @@ is_cut (octet ∷ octets) =
       | inr ne ↦ rw (ended_lines-other octet octets ne, unfinished-other octet octets ne) (onto octet (ended_lines octets) (unfinished octets) octets ne c)
     ]
 
--- what is before an LF is a line
+-- the octets before an LF are a line
 front : (line octets : List ℕ) → HasNoLf line → (ended_lines (line ++ 10 ∷ octets) ≡ line ∷ ended_lines octets) × (unfinished (line ++ 10 ∷ octets) ≡ unfinished octets)
 front [] octets clear = (refl, refl)
 front (octet ∷ line) octets clear =

@@ -1,4 +1,4 @@
--- What is asked to listen to: by all texts, and by worked command lines, computed.
+-- What the options ask to listen to: for all texts, and for worked command lines by computation.
 use Rattle.std.proofs.Common.{◌≡◌, ℕ, List, Option, Some, None, refl, codes, Bor}
 use Rattle.clap.specs.Walk.{Text}
 use Rattle.clap.proofs.OnLiterals.{clap_on_literals}

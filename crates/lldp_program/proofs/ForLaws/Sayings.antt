@@ -1,4 +1,4 @@
--- What first words decide, and which lines are passed over.
+-- What first words decide, and which lines are skipped.
 use Rattle.std.proofs.Common.{◌≡◌, ℕ, ◌≤◌, ◌⊎◌, true, false, Bool, List, [], ◌∷◌, ◌++◌, length, Result, Ok, Err, refl, ap, inl, inr}
 use Rattle.std.specs.Prelude.{◌≢◌, ◌==◌, if◌then◌else◌}
 use Rattle.std.proofs.lemmas.Bool.{cases_Bool, cases_lt, lt-ltb, le-ltb, eqb-true, or_cases}
@@ -31,7 +31,7 @@ pub command_begins : (agent : AgentState) (words : List (List ℕ)) (word : List
 unfolding form_of
 command_begins agent words word a b c d = rw (differs word tick_word a, differs word rx_word b, differs word up_word c, differs word down_word d) refl
 
--- a step after another never skips if it doesn't after any answer
+-- two steps never skip if the second never does, whatever the first answers
 then_never : {A : Type 0} (r : Result A LineFault) (next : A → Result Work LineFault) → ((a : A) → next a ≡ Ok skip → ⊥) → (r >>= next) ≡ Ok skip → ⊥
 then_never (Ok a) next never h = never a h
 then_never (Err fault) next never h = cc

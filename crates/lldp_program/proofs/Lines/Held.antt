@@ -16,7 +16,7 @@ between_front xs start end n order =
     let e : end ≡ start + (end - start) = omega arith in
     ap (λ k. take n (drop start (take k xs))) e ∙ ap (take n) (drop-take start (end - start) xs) ∙ take-take_min n (end - start) (drop start xs)
 
--- what was moved to the front stands there
+-- what was moved to the front is held there
 pub held_moved : (xs : List ℕ) (start end held : ℕ) → start ≤ end → end ≤ length xs → held ≡ min (end - start) 4097 → take held (copy_within xs start (start + held) 0) ≡ take 4097 (drop start (take end xs))
 held_moved xs start end held order within is =
     let n : start + held - start ≡ held = omega arith in
@@ -24,7 +24,7 @@ held_moved xs start end held order within is =
     ap (λ k. take held (take 0 xs ++ take k (drop start xs) ++ drop (0 + k) xs)) n
     ∙ take_at (take held (drop start xs)) (drop (0 + held) xs) held (length-take-le held (drop start xs) long) ∙ ap (λ k. take k (drop start xs)) is ∙ sym (between_front xs start end 4097 order)
 
--- what stood at the front already is held there
+-- what was at the front before is held there
 pub held_there : (xs : List ℕ) (start end held : ℕ) → start ≡ 0 → held ≡ min (end - start) 4097 → take held xs ≡ take 4097 (drop start (take end xs))
 held_there xs start end held zero is =
     let order : start ≤ end = omega arith in

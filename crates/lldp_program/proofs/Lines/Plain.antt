@@ -1,4 +1,4 @@
--- What a frame's line says that is written without quotes and with single spaces.
+-- What the line of a frame says if it has no quotes, and one space between words.
 use Rattle.std.proofs.Common.{◌≡◌, ℕ, ◌<◌, ◌≤◌, true, false, List, [], ◌∷◌, ◌++◌, length, Some, Ok, refl, ap, sym, arith, inl, append-nil, nat_lt, get_or}
 use Rattle.std.specs.List.{AllPass}
 use Rattle.std.proofs.lemmas.Bool.{le-ltb}
@@ -12,11 +12,11 @@ use Rattle.lldp_text.proofs.WordsGrammar.{read_from_spelled}
 use Rattle.lldp_program.specs.Trace.Forms.{work_given, form_of, frame_form}
 use Rattle.lldp_program.specs.Trace.Work.{frame}
 
--- a digit is no separator and no quote
+-- a digit is neither a separator nor a quote
 digit_is_bare : (c : ℕ) → is_hex_digit c ≡ true → is_bare c ≡ true
 digit_is_bare c h = grind (arith)
 
--- one space
+-- a space is a separator
 space : AllPass is_separator (32 ∷ [])
 space = All-cons (λ c. is_separator c ≡ true) 32 [] refl (All-nil (λ c. is_separator c ≡ true))
 

@@ -1,4 +1,4 @@
--- Runs, one after another.
+-- Two runs, one after the other.
 use Rattle.std.proofs.Common.{◌≡◌, ℕ, suc, zero, ◌+◌, ◌<◌, List, [], ◌∷◌, ◌++◌, replicate, refl, sym, ap, ◌∙◌, append_assoc, arith, Option, subst}
 use Rattle.std.specs.Prelude.{Result, Ok, Err}
 use Rattle.std.specs.Io.KnownBytes.{Appends}
@@ -53,7 +53,7 @@ done_then past xs ys a b c agent h k = record {
   promised = rw after_all-append k.promised;
 }
 
--- what failed among the first items failed
+-- if a list of items failed, it also fails with more items after it
 pub failed_early : (past : Past) (xs ys : List Item) (a b : Option (List ℕ)) (agent : AgentState) → Failed past xs a b agent → Failed past (xs ++ ys) a b agent
 failed_early past xs ys a b agent h = record {
   before = h.before;
@@ -67,7 +67,7 @@ failed_early past xs ys a b agent h = record {
   promised = h.promised;
 }
 
--- what failed after items that were done failed
+-- if a list of items failed, it also fails after items that were done
 pub failed_later : (past : Past) (xs ys : List Item) (a b c : Option (List ℕ)) (agent : AgentState) → Appends a b (text_of_all past xs) → Failed (after_all past xs) ys b c agent → Failed past (xs ++ ys) a c agent
 failed_later past xs ys a b c agent h k = record {
   before = xs ++ k.before;
@@ -84,7 +84,7 @@ failed_later past xs ys a b c agent h k = record {
 pub done_same : (past : Past) (xs ys : List Item) (a b : Option (List ℕ)) (agent : AgentState) → xs ≡ ys → Done past xs a b agent → Done past ys a b agent
 done_same past xs ys a b agent e h = rw (← e) h
 
--- ## A part of a run and another
+-- ## Two parts of a run
 
 pub nothing_runs : {T : Type 0} (items : Past → List Item) (agent : AgentState) (o : Output) (done : T) → ((past : Past) → items past ≡ []) → RunsItems {T = T} items (Ok done) agent agent o o
 nothing_runs items agent o done none = record {
@@ -97,14 +97,14 @@ item_ended past item (Ok done) a b agent text is h k = done_one past item a b ag
 item_ended past item (Err fault) a b agent text is h k =
     failed_one past item a b agent (subst (λ (t : List ℕ). IsWritten (IsCutOff t) a b) is h) k
 
--- one item, by the text that was written for it
+-- a run of one item, if its text was written
 pub one_item : (item : Item) (before agent : AgentState) (r : Result (Unit {0}) DeviceFault) (o p : Output) (text : List ℕ) → ((past : Past) → Stands past before → Stands (after past item) agent × (text ≡ text_of past item)) → Writes text r o p → RunsItems (λ _. item ∷ []) r before agent o p
 one_item item before agent r o p text gives h = record {
   ended = λ past stands. let given = gives past stands in item_ended past item r _ _ agent text given.1 h.written given.0;
   same = h.same;
 }
 
--- the lines of a show that the agent has are those that its past gives
+-- a run of a show: the lines that the agent gives are those of its past
 pub show_runs : (items : List Item) (show : Show) (agent : AgentState) (r : Result (Unit {0}) DeviceFault) (o p : Output) → items ≡ shows show ∷ [] → Writes (flat_map ended (lines_of show agent)) r o p → RunsItems (λ _. items) r agent agent o p
 show_runs items show agent r o p is h =
     rw is (one_item (shows show) agent agent r o p _ (λ past stands. (stands, ap (λ seen. flat_map ended (lines_of show seen)) stands.is)) h)
@@ -123,7 +123,7 @@ pub ended_then : {T : Type 0} (past : Past) (xs ys : List Item) (r : Result T De
 ended_then past xs ys (Ok done) a b c agent h k = done_then past xs ys a b c agent h k
 ended_then past xs ys (Err fault) a b c agent h k = failed_later past xs ys a b c agent h k
 
--- what was asked for first was done, and then what was asked for after it
+-- two parts of a run, if the first was done
 pub runs_then : {T : Type 0} (xs ys zs : Past → List Item) (r : Result T DeviceFault) (before between agent : AgentState) (o p q : Output) (done : Unit {0}) → ((past : Past) → xs past ++ ys (after_all past (xs past)) ≡ zs past)
     → RunsItems {T = Unit {0}} xs (Ok done) before between o p → RunsItems ys r between agent p q → RunsItems zs r before agent o q
 runs_then xs ys zs r before between agent o p q done is h k = record {
@@ -133,7 +133,7 @@ runs_then xs ys zs r before between agent o p q done is h k = record {
   same = same_then o p q done r h.same k.same;
 }
 
--- what failed among the first items failed
+-- two parts of a run, if the first failed
 pub runs_cut_off : {T X : Type 0} (xs ys zs : Past → List Item) (fault other : DeviceFault) (before agent : AgentState) (o p : Output) → ((past : Past) → xs past ++ ys past ≡ zs past) → RunsItems {T = T} xs (Err fault) before agent o p → RunsItems {T = X} zs (Err other) before agent o p
 runs_cut_off xs ys zs fault other before agent o p is h = record {
   ended = λ past stands. subst (λ (items : List Item). Failed past items o.taken p.taken agent) (is past) (failed_early past (xs past) (ys past) _ _ agent (h.ended past stands));

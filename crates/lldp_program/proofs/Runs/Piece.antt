@@ -22,19 +22,19 @@ use Rattle.lldp_program.proofs.Runs.Joined.{ended_then}
 pub held_and_piece : (old new : List ℕ) (held n : ℕ) (p : List ℕ) → take held new ≡ take held old → take held old ≡ take 4097 p → take (held + n) new ≡ take 4097 p ++ take n (drop held new)
 held_and_piece old new held n p kept is = take-add held n new ∙ ap (λ t. t ++ take n (drop held new)) (kept ∙ is)
 
--- what is held has no LF
+-- the held octets have no LF
 pub held_no_lf : (old new : List ℕ) (held n : ℕ) (xs : List ℕ) → take held new ≡ take held old → take held old ≡ take 4097 (unfinished xs) → ended_lines (take held (take (held + n) new)) ≡ []
 held_no_lf old new held n xs kept is =
     ap ended_lines (take-take held (held + n) new (omega arith) ∙ kept ∙ is) ∙ no_lf-take 4097 (unfinished xs) (unfinished_no_lf xs)
 
--- the end came
+-- if the last read returned the end, the input so far is all that was consumed
 pub consumes_end : (a b c : Option (List ℕ)) (xs ys : List ℕ) (n : ℕ) → Consumes a b xs → n ≡ 0 → Consumes b c (take n ys) → Consumes a c xs
 consumes_end a b c xs ys n h zero k =
     let none : take n ys ≡ [] = ap (λ k. take k ys) zero in
     let joined : xs ++ take n ys ≡ xs = ap (λ t. xs ++ t) none ∙ append-nil xs in
     rw joined at (consumes_then a b c xs (take n ys) h k)
 
--- what came of items after others that were done, with any answer
+-- how a run over lines ends if the lines before them were done, for any answer
 module _ {T : Type 0} (r : Result T DeviceFault) (past : Past) (a b c : Option (List ℕ)) (agent : AgentState) where
   lines_end : (ls ms : List (List ℕ)) → Appends a b (text_of_all past (items_of_lines past ls))
       → Ended r (after_all past (items_of_lines past ls)) (items_of_lines (after_all past (items_of_lines past ls)) ms) b c agent
@@ -61,7 +61,7 @@ module _ {T : Type 0} (r : Result T DeviceFault) (past : Past) (a b c : Option (
       let same = ap (λ t. items_of_lines now (if_any t)) is ∙ same_last now (unfinished xs) in
       lines_end (ended_lines xs) (if_any (unfinished xs)) h (subst (λ (items : List Item). Ended r now items b c agent) same k)
 
--- the same by other names for what the sink has and for the agent
+-- the same run, with other names for the sink's octets and for the agent
 pub same_run : {T : Type 0} {to_come left old : Option (List ℕ)} {before : AgentState} {result : Result T RunFault} (new kept : Option (List ℕ)) (agent after : AgentState) → kept ≡ new → after ≡ agent
     → HasRun to_come left old new before agent result → HasRun to_come left old kept before after result
 same_run new kept agent after same is h = rw (same, is) h

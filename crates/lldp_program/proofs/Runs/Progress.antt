@@ -8,8 +8,8 @@ use Rattle.lldp_program.specs.Trace.Lines.{ended_lines, unfinished}
 use Rattle.lldp_program.specs.Trace.Items.{items_of_lines}
 use Rattle.lldp_program.specs.Trace.Runs.{Done}
 
--- This many reads gave some input. Each line whose LF was read is done, and of the line that isn't ended the first 4,097
--- octets are held.
+-- This many reads returned some input. Each line whose LF was read is done, and the first 4,097
+-- octets of the unfinished line are held.
 pub record Progress (to_come left old new : Option (List ℕ)) (before after : AgentState) (reads : ℕ) (held : List ℕ) : Type 0 where
   pub input : List ℕ
   pub consumed : Consumes to_come left input

@@ -1,4 +1,4 @@
--- The lines of what ports send.
+-- The lines for the frames that ports send.
 use Rattle.std.proofs.Common.{◌≡◌, ℕ, ◌+◌, ◌<◌, List, [], ◌∷◌, ◌++◌, length, get_or, take, sym, ap, ◌∙◌, add-one, subst}
 use Rattle.std.specs.Prelude.{Result, codes}
 use Rattle.std.specs.List.{flat_map}
@@ -39,7 +39,7 @@ one_more : (names : List (List ℕ)) (c : Configuration) (marks : List Sending) 
 one_more names c marks mark =
     ap (λ t. lines_of names c marks ++ t) (sym (append-nil (mark_line names c mark))) ∙ sym (flat_map-append (mark_line names c) marks (mark ∷ []))
 
--- the line of one more port went on its way
+-- the line of one more port was put
 pub mark_next : (names : List (List ℕ)) (c : Configuration) (marks : List Sending) (i : ℕ) (d : Sending) (name octets : List ℕ) (x y z : Output) → i < length marks
     → name ≡ get_or names (get_or marks i d).0 [] → octets ≡ frame_of c (get_or names (get_or marks i d).0 []) (get_or marks i d).1
     → Puts (lines_of names c (take i marks)) x y → Puts (sent_line name octets) y z → Puts (lines_of names c (take (i + 1) marks)) x z
@@ -50,7 +50,7 @@ mark_next names c marks i d name octets x y z lt n o h k =
 
 -- ## An event
 
--- the lines that the agent has are those of its past
+-- the lines that the agent gives are those of its past
 sent_is : (past : Past) (event : Event) (agent : AgentState) (marks : List Sending) → Stands (with_event past event) agent → marks ≡ marks_of (with_event past event)
     → lines_of (names_of agent) agent.configuration marks ≡ sent_text (with_event past event)
 sent_is past event agent marks h m =
@@ -60,7 +60,7 @@ sent_is past event agent marks h m =
     ∙ ap (λ (ns : List (List ℕ)). lines_of ns agent.configuration (marks_of (with_event past event))) names
     ∙ ap (λ (k : Configuration). lines_of past.options.names k (marks_of (with_event past event))) c
 
--- an event, by what was written for it
+-- a run of one event, if its text was written
 pub event_runs : (items : List Item) (event : Event) (before after : AgentState) (marks : List Sending) (r : Result (Unit {0}) DeviceFault) (o p : Output) → items ≡ happens event ∷ []
     → ((past : Past) → Stands past before → Stands (with_event past event) after) → ((past : Past) → Stands past before → marks ≡ marks_of (with_event past event))
     → Writes (lines_of (names_of after) after.configuration marks) r o p → RunsItems (λ _. items) r before after o p

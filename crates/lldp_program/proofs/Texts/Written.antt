@@ -1,4 +1,4 @@
--- What a device holds after one write and another.
+-- What a device holds after two writes.
 use Rattle.std.proofs.Common.{◌≡◌, ℕ, ◌+◌, ◌<◌, List, [], ◌++◌, length, take, drop, refl, sym, ap, ◌∙◌, append_assoc, arith, Option, Some, None, length-drop}
 use Rattle.std.specs.Io.KnownBytes.{Appends, Keeps, Consumes}
 use Rattle.std.proofs.lemmas.List.{append-nil, take-append-drop}
@@ -20,7 +20,7 @@ appends_kept None b h = tt
 appends_kept (Some xs) None h = h
 appends_kept (Some xs) (Some ys) h = h ∙ sym (append-nil xs)
 
--- what was written is still there if nothing more was
+-- a text is still written if the second write adds nothing
 pub appends_and_kept : (a b c : Option (List ℕ)) (x : List ℕ) → Appends a b x → Keeps b c → Appends a c x
 appends_and_kept None b c x h k = tt
 appends_and_kept (Some xs) None c x h k = absurd h
@@ -40,7 +40,7 @@ pub consumes_nothing : (a : Option (List ℕ)) → Consumes a a []
 consumes_nothing None = tt
 consumes_nothing (Some xs) = refl
 
--- a read that failed took nothing
+-- a read that failed consumed nothing
 pub consumes_kept : (a b c : Option (List ℕ)) (x : List ℕ) → Consumes a b x → Keeps b c → Consumes a c x
 consumes_kept None b c x h k = tt
 consumes_kept (Some xs) None c x h k = absurd h

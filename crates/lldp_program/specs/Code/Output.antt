@@ -1,4 +1,4 @@
--- Text on its way to a device.
+-- How an output gathers text and passes it to its sink.
 use Rattle.std.specs.Prelude.{◌≡◌, ℕ, List, [], ◌++◌, Option, Result, Ok, Err, OnOk}
 use Rattle.std.specs.Borrow.{GName}
 use Rattle.std.specs.Io.KnownBytes.{Appends}
@@ -10,20 +10,20 @@ use Rattle.lldp_program.specs.Trace.Runs.{IsCutOff}
 abbrev pub IsWritten : (List ℕ → Type 0) → Option (List ℕ) → Option (List ℕ) → Type 0
 IsWritten P old new = (part : List ℕ) × P part × Appends old new part
 
--- by the answer: all of a text was written, or a part of it and not all
+-- Ok: all of the text was written. Err: a part of it was written, but not all.
 abbrev pub WrittenBy : Result (Unit {0}) DeviceFault → List ℕ → Option (List ℕ) → Option (List ℕ) → Type 0
 WrittenBy (Ok done) text old new = Appends old new text
 WrittenBy (Err fault) text old new = IsWritten (IsCutOff text) old new
 
--- text went on its way after what waited: some octets were taken, and the rest waits
+-- the text was put after what waited: the sink took the first octets, and the rest waits
 pub record GoesOut (old : Option (List ℕ)) (waited : List ℕ) (new : Option (List ℕ)) (waits : List ℕ) (text : List ℕ) :
     Type 0 where
   pub sent : List ℕ
   pub in_order : waited ++ text ≡ sent ++ waits
   pub taken : Appends old new sent
 
--- The state of an output: what its sink took, how many writes failed and where to, the reference that it was lent, what
--- waits, and the answer so far.
+-- The state of an output: the octets that its sink took, how many writes failed, where the sink
+-- writes to, the reference to the sink, the text that waits, and the answer so far.
 pub record Output : Type 0 where
   pub taken : Option (List ℕ)
   pub failures : ℕ
@@ -32,37 +32,37 @@ pub record Output : Type 0 where
   pub waits : List ℕ
   pub answer : Result (Unit {0}) DeviceFault
 
--- the sink is the same, and has had one failure more if this answer is a fault
+-- the sink is the same, and counts one failure more if this answer is a fault
 pub record SameSink {T : Type 0} (answer : Result T DeviceFault) (old new : Output) : Type 0 where
   pub failures : new.failures ≡ failures_after old.failures answer
   pub place : new.place ≡ old.place
   pub sink : new.sink ≡ old.sink
 
--- by the answer: a text went on its way, or a part of what waited and of the text was written, and not all
+-- Ok: the text was put after what waited. Err: only a part of both together was written.
 abbrev pub Went : Result (Unit {0}) DeviceFault → List ℕ → Output → Output → Type 0
 Went (Ok done) text old new = GoesOut old.taken old.waits new.taken new.waits text
 Went (Err fault) text old new = IsWritten (IsCutOff (old.waits ++ text)) old.taken new.taken
 
--- a text if no write had failed
+-- what putting a text does if no write has failed before
 pub record Goes (text : List ℕ) (old new : Output) : Type 0 where
   pub went : Went new.answer text old new
   pub same : SameSink new.answer old new
 
--- by the answer so far: a text goes, or, after a write that failed, nothing happens
+-- what putting a text does: nothing if a write has failed before
 abbrev pub GoesBehind : Result (Unit {0}) DeviceFault → List ℕ → Output → Output → Type 0
 GoesBehind (Ok done) text old new = Goes text old new
 GoesBehind (Err fault) text old new = new ≡ old
 
--- A text went on its way, or a write failed. Behind a write that failed nothing happens.
+-- A text was put, or a write failed. After a failed write nothing changes.
 abbrev pub Puts : List ℕ → Output → Output → Type 0
 Puts text old new = GoesBehind old.answer text old new
 
--- what waited went out, or a write failed
+-- all that waited was written, or a write failed
 pub record Flushes (old new : Output) : Type 0 where
   pub puts : Puts [] old new
   pub none : OnOk new.answer (new.waits ≡ [])
 
--- from here on nothing waits, and no write has failed
+-- the output when a text begins: nothing waits, and no write has failed
 abbrev pub begun : Output → Output
 begun output = record output { waits = []; answer = Ok tt }
 

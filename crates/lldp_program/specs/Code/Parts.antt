@@ -11,7 +11,7 @@ use Rattle.lldp_program.specs.Trace.Items.{Item}
 use Rattle.lldp_program.specs.Code.Output.{Output, SameSink}
 use Rattle.lldp_program.specs.Trace.Runs.{Done, Failed}
 
--- by what its sink reports: the octets taken, the failures, and the place
+-- the state of an output, with the octets, the failures and the place that its sink reports
 abbrev pub output_state : {W : Type 0} → (W → Option (List ℕ)) → (W → ℕ) → (W → GName) → OwnOutput W → Output
 output_state taken failures place output = record {
   taken = taken output.sink.now;
@@ -22,24 +22,24 @@ output_state taken failures place output = record {
   answer = output.answer;
 }
 
--- the states of an output before and after are so related
+-- this relation holds between the states of an output before and after
 abbrev pub Between : {W : Type 0} → (W → Option (List ℕ)) → (W → ℕ) → (W → GName) → OwnOutput W → OwnOutput W →
     (Output → Output → Type 0) → Type 0
 Between taken failures place old new Relation = Relation (output_state taken failures place old) (output_state taken failures place new)
 
--- by the answer: all items were done, or the output of one of them failed
+-- Ok: all items were done. Err: the output of one of them failed.
 abbrev pub Ended : {T : Type 0} → Result T DeviceFault → Past → List Item → Option (List ℕ) → Option (List ℕ) →
     AgentState → Type 0
 Ended (Ok done) past items old new agent = Done past items old new agent
 Ended (Err fault) past items old new agent = Failed past items old new agent
 
--- A part of a run: for every past that the agent stood for, the items that are asked for after it.
+-- For every past that the agent stood for, it did the items for that past, or failed at one.
 pub record RunsItems {T : Type 0} (items : Past → List Item) (answer : Result T DeviceFault) (before after : AgentState)
     (old new : Output) : Type 0 where
   pub ended : (past : Past) → Stands past before → Ended answer past (items past) old.taken new.taken after
   pub same : SameSink answer old new
 
--- a run did what these items ask for, over the agent that it was lent
+-- A run did these items, or failed at one, with the agent that was passed to it.
 pub record Performs {W T : Type 0} (taken : W → Option (List ℕ)) (failures : W → ℕ) (place : W → GName)
     (old new : Run W) (items : Past → List Item) (answer : Result T DeviceFault) : Type 0 where
   pub agent : new.agent.ghost_name ≡ old.agent.ghost_name

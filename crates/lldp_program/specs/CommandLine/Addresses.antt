@@ -1,4 +1,4 @@
--- How the program's options write addresses.
+-- How addresses are written in the program's options.
 use Rattle.std.specs.Prelude.{◌≡◌, ℕ, List, [], ◌∷◌, length, map, slice_index, codes, Ok}
 use Rattle.hex.specs.Hex.{decode_of}
 
@@ -6,8 +6,8 @@ use Rattle.hex.specs.Hex.{decode_of}
 abbrev pub at_places : List ℕ → List ℕ → List ℕ
 at_places text places = map (slice_index text) places
 
--- A MAC address is written in seventeen octets: a `:` at every third place, and at the others the hexadecimal digits of
--- its six octets, of either case.
+-- A MAC address has 17 octets: a `:` at every third place, and elsewhere the hexadecimal digits of
+-- its six octets, in either case.
 pub record IsMac (text mac : List ℕ) : Type 0 where
   pub long : length text ≡ 17
   pub colons : at_places text (2 ∷ 5 ∷ 8 ∷ 11 ∷ 14 ∷ []) ≡ codes ":::::"

@@ -1,4 +1,4 @@
--- What a parse of the program's words gives of its options.
+-- What a parse of the program's words yields for its options.
 use Rattle.std.specs.Prelude.{◌≡◌, ℕ, List, Some, is_some, pos, true}
 use Rattle.std.specs.Borrow.{Bor}
 use Rattle.clap.specs.Simple.{app_of}
@@ -8,18 +8,18 @@ use Rattle.clap.specs.declared.builder.command.Command.{Command}
 use Rattle.clap.specs.declared.parser.matches.ArgMatches.{ArgMatches}
 use Rattle.lldp_program.specs.CommandLine.Usage.{program}
 
--- the matches come of a parse by the program's command line
+-- the matches come from a parse by the program's command line
 pub record IsProgramParse (m : ArgMatches) : Type 0 where
   pub command : Command
   pub roles : Bor (List (Bor Text))
   pub line : app_of command ≡ program roles
   pub parsed : IsParsedFrom command m
 
--- the words, or a default, gave the option of this name a text
+-- the option of this name has a text, from the words or by default
 abbrev pub GivesText : Text → ArgMatches → Type 0
 GivesText name m = is_some (first_value (found_of m) name) ≡ true
 
--- they gave it a number from 1 to the greatest
+-- the option of this name has a number from 1 to `greatest`
 abbrev pub GivesNumber : ℕ → Text → ArgMatches → Type 0
 GivesNumber greatest name m =
     (text : Text) × (one_text (found_of m) name ≡ Some (without_minus text)) × IsSignedIn (pos 1) (pos greatest) text

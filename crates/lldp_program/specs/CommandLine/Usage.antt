@@ -21,19 +21,19 @@ use Rattle.lldp_program.specs.declared.arguments.Listening.{Listening}
 use Rattle.lldp_program.specs.declared.arguments.AddressFault.{AddressFault}
 use Rattle.lldp_program.specs.declared.arguments.AddressFault.TheVariants.{Mac, Management}
 
--- an option that takes a value, and this one by default
+-- an option with a value and this default
 abbrev pub valued_rule : Text → Text → Rule
 valued_rule name default = record (new_rule name) { long = Some name; action = Some Set; defaults = default ∷ [] }
 
--- one that shows a name for its value
+-- such an option, whose value has a name in the help
 abbrev pub text_rule : Text → Text → Rule
 text_rule name default = record (valued_rule name default) { value_names = 1 }
 
--- one that takes a whole number from 1 to the greatest
+-- such an option, whose value is a whole number from 1 to `greatest`
 abbrev pub number_rule : Text → ℕ → Text → Rule
 number_rule name greatest default = record (text_rule name default) { parser = Some (Signed (pos 1) (pos greatest)) }
 
--- an address, which has no default
+-- the option for the management address, which has no default
 abbrev pub management_rule : Rule
 management_rule = record (new_rule (codes "management")) { long = Some (codes "management"); value_names = 1 }
 
@@ -41,16 +41,16 @@ management_rule = record (new_rule (codes "management")) { long = Some (codes "m
 abbrev pub AreRoles : Bor (List (Bor Text)) → Type 0
 AreRoles roles = map (λ (s : Bor Text). s.now) roles.now ≡ codes "station" ∷ codes "bridge" ∷ codes "router" ∷ []
 
--- the role, one of these names, or `station`
+-- the option for the role: one of these names, `station` by default
 abbrev pub role_rule : Bor (List (Bor Text)) → Rule
 role_rule roles = record (text_rule (codes "role") (codes "station")) { parser = Some (Names roles) }
 
--- an option that takes no value
+-- the option `--receive-only`, which has no value
 abbrev pub receive_only_rule : Rule
 receive_only_rule = record
     (new_rule (codes "receive-only")) { long = Some (codes "receive-only"); action = Some SetTrue }
 
--- a TCP port from 1 on
+-- the option for a TCP port, 1 to 65535
 abbrev pub listen_rule : Rule
 listen_rule =
     record (new_rule (codes "listen")) {
@@ -59,12 +59,12 @@ listen_rule =
       parser = Some (Signed (pos 1) (pos 65535));
     }
 
--- the ports, any number of them
+-- the names of the ports, any number of them
 abbrev pub ports_rule : Rule
 ports_rule =
     record (new_rule (codes "PORT")) { range = Some (record { start_inclusive = 0; end_inclusive = usize_max }) }
 
--- with the option `--version`
+-- the command line with the option `--version` added
 abbrev pub versioned : App → App
 versioned = on_top (λ s. record s { has_version = true })
 
@@ -87,38 +87,38 @@ program roles =
     (number_rule (codes "connections") 65535 (codes "1")))
     ports_rule
 
--- the role of a name
+-- the role with this name, or Station for any other name
 abbrev pub role_named : Text → Role
 role_named name = if bytes_eq name (codes "bridge") then Bridge else if bytes_eq name (codes "router") then Router
     else Station
 
--- no management address, or the one that the text writes
+-- no text: no management address; a text: the address that it spells
 abbrev pub AsksManagement : Option Text → Option (List ℕ) → Type 0
 AsksManagement None given = given ≡ None
 AsksManagement (Some text) given = (octets : List ℕ) × (given ≡ Some octets) × IsDotted text octets
 
--- the MAC that the text writes
+-- there is a text, and it spells this MAC
 abbrev pub AsksMac : Option Text → List ℕ → Type 0
 AsksMac None mac = ⊥
 AsksMac (Some text) mac = IsMac text mac
 
--- there is a text, and it writes no MAC
+-- there is a text, and it does not spell a MAC
 abbrev pub WritesNoMac : Option Text → Type 0
 WritesNoMac None = ⊥
 WritesNoMac (Some text) = (mac : List ℕ) → ¬ IsMac text mac
 
--- there is a text, and it writes no IPv4 address
+-- there is a text, and it does not spell an IPv4 address
 abbrev pub WritesNoIpv4 : Option Text → Type 0
 WritesNoIpv4 None = ⊥
 WritesNoIpv4 (Some text) = (octets : List ℕ) → ¬ IsDotted text octets
 
--- the first address that cannot be read: that of `--mac`, or, if it can, that of `--management`
+-- the first address that cannot be read: Mac for `--mac`, Management if only `--management` cannot
 abbrev pub HasBadAddress : List Row → AddressFault → Type 0
 HasBadAddress rows Mac = WritesNoMac (first_of (codes "mac") rows)
 HasBadAddress rows Management =
     ((mac : List ℕ) × AsksMac (first_of (codes "mac") rows) mac) × WritesNoIpv4 (first_of (codes "management") rows)
 
--- Each option is the value of its words, or its default.
+-- Each option is the value that its words give, or its default.
 pub record Asks (rows : List Row) (o : Options) : Type 0 where
   pub names : o.names ≡ unwrap_or (all_of (codes "PORT") rows) []
   pub mac : AsksMac (first_of (codes "mac") rows) o.mac
@@ -132,27 +132,27 @@ pub record Asks (rows : List Row) (o : Options) : Type 0 where
   pub receives : one_of (codes "receive-only") rows ≡ Some (codes "true") → o.receive_only ≡ true
   pub sends : one_of (codes "receive-only") rows ≡ Some (codes "false") → o.receive_only ≡ false
 
--- the text writes this number
+-- there is a text, and it spells this number
 abbrev pub WritesNumber : Option Text → ℕ → Type 0
 WritesNumber None n = ⊥
 WritesNumber (Some text) n = ParsesUnsigned {E = Unit {0}} 16 10 text (Ok n)
 
--- By the texts of `--listen` and `--connections`: nothing if there is none to listen, else the port and how many
--- connections.
+-- What the texts of `--listen` and `--connections` ask for: nothing without the first, else the
+-- port and the number of connections that they spell.
 abbrev pub AsksListening : Option Text → Option Text → Option Listening → Type 0
 AsksListening None connections listening = listening ≡ None
 AsksListening (Some port) connections None = ⊥
 AsksListening (Some port) connections (Some listening) =
     WritesNumber (Some port) listening.port × WritesNumber connections listening.connections
 
--- a parse takes the words, and gives these rows
+-- a parse accepts the words, and yields these rows
 pub record IsParse (words : List Text) (rows : List Row) : Type 0 where
   pub roles : Bor (List (Bor Text))
   pub named : AreRoles roles
   pub taken : fault_of (program roles) words ≡ []
   pub rows_are : rows ≡ matches_of (program roles) words
 
--- a parse of the words may answer an error of this kind
+-- a parse of the words may fail with an error of this kind
 pub record MayFail (words : List Text) (kind : ErrorKind) : Type 0 where
   pub roles : Bor (List (Bor Text))
   pub named : AreRoles roles

@@ -1,18 +1,18 @@
--- What an acceptor is asked.
+-- The calls of an acceptor.
 use Rattle.std.specs.Prelude.{◌≡◌, ℕ, List, [], ◌∷◌, ◌++◌, Option, Some, None, Result, Ok, Err}
 use Rattle.lldp_engine.specs.AgentState.{AgentState}
 use Rattle.lldp_program.specs.Trace.Runs.{HasRun}
 use Rattle.lldp_program.specs.declared.trace.RunFault.{RunFault}
 use Rattle.lldp_program.specs.declared.device.DeviceFault.{DeviceFault}
 
--- a run over a connection as it was accepted: what it had left then and had taken then, and the answer
+-- a run over a connection: what is left to come after it, what was written by then, and the result
 pub record Visit (C : Type 0) : Type 0 where
   pub connection : C
   pub left : Option (List ℕ)
   pub new : Option (List ℕ)
   pub result : Result (Unit {0}) RunFault
 
--- a connection was accepted; accepting failed; a trace was run over a connection; a port was bound, or was not
+-- a call of an acceptor: accepting worked or failed; a trace was run; binding worked or failed
 pub data Call (C : Type 0) : Type 0 where
   accepted : (connection : C) → Call C
   refused : Call C
@@ -20,22 +20,22 @@ pub data Call (C : Type 0) : Type 0 where
   bound : (address : List ℕ) (port : ℕ) → Call C
   unbound : (address : List ℕ) (port : ℕ) → Call C
 
--- what an acceptor reports after more calls, the last one first: nothing, if it reports nothing
+-- what an acceptor reports after these further calls, the last one first, or None
 abbrev pub logged : {C : Type 0} → List (Call C) → Option (List (Call C)) → Option (List (Call C))
 logged calls None = None
 logged calls (Some earlier) = Some (calls ++ earlier)
 
--- the call by the answer to accepting
+-- the call that an acceptor reports after accepting with this answer
 abbrev pub accepting : {C : Type 0} → Result C DeviceFault → Call C
 accepting (Ok connection) = accepted connection
 accepting (Err fault) = refused
 
--- the call by the answer to binding
+-- the call that an acceptor reports after binding with this answer
 abbrev pub binding : {C : Type 0} → List ℕ → ℕ → Result (Unit {0}) DeviceFault → Call C
 binding address port (Ok done) = bound address port
 binding address port (Err fault) = unbound address port
 
--- a trace was run over a connection, and the acceptor reports it
+-- a trace was run over a connection, and the acceptor reports that call
 pub record RanOver {C : Type 0} (to_come taken : C → Option (List ℕ)) (connection : C) (asked asked_after : Option (List (Call C)))
     (before after : AgentState) (result : Result (Unit {0}) RunFault) : Type 0 where
   pub left : Option (List ℕ)

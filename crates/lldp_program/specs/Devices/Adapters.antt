@@ -4,7 +4,7 @@ use Rattle.std.specs.Borrow.{GName}
 use Rattle.lldp_program.specs.declared.device.FromReader.{FromReader}
 use Rattle.lldp_program.specs.declared.device.ToWriter.{ToWriter}
 
--- the octets to come of a source are those that its reader has left
+-- what a source has yet to read is what its reader has left
 abbrev pub source_to_come : {R : Type 0} → (R → Option (List ℕ)) → FromReader R → Option (List ℕ)
 source_to_come remaining source = remaining source.reader.now
 
@@ -16,22 +16,22 @@ source_calls source = source.calls
 abbrev pub source_failures : {R : Type 0} → FromReader R → ℕ
 source_failures source = source.failures
 
--- how many of them answered the end
+-- how many of these reads returned the end
 abbrev pub source_ends : {R : Type 0} → FromReader R → ℕ
 source_ends source = source.ends
 
--- where it reads from: the reference that it was lent
+-- where it reads from: the reference to its reader
 abbrev pub source_place : {R : Type 0} → FromReader R → GName
 source_place source = source.reader.ghost_name
 
--- the octets taken of a sink are those that its writer holds
+-- the octets that a sink took are those that its writer holds
 abbrev pub sink_taken : {W : Type 0} → (W → Option (List ℕ)) → ToWriter W → Option (List ℕ)
 sink_taken contents sink = contents sink.writer.now
 
--- how many writes of its writer failed
+-- how many writes to its writer failed
 abbrev pub sink_failures : {W : Type 0} → ToWriter W → ℕ
 sink_failures sink = sink.failures
 
--- where it writes to: the reference that it was lent
+-- where it writes to: the reference to its writer
 abbrev pub sink_place : {W : Type 0} → ToWriter W → GName
 sink_place sink = sink.writer.ghost_name

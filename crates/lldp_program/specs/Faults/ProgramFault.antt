@@ -25,7 +25,7 @@ line_of Text = codes "lldpa: bad text\n"
 line_of Mac = codes "lldpa: bad --mac\n"
 line_of Management = codes "lldpa: bad --management\n"
 
--- the status of a fault: 1 if a stream or a socket failed, or the trace was too long; 2 if nothing was begun
+-- the status of a fault: 1 for a device, a socket or a trace that is too long; 2 if no run began
 abbrev pub status_of : ProgramFault → ℕ
 status_of Read = 1
 status_of Write = 1
@@ -45,13 +45,11 @@ abbrev pub status_after : Result (Unit {0}) ProgramFault → ℕ
 status_after (Ok done) = 0
 status_after (Err fault) = status_of fault
 
--- the fault of a run
 abbrev pub fault_of_run : RunFault → ProgramFault
 fault_of_run run.Read = Read
 fault_of_run run.Write = Write
 fault_of_run run.InputTooLong = InputTooLong
 
--- the fault of an opening
 abbrev pub fault_of_opening : OpenFault → ProgramFault
 fault_of_opening opening.Memory = Memory
 fault_of_opening opening.NoPorts = NoPorts
@@ -60,12 +58,11 @@ fault_of_opening opening.PortName = PortName
 fault_of_opening opening.SamePort = SamePort
 fault_of_opening opening.Text = Text
 
--- the fault of an address
 abbrev pub fault_of_address : AddressFault → ProgramFault
 fault_of_address address.Mac = Mac
 fault_of_address address.Management = Management
 
--- how the program ends by its run and the flush after it: the fault of the run counts before that of the flush
+-- how the program ends, by its run and the flush after it; a fault of the run comes first
 abbrev pub ended_by : Result (Unit {0}) RunFault → Result (Unit {0}) DeviceFault → Result (Unit {0}) ProgramFault
 ended_by (Ok done) (Ok flushed) = Ok tt
 ended_by (Ok done) (Err fault) = Err Write

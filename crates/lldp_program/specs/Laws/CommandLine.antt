@@ -1,4 +1,4 @@
--- What the command line takes: these options and no others; the roles; the ranges; what each option asks for.
+-- What the command line accepts, no more and no less, and what each option asks for.
 use Rattle.std.specs.Prelude.{codes, ◌≡◌, ◌<◌, ◌≤◌, ◌↔◌, ℕ, true, false, List, [], ◌∷◌, Option, Some, None, map, option_and_then, pos, find}
 use Rattle.std.specs.Net.Text.{dotted_text}
 use Rattle.std.specs.Str.{bytes_eq}
@@ -21,11 +21,11 @@ use Rattle.lldp_program.specs.Laws.Listening.{IsNumberIn}
 abbrev pub rules : Bor (List (Bor Text)) → List Rule
 rules roles = (program roles).top.rules
 
--- a whole number from 1 to the greatest
+-- the parser of an option for whole numbers from 1 to `greatest`
 abbrev pub number_to : ℕ → Option ValueParser
 number_to greatest = Some (Signed (pos 1) (pos greatest))
 
--- the argument does without the settings that the options have no use for
+-- the argument uses none of these settings of `clap`
 pub record IsPlain (rule : Rule) : Type 0 where
   pub short : rule.short ≡ None
   pub aliases : rule.aliases ≡ []
@@ -36,9 +36,9 @@ pub record IsPlain (rule : Rule) : Type 0 where
   pub case : rule.ignore_case ≡ false
   pub required : rule.required ≡ false
 
--- Eleven options and the ports, and nothing else: no short form, no alias, no subcommand. Each option is written in its
--- own name after `--`; `--help` and `--version` are `clap`'s own. Beside the names are what an option takes and its
--- default.
+-- Eleven options and the ports, and nothing else: no short form, no alias, no subcommand. Each
+-- option is written as its own name after `--`; `--help` and `--version` are `clap`'s own. The
+-- other fields state what each option accepts and its default.
 pub record HasOptions (roles : Bor (List (Bor Text))) : Type 0 where
   pub names : map (λ r. r.id) (rules roles)
       ≡ codes "max-neighbors" ∷ codes "mac" ∷ codes "hostname" ∷ codes "management" ∷ codes "role" ∷ codes "tx-credit-max" ∷ codes "tx-fast-init"
@@ -57,54 +57,53 @@ pub record HasOptions (roles : Bor (List (Bor Text))) : Type 0 where
       ∷ ((codes "02:00:00:00:00:01") ∷ [])
       ∷ ((codes "localhost") ∷ [])
       ∷ [] ∷ (codes "station" ∷ []) ∷ ((0x35 ∷ []) ∷ []) ∷ ((0x34 ∷ []) ∷ []) ∷ ((0x32 ∷ []) ∷ []) ∷ [] ∷ [] ∷ ((0x31 ∷ []) ∷ []) ∷ [] ∷ []
-  -- `--receive-only` takes no value, each other option one, and there may be any number of ports
+  -- `--receive-only` has no value, each other option has one, and there may be any number of ports
   pub actions : map (λ r. r.action) (rules roles)
       ≡ Some Set ∷ Some Set ∷ Some Set ∷ None ∷ Some Set ∷ Some Set ∷ Some Set ∷ Some Set ∷ Some SetTrue ∷ None
       ∷ Some Set ∷ None ∷ []
   pub counts : map (λ r. r.range) (rules roles)
       ≡ None ∷ None ∷ None ∷ None ∷ None ∷ None ∷ None ∷ None ∷ None ∷ None ∷ None
       ∷ Some (record { start_inclusive = 0; end_inclusive = usize_max }) ∷ []
-  -- besides the arguments only `--version`
+  -- besides the arguments there is only `--version`
   pub top : record ((program roles).top) { rules = [] } ≡ record (new_shape (codes "lldpa")) { has_version = true }
   pub subcommands : (program roles).subs ≡ []
 
--- the word of a role
 abbrev pub word_of_role : Role → Text
 word_of_role Station = codes "station"
 word_of_role Bridge = codes "bridge"
 word_of_role Router = codes "router"
 
--- The roles are `station`, `bridge` and `router`, each in its own word, and no others.
+-- The roles are exactly `station`, `bridge` and `router`, and each of these words names its role.
 pub record HasRoles (roles : Bor (List (Bor Text))) : Type 0 where
   pub all : AreRoles roles ↔ (texts roles.now ≡ codes "station" ∷ codes "bridge" ∷ codes "router" ∷ [])
   pub each : (role : Role) → role_named (word_of_role role) ≡ role
 
--- the option of this name takes this number
+-- the option of this name accepts this number
 abbrev pub TakesNumber : Bor (List (Bor Text)) → Text → ℕ → Type 0
 TakesNumber roles name n =
     (greatest : ℕ)
     × (option_and_then (λ r. r.parser) (find (λ r. bytes_eq r.id name) (rules roles)) ≡ number_to greatest) × (1 ≤ n)
     × (n ≤ greatest)
 
--- Options are in their ranges exactly if each of the four numbers is one that its option takes.
+-- Options are in their ranges exactly if the option of each of the four numbers accepts it.
 abbrev pub TakesRange : Bor (List (Bor Text)) → Options → Type 0
 TakesRange roles o =
     InRange o
     ↔ (TakesNumber roles (codes "max-neighbors") o.max_neighbors × TakesNumber roles (codes "tx-credit-max") o.credit_max
     × TakesNumber roles (codes "tx-fast-init") o.fast_init × TakesNumber roles (codes "reinit-delay") o.reinit)
 
--- the number below 256 that the option of this name writes is this
+-- if the text of this option is a number below 256, it is n
 abbrev pub SaysNumber : Text → List Row → ℕ → Type 0
 SaysNumber name rows n = (text : Text) (m : ℕ) → one_of name rows ≡ Some text → IsNumberIn text m → m < 256 → n ≡ m
 
--- the text is four decimal numbers below 256 with dots between them, and they are the address
+-- the text is four decimal numbers below 256 with dots between them, and this is the address
 abbrev pub SaysAddress : Text → Option (List ℕ) → Type 0
 SaysAddress text given =
     (a b c d : ℕ) × (a < 256) × (b < 256) × (c < 256) × (d < 256) × (text ≡ dotted_text a b c d)
     × (given ≡ Some (a ∷ b ∷ c ∷ d ∷ []))
 
--- Each option is what its own word says, whatever the others say; the defaults stand among the rules. Without a word
--- there is no management address and no port, and a word that is no address asks for nothing.
+-- Each option is what its own word says, whatever the others say; `HasOptions` has the defaults.
+-- Without words there is no port and no management address. No options fit a bad address.
 pub record AreAsked (rows : List Row) (o : Options) : Type 0 where
   pub ports : (names : List Text) → all_of (codes "PORT") rows ≡ Some names → o.names ≡ names
   pub no_port : all_of (codes "PORT") rows ≡ None → o.names ≡ []

@@ -12,13 +12,13 @@ abbrev pub joined : List (List ℕ) → List ℕ
 joined [] = []
 joined (line ∷ lines) = line ++ 0x0a ∷ joined lines
 
--- The octets are these lines, each with LF after it, and a rest; and neither a line nor the rest has LF.
+-- The octets are these lines, each followed by LF, and the rest. Lines and rest contain no LF.
 pub record IsCut (input : List ℕ) (lines : List (List ℕ)) (rest : List ℕ) : Type 0 where
   pub whole : input ≡ joined lines ++ rest
   pub each : AllByRecursion HasNoLf lines
   pub last : HasNoLf rest
 
--- The lines that end and the rest are those of the cut. A rest that is not empty is the last line.
+-- The ended lines and the rest are those of the cut. A rest that is not empty is the last line.
 pub record CutsLines (input : List ℕ) : Type 0 where
   pub cut : (lines : List (List ℕ)) (rest : List ℕ) →
       ((ended_lines input ≡ lines) × (unfinished input ≡ rest)) ↔ IsCut input lines rest

@@ -1,4 +1,4 @@
--- Which lines say what: those of these words, octet by octet, and no others.
+-- Which lines say which work: exactly those with these words, octet by octet.
 use Rattle.std.specs.Prelude.{◌≡◌, ◌≢◌, ◌<◌, ◌≤◌, ◌⊎◌, ◌↔◌, ℕ, true, false, Bool, List, [], ◌∷◌, length, Some, None, Ok, Err, is_ok}
 use Rattle.hex.specs.Hex.{decode_of}
 use Rattle.lldp_text.specs.declared.fault.CommandFault.TheVariants.{Unknown, NoSuchPort, Extra, Quote}
@@ -13,14 +13,14 @@ use Rattle.lldp_program.specs.Trace.Forms.{tick_form, frame_form, link_form, for
 use Rattle.lldp_program.specs.Trace.Work.{Work, skip, ticks, frame, link, command}
 use Rattle.lldp_program.specs.Laws.Sayings.{tick_word, rx_word, up_word, down_word, IsPassedOver}
 
--- the words of a line that is to be read: neither too long nor skipped
+-- the line is neither too long nor skipped, and these are its words
 pub record IsReadAs (line : List ℕ) (words : List (List ℕ)) : Type 0 where
   pub short : length line ≤ 4096
   pub read : IsPassedOver line → ⊥
   pub are : AreWords line words
 
--- What a line says is what its words say. It is too long above 4,096 octets, and a quote is misplaced if it has no
--- words.
+-- A line says what its words say. It is too long if it has more than 4,096 octets. If it does not
+-- split into words, a quote is misplaced.
 pub record SaysItsWords (agent : AgentState) (line : List ℕ) : Type 0 where
   pub words : (words : List (List ℕ)) → IsReadAs line words → work_given agent line ≡ form_of agent words
   pub quote : length line ≤ 4096 → (IsPassedOver line → ⊥) → ((words : List (List ℕ)) → AreWords line words → ⊥) →
@@ -35,17 +35,18 @@ SaysTicks n word = number_of word 1 65535 ≡ Ok n
 abbrev pub NamesPort : AgentState → ℕ → List ℕ → Type 0
 NamesPort agent port word = place_of (names_of agent) word ≡ Some port
 
--- the word is the name of no port
+-- the word is not the name of a port
 abbrev pub NamesNoPort : AgentState → List ℕ → Type 0
 NamesNoPort agent word = place_of (names_of agent) word ≡ None
 
--- the word of a link that came up or went down
+-- the word for a link that came up (true) or went down
 abbrev pub link_word : Bool → List ℕ
 link_word true = up_word
 link_word false = down_word
 
--- The words that say some work: `tick`, one tick; `tick` and a number of ticks from 1 to 65,535; `rx`, a port's name
--- and the digits of the octets; `up` or `down` and a port's name; the words of a command. Nothing follows them.
+-- The words that say this work, with nothing after them: `tick`, one tick; `tick` and a number of
+-- ticks, 1 to 65,535; `rx`, a port's name and hexadecimal octets; `up` or `down` and a port's name;
+-- or a whole command.
 abbrev pub AreWordsOfWork : AgentState → Work → List (List ℕ) → Type 0
 AreWordsOfWork agent skip words = ⊥
 AreWordsOfWork agent (ticks n) words =
@@ -58,12 +59,12 @@ AreWordsOfWork agent (link port up) words =
     (name : List ℕ) × NamesPort agent port name × (words ≡ link_word up ∷ name ∷ [])
 AreWordsOfWork agent (command given) words = AreWordsOf agent given words × IsNotInUse agent given
 
--- The lines that say some work: those that are skipped say no work, the words of the work say all else.
+-- The lines that say this work: for `skip` those that are passed over, else those with its words.
 abbrev pub IsLineOfWork : AgentState → Work → List ℕ → Type 0
 IsLineOfWork agent skip line = (length line ≤ 4096) × IsPassedOver line
 IsLineOfWork agent work line = (words : List (List ℕ)) × IsReadAs line words × AreWordsOfWork agent work words
 
--- The faults of what follows `tick`: that of its number, or a word too many after a number that it may say.
+-- The fault of the words after `tick`: that of the number, or a word too many after the number.
 abbrev pub RefusesTicks : List (List ℕ) → LineFault → Type 0
 RefusesTicks [] fault = ⊥
 RefusesTicks (word ∷ behind) (Command fault) =
@@ -71,8 +72,8 @@ RefusesTicks (word ∷ behind) (Command fault) =
     ⊎ ((n : ℕ) × SaysTicks n word × (behind ≢ []) × (fault ≡ Extra))
 RefusesTicks (word ∷ behind) fault = ⊥
 
--- The faults of what follows `rx`, the first of these: no name; a name of no port; no digits; digits that spell no
--- octets; a word too many.
+-- The fault of the words after `rx` is the first of these: no name; a name of no port; no digits;
+-- digits that do not spell octets; a word too many.
 abbrev pub RefusesFrame : AgentState → List (List ℕ) → LineFault → Type 0
 RefusesFrame agent [] fault = fault ≡ Command Unknown
 RefusesFrame agent (name ∷ []) fault =
@@ -84,14 +85,15 @@ RefusesFrame agent (name ∷ digits ∷ behind) fault =
     × (((is_ok (decode_of digits) ≡ false) × (fault ≡ Hex))
     ⊎ ((is_ok (decode_of digits) ≡ true) × (behind ≢ []) × (fault ≡ Command Extra))))
 
--- The faults of what follows `up` and `down`, the first of these: no name; a name of no port; a word too many.
+-- The words after `up` and `down` have the first of these faults: no name; no such port; a word too
+-- many.
 abbrev pub RefusesLink : AgentState → List (List ℕ) → LineFault → Type 0
 RefusesLink agent [] fault = fault ≡ Command Unknown
 RefusesLink agent (name ∷ behind) fault =
     (NamesNoPort agent name × (fault ≡ Command NoSuchPort))
     ⊎ ((port : ℕ) × NamesPort agent port name × (behind ≢ []) × (fault ≡ Command Extra))
 
--- The words after the first have a fault exactly if it is one of these.
+-- The words after `tick`, `rx`, `up` and `down` have a fault exactly if it is one of these.
 pub record RefusesForms (agent : AgentState) (words : List (List ℕ)) (fault : LineFault) : Type 0 where
   pub tick : (tick_form words ≡ Err fault) ↔ RefusesTicks words fault
   pub rx : (frame_form agent words ≡ Err fault) ↔ RefusesFrame agent words fault

@@ -22,7 +22,7 @@ up_word = codes "up"
 abbrev pub down_word : List ℕ
 down_word = codes "down"
 
--- These four words begin the forms of a trace. Behind every other first word all words are those of a command.
+-- These four words begin the forms of a trace, and any other first word begins a command.
 pub record BeginForms (agent : AgentState) (words : List (List ℕ)) : Type 0 where
   pub tick : form_of agent (tick_word ∷ words) ≡ tick_form words
   pub rx : form_of agent (rx_word ∷ words) ≡ frame_form agent words
@@ -32,11 +32,11 @@ pub record BeginForms (agent : AgentState) (words : List (List ℕ)) : Type 0 wh
       form_of agent (word ∷ words) ≡ on_ok command (of_command (command_said agent (word ∷ words)))
   pub none : form_of agent [] ≡ Err (Command Unknown)
 
--- Without a number `tick` is one tick, with one as many as it says, from 1 to 65535.
+-- `tick` without a number is one tick, and with a number from 1 to 65535 as many as it says.
 pub record CountTicks : Type 0 where
   pub alone : tick_form [] ≡ Ok (ticks 1)
   pub numbered : (word : List ℕ) → tick_form (word ∷ []) ≡ on_ok ticks (of_command (number_of word 1 65535))
-  -- 1, 60001, 65535, 65536 and 0
+  -- examples: 1, 60001, 65535, 65536 and 0
   pub least : tick_form ((0x31 ∷ []) ∷ []) ≡ Ok (ticks 1)
   pub many : tick_form ((codes "60001") ∷ []) ≡ Ok (ticks 60001)
   pub greatest : tick_form ((codes "65535") ∷ []) ≡ Ok (ticks 65535)
@@ -47,11 +47,11 @@ pub record CountTicks : Type 0 where
 abbrev pub AreBlanks : List ℕ → Type 0
 AreBlanks octets = AllByRecursion (λ octet. (octet ≡ 0x20) ⊎ (octet ≡ 0x09)) octets
 
--- nothing but spaces and tabs, or `#` after them
+-- the line has only spaces and tabs, or these and then `#`
 abbrev pub IsPassedOver : List ℕ → Type 0
 IsPassedOver line =
     AreBlanks line ⊎ ((blanks : List ℕ) × (rest : List ℕ) × AreBlanks blanks × (line ≡ blanks ++ 0x23 ∷ rest))
 
--- A line asks for nothing exactly if it is skipped and no longer than 4,096 octets.
+-- A line asks for nothing exactly if it is passed over and has at most 4,096 octets.
 abbrev pub SkipsLines : AgentState → List ℕ → Type 0
 SkipsLines agent line = (work_given agent line ≡ Ok skip) ↔ ((length line ≤ 4096) × IsPassedOver line)

@@ -15,17 +15,17 @@ use Rattle.lldp_program.specs.declared.line.LineFault.{LineFault}
 use Rattle.lldp_program.specs.declared.line.LineFault.TheVariants.{TooLong, Hex, Command}
 use Rattle.lldp_program.specs.Trace.Work.{Work, skip, ticks, frame, link, command}
 
--- a fault of a command as one of a line
+-- the fault of a command, as a fault of its line
 abbrev pub of_command : {A : Type 0} → Result A CommandFault → Result A LineFault
 of_command (Ok x) = Ok x
 of_command (Err fault) = Err (Command fault)
 
--- the octets that hexadecimal digits spell, or Hex
+-- the octets that hexadecimal digits spell, or the fault Hex
 abbrev pub or_hex : {E : Type 0} → Result (List ℕ) E → Result (List ℕ) LineFault
 or_hex (Ok octets) = Ok octets
 or_hex (Err fault) = Err Hex
 
--- `tick` and `tick N`, after the first word: one tick, or N, from 1 to 65535
+-- the words after `tick`: none for one tick, or a number of ticks from 1 to 65535
 unfoldable pub tick_form : List (List ℕ) → Result Work LineFault
 tick_form [] = Ok (ticks 1)
 tick_form (word ∷ words) = do
@@ -33,7 +33,7 @@ tick_form (word ∷ words) = do
   end ← of_command (end_said words)
   Ok (ticks n)
 
--- `rx PORT HEX`, after the first word: a frame that came on a port
+-- the words after `rx`: a port, and the octets of a frame that it received
 unfoldable pub frame_form : AgentState → List (List ℕ) → Result Work LineFault
 frame_form agent words = do
   port ← of_command (port_said (names_of agent) words)
@@ -42,7 +42,7 @@ frame_form agent words = do
   end ← of_command (end_said digits.1)
   Ok (frame port.0 octets)
 
--- `up PORT` and `down PORT`, after the first word: the link of a port came, or went
+-- the words after `up` or `down`: the port whose link came up or went down
 unfoldable pub link_form : AgentState → Bool → List (List ℕ) → Result Work LineFault
 link_form agent up words = do
   port ← of_command (port_said (names_of agent) words)
@@ -53,7 +53,7 @@ link_form agent up words = do
 abbrev pub command_form : AgentState → List (List ℕ) → Result Work LineFault
 command_form agent words = on_ok command (of_command (command_said agent words))
 
--- the words of a line: `tick`, `rx`, `up` and `down` begin forms of a trace, and all others are those of a command
+-- the words of a line: `tick`, `rx`, `up` and `down` begin a form, any other word a command
 unfoldable pub form_of : AgentState → List (List ℕ) → Result Work LineFault
 form_of agent [] = Err (Command Unknown)
 form_of agent (word ∷ words) =
@@ -63,20 +63,20 @@ form_of agent (word ∷ words) =
     else if bytes_eq word (codes "down") then link_form agent false words
     else command_form agent (word ∷ words)
 
--- nothing but spaces and tabs, or `#` as the first other octet
+-- only spaces and tabs, or `#` as the first other octet
 abbrev pub is_skipped : List ℕ → Bool
 is_skipped [] = true
 is_skipped (octet ∷ octets) = if is_separator octet then is_skipped octets else octet == 35
 
--- What a line says to an agent, or its fault. The checks in order: its length, at most 4,096 octets; nothing to
--- do; its words, and bad quotes; its form.
+-- What a line says to an agent, or its fault. The checks in order: its length, at most 4,096
+-- octets; whether it is skipped; its quotes; its form.
 unfoldable pub work_given : AgentState → List ℕ → Result Work LineFault
 work_given agent line =
     if nat_lt 4096 (length line) then Err TooLong
     else if is_skipped line then Ok skip
     else of_command (or_fault (words_of line) Quote) >>= form_of agent
 
--- the line that a refused line gives, without LF
+-- the line that reports the fault of a refused line, without LF
 abbrev pub fault_text : LineFault → List ℕ
 fault_text TooLong = codes "error: line too long"
 fault_text Hex = codes "error: bad hexadecimal"

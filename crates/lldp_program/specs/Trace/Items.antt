@@ -1,4 +1,4 @@
--- What the lines of a trace ask for, one thing after another, and the text that they give.
+-- The items that the lines of a trace ask for, and the text of each.
 use Rattle.std.specs.Prelude.{ℕ, List, [], ◌∷◌, ◌++◌, replicate, Result, Ok, Err}
 use Rattle.std.specs.List.{flat_map}
 use Rattle.lldp_engine.specs.declared.command.Show.{Show}
@@ -33,7 +33,7 @@ items_of_work (Err fault) = refused fault ∷ []
 abbrev pub items_of : Past → List ℕ → List Item
 items_of past line = items_of_work (work_given (agent_of past) line)
 
--- the past after an item: only an event joins it
+-- the past after an item: only an event changes it
 abbrev pub after : Past → Item → Past
 after past (happens event) = with_event past event
 after past (shows what) = past
@@ -50,17 +50,17 @@ text_of past (happens event) = sent_text (with_event past event)
 text_of past (shows what) = flat_map ended (show_lines what (agent_of past))
 text_of past (refused fault) = ended (fault_text fault)
 
--- the texts of items in order, each after those before it
+-- the texts of items in order, each for the past after the items before it
 abbrev pub text_of_all : Past → List Item → List ℕ
 text_of_all past [] = []
 text_of_all past (item ∷ items) = text_of past item ++ text_of_all (after past item) items
 
--- what lines ask for in order, each read after all items before it
+-- what lines ask for in order, each read after the items before it
 abbrev pub items_of_lines : Past → List (List ℕ) → List Item
 items_of_lines past [] = []
 items_of_lines past (line ∷ lines) = items_of past line ++ items_of_lines (after_all past (items_of past line)) lines
 
--- the text of an input
+-- the text that a run over an input writes
 abbrev pub text : Past → List ℕ → List ℕ
 text past input = text_of_all past (items_of_lines past (lines_of input))
 

@@ -1,4 +1,4 @@
--- What a run over a trace leaves.
+-- What a run over a trace does.
 use Rattle.std.specs.Prelude.{◌≡◌, ◌≢◌, ◌≤◌, ◌⊎◌, ℕ, List, [], ◌∷◌, ◌++◌, length, Option, Result, Ok, Err}
 use Rattle.std.specs.Io.KnownBytes.{Appends, Consumes, IsAtEnd}
 use Rattle.lldp_engine.specs.Event.{Event}
@@ -12,21 +12,22 @@ use Rattle.lldp_program.specs.Trace.Items.{Item, after_all, text_of, text_of_all
 use Rattle.lldp_program.specs.declared.trace.RunFault.{RunFault}
 use Rattle.lldp_program.specs.declared.trace.RunFault.TheVariants.{Read, Write, InputTooLong}
 
--- part is a front of whole, and not all of it
+-- `part` is the beginning of `whole`, but not all of it
 pub record IsCutOff (whole part : List ℕ) : Type 0 where
   pub rest : List ℕ
   pub joined : whole ≡ part ++ rest
   pub missing : rest ≢ []
 
--- All items were done: their text was written, and the agent stands for the past after them and keeps the promise for
--- it: tables hold the last stored frames, and ports have sent exactly what was due.
+-- All items were done: their text was written, and the agent stands for the past after them and
+-- keeps the promise for it: tables hold the last stored frames, and ports sent exactly what was
+-- due.
 pub record Done (past : Past) (items : List Item) (old new : Option (List ℕ)) (agent : AgentState) : Type 0 where
   pub written : Appends old new (text_of_all past items)
   pub stands : Stands (after_all past items) agent
   pub promised : Promised (after_all past items) agent
 
--- An item's output failed. The agent stands for the past after that item and keeps the promise for it. The text of the
--- items before it was written, and of its own text a part, but not all.
+-- The output of an item failed. The agent stands for the past after that item and keeps the promise
+-- for it. The text of the items before it was written, and a part of its own text, but not all.
 pub record Failed (past : Past) (items : List Item) (old new : Option (List ℕ)) (agent : AgentState) : Type 0 where
   pub before : List Item
   pub item : Item
@@ -38,15 +39,15 @@ pub record Failed (past : Past) (items : List Item) (old new : Option (List ℕ)
   pub stands : Stands (after_all past (before ++ item ∷ [])) agent
   pub promised : Promised (after_all past (before ++ item ∷ [])) agent
 
--- The run stopped at an item whose output failed: one of a line whose LF was read, or, if nothing is left to come,
--- one of the last line.
+-- The run stopped at an item whose output failed. Its line is one whose LF was read or, if the end
+-- was reached, the last line.
 abbrev pub StoppedAt : Past → List ℕ → Option (List ℕ) → Option (List ℕ) → Option (List ℕ) → AgentState → Type 0
 StoppedAt past input left old new agent =
     Failed past (items_of_lines past (ended_lines input)) old new agent
     ⊎ (IsAtEnd left × Failed past (items_of_lines past (lines_of input)) old new agent)
 
--- What a run over this input did, by its answer. Ok: all lines were done. Read and InputTooLong: each line whose LF was
--- read was done. Write: it stopped at an item.
+-- What a run over this input did, by its answer. Ok: all lines were done. Read and InputTooLong:
+-- each line whose LF was read was done. Write: the run stopped at an item whose output failed.
 abbrev pub Ends : {T : Type 0} → Past → List ℕ → Option (List ℕ) → Option (List ℕ) → Option (List ℕ) → AgentState →
     Result T RunFault → Type 0
 Ends past input left old new agent (Ok done) = Done past (items_of_lines past (lines_of input)) old new agent
@@ -55,15 +56,16 @@ Ends past input left old new agent (Err Write) = StoppedAt past input left old n
 Ends past input left old new agent (Err InputTooLong) =
     Done past (items_of_lines past (ended_lines input)) old new agent
 
--- what the answer says of the octets that were read: Ok, that the end was reached; InputTooLong, how many they were
+-- what the answer says about what was read: Ok, that it is all; InputTooLong, its least length
 abbrev pub HasRead : {T : Type 0} → Option (List ℕ) → List ℕ → Result T RunFault → Type 0
 HasRead left input (Ok done) = IsAtEnd left
 HasRead left input (Err Read) = Unit {0}
 HasRead left input (Err Write) = Unit {0}
 HasRead left input (Err InputTooLong) = 4294967295 ≤ length input
 
--- A run: the octets that it read, what its answer says of them, and, for every past that the agent stood for, what it
--- did. A source had octets to come and has some left, a sink had taken octets and has taken more.
+-- A run: the octets that it read, what its answer says about them, and what it did for every past
+-- that the agent stood for. Octets of the source: `to_come`, then `left`; of the sink: `old`, then
+-- `new`.
 pub record HasRun {T : Type 0} (to_come left old new : Option (List ℕ)) (before after : AgentState)
     (result : Result T RunFault) : Type 0 where
   pub input : List ℕ
@@ -81,8 +83,8 @@ abbrev pub write_failures_after : {T : Type 0} → ℕ → Result T RunFault →
 write_failures_after failures (Err Write) = one_more failures
 write_failures_after failures _ = failures
 
--- How often the end was answered, before and after a run: once more if it answers Ok, not once if it answers Read
--- or InputTooLong; if it answers Write, at most once.
+-- How many reads returned the end, before and after a run: one more if it answers Ok, as many as
+-- before if it answers Read or InputTooLong, and at most one more if it answers Write.
 abbrev pub EndsTold : {T : Type 0} → ℕ → ℕ → Result T RunFault → Type 0
 EndsTold before after (Ok done) = after ≡ one_more before
 EndsTold before after (Err Read) = after ≡ before
@@ -93,7 +95,7 @@ EndsTold before after (Err InputTooLong) = after ≡ before
 abbrev pub followed : Past → List Event → Past
 followed past events = record { options = past.options; events = events ++ past.events }
 
--- The agent stands for the past and some more events, all of them allowed, as all are that an agent stands for, and
--- keeps the promise: tables hold the last stored frames, and ports have sent exactly what was due.
+-- The agent stands for the past and some more events, all of them allowed, and keeps the promise
+-- for it: its tables hold the last stored frames, and its ports have sent exactly what was due.
 abbrev pub KeepsOn : Past → AgentState → Type 0
 KeepsOn past agent = (events : List Event) × Stands (followed past events) agent × Promised (followed past events) agent

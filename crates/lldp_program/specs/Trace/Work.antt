@@ -6,7 +6,7 @@ use Rattle.lldp_engine.specs.Command.{Command, command_of, AllowsCommand}
 use Rattle.lldp_program.specs.declared.line.Work.{Work as CodeWork}
 use Rattle.lldp_program.specs.declared.line.Work.TheVariants as code
 
--- nothing, some ticks, a frame on a port, that the link of a port came up or went down, or a command
+-- nothing, some ticks, a frame on a port, a link that came up or went down, or a command
 pub data Work : Type 0 where
   skip : Work
   ticks : ℕ → Work
@@ -14,7 +14,7 @@ pub data Work : Type 0 where
   link : (port : ℕ) (up : Bool) → Work
   command : Command → Work
 
--- work of the program as plain data
+-- the work of a line as plain data
 abbrev pub work_of : CodeWork → Work
 work_of code.Skip = skip
 work_of (code.Ticks n) = ticks n
@@ -22,7 +22,7 @@ work_of (code.Frame port octets) = frame port octets.now
 work_of (code.Link port up) = link port up
 work_of (code.Command given) = command (command_of given)
 
--- the agent accepts the events of the work, and its ticks are one at least
+-- the agent accepts the events of the work; a number of ticks is at least 1
 abbrev pub AllowsWork : AgentState → Work → Type 0
 AllowsWork agent skip = Unit {0}
 AllowsWork agent (ticks n) = 1 ≤ n

@@ -12,7 +12,7 @@ ghost use Rattle.lldp_program.specs.declared.arguments.Listening.{Listening};
 ghost use Rattle.lldp_program.specs.declared.trace.RunFault.{RunFault};
 
 /// The command line has exactly these options, none with an alias or a short form, and these roles,
-/// octet by octet. Four options take the numbers that an opening takes, and no others.
+/// octet by octet. Four options accept exactly the numbers that opening an agent accepts.
 #[tactic(auto, using(crate::proofs::ForLaws::CommandLine::options_are_these_alone))]
 pub fn options_are_these_alone()
     ensures options { (roles : Bor (List (Bor Text))) → HasOptions roles }
@@ -21,16 +21,16 @@ pub fn options_are_these_alone()
         TakesRange roles options }
 {}
 
-/// Options that the words ask for are, one by one, what the word of each says.
+/// Each option that the words ask for is what its own word says.
 #[tactic(auto, using(crate::proofs::ForLaws::CommandLine::are_asked))]
 pub fn options_are_what_their_words_say()
     ensures { (rows : List Row) (options : Options) → Asks rows options → AreAsked rows options }
 {}
 
-/// The texts of `--listen` and `--connections`, whatever they are, ask to listen at the port that
-/// the first gives and for as many connections as the second gives. Four command lines ask for
-/// this, one of them by the default of one connection. The number of faults is that of the
-/// connections that ended with one.
+/// Whatever the texts of `--listen` and `--connections` are, they ask to listen at the port of the
+/// first for as many connections as the second says. Four command lines are worked examples; one
+/// has the default of one connection. The number of faults counts the connections that ended with
+/// one.
 #[tactic(auto, using(crate::proofs::Serving::words_ask_to_listen))]
 pub fn words_ask_to_listen()
     ensures texts { (port connections : Option Text) (asked : Option Listening) →

@@ -1,4 +1,4 @@
-//! What is fixed: numbers, and how the program ends.
+//! The numbers of the program, and how it ends.
 ghost use Rattle.lldp_program.specs.Laws.FixedNumbers.{AreEnds, AreNumbers};
 
 /// Statuses, bounds and faults have these numbers, and each fault of a run, an opening and an

@@ -7,8 +7,8 @@ ghost use Rattle.lldp_program.specs.Laws.Sayings.{BeginForms, CountTicks, SkipsL
 ghost use Rattle.lldp_program.specs.Trace.Forms.{work_given};
 ghost use Rattle.lldp_program.specs.Trace.Work.{Work};
 
-/// Four first words begin the forms of a trace, and every other one a command; `tick` is as many
-/// ticks as it says; and exactly the lines of these octets are skipped.
+/// Four first words begin the forms of a trace, and every other one begins a command. `tick` means
+/// as many ticks as it says. Only blank lines and comments, of at most 4,096 octets, are skipped.
 #[tactic(auto, using(crate::proofs::ForLaws::Sayings::skips))]
 pub fn first_words_decide_forms()
     ensures words { (agent : AgentState) (words : List (List ℕ)) → BeginForms agent words }
@@ -17,8 +17,8 @@ pub fn first_words_decide_forms()
 {}
 
 /// A line says what its words say, and only that: it says some work exactly if it has the words of
-/// that work, octet by octet, with nothing after them. Words after `tick`, `rx`, `up` and `down`
-/// have a fault exactly if it is the first among them.
+/// that work, octet by octet, with nothing after them. The fault of words after `tick`, `rx`, `up`
+/// or `down` is the first of the faults that they have.
 #[tactic(auto, using(crate::proofs::ForLaws::OnlyLines::lines_say_what_their_words_say))]
 pub fn lines_say_what_their_words_say()
     ensures says { (agent : AgentState) (line : List ℕ) → SaysItsWords agent line }

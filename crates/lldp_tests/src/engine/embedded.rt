@@ -1,5 +1,4 @@
-//! The calls of a host that embeds an agent; the program itself reads words, and writes frames into
-//! its output.
+//! Tests the calls that a host with an embedded agent makes and the program does not.
 use super::{only_receiving, open};
 use lldp_engine::{Command, CommandFault, Event, Mark, Show};
 use std::test::Fail;

@@ -1,5 +1,5 @@
-//! What opening refuses is reported. No call takes memory after it: the types say so, and
-//! tools/gate/refuse-memory.sh sees it of the program.
+//! Tests that an opening without enough memory reports it. No later call allocates memory: the
+//! types say so, and tools/gate/refuse-memory.sh checks it for the program.
 use super::{NAMES, only_receiving, open};
 use linked_list_allocator::LocalHeap;
 use lldp_engine::OpenFault;
@@ -8,10 +8,10 @@ use std::alloc::{Allocator, Global};
 use std::process::Abort;
 use std::test::Fail;
 
-/// A heap that holds more than any opening below.
+/// The size of a heap with room enough for every opening below.
 const AMPLE: usize = 400_000;
 
-/// Returns the room that the table of a port takes.
+/// Returns the room that the table of a port needs.
 fn table_size(rt: &impl Abort, alloc: Global, limit: u8) -> Result<usize, Fail> {
     assert!(rt; 0 < limit && limit <= 128);
     let heap = LocalHeap::new(alloc, AMPLE)?;
@@ -20,8 +20,8 @@ fn table_size(rt: &impl Abort, alloc: Global, limit: u8) -> Result<usize, Fail> 
     Ok(heap.used())
 }
 
-/// Opens an agent in a heap of this size, and returns how much it takes, or the fault. What was
-/// refused leaves nothing after.
+/// Opens an agent in a heap of this size, and returns how much of it is used, or the fault. A
+/// refused opening must leave nothing allocated.
 fn taken(
     rt: &impl Abort,
     alloc: Global,
@@ -42,9 +42,9 @@ fn taken(
     }
 }
 
-/// Refuses each allocation of an opening in turn, with one unit too little room for it: that of the
-/// table of each port, and that of the ports, which comes first. With just enough room, none is
-/// refused.
+/// Refuses each allocation of an opening in turn, with a heap that lacks one unit for it: that of
+/// the table of each port, and that of the ports, which comes first. With just enough room, no
+/// allocation is refused.
 fn refuse_each(rt: &impl Abort, alloc: Global, ports: &[&str], limit: u8) -> Result<(), Fail> {
     let table = table_size(rt, alloc, limit)?;
     let all = taken(rt, alloc, ports, limit, AMPLE)??;
@@ -66,7 +66,7 @@ fn refused_at_opening(rt: HostRuntime) -> Result<(), Fail> {
     refuse_each(&rt, rt.alloc(), &NAMES, 2)
 }
 
-/// Checks that faults of the options are reported before memory is taken.
+/// Checks that faults of the options are reported before memory is allocated.
 #[test]
 fn other_faults_first(rt: HostRuntime) -> Result<(), Fail> {
     let refused = taken(&rt, rt.alloc(), &["a.b"], 2, 64)?;

@@ -1,10 +1,10 @@
-//! That opening works if there is memory, and what it refuses.
+//! Tests that opening works if there is memory, and what it refuses.
 use super::{NAMES, only_receiving, open};
 use crate::row::{octets, rows_of};
 use lldp_engine::Options;
 use std::test::Fail;
 
-/// Opens an agent by each row of examples/vectors.rows, and compares the number of the fault, or 0.
+/// Opens an agent with the options of each row, and compares the number of the fault, or 0.
 #[test]
 fn openings(rt: HostRuntime) -> Result<(), Fail> {
     let rows = rows_of(rt.alloc(), "open")?;
@@ -29,7 +29,7 @@ fn openings(rt: HostRuntime) -> Result<(), Fail> {
     Ok(())
 }
 
-/// Checks that no opening is refused if there is memory: every number of ports, with every limit.
+/// Checks that no opening is refused if there is memory, for all numbers of ports and all limits.
 #[test]
 fn every_size(rt: HostRuntime) -> Result<(), Fail> {
     for ports in 1..65 {

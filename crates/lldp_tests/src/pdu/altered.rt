@@ -1,4 +1,4 @@
-//! Cut and altered frames: all that `examine` tells of each is what the slow reader tells.
+//! Tests that `examine` and the slow reader report the same about cut and altered frames.
 use super::slow_reader::read;
 use super::told::Told;
 use crate::engine::{only_receiving, open};
@@ -9,7 +9,7 @@ use std::alloc::{AllocError, Global};
 use std::process::Abort;
 use std::test::Fail;
 
-/// The frame A, and its Ethernet header.
+/// The frame A with its Ethernet header.
 const FRAME: &str = "0180c200000e00112233445588cc02070400112233445504050565746830060200780000";
 
 /// The LLDPDUs of the frames A, A5, A8, A9, A10 and Z2, and that of A11 without its TLV of 511 octets.
@@ -23,13 +23,13 @@ const LLDPDUS: &[&str] = &[
     "02070400112233445504050565746830060200781018110220010db8000000000000000000000001020000000700fe0400120f0112000c04615c00620000",
 ];
 
-/// Reads an LLDPDU both ways.
+/// Compares what both readers report about an LLDPDU.
 fn compare(rt: &impl Abort, alloc: Global, pdu: &[u8]) -> Result<(), Fail> {
     assert_eq!(rt; Told::of(alloc, pdu)?, read(alloc, pdu)?);
     Ok(())
 }
 
-/// Returns the octets with these bits turned at one place.
+/// Returns the octets with these bits flipped at one place.
 fn altered(alloc: Global, octets: &[u8], place: usize, bits: u8) -> Result<Vec<u8>, AllocError> {
     let mut altered = octets.to_vec(alloc)?;
     if let Some(octet) = altered.get_mut(place) {
@@ -38,7 +38,7 @@ fn altered(alloc: Global, octets: &[u8], place: usize, bits: u8) -> Result<Vec<u
     Ok(altered)
 }
 
-/// Compares each front of these LLDPDUs, and each of them with any one octet changed to any other.
+/// Compares both readers on each front of these LLDPDUs, and on each with any one octet changed.
 #[test]
 fn cut_and_altered(rt: HostRuntime) -> Result<(), Fail> {
     for digits in LLDPDUS {
@@ -53,7 +53,7 @@ fn cut_and_altered(rt: HostRuntime) -> Result<(), Fail> {
     Ok(())
 }
 
-/// Returns how many frames an agent of its own receives of this one.
+/// Passes a frame to a new agent, and returns how many frames it has received then.
 fn received(rt: &(impl Abort + AllocGlobal), octets: &[u8]) -> Result<u32, Fail> {
     let mut agent = open(rt, rt.alloc(), &only_receiving(&["eth0"], 1))?;
     let event = Event::Frame { port: 0, octets };
@@ -63,7 +63,7 @@ fn received(rt: &(impl Abort + AllocGlobal), octets: &[u8]) -> Result<u32, Fail>
     Ok(agent.counters(0).received)
 }
 
-/// Gives each change of one octet of A to an agent of its own. A frame is not an LLDP frame exactly if
+/// Passes A with each change of one octet to a new agent. A frame is not an LLDP frame exactly if
 /// its destination (6 octets) or its EtherType (2) is changed.
 #[test]
 fn one_octet_changed(rt: HostRuntime) -> Result<(), Fail> {

@@ -1,5 +1,5 @@
-//! A reader written from the definitions over whole lists, to compare `examine` with. It shares no
-//! code with the crate: it cuts the whole LLDPDU first, and looks for earlier TLVs anew at each.
+//! A second reader of LLDPDUs, written from the definitions to compare `examine` with. It shares no
+//! code with it: it cuts the whole LLDPDU first, and at each TLV searches the earlier ones again.
 use super::told::Told;
 use std::alloc::{AllocError, Global};
 
@@ -14,7 +14,7 @@ fn first(octets: &[u8]) -> Option<(Tlv<'_>, &[u8])> {
     Some(((high / 2, octets.get(2..end)?), octets.get(end..)?))
 }
 
-/// Cuts an LLDPDU into TLVs and a rest that begins no complete TLV.
+/// Cuts an LLDPDU into TLVs and a rest that does not begin with a complete TLV.
 fn cut(alloc: Global, pdu: &[u8]) -> Result<(Vec<Tlv<'_>>, &[u8]), AllocError> {
     let mut tlvs = Vec::new(alloc);
     let mut rest = pdu;
@@ -27,7 +27,7 @@ fn cut(alloc: Global, pdu: &[u8]) -> Result<(Vec<Tlv<'_>>, &[u8]), AllocError> {
     Ok((tlvs, rest))
 }
 
-/// Returns whether the body is well formed for the type, by the table of TLVs.
+/// Returns true if the body is well formed for the type, by the table of TLVs.
 fn is_well_formed(tlv: &Tlv<'_>) -> bool {
     let body = tlv.1;
     let is_octet = |place: usize, octet: usize| body
@@ -35,13 +35,13 @@ fn is_well_formed(tlv: &Tlv<'_>) -> bool {
         .is_some_and(|found| usize::from(*found) == octet);
     match tlv.0 {
         4..=6 => body.len() <= 255,
-        // Two octets of available bits, and two with none but these enabled.
+        // Two octets of available bits, and two of enabled bits, which are all available.
         7 => body.len() == 4
             && body
                 .iter()
                 .zip(&body[2..])
                 .all(|(had, on)| had | on == *had),
-        // An octet m of 2 to 32, m octets, 5 octets, an octet o up to 128, and o octets.
+        // An octet m from 2 to 32, m octets, 5 octets, an octet o up to 128, and o octets.
         8 => (2..=32).any(|m: usize| is_octet(0, m)
             && (0..=128).any(|o: usize| is_octet(m + 6, o) && body.len() == m + o + 7)),
         127 => body.len() >= 4,
@@ -49,7 +49,7 @@ fn is_well_formed(tlv: &Tlv<'_>) -> bool {
     }
 }
 
-/// Returns the number of the first check that fails, or 0. `later` are the TLVs of the extent after
+/// Returns the number of the first check that fails, or 0. `later` has the TLVs of the extent after
 /// the third.
 fn fault(tlvs: &[Tlv<'_>], later: &[Tlv<'_>]) -> u8 {
     let kind = |place: usize| tlvs.get(place).map_or(0, |tlv| tlv.0);
@@ -72,7 +72,7 @@ fn fault(tlvs: &[Tlv<'_>], later: &[Tlv<'_>]) -> u8 {
     rows.iter().find(|row| row.0).map_or(0, |row| row.1)
 }
 
-/// Returns the first two octets of the third body.
+/// Returns the time to live: the first two octets of the third body.
 fn ttl(tlvs: &[Tlv<'_>]) -> usize {
     let octet = |place: usize| tlvs
         .get(2)
@@ -81,8 +81,8 @@ fn ttl(tlvs: &[Tlv<'_>]) -> usize {
     256 * octet(0) + octet(1)
 }
 
-/// Returns the TLVs that are kept of these: well formed, and of types 4 to 7 none for which an
-/// earlier well-formed one of its type stands.
+/// Returns the TLVs that are kept: all that are well formed, except that of types 4 to 7 only the
+/// first well-formed one of each type is kept.
 fn kept<'a>(alloc: Global, later: &[Tlv<'a>]) -> Result<Vec<Tlv<'a>>, AllocError> {
     let mut kept = Vec::new(alloc);
     for (place, tlv) in later.iter().enumerate() {
@@ -97,7 +97,7 @@ fn kept<'a>(alloc: Global, later: &[Tlv<'a>]) -> Result<Vec<Tlv<'a>>, AllocError
     Ok(kept)
 }
 
-/// Returns what is told of an LLDPDU.
+/// Returns what this reader reports about an LLDPDU.
 pub fn read(alloc: Global, pdu: &[u8]) -> Result<Told<'_>, AllocError> {
     let (tlvs, rest) = cut(alloc, pdu)?;
     let end = tlvs.iter().position(|tlv| tlv.0 == 0);

@@ -1,11 +1,11 @@
-//! What `examine` answers, all of it in one value.
+//! All that `examine` answers, in one value that can be compared.
 use crate::row::field;
 use lldp_pdu::{Examined, Info, Msap, examine};
 use std::alloc::{AllocError, Global};
 use std::test::Fail;
 
-/// What is told of an LLDPDU: the number of its fault, or its TTL and name; and for a TTL above 0
-/// the octets of its extent, its kept TLVs, and how many are discarded and unrecognized.
+/// What a reader reports about an LLDPDU: the number of its fault, or its TTL and MSAP identifier;
+/// and for a TTL above 0 its extent, its kept TLVs, and how many are discarded and unrecognized.
 #[derive(Debug, PartialEq, Drop)]
 pub struct Told<'a> {
     pub fault: u8,
@@ -19,7 +19,7 @@ pub struct Told<'a> {
 }
 
 impl<'a> Told<'a> {
-    /// Returns what is told of an LLDPDU with this fault, if it is not 0.
+    /// Returns a report that has only the number of a fault, or 0.
     pub fn only(alloc: Global, fault: u8) -> Self {
         Told {
             fault,
@@ -33,7 +33,7 @@ impl<'a> Told<'a> {
         }
     }
 
-    /// Returns what is told of a neighbor by its name alone.
+    /// Returns a report that has only the MSAP identifier of a neighbor.
     fn named(alloc: Global, name: &Msap<'a>) -> Self {
         let mut told = Told::only(alloc, 0);
         told.chassis = name.chassis;
@@ -41,7 +41,7 @@ impl<'a> Told<'a> {
         told
     }
 
-    /// Returns what is told of a neighbor that lives.
+    /// Returns the report on an LLDPDU with a TTL above 0.
     fn alive(alloc: Global, info: &Info<'a>) -> Result<Self, AllocError> {
         let mut told = Told::named(alloc, &info.msap());
         told.ttl = usize::from(info.ttl());
@@ -54,7 +54,7 @@ impl<'a> Told<'a> {
         Ok(told)
     }
 
-    /// Returns what `examine` tells.
+    /// Returns what `examine` reports.
     pub fn of(alloc: Global, pdu: &'a [u8]) -> Result<Self, AllocError> {
         match examine(pdu) {
             Err(fault) => Ok(Told::only(alloc, fault.number())),
@@ -63,7 +63,7 @@ impl<'a> Told<'a> {
         }
     }
 
-    /// Writes it as the last fields of a row.
+    /// Writes the report as the last fields of a row.
     pub fn fields(&self, alloc: Global) -> Result<String, Fail> {
         if self.fault != 0 {
             return Ok(format!(in alloc; "fault\t{}", self.fault)?);

@@ -1,19 +1,18 @@
-//! A reader that returns little at a time, a writer that takes little at a time, and that both
-//! fail; and a network.
+//! A reader and a writer that pass on little at a time and can fail, and a network.
 ghost use Rattle.std.specs.Prelude.{◌≤◌};
 
 use std::io::{Error, ErrorKind, Read, Result, Write};
 use std::net::{Net, SocketAddr, TcpListener, TcpStream};
 
-/// A reader that returns its octets in pieces of these sizes, and is interrupted at one call, which
-/// is a failure like any other.
+/// A reader that returns its octets in pieces of these sizes, and fails as interrupted at one call,
+/// which counts like any other failure.
 #[derive(Drop)]
 pub struct Drip<'a> {
     octets: &'a [u8],
     first: usize,
     later: usize,
     fails_at: Option<usize>,
-    /// How often it was read.
+    /// How many reads were made.
     pub calls: usize,
 }
 
@@ -62,8 +61,8 @@ pub enum Burn {
     AtFlush,
 }
 
-/// A writer that takes pieces of this size, and fails once after this many octets, or if it is
-/// flushed. What is written after that is kept too.
+/// A writer that accepts pieces of this size, and fails once: after this many octets, or when it is
+/// flushed. It keeps what is written after that too.
 #[derive(Drop)]
 pub struct Fuse {
     octets: [u8; 4096],
@@ -93,7 +92,7 @@ impl Fuse {
         Fuse::new(usize::MAX, usize::MAX, Burn::Error)
     }
 
-    /// Returns what it took.
+    /// Returns what was written.
     pub fn taken(&self) -> &[u8] {
         &self.octets[..self.len]
     }
@@ -126,7 +125,7 @@ impl Write for Fuse {
     }
 }
 
-/// A network with one port, 127.0.0.1:4711, where clients may already wait, or with none.
+/// A network with one port, 127.0.0.1:4711, where clients may already wait, or with no port.
 #[derive(Drop)]
 pub struct Network<'a> {
     pub listener: Option<&'a TcpListener>,

@@ -1,4 +1,4 @@
-//! Runs over devices that fail.
+//! Tests runs over devices that fail.
 use super::devices::{Burn, Drip, Fuse};
 use super::runs::{HEARD, INPUT, OUTPUT, SENT, expect_counters, expect_run, sending};
 use crate::engine::{only_receiving, open};
@@ -7,7 +7,7 @@ use std::process::Abort;
 use std::test::Fail;
 
 /// Checks that the tick whose LF was read was done, and the other one was not: one second was
-/// counted, and the next frame is sent at the thirtieth from there.
+/// counted, and the next frame is sent 30 seconds after it.
 #[test]
 fn reader_that_fails_inside_a_line(rt: HostRuntime) -> Result<(), Fail> {
     let rows: &[(&[u8], Option<usize>, Result<(), RunFault>, &str)] = &[
@@ -26,7 +26,7 @@ fn reader_that_fails_inside_a_line(rt: HostRuntime) -> Result<(), Fail> {
     Ok(())
 }
 
-/// The lines of frames of the neighbors eth1, eth2 for 9 seconds, and eth3 for 5 seconds.
+/// Lines with frames of the neighbors eth1, eth2 (TTL 9 seconds) and eth3 (TTL 5 seconds).
 const HEARD_OTHER: &str =
     "rx eth0 0180c200000e00112233445588cc02070400112233445504050565746831060200780000\n";
 
@@ -62,7 +62,7 @@ lldp.eth0.2.ttl=120
 lldp.eth0.2.expires=111
 ";
 
-/// Four neighbors if two are held at most: lines, each with its text.
+/// Four neighbors for a table of two: lines, each with the text that it gives.
 const FULL_TABLE: &[(&str, &str)] = &[
     (HEARD, ""),
     (HEARD_OTHER, ""),
@@ -75,7 +75,7 @@ const FULL_TABLE: &[(&str, &str)] = &[
     ("show neighbors\n", SHOWN_LATER),
 ];
 
-/// Runs the full table with a reader that returns an octet at each call and fails at one, and
+/// Runs `FULL_TABLE` with a reader that returns an octet at each call and fails at one of them, and
 /// compares what was written until then.
 fn fails_at_call(
     rt: &(impl Abort + AllocGlobal),
@@ -91,7 +91,7 @@ fn fails_at_call(
     Ok(())
 }
 
-/// Checks that the lines whose LF came before the failed read were done, no others, and that the
+/// Checks that exactly the lines whose LF came before the failed read were done, and that the
 /// reader is not called again.
 #[test]
 fn reader_that_fails(rt: HostRuntime) -> Result<(), Fail> {
@@ -108,21 +108,21 @@ fn reader_that_fails(rt: HostRuntime) -> Result<(), Fail> {
         }
         output.push_str(text)?;
     }
-    // The call that would have returned the end.
+    // This call would have returned the end.
     fails_at_call(&rt, input.as_str(), call, output.as_str())
 }
 
-/// Nine lines, of which the first five and the eighth send a frame each.
+/// Nine lines. The first five and the eighth send a frame each.
 const LINES: [&str; 9] = [
     "tick\n", "update\n", "update\n", "update\n", "update\n", "update\n", "update\n", "tick\n",
     "tick\n",
 ];
 
-/// Their frames, and that of two further updates: there is credit for one.
+/// The frames of these lines, and one of two further updates, since there is credit for one.
 const FRAMES: [&str; 7] = [SENT; 7];
 
-/// Runs the lines with a writer that fails after this many octets, then those that were not done,
-/// and two further ones. The line of a frame has 141 octets, its LF among them.
+/// Runs the lines with a writer that fails after this many octets, then the lines that were not
+/// done and two further ones. The line of a frame has 141 octets with its LF.
 fn fails_at(rt: &(impl Abort + AllocGlobal), octets: usize, burn: Burn) -> Result<(), Fail> {
     let mut agent = open(rt, rt.alloc(), &sending())?;
     let input = LINES.concat(rt.alloc())?;
@@ -155,7 +155,7 @@ fn fails_at(rt: &(impl Abort + AllocGlobal), octets: usize, burn: Burn) -> Resul
 }
 
 /// Checks that exactly the octets before the fault were written, and that the agent stands for the
-/// events up to the one whose output failed. With room for 846 octets, none fails.
+/// events up to the one whose output failed. With room for 846 octets no write fails.
 #[test]
 fn writer_that_fails(rt: HostRuntime) -> Result<(), Fail> {
     for octets in 0..=846 {
@@ -165,7 +165,7 @@ fn writer_that_fails(rt: HostRuntime) -> Result<(), Fail> {
     Ok(())
 }
 
-/// Checks that exactly the octets before the fault were written, wherever it comes inside a show.
+/// Checks that exactly the octets before the fault were written, wherever in a show it comes.
 #[test]
 fn writer_that_fails_inside_a_show(rt: HostRuntime) -> Result<(), Fail> {
     for octets in 0..OUTPUT.len() {

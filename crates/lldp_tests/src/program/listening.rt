@@ -1,4 +1,4 @@
-//! The program when its words ask to listen.
+//! Tests the program with words that ask to listen.
 use super::devices::{Drip, Fuse, Network};
 use super::sockets::{ASK, ASK_IN_VAIN, Client, LEARN, LEAVE, listen, read_all, send_all};
 use super::statuses::expect_status;
@@ -11,7 +11,7 @@ const DONE: (u8, &str) = (0, "");
 
 const SOCKET_FAILED: (u8, &str) = (1, "lldpa: socket failed\n");
 
-/// Runs the program, which does not use its streams, and compares what it answers.
+/// Runs the program, compares its status and fault, and checks that it does not use its streams.
 fn run(
     rt: &(impl Abort + AllocGlobal),
     net: &impl Net<Listener = TcpListener, Stream = TcpStream>,
@@ -26,8 +26,8 @@ fn run(
     Ok(())
 }
 
-/// Connects clients and lets them send, runs the program with the words of each row, and lets them
-/// read.
+/// Connects clients and sends what they send, runs the program once for each row with its words,
+/// and compares what the clients receive.
 fn serve_all(
     rt: &(impl Abort + AllocGlobal + Net<Stream = TcpStream, Listener = TcpListener>),
     clients: &[Client<'_>],
@@ -64,7 +64,7 @@ fn port_and_connections(rt: HostRuntime) -> Result<(), Fail> {
     Ok(())
 }
 
-/// Checks that as many clients as were asked for are served, and the next one is not.
+/// Checks that as many clients are served as the words ask for, and the next one is not.
 #[test]
 fn serves_so_many(rt: HostRuntime) -> Result<(), Fail> {
     let two = "lldpa --listen 4711 --receive-only eth0 --connections 2";
@@ -73,15 +73,15 @@ fn serves_so_many(rt: HostRuntime) -> Result<(), Fail> {
     serve_all(&rt, &clients, &[(two, DONE), (one, DONE), (one, DONE)])
 }
 
-/// Checks that a fault of one connection is reported after all were served.
+/// Checks that the fault of a connection is reported after all were served.
 #[test]
 fn faulty_connection(rt: HostRuntime) -> Result<(), Fail> {
     let words = "lldpa --receive-only --listen=4711 --connections=2 eth0";
     serve_all(&rt, &[LEAVE, ASK_IN_VAIN], &[(words, SOCKET_FAILED)])
 }
 
-/// Checks the answer if no client comes, or the port is another. The opening is refused before a
-/// port is bound.
+/// Checks the answer if no client comes, if the network has another port, and if the options are
+/// refused, which happens before a port is bound.
 #[test]
 fn no_client(rt: HostRuntime) -> Result<(), Fail> {
     let rows: &[(&str, (u8, &str))] = &[
@@ -96,7 +96,7 @@ fn no_client(rt: HostRuntime) -> Result<(), Fail> {
     serve_all(&rt, &[], rows)
 }
 
-/// Checks the answer at a port of this host at which another program listens.
+/// Checks the answer if another program already listens at the port.
 #[test]
 fn port_in_use(rt: HostRuntime) -> Result<(), Fail> {
     let listener = listen(&rt)?;

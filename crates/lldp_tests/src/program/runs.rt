@@ -1,4 +1,4 @@
-//! Runs over octets in memory, whole and in pieces.
+//! Tests runs over octets in memory, whole and in pieces.
 ghost use Rattle.std.specs.Prelude.{◌≡◌, IfOk, OnOk};
 ghost use Rattle.lldp_engine.specs.Past.{Past};
 ghost use Rattle.lldp_engine.specs.Standing.{Stands};
@@ -12,16 +12,16 @@ use lldp_program::trace::{RunFault, run_trace};
 use std::process::Abort;
 use std::test::Fail;
 
-/// The line of an ordinary frame of port eth0 if no option is given.
+/// The line of an ordinary frame of port eth0 with default options.
 pub const SENT: &str =
     "tx eth0 0180c200000e02000000000188cc02070402000000000104050565746830060200790804657468300a096c6f63616c686f73740c056c6c6470610e04008000800000\n";
 
-/// The line of a frame of the neighbor eth0.
+/// A line with a frame of the neighbor eth0.
 pub const HEARD: &str =
     "rx eth0 0180c200000e00112233445588cc02070400112233445504050565746830060200780000\n";
 
-/// A neighbor with a TTL of 1 that is shown and ages out, lines that are refused, and a last line
-/// without LF.
+/// A trace with a neighbor that has a TTL of 1, is shown and ages out, with lines that are refused,
+/// and with a last line without LF.
 pub const INPUT: &[u8] =
     b"rx eth0 0180c200000e00112233445588cc02070400112233445504050565746830060200010000
 show neighbors
@@ -54,7 +54,7 @@ lldp.eth0.octets=0
 lldp.eth0.too-many=no
 ";
 
-/// Returns the options of an agent on one port if no option is given.
+/// Returns the default options of an agent with one port.
 pub fn sending() -> Options<'static> {
     let mut options = only_receiving(&["eth0"], 32);
     options.receive_only = false;
@@ -71,7 +71,7 @@ pub fn expect_counters(rt: &impl Abort, agent: &Agent, wanted: &[&str]) {
     }
 }
 
-/// Runs over these devices, and compares the answer and what was written. A loop passes its place.
+/// Runs over these devices, and compares the answer and what was written. A failure prints `place`.
 pub fn expect_run(
     rt: &(impl Abort + AllocGlobal),
     agent: &mut Agent,
@@ -89,7 +89,7 @@ pub fn expect_run(
     assert_eq!(rt; fuse.taken(), wanted.1, "at {place}");
 }
 
-/// Runs octet by octet, and in two pieces, cut at every place. A first piece of all is the whole.
+/// Runs the input octet by octet, and in two pieces cut at every place, or in one piece.
 #[test]
 fn any_pieces(rt: HostRuntime) -> Result<(), Fail> {
     for first in 1..=INPUT.len() {
@@ -102,7 +102,7 @@ fn any_pieces(rt: HostRuntime) -> Result<(), Fail> {
     Ok(())
 }
 
-/// Returns the text of an input: what a caller knows of it from public contracts alone.
+/// Returns the text of an input. Its clauses follow from public contracts alone.
 pub fn text_of_input(
     rt: &(impl Abort + AllocGlobal),
     agent: &mut Agent,
@@ -129,7 +129,7 @@ fn runs_octets(rt: HostRuntime) -> Result<(), Fail> {
     Ok(())
 }
 
-/// Checks that each adapter calls its stream, and passes on what that answers.
+/// Checks that each adapter calls its stream, and returns the answer of that call.
 #[test]
 fn adapters_ask(rt: HostRuntime) -> Result<(), Fail> {
     let mut drip = Drip::new(b"abc", 2, 2, Some(2));

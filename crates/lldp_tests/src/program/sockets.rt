@@ -1,4 +1,4 @@
-//! Traces over connections to a listener of this host.
+//! Tests traces over connections to a listener of this host.
 use super::runs::{HEARD, expect_counters};
 use super::statuses::NONE;
 use crate::engine::{only_receiving, open};
@@ -15,7 +15,7 @@ use std::time::Duration;
 
 const SHOW: &str = "show neighbors\n";
 
-/// What it writes if the neighbor of `HEARD` is held.
+/// What `SHOW` gives if the neighbor of `HEARD` is held.
 const SHOWN: &str = "lldp.eth0.neighbors=1
 lldp.eth0.octets=20
 lldp.eth0.too-many=no
@@ -25,8 +25,8 @@ lldp.eth0.1.ttl=120
 lldp.eth0.1.expires=120
 ";
 
-/// A client: what it sends, and what it is answered. One without an answer does not read, and
-/// leaves.
+/// A client: what it sends, and the answer that it reads. A client without an answer leaves without
+/// reading.
 pub type Client<'a> = (&'a [&'a str], Option<&'a str>);
 
 /// A client that sends a neighbor's frame.
@@ -50,7 +50,7 @@ pub fn listen(
     Ok(listener)
 }
 
-/// Connects to a listener. The connection waits for at most ten seconds.
+/// Connects to a listener. A read of the client waits for at most ten seconds.
 fn connect(
     rt: &(impl Abort + AllocGlobal + Net<Stream = TcpStream, Listener = TcpListener>),
     listener: &TcpListener,
@@ -80,7 +80,7 @@ pub fn send_all<'a>(
     Ok(waiting)
 }
 
-/// Compares all that they receive.
+/// Compares all that the clients receive with their answers.
 pub fn read_all(
     rt: &(impl Abort + AllocGlobal),
     waiting: Vec<(TcpStream, &str)>,
@@ -92,7 +92,7 @@ pub fn read_all(
     Ok(())
 }
 
-/// An agent that only receives, and where it is served.
+/// An agent that only receives, and the listener at which it is served.
 #[derive(Drop)]
 struct Server {
     agent: Agent,
@@ -109,8 +109,8 @@ impl Server {
         })
     }
 
-    /// Lets clients connect and send, serves this many connections and compares the answer, each
-    /// time in turn, and lets them read.
+    /// Connects clients and sends what they send, serves as many connections as each call says and
+    /// compares its answer, and compares what the clients receive.
     fn serves(
         &mut self,
         rt: &(impl Abort + AllocGlobal + Net<Stream = TcpStream, Listener = TcpListener>),
@@ -131,7 +131,7 @@ fn two_connections(rt: HostRuntime) -> Result<(), Fail> {
     Server::open(&rt)?.serves(&rt, &[LEARN, ASK], &[(2, Ok(0))])
 }
 
-/// Checks that no client is served that was not asked for.
+/// Checks that no more clients are served than were asked for, even if none were.
 #[test]
 fn no_connections(rt: HostRuntime) -> Result<(), Fail> {
     let mut server = Server::open(&rt)?;
@@ -139,7 +139,7 @@ fn no_connections(rt: HostRuntime) -> Result<(), Fail> {
     server.serves(&rt, &[LEARN, ASK], &[(0, Ok(0)), (1, Ok(0)), (1, Ok(0))])
 }
 
-/// Checks that the next client is served whatever became of the one before it.
+/// Checks that the next client is served, whatever the one before it did.
 #[test]
 fn client_that_does_not_read(rt: HostRuntime) -> Result<(), Fail> {
     let nothing: Client<'_> = (&[], Some(""));
@@ -148,8 +148,8 @@ fn client_that_does_not_read(rt: HostRuntime) -> Result<(), Fail> {
     Server::open(&rt)?.serves(&rt, &clients, &[(5, Ok(1))])
 }
 
-/// Checks that a client that leaves without reading an answer may be a fault or not, and that the
-/// next one is served.
+/// Checks that a client that leaves without reading an answer may or may not count as a fault, and
+/// that the next one is served.
 #[test]
 fn client_that_leaves(rt: HostRuntime) -> Result<(), Fail> {
     let mut server = Server::open(&rt)?;
@@ -160,7 +160,7 @@ fn client_that_leaves(rt: HostRuntime) -> Result<(), Fail> {
     read_all(&rt, waiting)
 }
 
-/// Checks that if no client can be accepted, what came before counts.
+/// Checks that the connections before a failed accept still count.
 #[test]
 fn nobody_to_accept(rt: HostRuntime) -> Result<(), Fail> {
     let mut server = Server::open(&rt)?;
@@ -175,7 +175,7 @@ const HEARD_ALL: [&str; 3] = [
     "lldp.eth0.received=1000",
 ];
 
-/// Checks that one agent serves them all.
+/// Checks that one agent serves a thousand clients, one after another.
 #[test]
 fn many_connections(rt: HostRuntime) -> Result<(), Fail> {
     let mut server = Server::open(&rt)?;
@@ -186,8 +186,8 @@ fn many_connections(rt: HostRuntime) -> Result<(), Fail> {
     Ok(())
 }
 
-/// A connection whose client reads each answer before it sends its next lines, and then leaves. It
-/// fails if an answer differs.
+/// A connection whose client reads each answer before it sends its next lines, and at the end
+/// leaves. A read fails if an answer differs.
 #[derive(Drop)]
 struct Conversation<'a> {
     client: Option<TcpStream>,
@@ -223,7 +223,7 @@ impl Read for Conversation<'_> {
     }
 }
 
-/// Runs over a conversation, and compares the answer. What came before counts.
+/// Runs over a conversation, compares the answer, and checks that the agent keeps what it received.
 fn converse(
     rt: &(impl Abort + AllocGlobal + Net<Stream = TcpStream, Listener = TcpListener>),
     steps: &[(&str, &str)],
@@ -247,8 +247,8 @@ fn converse(
     server.serves(rt, &[ASK], &[(1, Ok(0))])
 }
 
-/// Checks that each answer comes before the next line is sent, and without the connection being
-/// closed.
+/// Checks that each answer arrives before the next line is sent, while the connection is still
+/// open.
 #[test]
 fn answers_come_at_once(rt: HostRuntime) -> Result<(), Fail> {
     let steps = [

@@ -1,4 +1,4 @@
-//! The program over streams that fail, and words that no shell can give it.
+//! Tests the program with streams that fail, and with words that no shell can pass to it.
 use super::devices::{Burn, Drip, Fuse, Network};
 use super::runs::{INPUT, OUTPUT};
 use lldp_program::program::run_program;
@@ -20,8 +20,8 @@ const FAR: usize = usize::MAX;
 
 const OFFLINE: Network<'static> = Network { listener: None };
 
-/// Runs the program with words, separated by spaces, and compares its status and what it writes of
-/// faults, an octet at a time.
+/// Runs the program with words, separated by spaces, and compares its status and the text of
+/// faults, which it writes octet by octet.
 pub fn expect_status(
     rt: &(impl Abort + AllocGlobal),
     net: &impl Net<Listener = TcpListener, Stream = TcpStream>,
@@ -38,7 +38,7 @@ pub fn expect_status(
     Ok(())
 }
 
-/// Checks that what was written is flushed once, whatever became of the run.
+/// Checks that what was written is flushed once, however the run ended.
 #[test]
 fn streams_that_fail(rt: HostRuntime) -> Result<(), Fail> {
     let words = "lldpa --receive-only eth0";
@@ -62,7 +62,7 @@ fn streams_that_fail(rt: HostRuntime) -> Result<(), Fail> {
     Ok(())
 }
 
-/// Checks the status wherever the writing ends, and at the flush.
+/// Checks the status if writing help or the version fails, or the flush after it.
 #[test]
 fn help_that_cannot_be_written(rt: HostRuntime) -> Result<(), Fail> {
     let wanted = (1, WRITE_FAILED);
@@ -81,7 +81,7 @@ fn help_that_cannot_be_written(rt: HostRuntime) -> Result<(), Fail> {
     Ok(())
 }
 
-/// All that is written for a word that is not an option.
+/// The whole message for a word that is not an option.
 const NO_SUCH: &str = "error: unexpected argument '--no-such' found
 
   tip: to pass '--no-such' as a value, use '-- --no-such'
@@ -91,8 +91,8 @@ Usage: lldpa [OPTIONS] PORT...
 For more information, try '--help'.
 ";
 
-/// Checks that no words at all count as the name alone, that without `--listen` the number of
-/// connections changes nothing, and that nothing is read if the words have a fault.
+/// Checks that an empty list of words is like the program's name alone, that without `--listen` the
+/// number of connections changes nothing, and that nothing is read if the words have a fault.
 #[test]
 fn words_of_the_program(rt: HostRuntime) -> Result<(), Fail> {
     let without_listen = "lldpa --connections 2 --receive-only eth0";
@@ -111,8 +111,8 @@ fn words_of_the_program(rt: HostRuntime) -> Result<(), Fail> {
     Ok(())
 }
 
-/// Checks that the messages of faults are the lines that the program writes. No test can read so
-/// often that the input is too long.
+/// Checks that the messages of faults are the lines that the program writes. No test can make
+/// enough reads for `input too long`.
 #[test]
 fn texts_of_faults(rt: HostRuntime) -> Result<(), Fail> {
     let accept = format!(in rt.alloc(); "{}", ServeFault::Accept)?;

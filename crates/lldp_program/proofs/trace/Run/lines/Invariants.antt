@@ -5,7 +5,7 @@ use Rattle.lldp_program.specs.Trace.Items.{items_of_lines}
 use Rattle.lldp_program.specs.Code.Parts.{Performs}
 use Rattle.lldp_program.proofs.trace.Run.lines.Given as goal
 
--- the lines up to start are done, and from start on to from there is no LF
+-- the lines up to `start` are done, and there is no LF between `start` and `from`
 abbrev pub invariant-loop-at : goal.invariant-loop-at
 invariant-loop-at g l = record {
   low : l.start ≤ l.from;
