@@ -1,6 +1,6 @@
 /*
- * Hears LLDP on an interface of Linux, and prints every neighbor that comes, changes, leaves or ages out. It needs the
- * right to open packet sockets, and runs until it gets SIGINT or SIGTERM.
+ * Receives LLDP on a Linux interface, and prints every neighbor that appears, changes, leaves or
+ * ages out. Needs the right to open packet sockets (CAP_NET_RAW). Runs until SIGINT or SIGTERM.
  *     cc receive.c $(pkg-config --cflags --libs lldpa) -o receive && sudo ./receive eth0
  */
 #define _DEFAULT_SOURCE
@@ -26,7 +26,7 @@ static void end(int number)
     is_over = 1;
 }
 
-/* A socket that hears what comes to the group address of LLDP on an interface, or -1. */
+/* Opens a socket that receives LLDP frames on an interface. Returns -1 if that fails. */
 static int open_socket(const char *interface)
 {
     struct sockaddr_ll place = {.sll_family = AF_PACKET, .sll_protocol = htons(ETHERTYPE_LLDP)};
@@ -47,7 +47,7 @@ static long seconds(void)
     return now.tv_sec;
 }
 
-/* Prints what happened to a neighbor, as "new chassis.mac=00:11:22:33:44:55 port.ifname=eth0". */
+/* Prints what happened to a neighbor: "new chassis.mac=00:11:22:33:44:55 port.ifname=eth0". */
 static void print_neighbor(const char *what, const uint8_t *octets, lldpa_place chassis, lldpa_place port)
 {
     static uint8_t first[LLDPA_VALUE_ROOM], second[LLDPA_VALUE_ROOM];
@@ -58,11 +58,11 @@ static void print_neighbor(const char *what, const uint8_t *octets, lldpa_place 
     fflush(stdout);
 }
 
-/* Gives the agent the seconds that passed, and prints the neighbors that age out. */
+/* Reports to the agent that seconds passed, and prints the neighbors that age out. */
 static void pass(lldpa_agent *agent, uint32_t passed)
 {
     static uint8_t room[LLDPA_NEIGHBOR_ROOM];
-    lldpa_marks marks; /* a port that only receives sends nothing */
+    lldpa_marks marks; /* stays empty, since the port only receives */
     lldpa_ticks_taken done;
     lldpa_held held;
     for (uint32_t at = 0; lldpa_neighbor(agent, 0, at, room, sizeof room, &held) == LLDPA_OK; at++) {
@@ -75,7 +75,7 @@ static void pass(lldpa_agent *agent, uint32_t passed)
     }
 }
 
-/* In how many milliseconds a neighbor ages out, or an hour. */
+/* Returns the milliseconds until a neighbor ages out, at most an hour. */
 static int wait_of(lldpa_agent *agent)
 {
     uint32_t due;
@@ -87,7 +87,7 @@ static void hear(lldpa_agent *agent, int heard)
     static const char *const words[] = {[LLDPA_NEWS_NEW] = "new", [LLDPA_NEWS_CHANGED] = "changed",
                                         [LLDPA_NEWS_DROPPED] = "no room for", [LLDPA_NEWS_GONE] = "gone"};
     static uint8_t frame[2048];
-    lldpa_marks marks; /* a port that only receives sends nothing */
+    lldpa_marks marks; /* stays empty, since the port only receives */
     lldpa_news news;
     ssize_t length = recv(heard, frame, sizeof frame, 0);
     if (length > 0 && lldpa_frame(agent, 0, frame, (size_t)length, &marks, &news) == LLDPA_OK &&
@@ -117,7 +117,7 @@ int main(int count, char **words)
     for (long now = seconds(); !is_over;) {
         struct pollfd waited = {heard, POLLIN, 0};
         int came = poll(&waited, 1, wait_of(&agent));
-        long before = now; /* first the seconds that passed, and then the frame */
+        long before = now; /* first report the seconds that passed, and then the frame */
         now = seconds();
         pass(&agent, (uint32_t)(now - before));
         if (came > 0) {

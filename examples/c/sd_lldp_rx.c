@@ -1,6 +1,6 @@
 /*
- * What systemd's sd_lldp_rx offers, over this library: a callback for each neighbor that is added, updated, refreshed or
- * removed, and how long nothing is due. Its main plays a trace of lines `rx HEX` and `tick SECONDS` from standard input.
+ * An interface like systemd's sd_lldp_rx, with a callback for each neighbor that is added, updated,
+ * refreshed or removed. Reads lines `rx HEX` and `tick SECONDS` from standard input as an example.
  *     cc sd_lldp_rx.c $(pkg-config --cflags --libs lldpa) -o sd_lldp_rx
  */
 #include <lldpa.h>
@@ -10,7 +10,7 @@
 
 typedef enum sd_lldp_rx_event { ADDED, UPDATED, REFRESHED, REMOVED } sd_lldp_rx_event;
 
-/* A neighbor: its octets, in which its identifiers lie. */
+/* A neighbor: octets, and the ranges of its identifiers in them. */
 typedef struct sd_lldp_neighbor {
     const uint8_t *octets;
     lldpa_place chassis, port;
@@ -33,7 +33,7 @@ static int sd_lldp_rx_start(sd_lldp_rx *rx, const char *interface)
     return lldpa_open(&options, &rx->agent) == LLDPA_OK ? 0 : -1;
 }
 
-/* In how many seconds a neighbor is removed, or LLDPA_NEVER: until then nobody need wake. */
+/* Returns the seconds until a neighbor is removed, or LLDPA_NEVER. You may sleep that long. */
 static uint32_t sd_lldp_rx_due(sd_lldp_rx *rx)
 {
     uint32_t seconds = LLDPA_NEVER;
@@ -41,11 +41,11 @@ static uint32_t sd_lldp_rx_due(sd_lldp_rx *rx)
     return seconds;
 }
 
-/* So many seconds have passed: the neighbors that have no more left are removed. */
+/* Counts seconds that passed, and removes the neighbors whose time to live ends. */
 static void sd_lldp_rx_passed(sd_lldp_rx *rx, uint32_t seconds)
 {
     static uint8_t room[LLDPA_NEIGHBOR_ROOM];
-    lldpa_marks marks; /* a port that only receives sends nothing */
+    lldpa_marks marks; /* stays empty, since the port only receives */
     lldpa_ticks_taken done;
     lldpa_held held;
     for (uint32_t at = 0; lldpa_neighbor(&rx->agent, 0, at, room, sizeof room, &held) == LLDPA_OK; at++) {
@@ -59,7 +59,7 @@ static void sd_lldp_rx_passed(sd_lldp_rx *rx, uint32_t seconds)
     }
 }
 
-/* A frame came. */
+/* Handles a frame that was received. */
 static void sd_lldp_rx_receive(sd_lldp_rx *rx, const uint8_t *frame, size_t length)
 {
     lldpa_marks marks;

@@ -1,13 +1,13 @@
 /*
- * Prints who is seen in a capture: a line for each neighbor, with its chassis ID, its port ID, its time to live and its
- * system name.
+ * Prints the neighbors in a capture: a line for each, with its chassis ID, its port ID, its time to
+ * live and its system name.
  *     cc who.c $(pkg-config --cflags --libs lldpa) -o who && ./who FILE.pcap
  */
 #include <lldpa.h>
 #include <stdio.h>
 #include <string.h>
 
-/* The identifiers that were printed: of a later frame of the same sender nothing is. */
+/* The identifiers that were printed. Later frames of the same sender are skipped. */
 static uint8_t seen[1024][512];
 static size_t seen_lengths[1024], seen_count;
 
@@ -17,7 +17,7 @@ static uint32_t number(const uint8_t *at, int is_little)
                      : at[3] | at[2] << 8 | at[1] << 16 | (uint32_t)at[0] << 24;
 }
 
-/* An address as octets, another identifier or a text as letters. */
+/* Prints an address in hexadecimal, and another identifier or a text as characters. */
 static void print_octets(const uint8_t *octets, size_t length, int is_address)
 {
     for (size_t at = 0; at < length; at++) {
@@ -26,7 +26,7 @@ static void print_octets(const uint8_t *octets, size_t length, int is_address)
     }
 }
 
-/* Whether an LLDPDU comes from someone who was not seen before. Its identifiers stand at its front. */
+/* True if an LLDPDU has a new sender, whose identifiers are in the first `length` octets. */
 static int is_new(const uint8_t *pdu, size_t length)
 {
     for (size_t at = 0; at < seen_count; at++) {

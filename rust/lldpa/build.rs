@@ -1,4 +1,4 @@
-//! Looks for liblldpa.a and gives it to the linker, or says what is missing.
+//! Finds liblldpa.a for the linker. If there is none, says what to do and ends the build.
 
 use std::env;
 use std::fs;
@@ -7,13 +7,13 @@ use std::process::Command;
 
 const ARCHIVE: &str = "liblldpa.a";
 
-/// The first two numbers of the version of the crate, which an archive must have too.
+/// The first two numbers of the crate's version. Those of the archive must be the same.
 const WANTED: &str = concat!(env!("CARGO_PKG_VERSION_MAJOR"), ".", env!("CARGO_PKG_VERSION_MINOR"));
 
-/// What precedes the version in the archive, which is a number of four octets.
+/// The octets in the archive before its version, which is a little-endian number of four octets.
 const BEFORE_VERSION: &[u8] = b"liblldpa version\0\0\0\0";
 
-/// Returns the folder that `LLDPA_LIB_DIR` names.
+/// Returns the folder in `LLDPA_LIB_DIR`, if it is set.
 fn named() -> Option<PathBuf> {
     let folder = PathBuf::from(env::var_os("LLDPA_LIB_DIR")?);
     if !folder.join(ARCHIVE).is_file() {
@@ -22,14 +22,14 @@ fn named() -> Option<PathBuf> {
     Some(folder)
 }
 
-/// Returns the folder in this repository to which tools/library/library.sh writes.
+/// Returns the output folder of tools/library/library.sh in this repository, if it has an archive.
 fn built() -> Option<PathBuf> {
     let top = Path::new(env!("CARGO_MANIFEST_DIR")).join("../..");
     let folder = top.join("crates/lldpa_c/out/lib").canonicalize().ok()?;
     folder.join(ARCHIVE).is_file().then_some(folder)
 }
 
-/// Returns the folder that pkg-config knows.
+/// Returns the library folder that pkg-config reports, if it has an archive.
 fn installed() -> Option<PathBuf> {
     let asked = Command::new("pkg-config").args(["--variable=libdir", "lldpa"]).output().ok()?;
     let folder = PathBuf::from(String::from_utf8(asked.stdout).ok()?.trim());

@@ -1,14 +1,14 @@
 /*
  * The functions that programs call. Each checks the pointers that must not be NULL, and then calls the proved function
- * with the same arguments; NULL with a length of 0 becomes an address, as the contract asks.
- * tools/library/library.sh puts `proved_` before the names of the proved functions.
+ * with the same arguments. It replaces a NULL with a length of 0 by another address, since the proved function's contract
+ * forbids NULL. tools/library/library.sh puts `proved_` before the names of the proved functions.
  *
- * A proved function takes the agent out of its handle and puts it back. One that only reads gets a copy of the handle for
- * that, so that nothing is written if the caller has a `const`.
+ * A proved function takes the agent out of its handle and puts it back. A function that only reads passes a copy of the
+ * handle, so that nothing is written through the caller's pointer to const.
  */
 #include "lldpa.h"
 
-/* ---- The sizes of the structs, as the proved functions have them on each platform --------------------------------- */
+/* ---- The sizes of the structs in the proved functions, the same on each platform ----------------------------------- */
 
 #define SIZE(name, octets) _Static_assert(sizeof(lldpa_##name) == (octets), "the size of lldpa_" #name);
 
@@ -18,38 +18,38 @@ SIZE(news, 40) SIZE(held, 72) SIZE(statistics_told, 36) SIZE(configuration_told,
 
 /* ---- NULL ---------------------------------------------------------------------------------------------------------- */
 
-/* Of more names of ports the proved function does not look at the others. */
+/* The proved function reads at most this many names of ports. */
 #define MOST_NAMES 65
 
-/* Where no elements are. Nothing is read or written here. */
+/* Replaces a NULL with a length of 0. Nothing is read or written here. */
 static lldpa_tlv nowhere;
 
-/* Whether there are elements, but no address of them. */
+/* True if a pointer is NULL, but its length is not 0. */
 static bool is_missing(const void *at, size_t count)
 {
     return at == NULL && count > 0;
 }
 
-/* The address of octets that are read. */
+/* Returns the address to pass for octets that are read. */
 static const uint8_t *octets(const uint8_t *at)
 {
     return at != NULL ? at : (const uint8_t *)&nowhere;
 }
 
-/* The address of octets that are written. */
+/* Returns the address to pass for octets that are written. */
 static uint8_t *room_at(uint8_t *at)
 {
     return at != NULL ? at : (uint8_t *)&nowhere;
 }
 
-/* A copy of a handle that is only read. */
+/* The address of a copy of a handle, for a function that only reads it. */
 #define COPY(agent) (&(lldpa_agent){(agent)->held, (agent)->open})
 
-/* Declares the proved function of a name. */
+/* Declares the proved function that the function `name` calls. */
 #define PROVED(name) extern __typeof__(name) proved_##name;
 
-/* Defines a function by its parameters: if a pointer is NULL it answers `refusal`, and else what the proved function of
- * its name answers to the arguments. */
+/* Defines the function `name`. If `is_null` is true it returns `refusal`; otherwise it calls the proved function with
+ * `arguments` and returns its result. */
 #define CHECKED(type, name, parameters, is_null, refusal, arguments)                                                    \
     PROVED(name)                                                                                                       \
     type name parameters                                                                                               \
@@ -57,7 +57,7 @@ static uint8_t *room_at(uint8_t *at)
         return (is_null) ? (refusal) : proved_##name arguments;                                                        \
     }
 
-/* In the archive the build of the crate for Rust looks for these words, and reads the number. */
+/* The build of the Rust crate searches the archive for these words, and reads the number after them. */
 static const volatile struct {
     char words[20];
     uint32_t number;
@@ -100,7 +100,7 @@ CHECKED(uint8_t, lldpa_escape,
 
 /* ---- Building --------------------------------------------------------------------------------------------------- */
 
-/* Whether the TLVs, or the body of one of them, are missing. */
+/* True if `tlvs` or the body of one of them is missing. */
 static bool lacks_octets(const lldpa_tlv *tlvs, size_t count)
 {
     bool is_lacking = is_missing(tlvs, count);
@@ -130,7 +130,7 @@ CHECKED(uint8_t, lldpa_transmit_event, (lldpa_machine *machine, uint32_t cause, 
 
 /* ---- The agent -------------------------------------------------------------------------------------------------- */
 
-/* Copies a text, if it is not missing. */
+/* Copies a text. Returns false if its octets are missing. */
 static bool is_copied(lldpa_text *to, const lldpa_text *from)
 {
     *to = (lldpa_text){octets(from->octets), from->length};
@@ -165,7 +165,7 @@ CHECKED(uint8_t, lldpa_ticks, (lldpa_agent *agent, uint32_t count, lldpa_marks *
 CHECKED(uint8_t, lldpa_due, (const lldpa_agent *agent, uint32_t *seconds),
         agent == NULL || seconds == NULL, LLDPA_NULL, (COPY(agent), seconds))
 
-/* One that tells no news, and one that tells them. */
+/* The first proved function writes no news, the second does. */
 extern uint8_t proved_lldpa_frame(lldpa_agent *agent, uint32_t port, const uint8_t *octets, size_t length,
                                   lldpa_marks *marks);
 extern __typeof__(lldpa_frame) proved_lldpa_frame_news;

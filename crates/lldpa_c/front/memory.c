@@ -1,13 +1,13 @@
-/* The memory that an agent asks for, by malloc. */
+/* The allocator of agents, which uses malloc. */
 #include <stdlib.h>
 
-/* Whether there was memory, and where. */
+/* The result of an allocation: whether there was memory, and its address, which is never NULL. */
 struct memory {
     unsigned long ok;
     void *at;
 };
 
-/* A place that is not NULL and has no octets. */
+/* The address if there was no memory. */
 static char nowhere;
 
 static struct memory found(void *at)
@@ -15,7 +15,7 @@ static struct memory found(void *at)
     return (struct memory){at != NULL, at != NULL ? at : &nowhere};
 }
 
-/* Of no octets it asks for as many as they are aligned by, so that the address is one of its own. */
+/* Allocates `align` octets if it is asked for 0, so that the address is not NULL and not in use. */
 struct memory rattle_alloc(size_t octets, size_t align)
 {
     return found(malloc(octets > 0 ? octets : align));

@@ -1,35 +1,35 @@
 /*
- * lldpa: the proved LLDP reader, transmit machine and agent (IEEE 802.1AB-2009), for C and for languages that call C.
+ * lldpa: a formally verified LLDP reader, transmit machine and agent (IEEE 802.1AB-2009), for C and what can call C.
  *
  * Link with liblldpa.so.1 (`pkg-config --cflags --libs lldpa`), or with liblldpa.a (`-l:liblldpa.a` instead of
- * `-llldpa`). The library allocates memory by malloc and frees it by free. The header is C99 and C++.
+ * `-llldpa`). The library uses malloc and free. The header is valid C99 and C++.
  *
  * Rules for the caller, for every function:
  *  - A pointer that is not NULL points to existing, aligned memory of its type. Memory that a call reads is
  *    initialized; memory that it only writes need not be. If a length follows a pointer in the list of parameters,
  *    or in a struct, the pointer has at least that many elements. No length is over SIZE_MAX / 2.
  *  - Memory that a call writes does not overlap its other arguments, and nobody else reads or writes it during the
- *    call. A call writes nothing to memory that it gets by a pointer to const.
+ *    call. A call does not write through its pointers to const.
  *  - A bool is 0 or 1.
  * If a number or an index is out of its range, a function returns an error and changes nothing.
  *
- * NULL is safe. With a length of 0 it is an empty array, also inside a struct. A NULL `news` of lldpa_frame means
+ * NULL is safe. A NULL array of length 0 is an empty array, also inside a struct. A NULL `news` of lldpa_frame means
  * that you do not want the news. With any other NULL a function writes nothing and returns LLDPA_NULL, or false if
- * it returns a bool; lldpa_close does nothing. This check comes first, except that lldpa_open looks at `size` before
- * it looks at the pointers in the options.
+ * it returns a bool; lldpa_close does nothing. NULL is checked first, except that lldpa_open checks `size` before the
+ * pointers in the options.
  *
  * Stack: a call needs at most 12 KB.
  *
- * Memory: only lldpa_open allocates memory, and only lldpa_close frees it. A call keeps no pointer that it was
- * given. Texts that a function writes do not end in a 0.
+ * Memory: only lldpa_open allocates memory, and only lldpa_close frees it. No call keeps a pointer that you pass to
+ * it. Texts that a function writes do not end in a 0.
  *
- * Threads: no function has state of its own, waits, or starts a thread. Calls on different memory may run at the same
+ * Threads: no function keeps state of its own, waits, or starts a thread. Calls on different memory may run at the same
  * time. Two calls on the same lldpa_machine or lldpa_agent may not. Use and close an agent on the thread that opened
- * it. Call no function of an agent from a signal handler, or in the child of a fork of a process with threads.
+ * it. Call no function of an agent from a signal handler, or after a fork in the child of a process with threads.
  *
- * ABI: in all releases 1.x, existing functions, parameters, numbers and fields of structs stay. New functions and new
- * numbers of faults may come, so treat a number that you do not know as a fault. Only lldpa_options may get new
- * fields, at its end: its `size` tells the library which ones you have.
+ * ABI: in all releases 1.x, existing functions, parameters, numbers and fields of structs stay the same. A release may
+ * add functions and fault numbers, so treat a number that you do not know as a fault. Only lldpa_options may get new
+ * fields, at its end: its `size` says which fields your program was compiled with.
  */
 #ifndef LLDPA_H
 #define LLDPA_H
@@ -49,27 +49,27 @@ extern "C" {
 uint32_t lldpa_version(void);
 
 /*
- * ---- Answers. 0 means success. Each kind of fault has its own numbers, listed at the function that returns them: 1
- * to 8 for LLDPDUs, 11 to 13 for TLVs that are built, 21 to 26 for openings, 31 to 38 for commands.
+ * ---- Return values. 0 means success. The other numbers are the errors below, and the faults that are listed before
+ * the functions that return them: 1 to 8 by reading, 11 to 13 by building, 21 to 26 by opening, 31 to 38 by commands.
  */
 
 #define LLDPA_OK 0
-#define LLDPA_OUT_OF_RANGE 100 /* a number, or the length of an identifier, is not in its range */
-#define LLDPA_NO_ROOM 101      /* the caller's room is too small for what is to be written */
+#define LLDPA_OUT_OF_RANGE 100 /* a number, or the length of an identifier, is out of its range */
+#define LLDPA_NO_ROOM 101      /* the caller's buffer is too small for the result */
 #define LLDPA_NOT_OPEN 102     /* the agent is not open */
-#define LLDPA_NO_PORT 103      /* the agent has no port of that number */
+#define LLDPA_NO_PORT 103      /* the agent has no port with that number */
 #define LLDPA_IS_OPEN 104      /* the agent is open already */
 #define LLDPA_NULL 105         /* a pointer that must not be NULL is NULL */
 
 /*
- * Writes what a fault or a misuse is, in words, such as "the first TLV is not a Chassis ID".
- *   fault   an answer other than 0: the number of a fault in this header, or one of those above
+ * Writes the description of an error number, such as "the first TLV is not a Chassis ID".
+ *   fault   a number other than 0 that a function of this header returns or writes as a fault
  *   length  the number of octets written, at most LLDPA_FAULT_ROOM
- * Returns 0, LLDPA_OUT_OF_RANGE or LLDPA_NO_ROOM. Nothing is written unless it returns 0.
+ * Returns 0; LLDPA_OUT_OF_RANGE if there is no such error; or LLDPA_NO_ROOM. It writes only on success.
  */
 uint8_t lldpa_fault_text(uint32_t fault, uint8_t *room, size_t room_length, size_t *length);
 
-/* ---- Rooms that are always large enough, in octets ----------------------------------------------------------------- */
+/* ---- Sizes of `room` that are always enough, in octets ------------------------------------------------------------ */
 
 #define LLDPA_PDU_ROOM 1500      /* for lldpa_build */
 #define LLDPA_FRAME_ROOM 1514    /* for lldpa_frame_of */
@@ -89,8 +89,8 @@ typedef struct lldpa_place {
 /*
  * Finds the LLDPDU in an Ethernet frame.
  *   frame, length  the frame from its destination address on, without a VLAN tag and without the check sequence
- *   pdu            written if the answer is true: what follows the EtherType, at most 1500 octets
- * Returns true exactly for an LLDP frame: 14 to 1514 octets, to 01-80-C2-00-00-0E, of EtherType 88-CC.
+ *   pdu            written if the result is true: the octets after the EtherType, at most 1500
+ * Returns true exactly for an LLDP frame: 14 to 1514 octets, sent to 01-80-C2-00-00-0E, with the EtherType 88-CC.
  */
 bool lldpa_frame_pdu(const uint8_t *frame, size_t length, lldpa_place *pdu);
 
@@ -102,33 +102,33 @@ bool lldpa_frame_pdu(const uint8_t *frame, size_t length, lldpa_place *pdu);
 #define LLDPA_PORT_LENGTH 5    /* the Port ID does not have 2 to 256 octets */
 #define LLDPA_NO_TTL 6         /* the third TLV is not a Time To Live */
 #define LLDPA_TTL_LENGTH 7     /* the Time To Live has fewer than 2 octets */
-#define LLDPA_REPEATED 8       /* a TLV after the third is of type 1, 2 or 3 again */
+#define LLDPA_REPEATED 8       /* a TLV after the third has the type 1, 2 or 3 */
 
 /*
- * What a sound LLDPDU says. *Kept* TLVs are those after the three mandatory ones that are well formed for their type
- * and, if the type is 4 to 7, the first of it.
+ * The fields of an LLDPDU without a fault. A TLV after the three mandatory ones is *kept* if it is well formed for its
+ * type and, if the type is 4 to 7, is the first such TLV of that type.
  */
 typedef struct lldpa_examined {
     lldpa_place chassis; /* the body of the Chassis ID, 2 to 256 octets, its subtype first */
     lldpa_place port;    /* the body of the Port ID, in the same form */
-    size_t extent;       /* the octets up to the End Of LLDPDU, or up to a TLV that is not complete */
+    size_t extent;       /* the number of octets before the End Of LLDPDU, or before an incomplete TLV */
     size_t discarded;    /* how many TLVs are discarded, including an incomplete one at the end */
-    size_t unrecognized; /* how many kept TLVs are of the types 9 to 127 */
-    uint16_t ttl;        /* the time to live in seconds; 0: the neighbor is gone, and the three numbers above are 0 */
+    size_t unrecognized; /* how many kept TLVs have a type of 9 to 127 */
+    uint16_t ttl;        /* the time to live in seconds; at 0 the neighbor leaves, and the three numbers above are 0 */
 } lldpa_examined;
 
 /*
  * Examines an LLDPDU of any length.
- *   told  written if the answer is 0
+ *   told  the fields, written on success
  * Returns 0, or the number of the first fault, 1 to 8.
  */
 uint8_t lldpa_examine(const uint8_t *pdu, size_t length, lldpa_examined *told);
 
 /* A walk over the kept TLVs, for lldpa_next_kept. Begin with LLDPA_KEPT_INIT, which is all 0. */
 typedef struct lldpa_kept {
-    size_t next;      /* where the walk continues; 0: at the first TLV after the three mandatory ones */
+    size_t next;      /* the offset where the walk continues; 0 for the first TLV after the three mandatory ones */
     lldpa_place body; /* the body of the TLV that was found last */
-    bool met[4];      /* whether a well-formed TLV of type 4, 5, 6, 7 was found */
+    bool met[4];      /* for the types 4, 5, 6 and 7: whether a well-formed TLV was found */
     uint8_t kind;     /* the type of the TLV that was found last, 4 to 127 */
 } lldpa_kept;
 
@@ -139,11 +139,11 @@ typedef struct lldpa_kept {
  *   extent, length  an LLDPDU for which lldpa_examine returned 0, with a TTL above 0, and its lldpa_examined.extent
  *                   as the length; the same in every call of a walk
  *   walk            is advanced to the TLV; it is unchanged if no TLV is left
- * Returns whether there is one. For other octets it finds some TLV in them, or none.
+ * Returns whether there is one. If the octets are not such an LLDPDU, it finds some TLV in them, or none.
  */
 bool lldpa_next_kept(const uint8_t *extent, size_t length, lldpa_kept *walk);
 
-/* What a System Capabilities TLV (type 7) says: two sets of bits, as in table 8-4 of the standard. */
+/* The fields of a System Capabilities TLV (type 7): two sets of bits, as in table 8-4 of the standard. */
 typedef struct lldpa_capabilities {
     uint16_t available;
     uint16_t enabled;
@@ -151,12 +151,12 @@ typedef struct lldpa_capabilities {
 
 /*
  * Reads the body of a System Capabilities TLV.
- *   told  written if the answer is true
- * Returns true exactly if the body is well formed: four octets, and no bit enabled that is not available.
+ *   told  the fields, written if the result is true
+ * Returns true exactly if the body is well formed: it has four octets, and each enabled bit is also available.
  */
 bool lldpa_caps(const uint8_t *body, size_t length, lldpa_capabilities *told);
 
-/* What a Management Address TLV (type 8) says. Address and oid are ranges of its body. */
+/* The fields of a Management Address TLV (type 8). address and oid are ranges of its body. */
 typedef struct lldpa_management {
     lldpa_place address; /* 1 to 31 octets */
     lldpa_place oid;     /* 0 to 128 octets */
@@ -167,18 +167,18 @@ typedef struct lldpa_management {
 
 /*
  * Reads the body of a Management Address TLV.
- *   told  written if the answer is true
+ *   told  the fields, written if the result is true
  * Returns true exactly if the body is well formed.
  */
 bool lldpa_mgmt(const uint8_t *body, size_t length, lldpa_management *told);
 
 /*
  * Writes a TLV as text, as the command `show neighbors` does: "chassis.mac=00:11:22:33:44:55", "port.ifname=eth0",
- * "chassis.mgmt=192.0.2.1,2,3,". The value is what follows the first '='. Texts are escaped as by lldpa_escape.
+ * "chassis.mgmt=192.0.2.1,2,3,". The value follows the first '='. Texts are escaped as lldpa_escape does.
  *   kind    the type of the TLV: 1 for a Chassis ID, 2 for a Port ID, or 4 to 127
  *   body    its body, which must be well formed for the type and have at most 511 octets
  *   room    LLDPA_VALUE_ROOM octets are always enough
- *   length  the number of octets written, if the answer is 0
+ *   length  the number of octets written, on success
  * Returns the first of these that applies: LLDPA_OUT_OF_RANGE for the type or the body, LLDPA_NO_ROOM; otherwise 0.
  */
 uint8_t lldpa_tlv_text(uint32_t kind, const uint8_t *body, size_t body_length, uint8_t *room, size_t room_length,
@@ -189,7 +189,7 @@ uint8_t lldpa_tlv_text(uint32_t kind, const uint8_t *body, size_t body_length, u
  * that is not printable ASCII by a backslash, an x and two hexadecimal digits.
  *   text    at most 511 octets
  *   room    four times as many octets are always enough
- *   length  the number of octets written, if the answer is 0
+ *   length  the number of octets written, on success
  * Returns the first of these that applies: LLDPA_OUT_OF_RANGE for the length of the text, LLDPA_NO_ROOM; otherwise 0.
  */
 uint8_t lldpa_escape(const uint8_t *text, size_t text_length, uint8_t *room, size_t room_length, size_t *length);
@@ -204,21 +204,21 @@ typedef struct lldpa_tlv {
 } lldpa_tlv;
 
 /* Why a TLV is left out. The checks come in the order KIND, BODY, FULL. */
-#define LLDPA_FULL 11 /* it and the End Of LLDPDU do not fit in 1500 octets */
-#define LLDPA_KIND 12 /* its type is not 4 to 127, or is one of 4 to 7 and was put before; or the TTL is 0 */
+#define LLDPA_FULL 11 /* the TLV and the End Of LLDPDU do not fit in 1500 octets */
+#define LLDPA_KIND 12 /* its type is not 4 to 127, or is 4 to 7 and was put before; or the LLDPDU has a TTL of 0 */
 #define LLDPA_BODY 13 /* its body is over 511 octets, or not well formed for its type */
 
 /*
- * Builds an LLDPDU in the caller's room.
+ * Builds an LLDPDU in the caller's buffer `room`.
  *   chassis, port  the bodies of the Chassis ID and the Port ID, their subtypes first, 2 to 256 octets each
- *   ttl            in seconds; 0 makes a shutdown LLDPDU, which has no other TLVs
- *   tlvs           the TLVs to put, in their order, any number
- *   faults         one for each TLV (as many as tlvs has): 0 if it was put; 11 to 13 if it is left out
+ *   ttl            the time to live in seconds; 0 makes a shutdown LLDPDU, which has no other TLVs
+ *   tlvs           the TLVs to put after the Time To Live, in their order; any number
+ *   faults         receives a number for each TLV: 0 if it was put, or 11 to 13 if it is left out
  *   room           LLDPA_PDU_ROOM octets are always enough
- *   length         the number of octets of the LLDPDU, its End Of LLDPDU included
+ *   length         the number of octets of the LLDPDU, including its End Of LLDPDU
  * Returns the first of these that applies: LLDPA_OUT_OF_RANGE for the length of an identifier; LLDPA_NO_ROOM if
- * faults has fewer elements than tlvs; LLDPA_NO_ROOM if the LLDPDU is longer than the room, and only then faults are
- * written; otherwise 0. Unless it returns 0, room and length are not written.
+ * faults has fewer elements than tlvs; LLDPA_NO_ROOM if the LLDPDU is longer than room; otherwise 0. The second
+ * LLDPA_NO_ROOM writes faults, but not room and length; the other errors write nothing.
  */
 uint8_t lldpa_build(const uint8_t *chassis, size_t chassis_length, const uint8_t *port, size_t port_length,
                     uint16_t ttl, const lldpa_tlv *tlvs, size_t tlv_count, uint8_t *faults, size_t fault_count,
@@ -226,43 +226,43 @@ uint8_t lldpa_build(const uint8_t *chassis, size_t chassis_length, const uint8_t
 
 /* ---- The transmit machine of one port (clause 9) ---------------------------------------------------------------- */
 
-/* The machine. lldpa_transmit_new makes it. The caller may copy it and read its fields, but not change them. */
+/* A transmit machine, made by lldpa_transmit_new. You may copy it and read its fields, but not change them. */
 typedef struct lldpa_machine {
-    uint16_t timer;     /* ticks until the timer ends */
+    uint16_t timer;     /* txTTR: ticks until the next frame is due */
     uint8_t credit_max; /* txCreditMax */
     uint8_t fast_init;  /* txFastInit */
     uint8_t reinit;     /* reinitDelay, in seconds */
-    uint8_t credit;     /* ordinary frames that may be sent before the next tick, 0 to credit_max */
+    uint8_t credit;     /* how many ordinary frames may be sent before the next tick, 0 to credit_max */
     uint8_t wait;       /* ticks until the port may start again */
     uint8_t left;       /* txFast: frames left of a fast transmission */
     bool waiting;       /* a frame is wanted and was not sent yet */
-    bool active;        /* it has started, and since then has neither stopped nor lost its link */
-    bool allowed; /* the port may transmit */
-    bool up;      /* its link is up */
+    bool active;        /* the port has started, and since then has neither stopped nor lost its link */
+    bool allowed;       /* the port may transmit */
+    bool up;            /* its link is up */
 } lldpa_machine;
 
-/* What happened, for lldpa_transmit_event. */
+/* What happened: the causes for lldpa_transmit_event. */
 #define LLDPA_CAUSE_TICK 0     /* one second has passed */
 #define LLDPA_CAUSE_CHANGE 1   /* something in the local system has changed */
 #define LLDPA_CAUSE_NEIGHBOR 2 /* a new neighbor was stored */
-#define LLDPA_CAUSE_STOP 3     /* the right to transmit was taken away */
-#define LLDPA_CAUSE_ALLOW 4    /* the right to transmit was given */
+#define LLDPA_CAUSE_STOP 3     /* from now on the port may not transmit */
+#define LLDPA_CAUSE_ALLOW 4    /* from now on the port may transmit */
 #define LLDPA_CAUSE_DOWN 5     /* the link went down */
 #define LLDPA_CAUSE_UP 6       /* the link came up */
 #define LLDPA_CAUSE_NOTHING 7  /* nothing that concerns transmitting */
 
-/* Which frame is sent. */
+/* Which frame to send. */
 #define LLDPA_QUIET 0    /* none */
-#define LLDPA_ORDINARY 1 /* one with the whole configuration */
-#define LLDPA_SHUTDOWN 2 /* one with a time to live of 0 */
+#define LLDPA_ORDINARY 1 /* a frame with the whole configuration */
+#define LLDPA_SHUTDOWN 2 /* a frame with a time to live of 0 */
 
 /*
- * Makes a machine with full credit, on a port whose link is up and that is not active.
+ * Makes a machine with full credit, for a port that is not active and has its link up.
  *   credit_max  txCreditMax, 1 to 10
  *   fast_init   txFastInit, 1 to 8
  *   reinit      reinitDelay in seconds, 1 to 10
  *   allowed     whether the port may transmit from the start
- * Returns 0; or LLDPA_OUT_OF_RANGE, and the machine stays as it was.
+ * Returns 0, or LLDPA_OUT_OF_RANGE, which leaves the machine unchanged.
  */
 uint8_t lldpa_transmit_new(lldpa_machine *machine, uint32_t credit_max, uint32_t fast_init, uint32_t reinit,
                            bool allowed);
@@ -271,9 +271,9 @@ uint8_t lldpa_transmit_new(lldpa_machine *machine, uint32_t credit_max, uint32_t
  * Applies one event, and writes which frame to send.
  *   cause     LLDPA_CAUSE_TICK to LLDPA_CAUSE_NOTHING
  *   interval  the tx-interval in force after the event, 1 to 3600 seconds
- *   mark      LLDPA_QUIET, LLDPA_ORDINARY or LLDPA_SHUTDOWN
- * Returns 0; or LLDPA_OUT_OF_RANGE for a cause or an interval, or for a machine whose credit is above its
- * credit_max, and writes nothing.
+ *   mark      LLDPA_QUIET, LLDPA_ORDINARY or LLDPA_SHUTDOWN, written on success
+ * Returns 0; or LLDPA_OUT_OF_RANGE for the cause or the interval, or for a machine whose credit is above its
+ * credit_max. An error writes nothing.
  */
 uint8_t lldpa_transmit_event(lldpa_machine *machine, uint32_t cause, uint32_t interval, uint8_t *mark);
 
@@ -285,20 +285,20 @@ typedef struct lldpa_text {
     size_t length;
 } lldpa_text;
 
-/* What the agent says it is, in its System Capabilities. */
+/* The role that the agent announces in its System Capabilities. */
 #define LLDPA_STATION 0
 #define LLDPA_BRIDGE 1
 #define LLDPA_ROUTER 2
 
-/* What an agent is opened with. */
+/* The options of lldpa_open. */
 typedef struct lldpa_options {
     size_t size;             /* sizeof(lldpa_options) */
     const lldpa_text *ports; /* the names of the ports in order: 1 to 15 letters, digits, '-', '_', '/' and ':' */
     size_t port_count;       /* 1 to 64 */
     lldpa_text hostname;     /* at most 255 octets, printable ASCII */
     uint8_t mac[6];          /* the source address and the chassis ID of every frame */
-    uint8_t management[4];   /* the IPv4 address under which the agent can be managed */
-    bool managed;            /* whether there is one; if not, management is not read */
+    uint8_t management[4];   /* the IPv4 management address that the agent announces */
+    bool managed;            /* whether there is a management address; if not, management is not read */
     bool receive_only;       /* whether each port begins with the status rx-only */
     uint32_t role;           /* LLDPA_STATION, LLDPA_BRIDGE or LLDPA_ROUTER */
     uint32_t max_neighbors;  /* how many neighbors each port may hold, 1 to 128 */
@@ -321,27 +321,27 @@ typedef struct lldpa_agent {
     bool open;
 } lldpa_agent;
 
-/* Why an agent is not opened. From 22 on they are in the order of the checks. */
-#define LLDPA_MEMORY 21         /* there was no memory for it */
+/* Why an agent is not opened. The faults from 22 on are in the order of the checks. */
+#define LLDPA_MEMORY 21         /* there was not enough memory */
 #define LLDPA_NO_PORTS 22       /* no port was named */
 #define LLDPA_TOO_MANY_PORTS 23 /* more than 64 ports were named */
 #define LLDPA_PORT_NAME 24      /* the name of a port is not valid */
 #define LLDPA_SAME_PORT 25      /* two ports have the same name */
-#define LLDPA_TEXT 26           /* the hostname is over 255 octets, or has one that is not printable */
+#define LLDPA_TEXT 26           /* the hostname is over 255 octets, or has an octet that is not printable */
 
 /*
  * Opens an agent, and allocates all memory that it will ever need: about 1.6 KB for each of max_neighbors on each port.
- * The link of each port is up. Returns the first of these that applies: LLDPA_OUT_OF_RANGE if the library does not
+ * Each port has its link up. Returns the first of these that applies: LLDPA_OUT_OF_RANGE if the library does not
  * know an lldpa_options of this `size`; LLDPA_IS_OPEN; LLDPA_OUT_OF_RANGE for role, max_neighbors, credit_max,
  * fast_init or reinit, or for a text that is not UTF-8; the first fault, 22 to 26; LLDPA_MEMORY; otherwise 0, and
- * the agent is open. Unless it returns 0, the handle stays as it was. With more than 64 names the call fails, and
- * names after the 65th are not read.
+ * the agent is open. An error leaves the handle unchanged. With more than 64 names the call fails, and names after
+ * the 65th are not read.
  */
 uint8_t lldpa_open(const lldpa_options *options, lldpa_agent *agent);
 
 /* A frame that you must send: lldpa_frame_of writes it. */
 typedef struct lldpa_mark {
-    uint8_t port; /* its number, from 0, in the order of the options */
+    uint8_t port; /* the number of the port, from 0, in the order of the options */
     uint8_t mark; /* LLDPA_ORDINARY or LLDPA_SHUTDOWN */
 } lldpa_mark;
 
@@ -358,12 +358,12 @@ typedef struct lldpa_ticks_taken {
 } lldpa_ticks_taken;
 
 /*
- * Tells the agent that `count` seconds have passed. It stops early, after the first second at which a port sends or a
- * neighbor ages out. Returns 0 or LLDPA_NOT_OPEN.
- *   count  the seconds that passed; do not give LLDPA_NEVER, which would take minutes
- *   marks  the frames to send at the last second, if the answer is 0
- *   told   written if the answer is 0. Send the frames of marks; then, if told->taken is less than count, call it again
- *          for the remaining seconds. The neighbors that age out are those that had 1 second left.
+ * Tells the agent that `count` seconds have passed. The call stops early, after the first second at which a port sends
+ * or a neighbor ages out. Returns 0 or LLDPA_NOT_OPEN.
+ *   count  the seconds that passed; do not pass LLDPA_NEVER, which could take minutes
+ *   marks  the frames to send at the last second counted, on success
+ *   told   written on success. Send the frames of marks; then, if told->taken is less than count, call lldpa_ticks
+ *          again for the remaining seconds. The neighbors that age out are those that had 1 second left.
  */
 uint8_t lldpa_ticks(lldpa_agent *agent, uint32_t count, lldpa_marks *marks, lldpa_ticks_taken *told);
 
@@ -372,103 +372,103 @@ uint8_t lldpa_ticks(lldpa_agent *agent, uint32_t count, lldpa_marks *marks, lldp
 /*
  * Writes the number of seconds until a port sends or a neighbor ages out, if you make no other call first. Returns 0 or
  * LLDPA_NOT_OPEN.
- *   seconds  1 to 65535, or LLDPA_NEVER, if the answer is 0
- * You may sleep that long, and then give all these seconds to lldpa_ticks, which stops only after the last of them.
- * Until then only the seconds left of neighbors and the credit of ports change. Any other call may change the
- * number, so ask again after it. If you wake for something else, such as a frame, first give the seconds that
- * passed, and then the frame.
+ *   seconds  1 to 65535, or LLDPA_NEVER, on success
+ * You may sleep that long, and then pass all these seconds to lldpa_ticks, which stops only after the last of them.
+ * Until then nothing changes except the neighbors' remaining seconds and the ports' credit. Any other call may change
+ * the number, so call lldpa_due again after it. If you wake for something else, such as a frame, first report the
+ * seconds that passed, and then the frame.
  */
 uint8_t lldpa_due(const lldpa_agent *agent, uint32_t *seconds);
 
-/* What a frame does. */
+/* What a frame did. */
 #define LLDPA_NEWS_NOT_LLDP 1 /* it is not an LLDP frame */
-#define LLDPA_NEWS_DEAF 2     /* the port does not receive, or its link is down: nobody looked at the frame */
+#define LLDPA_NEWS_DEAF 2     /* the port does not receive, or its link is down: the frame is ignored */
 #define LLDPA_NEWS_REFUSED 3  /* its LLDPDU has a fault */
 #define LLDPA_NEWS_NEW 4      /* a neighbor that was not held is stored */
-#define LLDPA_NEWS_CHANGED 5  /* a neighbor that is held says something else, which is stored */
-#define LLDPA_NEWS_SAME 6     /* a neighbor that is held says the same again; its time to live starts again */
+#define LLDPA_NEWS_CHANGED 5  /* a neighbor that is held sent different octets, which are stored */
+#define LLDPA_NEWS_SAME 6     /* a neighbor that is held sent the same octets; its time to live starts again */
 #define LLDPA_NEWS_DROPPED 7  /* there is no room for a neighbor that is not held */
 #define LLDPA_NEWS_GONE 8     /* a neighbor that was held leaves */
 #define LLDPA_NEWS_UNKNOWN 9  /* a neighbor that is not held leaves */
 
 /*
- * What a frame did. The octets of both ranges together are the key of the neighbor: no two neighbors of a port have the
- * same ones.
+ * What a frame did. The octets of both ranges together identify the neighbor: no two neighbors of a port have the same
+ * ones.
  */
 typedef struct lldpa_news {
-    lldpa_place chassis; /* in the frame: the body of the Chassis ID, if what is LLDPA_NEWS_NEW or above; otherwise 0 and 0 */
+    lldpa_place chassis; /* in the frame: the body of the Chassis ID; 0 and 0 if `what` is below LLDPA_NEWS_NEW */
     lldpa_place port;    /* in the frame: the body of the Port ID, in the same form */
     uint32_t what;       /* LLDPA_NEWS_NOT_LLDP to LLDPA_NEWS_UNKNOWN */
-    uint32_t fault;      /* for LLDPA_NEWS_REFUSED the fault of the LLDPDU, 1 to 8; otherwise 0 */
+    uint32_t fault;      /* for LLDPA_NEWS_REFUSED, the fault of the LLDPDU, 1 to 8; otherwise 0 */
 } lldpa_news;
 
 /*
- * Gives the agent a frame that a port received: any octets; if they are not an LLDP frame, nothing changes. Returns 0,
- * LLDPA_NOT_OPEN or LLDPA_NO_PORT. First give the seconds that passed before the frame came (lldpa_ticks): its time
- * to live begins at this call, and a second that you give later counts against it. A full table stores no new
- * neighbor, but what it holds is still refreshed.
- *   port   its number, from 0, in the order of the options
- *   marks  the frames to send, if the answer is 0
- *   news   what the frame did, if the answer is 0; or NULL
+ * Gives the agent a frame that a port received. You may pass any octets: if they are not an LLDP frame, nothing
+ * changes. Returns 0, LLDPA_NOT_OPEN or LLDPA_NO_PORT. First report the seconds that passed before the frame arrived
+ * (lldpa_ticks): its time to live starts at this call, and seconds that you report later count against it. A full
+ * table accepts no new neighbor, but the neighbors that it holds are still refreshed.
+ *   port   the number of the port, from 0, in the order of the options
+ *   marks  the frames to send, on success
+ *   news   what the frame did, on success; or NULL
  */
 uint8_t lldpa_frame(lldpa_agent *agent, uint32_t port, const uint8_t *octets, size_t length, lldpa_marks *marks,
                     lldpa_news *news);
 
-/* Tells the agent that the link of a port came up or went down. Port, marks and answers are as for lldpa_frame. */
+/* Tells the agent that the link of a port came up or went down. port, marks and results are as for lldpa_frame. */
 uint8_t lldpa_link(lldpa_agent *agent, uint32_t port, bool up, lldpa_marks *marks);
 
 /*
- * Disables every port, as at the end of a program. Returns 0 or LLDPA_NOT_OPEN. Send the frames of marks before you
- * close the agent; lldpa_close sends none.
- *   marks  if the answer is 0: a shutdown frame on each port that was active, and nothing else
+ * Disables every port. Call it before you close the agent, and send the frames of marks: lldpa_close sends none.
+ * Returns 0 or LLDPA_NOT_OPEN.
+ *   marks  on success: a shutdown frame on each port that was active, and no other frame
  */
 uint8_t lldpa_leave(lldpa_agent *agent, lldpa_marks *marks);
 
-/* Writes how many neighbors a port holds. Returns 0, LLDPA_NOT_OPEN or LLDPA_NO_PORT; count is written if it is 0. */
+/* Writes how many neighbors a port holds. Returns 0, LLDPA_NOT_OPEN or LLDPA_NO_PORT; count is written on success. */
 uint8_t lldpa_neighbor_count(const lldpa_agent *agent, uint32_t port, uint32_t *count);
 
 /* A neighbor that a port holds. */
 typedef struct lldpa_held {
-    lldpa_examined pdu; /* what its last stored LLDPDU says; its ranges are in the octets that were written. An
-                           incomplete TLV at its end is not stored, and `discarded` does not count it here */
+    lldpa_examined pdu; /* the fields of its last stored LLDPDU, as ranges of the octets in `room`. An incomplete TLV
+                           at the end is not stored, and `discarded` does not count it here */
     uint32_t left;      /* seconds until it ages out */
 } lldpa_held;
 
 /*
  * Writes a neighbor of a port. lldpa_next_kept reads its TLVs from the octets.
- *   index  from 0, in the order in which neighbors were last LLDPA_NEWS_NEW. If one leaves, later ones move up
- *   room   told->pdu.extent octets are written to its front: the neighbor's LLDPDU without the End Of LLDPDU.
- *          LLDPA_NEIGHBOR_ROOM octets are always enough
- *   told   written if the answer is 0
+ *   index  from 0, in the order in which neighbors were stored (LLDPA_NEWS_NEW). If one is removed, later ones move up
+ *   room   receives told->pdu.extent octets: the neighbor's LLDPDU without the End Of LLDPDU. LLDPA_NEIGHBOR_ROOM
+ *          octets are always enough
+ *   told   written on success
  * Returns the first of these that applies: LLDPA_NOT_OPEN, LLDPA_NO_PORT, LLDPA_OUT_OF_RANGE for the index,
  * LLDPA_NO_ROOM; otherwise 0.
  */
 uint8_t lldpa_neighbor(const lldpa_agent *agent, uint32_t port, uint32_t index, uint8_t *room, size_t room_length,
                        lldpa_held *told);
 
-/* What a port counted, each modulo 2^32. Nothing resets them. */
+/* The counters of a port, each modulo 2^32. Nothing resets them. */
 typedef struct lldpa_statistics_told {
     uint32_t sent;           /* ordinary frames sent */
     uint32_t shutdowns;      /* shutdown frames sent */
-    uint32_t received;       /* LLDP frames that came while the port received and its link was up */
+    uint32_t received;       /* LLDP frames that arrived while the port could receive and its link was up */
     uint32_t discarded;      /* LLDPDUs that were refused */
     uint32_t errors;         /* LLDPDUs that were refused or had a TLV discarded */
     uint32_t tlvs_discarded; /* TLVs that were discarded */
-    uint32_t unrecognized;   /* kept TLVs of the types 9 to 127 */
+    uint32_t unrecognized;   /* kept TLVs with a type of 9 to 127 */
     uint32_t ageouts;        /* neighbors that aged out */
     uint32_t drops;          /* LLDPDUs that were dropped because there was no room */
 } lldpa_statistics_told;
 
-/* Writes what a port counted. Returns 0, LLDPA_NOT_OPEN or LLDPA_NO_PORT; told is written if it is 0. */
+/* Writes the counters of a port. Returns 0, LLDPA_NOT_OPEN or LLDPA_NO_PORT; told is written on success. */
 uint8_t lldpa_statistics(const lldpa_agent *agent, uint32_t port, lldpa_statistics_told *told);
 
-/* What a port may do. */
+/* The status of a port: what it may do. */
 #define LLDPA_RX_AND_TX 0
 #define LLDPA_RX_ONLY 1
 #define LLDPA_TX_ONLY 2
 #define LLDPA_DISABLED 3
 
-/* How an agent is configured: as it was opened, or by the last command that changed it. */
+/* The current settings of an agent. */
 typedef struct lldpa_configuration_told {
     uint32_t interval;      /* tx-interval, in seconds */
     uint32_t hold;          /* tx-hold */
@@ -476,12 +476,12 @@ typedef struct lldpa_configuration_told {
     uint32_t reinit;        /* reinitDelay, in seconds */
     uint32_t fast_init;     /* txFastInit */
     uint32_t credit_max;    /* txCreditMax */
-    uint32_t max_neighbors; /* the limit in force */
+    uint32_t max_neighbors; /* how many neighbors each port may hold */
     uint32_t ports;         /* how many ports there are */
     uint8_t status[64];     /* LLDPA_RX_AND_TX to LLDPA_DISABLED for each port; 0 after the last port */
 } lldpa_configuration_told;
 
-/* Writes how an agent is configured. Returns 0 or LLDPA_NOT_OPEN; told is written if it is 0. */
+/* Writes the settings of an agent. Returns 0 or LLDPA_NOT_OPEN; told is written on success. */
 uint8_t lldpa_configuration(const lldpa_agent *agent, lldpa_configuration_told *told);
 
 /* What a command shows. */
@@ -491,28 +491,28 @@ uint8_t lldpa_configuration(const lldpa_agent *agent, lldpa_configuration_told *
 #define LLDPA_SHOW_CHASSIS 3
 #define LLDPA_SHOW_CONFIGURATION 4
 
-/* Why a command is refused: the leftmost error. */
+/* Why a command is refused. The leftmost error in the line counts. */
 #define LLDPA_UNKNOWN 31      /* a word is missing, or is not known at its position */
 #define LLDPA_NO_SUCH_PORT 32 /* no port has that name */
 #define LLDPA_NUMBER 33       /* a word is not one or more decimal digits */
 #define LLDPA_RANGE 34        /* a number is not in its range */
-#define LLDPA_BAD_TEXT 35     /* a text is over 255 octets, or has one that is not printable */
+#define LLDPA_BAD_TEXT 35     /* a text is over 255 octets, or has an octet that is not printable */
 #define LLDPA_EXTRA 36        /* a word follows a complete command */
 #define LLDPA_QUOTE 37        /* a double quote is inside a word, or is not closed */
-#define LLDPA_IN_USE 38       /* some port holds more neighbors than the limit */
+#define LLDPA_IN_USE 38       /* a port holds more neighbors than the new limit */
 
 /*
  * Runs a command, "configure ..", "update" or "show ..", without a line feed; lldpa(1) describes the commands. A show
- * command changes nothing: give its number to lldpa_show_lines.
- *   show   LLDPA_SHOW_NOTHING, or the number of the show, if the answer is 0
- *   marks  the frames to send, if the answer is 0
- * Returns 0; or 31 to 38 or LLDPA_NOT_OPEN, and then changes nothing.
+ * command changes nothing: pass its number to lldpa_show_lines to get its lines.
+ *   show   LLDPA_SHOW_NOTHING, or the number of the show, on success
+ *   marks  the frames to send, on success
+ * Returns 0; or 31 to 38 or LLDPA_NOT_OPEN, which change nothing.
  */
 uint8_t lldpa_command(lldpa_agent *agent, const uint8_t *line, size_t length, uint32_t *show, lldpa_marks *marks);
 
-/* What was written of a show. */
+/* The part of a show that was written. */
 typedef struct lldpa_lines {
-    size_t length; /* the number of octets, each line with its line feed */
+    size_t length; /* the number of octets, including a line feed after each line */
     uint32_t next; /* the line to continue with; if no line is left, the number of lines, or `from` if it is greater */
     bool done;     /* whether no line is left */
 } lldpa_lines;
@@ -522,20 +522,20 @@ typedef struct lldpa_lines {
  *   show  LLDPA_SHOW_NEIGHBORS to LLDPA_SHOW_CONFIGURATION
  *   from  the first line that you want, from 0
  *   room  LLDPA_LINE_ROOM octets hold any line
- *   told  written if the answer is 0
+ *   told  written on success
  * Returns the first of these that applies: LLDPA_OUT_OF_RANGE for the show, LLDPA_NOT_OPEN, LLDPA_NO_ROOM if not
- * even the first line fits; otherwise 0. Unless it returns 0, nothing is written. To get all lines, continue with
- * `next`, and make no other call of the agent in between. A call also goes through the lines before `from`, so a
- * room for the whole show costs least.
+ * even the first line fits; otherwise 0. It writes only on success. To get all lines, call it again with `next` as
+ * `from`, and make no other call on the agent in between. A call also goes through the lines before `from`, so one
+ * call with a buffer for the whole show is fastest.
  */
 uint8_t lldpa_show_lines(const lldpa_agent *agent, uint32_t show, uint32_t from, uint8_t *room, size_t room_length,
                          lldpa_lines *told);
 
 /*
- * Writes the frame of a mark, with the present configuration. Send it on the port of the mark.
+ * Writes the frame that a mark asks for, with the current settings. Send it on the port of the mark.
  *   mark    LLDPA_ORDINARY or LLDPA_SHUTDOWN
  *   room    LLDPA_FRAME_ROOM octets are always enough
- *   length  the number of octets of the frame, if the answer is 0
+ *   length  the number of octets of the frame, on success
  * Returns the first of these that applies: LLDPA_OUT_OF_RANGE for the mark, LLDPA_NOT_OPEN, LLDPA_NO_PORT,
  * LLDPA_NO_ROOM; otherwise 0.
  */

@@ -1,4 +1,4 @@
--- A handle's parts own what a box of an agent owns.
+-- The types for proofs that a handle's parts own the same as a box of an agent.
 use mir.Syntax.{impl, tnil, dnil}
 use mathlib.Core.List.{[]}
 use denote.Signature.{Slot, plain}

@@ -1,4 +1,4 @@
--- What the proofs by hand of the handle use of the logic.
+-- The names of the logic that the hand-written proofs about the handle use.
 pub use mathlib.Core.Path.{◌≡◌, refl, sym, subst, ap, ◌∙◌}
 pub use mathlib.Core.List.{List, [], ◌∷◌, ◌++◌}
 pub use lib.Dec.{T}

@@ -1,4 +1,4 @@
--- What is in a room once lines have come.
+-- The lines that are in a buffer after a show was written.
 use Rattle.std.proofs.Common.{◌≡◌, ℕ, zero, suc, ◌+◌, ◌-◌, ◌%◌, ◌^◌, ◌<◌, ◌≤◌, Bool, true, false, List, [], ◌∷◌, ◌++◌, length, take, drop, Some, None, refl, sym, ap, subst, ◌∙◌, append-nil, append_assoc, arith}
 use Rattle.std.specs.Prelude.{Option, max, slice_get, nat_le}
 use Rattle.std.specs.Option.{option_map}
@@ -14,7 +14,7 @@ use Rattle.lldpa_c.specs.Filling.{View, begun, put_if, put_unless, come_at, come
 use Rattle.lldpa_c.specs.Answer.{is_over}
 use Rattle.lldpa_c.specs.Filled.{Fills, IsFull}
 
--- From what was written on, this many of these lines were written too: all, or the next does not fit.
+-- From `v` to `r`, `count` of these lines are written: all, or the next one does not fit.
 pub record Comes (size : ℕ) (v r : View) (lines : List (List ℕ)) : Type 0 where
   pub count : ℕ
   pub next : r.next ≡ v.next + count
@@ -23,7 +23,7 @@ pub record Comes (size : ℕ) (v r : View) (lines : List (List ℕ)) : Type 0 wh
   pub done : r.is_full ≡ false → count ≡ length lines
   pub full : r.is_full ≡ true → IsFull lines count size r.used
 
--- if the room is full nothing comes
+-- if the buffer is full, no line is added
 come_full : (size : ℕ) (v : View) (lines : List (List ℕ)) → v.is_full ≡ true → come_all size v lines ≡ v
 come_full size v [] full = refl
 come_full size v (line ∷ lines) full =
@@ -40,7 +40,7 @@ none_comes size v within room = record {
   full = λ full. absurd cc;
 }
 
--- a line that fits is written, and the others come
+-- a line that fits is written, and then the others are
 one_comes : (b : Bool) (size : ℕ) (v : View) (line : List ℕ) (lines : List (List ℕ)) → nat_le (v.used + length (ended line)) size ≡ b
     → v.skip ≡ 0 → v.is_full ≡ false → v.used ≤ size → v.next + length (line ∷ lines) < 2 ^ 32
     → ((w : View) → w.skip ≡ 0 → w.is_full ≡ false → w.used ≤ size → w.next + length lines < 2 ^ 32 → Comes size w (come_all size w lines) lines)
@@ -77,7 +77,7 @@ come_open size (line ∷ lines) v skip room within few =
     ap (λ (b : Bool). come b size v text) room ∙ ap (λ (n : ℕ). come_at n size v text) skip ∙ ap (λ (b : Bool). put_unless b size v text) room in
     subst (λ (w : View). Comes size v (come_all size w lines) (line ∷ lines)) (sym here) (one_comes _ size v line lines refl skip room within few (λ w. come_open size lines w))
 
--- those that are not wanted come first
+-- the first k lines are skipped
 pub come_behind : (size k : ℕ) (lines : List (List ℕ)) (v : View) → v.skip ≡ k → v.is_full ≡ false → v.used ≤ size → v.next + length (drop k lines) < 2 ^ 32 → Comes size v (come_all size v lines) (drop k lines)
 come_behind size zero lines v skip room within few = come_open size lines v skip room within few
 come_behind size (suc k) [] v skip room within few = none_comes size v within room
@@ -88,14 +88,14 @@ come_behind size (suc k) (line ∷ lines) v skip room within few =
     let c = come_behind size k lines w refl room within few in
     subst (λ (x : View). Comes size v (come_all size x lines) (drop k lines)) (sym here) record { count = c.count; next = c.next; text = c.text; within = c.within; done = c.done; full = c.full }
 
--- all lines of a show come
+-- all lines of a show arrive
 pub all_come : (lines : List (List ℕ)) (from size n : ℕ) (a r : View) → n ≡ size → a ≡ begun from → r ≡ come_all n a lines → from < 2 ^ 32 → length lines ≤ 6127808
     → Comes size (begun from) r (drop from lines)
 all_come lines from size n a r e b is fits few =
     subst (λ (x : View). Comes size (begun from) x (drop from lines)) (sym (is ∙ ap (λ (x : View). come_all n x lines) b ∙ ap (λ (m : ℕ). come_all m (begun from) lines) e))
     (come_behind size from lines (begun from) refl refl (omega arith) (omega (arith, fits, few, length-drop from lines)))
 
--- ---- by a sink
+-- ---- lines that a sink accepts
 
 pub taken : (size : ℕ) (a b : Filling) (lines : List (List ℕ)) → length a.room.now ≡ size → Takes TakesLine a b lines
     → (view b ≡ come_all size (view a) lines) × (length b.room.now ≡ size) × (b.room.ghost_name ≡ a.room.ghost_name)
@@ -111,7 +111,7 @@ further u k xs ys h e =
     let n : u + (k - u) ≡ k = omega arith in
     ap (λ (m : ℕ). drop m xs) (sym n) ∙ sym (drop-drop (k - u) u xs) ∙ ap (drop (k - u)) e ∙ drop-drop (k - u) u ys ∙ ap (λ (m : ℕ). drop m ys) n
 
--- lines write nothing after what they use
+-- lines leave the octets unchanged after those that they use
 pub rest_left : (a b : Filling) (lines : List (List ℕ)) → Takes TakesLine a b lines → LeavesRest a b
 unfolding Takes
 rest_left a b [] h = record { grows = omega (arith, ap (λ (f : Filling). f.used) h); rest = ap (λ (f : Filling). drop b.used f.room.now) (sym h) }
@@ -123,7 +123,7 @@ rest_left a b (line ∷ lines) h =
 pub both_leave : (a b c : Filling) → LeavesRest a b → LeavesRest b c → LeavesRest a c
 both_leave a b c f g = record { grows = omega (arith, f.grows, g.grows); rest = g.rest ∙ further b.used c.used _ _ g.grows f.rest }
 
--- ---- what was written of a show
+-- ---- the octets that were written of a show
 
 get_behind : {X : Type 0} (k n : ℕ) (xs : List X) → slice_get (drop k xs) n ≡ slice_get xs (k + n)
 get_behind zero n xs = ap (slice_get xs) (omega arith)
@@ -149,7 +149,7 @@ is_full lines from size r c full =
     let f = c.full full in
     record { line = f.line; is = ap (slice_get lines) c.next ∙ sym (get_behind from c.count lines) ∙ f.is; over = f.over }
 
--- ---- whether the first line that is wanted fits
+-- ---- whether the first wanted line fits
 
 pub first_over : (lines : List (List ℕ)) (from next room used : ℕ) → IsFull lines next room used → next ≡ from → used ≡ 0 → is_over room (option_map ended (slice_get lines from)) ≡ true
 first_over lines from next room used f e z =

@@ -27,7 +27,7 @@ there_is (p ∷ ports) (suc n) lt = there_is ports n (omega arith)
 
 -- ---- one port
 
--- whether a port sends a shutdown frame as it is disabled
+-- whether a port sends a shutdown frame when it is disabled
 abbrev pub stops : PortState → Bool
 stops p = transmits p.status && p.machine.active
 
@@ -48,14 +48,14 @@ is_sent : (items : List Sending) (b is_empty : Bool) (i : ℕ) → items ≡ shu
 is_sent items true is_empty i is e = rw (e, is) refl
 is_sent items false is_empty i is e = rw (e, is) refl
 
--- a port that sends anything as it is disabled sends a shutdown frame
+-- a port that sends anything when it is disabled sends a shutdown frame
 pub told_sent : (agent : AgentState) (i : ℕ) (items : List Sending) (is_empty : Bool) → i < length agent.ports → items ≡ agent_marks (disables i) agent → is_empty ≡ (length items == 0)
     → shutdown_if (not is_empty) i ≡ agent_marks (disables i) agent
 told_sent agent i items is_empty lt is e =
     let p = there_is agent.ports i lt in
     is_sent items (stops p.0) is_empty i (is ∙ marks_disabled agent i p.0 lt (sym (get_or_from_slice_get agent.ports i p.0 p.0 p.1))) e ∙ is
 
--- ---- each port in its turn
+-- ---- each port in order
 
 module _ (agent : AgentState) where
   abbrev disabled : PortState → PortState

@@ -1,4 +1,4 @@
--- When something is due.
+-- The tick at which something is due.
 use Rattle.std.proofs.Common.{◌≡◌, ℕ, zero, suc, ◌+◌, ◌-◌, ◌^◌, ◌<◌, ◌≤◌, Bool, true, false, inl, inr, List, [], ◌∷◌, length, map, drop, Some, refl, sym, ap, subst, ◌∙◌, arith}
 use Rattle.std.specs.Prelude.{◌⊎◌, Option, None, max, nat_lt, slice_get}
 use Rattle.std.specs.List.{filter_map}
@@ -33,23 +33,23 @@ use Rattle.lldpa_c.specs.Due.{sooner, until_sends, least_left, due_on, timeless_
 use Rattle.lldpa_c.specs.declared.due.TheConstants.{NEVER}
 use Rattle.lldpa_c.proofs.Ticking.{no_longer, fewer, held_step}
 
--- ---- the lesser of two numbers
+-- ---- the smaller of two numbers
 
 pub sooner_assoc : (a b c : Option ℕ) → sooner (sooner a b) c ≡ sooner a (sooner b c)
 sooner_assoc (Some a) (Some b) (Some c) = ap (λ (n : ℕ). Some n) (omega arith)
 sooner_assoc _ _ _ = refl
 
--- this many ticks fewer
+-- k ticks fewer
 abbrev fewer_by : ℕ → Option ℕ → Option ℕ
 fewer_by k None = None
 fewer_by k (Some d) = Some (d - k)
 
--- it is due after more than this many ticks, if it is; 0 is at the next tick, as 1 is
+-- nothing is due within the next k ticks; 0 and 1 both mean the next tick
 abbrev IsAfter : ℕ → Option ℕ → Type 0
 IsAfter k None = Unit {0}
 IsAfter k (Some d) = k < max d 1
 
--- it is due at the next tick
+-- something is due at the next tick
 abbrev IsNext : Option ℕ → Type 0
 IsNext None = ⊥
 IsNext (Some d) = d ≤ 1
@@ -74,7 +74,7 @@ both_fewer a a' b b' e f = rw (e, f) (fewer_sooner a b)
 
 -- ---- a machine
 
--- it waits at a tick: it sends nothing, a tick less is left, and only clocks change
+-- the machine waits at a tick: it sends nothing, one tick fewer is left, and only clocks change
 record Waits (n : ℕ) (m : Machine) : Type 0 where
   sends : (machine_ticked m n).1 ≡ Quiet
   due : until_sends (machine_ticked m n).0 ≡ fewer_by 1 (until_sends m)
@@ -101,7 +101,7 @@ module _ (n : ℕ) (m : Machine) where
 
 -- ---- neighbors
 
--- none of them ages out at a tick, and only their seconds change
+-- no neighbor ages out at a tick, and only their seconds change
 record Stay (ns : List Neighbor) : Type 0 where
   number : length (filter_map aged ns) ≡ length ns
   due : least_left (filter_map aged ns) ≡ fewer_by 1 (least_left ns)
@@ -134,11 +134,11 @@ neighbors_go (x ∷ xs) h = elim (one_next (Some x.left) (least_left xs) h) [
 abbrev due_of : PortState → Option ℕ
 due_of p = sooner (least_left p.table.neighbors) (until_sends p.machine)
 
--- after a tick
+-- a port after a tick
 abbrev next : ℕ → PortState → PortState
 next n p = port_step port_tick n p
 
--- at a tick none sends, and no neighbor of theirs ages out; a tick less is left, and only clocks change
+-- at a tick no port sends and no neighbor ages out, one tick fewer is left, and only clocks change
 record AreQuiet (n i : ℕ) (ports : List PortState) : Type 0 where
   sends : marks_step (each_port port_tick) n i ports ≡ []
   ages : held_by (ports_step (each_port port_tick) n i ports) ≡ held_by ports
@@ -174,7 +174,7 @@ are_quiet n i (p ∷ ports) h =
       same = cc (port_same n p stay wait, others.same);
     }
 
--- each has some credit at most
+-- the credit_max of each port is at least 1
 abbrev HaveCredit : List PortState → Type 0
 HaveCredit [] = Unit {0}
 HaveCredit (p ∷ ports) = (1 ≤ p.machine.credit_max) × HaveCredit ports
@@ -213,12 +213,12 @@ after_less : (k : ℕ) (o : Option ℕ) → IsAfter (suc k) o → IsAfter k o ×
 after_less k None h = (tt, tt)
 after_less k (Some d) h = (omega arith, omega arith)
 
--- after this many ticks, before anything is due: this many fewer are left, and only clocks have changed
+-- after k ticks, before anything is due: k ticks fewer are left, and only clocks have changed
 record Waited (k : ℕ) (agent : AgentState) : Type 0 where
   due : due_in (ticked k agent) ≡ fewer_by k (due_in agent)
   same : timeless (ticked k agent) ≡ timeless agent
 
--- the tick after this many is quiet, if nothing is due at it
+-- the tick after k ticks is quiet, if nothing is due at it
 quiet_behind : (k : ℕ) (agent : AgentState) → IsAfter (suc k) (due_in agent) → Waited k agent → AreQuiet (ticked k agent).configuration.interval 0 (ticked k agent).ports
 quiet_behind k agent h before = are_quiet _ 0 (ticked k agent).ports (subst (IsAfter 1) (sym before.due) (after_less k (due_in agent) h).1)
 
@@ -234,7 +234,7 @@ quiet_before k agent h =
     let quiet = quiet_behind k agent h (waited k agent (after_less k (due_in agent) h).0) in
     record { sends = quiet.sends; ages = quiet.ages }
 
--- ---- what stands for a past
+-- ---- agents that stand for a past
 
 credit_of : (o : Options) (past : List Happened) (name : List ℕ) → (port_after o past name).machine.credit_max ≡ o.credit_max
 unfolding port_after machine_of
@@ -275,7 +275,7 @@ none_is_due agent e = record {
   there = λ less. absurd (omega arith);
 }
 
--- ---- on the way over neighbors and ports
+-- ---- in the loops over neighbors and ports
 
 sooner_none : (o : Option ℕ) → sooner o None ≡ o
 sooner_none None = refl

@@ -1,4 +1,4 @@
--- Where the LLDPDU lies in a frame, and the identifiers in an LLDPDU.
+-- Where the LLDPDU is in a frame, and where the identifiers are in an LLDPDU.
 use Rattle.std.proofs.Common.{◌≡◌, ℕ, ◌+◌, ◌-◌, ◌*◌, ◌%◌, ◌≤◌, ◌⊎◌, Bool, true, false, cond, List, [], ◌∷◌, length, take, drop, Option, Some, None, refl, sym, ap, ◌∙◌, inl, inr, arith}
 use Rattle.std.proofs.lemmas.Bool.{cases_lt, lt-ltb, le-ltb, leb-true}
 use Rattle.std.proofs.lemmas.List.{length-take-le, length-drop, drop-drop, take_at}
@@ -20,7 +20,7 @@ has_fourteen : (frame : List ℕ) → is_lldp_frame frame ≡ true → 14 ≤ le
 unfolding is_lldp_frame
 has_fourteen frame h = grind (arith, common_steps, leb-true)
 
--- the LLDPDU stands after 14 octets
+-- the LLDPDU begins after 14 octets
 pub header_off : (frame pdu : List ℕ) → Some pdu ≡ lldpdu_of frame → (pdu ≡ drop 14 frame) × (14 + length pdu ≡ length frame)
 header_off frame pdu h = at (is_lldp_frame frame) refl h
   where
@@ -28,13 +28,13 @@ header_off frame pdu h = at (is_lldp_frame frame) refl h
     at true e h = (cc, grind (arith, common_steps, has_fourteen, length-drop))
     at false e h = absurd cc
 
--- ---- the front of an LLDPDU
+-- ---- the first TLV of an LLDPDU
 
 abbrev body_of : Option (TlvUnit × List ℕ) → List ℕ
 body_of None = []
 body_of (Some x) = x.0.body
 
--- the body of the first TLV stands after two octets
+-- the body of the first TLV begins after two octets
 pub body_at : (octets : List ℕ) (u : TlvUnit) (others : List ℕ) → first_tlv octets ≡ Some (u, others)
     → (take (length u.body) (drop 2 octets) ≡ u.body) × (2 + length u.body ≤ length octets)
 body_at [] u others h = absurd cc
@@ -49,9 +49,9 @@ body_at (high ∷ low ∷ octets) u others h =
           (rw len is, omega (arith, len))
     ]
 
--- ---- a sound LLDPDU begins with two TLVs
+-- ---- an LLDPDU without a fault begins with two TLVs
 
--- fewer TLVs have a fault
+-- an LLDPDU with fewer TLVs has a fault
 none_is_fault : (octets : List ℕ) → (cut octets).tlvs ≡ [] → fault_of octets ≡ None → ⊥
 none_is_fault octets e h = absurd cc (fault_from octets [] (ttl_of octets) e refl, h)
 
@@ -107,7 +107,7 @@ port_lies octets h =
     let same : drop (2 + length b.chassis.body + 2) octets ≡ drop 2 b.behind = sym (ap (drop 2) behind ∙ drop-drop _ _ octets) in
     rw (name_of octets b) (record { within = omega (arith, len, one.1, two.1); held = ap (take (length b.port.body)) same ∙ two.0 })
 
--- ---- the extent is a front
+-- ---- the extent is the start of the octets
 
 pub extent_lies : (octets : List ℕ) → AreOctets octets → take (length (extent octets)) octets ≡ extent octets
 extent_lies octets fits =

@@ -1,4 +1,4 @@
--- That the news of a frame tell what the frame does to the table.
+-- The news of a frame agree with what the frame does to the table.
 use Rattle.std.proofs.Common.{◌≡◌, ◌≢◌, ℕ, zero, suc, ◌+◌, Bool, true, false, inl, inr, List, [], ◌∷◌, ◌++◌, length, map, Option, Some, None, refl, sym, ap, subst, ◌∙◌, arith}
 use Rattle.std.specs.Prelude.{◌==◌, not, nat_lt, if◌then◌else◌, filter, find, is_some, slice_get, option_and_then}
 use Rattle.std.specs.List.{list_any, AllByRecursion, IsDistinct}
@@ -30,7 +30,7 @@ use Rattle.lldp_engine.specs.Code.Step.{ports_step, agent_after}
 use Rattle.lldpa_c.specs.News.{stored_of, life_news, leave_news, pdu_news, frame_news, hears, news_on, HearsSound}
 use Rattle.lldpa_c.specs.NewsStep.{octets_held, telling_news, step_news, TellsStep, TellsStepAt}
 
--- ---- neighbors of one name
+-- ---- neighbors with one MSAP identifier
 
 module _ (name : MsapId) where
   abbrev found : List Neighbor → Option Neighbor
@@ -75,7 +75,7 @@ module _ (name : MsapId) where
 
 -- ---- the news, case by case
 
--- no neighbor comes or goes, and the news are others
+-- the number of neighbors stays the same, and the news are neither NEW nor GONE
 steady : (hears : Bool) (heard : Option Heard) (before after : Contents) (what : ℕ) → what ≡ step_news hears heard before after → what ≢ 4 → what ≢ 8
     → length after.neighbors ≡ length before.neighbors → TellsStep hears heard before after what
 steady hears heard before after what is new gone same = record {

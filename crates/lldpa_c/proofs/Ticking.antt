@@ -16,7 +16,7 @@ use Rattle.lldp_engine.specs.Code.Step.{ports_step, agent_after, agent_marks}
 use Rattle.lldpa_c.specs.Agent.{Steps}
 use Rattle.lldpa_c.specs.Ticks.{held_by, neighbors_held, AgesOut, ticked, with_ticks, IsQuiet, LastDid, LastPromised}
 
--- ---- how many neighbors ports hold
+-- ---- how many neighbors the ports hold
 
 pub held_more : (ports : List PortState) (i : ℕ) (table : Contents) → option_map (λ (p : PortState). p.table) (slice_get ports i) ≡ Some table
     → held_by (drop i ports) ≡ length table.neighbors + held_by (drop (suc i) ports)

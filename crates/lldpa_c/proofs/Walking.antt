@@ -1,4 +1,4 @@
--- One step over the TLVs of octets, and where they stand.
+-- One step of a walk over TLVs, and the places of the TLVs.
 use Rattle.std.proofs.Common.{◌≡◌, ℕ, ◌+◌, ◌-◌, ◌<◌, ◌≤◌, inl, inr, Bool, true, false, eqb, List, [], ◌∷◌, length, take, drop, refl, sym, ap, subst, ◌∙◌, arith}
 use Rattle.std.proofs.lemmas.List.{length-drop, drop-drop}
 use Rattle.lldp_pdu.specs.Tlv.{TlvUnit, AreOctets}
@@ -23,7 +23,7 @@ abbrev first_of : TlvUnit → List TlvUnit → TlvUnit
 first_of u [] = u
 first_of u (v ∷ vs) = v
 
--- the body of the TLV that a cut begins with
+-- the place of the first TLV's body
 front_body : (octets left : List ℕ) (u : TlvUnit) → cut octets ≡ in_front u left
     → (take (length u.body) (drop 2 octets) ≡ u.body) × (2 + length u.body ≤ length octets)
 front_body octets left u h = elim (cases_Option (first_tlv octets)) [
@@ -35,7 +35,7 @@ front_body octets left u h = elim (cases_Option (first_tlv octets)) [
       subst (λ (v : TlvUnit). (take (length v.body) (drop 2 octets) ≡ v.body) × (2 + length v.body ≤ length octets)) same (body_at octets x.0 x.1 e)
 ]
 
--- what is left after the first TLV is an end of the octets too
+-- the octets also end with what follows the first TLV
 pub still_ends : (octets a left : List ℕ) (u : TlvUnit) → EndsWith octets a → cut a ≡ in_front u left → left ≡ drop (2 + length u.body) a → EndsWith octets left
 still_ends octets a left u ends h is =
     let b = front_body a left u h in
@@ -60,7 +60,7 @@ gives_kept octets a left u ends h is =
       behind = e.is;
     }
 
--- a TLV that is kept is the first of those that are
+-- if the first TLV is kept, it is the first of the kept TLVs
 pub kept_first : (seen after : List Bool) (octets left : List ℕ) (u : TlvUnit) → cut octets ≡ in_front u left → true ≡ is_kept_seen seen u → after ≡ seen_after seen u
     → kept_seen seen (cut octets).tlvs ≡ u ∷ kept_seen after (cut left).tlvs
 kept_first seen after octets left u h k m = ap (λ (c : Cut). kept_seen seen c.tlvs) h ∙ step (cut left).tlvs
@@ -70,7 +70,7 @@ kept_first seen after octets left u h k m = ap (λ (c : Cut). kept_seen seen c.t
 
 -- ---- a whole walk
 
--- what stands in an end of octets stands in them
+-- if the octets end with `rest`, a TLV in `rest` is also a TLV in the octets
 pub gives_within : (octets rest body others : List ℕ) → EndsWith octets rest → GivesKept rest body others → GivesKept octets body others
 gives_within octets rest body others e g =
     let there : length octets - length rest + (length rest - length others - length body) ≡ length octets - length others - length body = omega (arith, e.within, g.within) in
@@ -83,14 +83,14 @@ gives_within octets rest body others e g =
       behind = g.behind ∙ ap (drop (length rest - length others)) e.is ∙ drop-drop _ _ octets ∙ ap (λ (n : ℕ). drop n octets) behind;
     }
 
--- from a place that is not 0 on
+-- the TLVs from an offset other than 0
 pub from_place : (octets others : List ℕ) (next : ℕ) → 0 < next → others ≡ drop next octets → tlvs_from octets next ≡ (cut others).tlvs
 from_place octets others next some is = rw (gt-neq next some) (ap (λ (os : List ℕ). (cut os).tlvs) (sym is))
   where
     gt-neq : (n : ℕ) → 0 < n → eqb n 0 ≡ false
     gt-neq n h = grind (arith, common_steps, ne_eqb)
 
--- a walk that begins goes over all that is kept
+-- a walk from the start finds all kept TLVs
 pub begins_whole : (octets : List ℕ) (walk : LldpaKept) → AreOctets octets → IsExtent octets → walk.next ≡ 0 → walk.met ≡ none_seen → left_of octets walk ≡ kept_of octets
 unfolding later_tlvs
 begins_whole octets walk fits e n m =

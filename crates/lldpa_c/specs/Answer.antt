@@ -1,14 +1,14 @@
--- What exports answer.
+-- The numbers that exported functions return.
 use Rattle.std.specs.Prelude.{ℕ, Bool, false, nat_lt, List, [], ◌∷◌, length, Option, Some, None, if◌then◌else◌}
 use Rattle.lldp_pdu.specs.Check.{Check}
 use Rattle.lldpa_c.specs.declared.answer.TheConstants.{OK}
 
--- the answer to the first of these checks that fails, or 0
+-- the fault of the first of these checks that fails, or 0
 abbrev pub answer_of : List (Check ℕ) → ℕ
 answer_of [] = OK
 answer_of (c ∷ cs) = if c.fails then c.fault else answer_of cs
 
--- there are octets, and a room of this many does not hold them
+-- true if there are octets, and more of them than fit in the room
 abbrev pub is_over : ℕ → Option (List ℕ) → Bool
 is_over room None = false
 is_over room (Some octets) = nat_lt room (length octets)

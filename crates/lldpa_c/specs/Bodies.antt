@@ -1,4 +1,4 @@
--- What C is told of the bodies of two TLVs.
+-- The fields of two TLV bodies, in the structs for C.
 use Rattle.std.specs.Prelude.{ℕ, ◌+◌, ◌≤◌, List, length}
 use Rattle.lldp_pdu.specs.declared.fields.Caps.{Caps}
 use Rattle.lldp_pdu.specs.ManagementAddress.{Address}
@@ -6,11 +6,11 @@ use Rattle.lldpa_c.specs.declared.bodies.LldpaCapabilities.{LldpaCapabilities}
 use Rattle.lldpa_c.specs.declared.bodies.LldpaManagement.{LldpaManagement}
 use Rattle.lldpa_c.specs.Place.{octets_at}
 
--- the capabilities that C is told
+-- the capabilities in the struct
 abbrev pub caps_told : LldpaCapabilities → Caps
 caps_told c = record { available = c.available; enabled = c.enabled }
 
--- the management address that C is told, its octets read from the body
+-- the management address in the struct, with its octets read from the body
 abbrev pub address_told : List ℕ → LldpaManagement → Address
 address_told body m = record {
   family = m.family;
@@ -20,12 +20,12 @@ address_told body m = record {
   oid = octets_at body m.oid;
 }
 
--- both places are in the body
+-- both ranges lie in the body
 pub record IsWithin (body : List ℕ) (m : LldpaManagement) : Type 0 where
   pub address : m.address.start + m.address.length ≤ length body
   pub oid : m.oid.start + m.oid.length ≤ length body
 
--- where the code says that the fields lie: two octets, the address, six octets, the object identifier
+-- where the code finds the fields: two octets, the address, six octets, the object identifier
 abbrev pub management_of : Address → LldpaManagement
 management_of a = record {
   address = record { start = 2; length = length a.address };

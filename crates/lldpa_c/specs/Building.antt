@@ -1,4 +1,4 @@
--- TLVs that are put one after another.
+-- TLVs that are put into an LLDPDU one after another.
 use Rattle.std.specs.Prelude.{ℕ, List, [], ◌∷◌, Option, Some, None}
 use Rattle.lldp_pdu.specs.declared.fault.BuildFault.{BuildFault}
 use Rattle.lldp_pdu.specs.Tlv.{TlvUnit}
@@ -6,7 +6,7 @@ use Rattle.lldp_pdu.specs.Draft.{Draft, with_tlv, put_fault}
 use Rattle.lldpa_c.specs.declared.build.LldpaTlv.{LldpaTlv}
 use Rattle.lldpa_c.specs.Faults.{tlv_fault_number}
 
--- a TLV without where it lies in memory
+-- the type and the body of a TLV, without its address in memory
 abbrev pub tlv_of : LldpaTlv → TlvUnit
 tlv_of t = record { kind = t.kind; body = t.body.now }
 
@@ -19,17 +19,17 @@ fault_number (Some fault) = tlv_fault_number fault
 abbrev pub begun : List ℕ → List ℕ → ℕ → Draft
 begun chassis port ttl = record { msap = record { chassis = chassis; port = port }; ttl = ttl; tlvs = [] }
 
--- what has a fault is left out
+-- a TLV with a fault is left out
 abbrev pub put_unless : Option BuildFault → Draft → TlvUnit → Draft
 put_unless None d u = with_tlv d u
 put_unless (Some fault) d u = d
 
--- each TLV in its turn, those that can be put
+-- the LLDPDU after these TLVs were put in their order, without those that have a fault
 abbrev pub put_all : Draft → List TlvUnit → Draft
 put_all d [] = d
 put_all d (u ∷ us) = put_all (put_unless (put_fault d u) d u) us
 
--- of each TLV in its turn the number of its fault, or 0
+-- for each TLV in order, the number of its fault, or 0
 abbrev pub put_faults : Draft → List TlvUnit → List ℕ
 put_faults d [] = []
 put_faults d (u ∷ us) = fault_number (put_fault d u) ∷ put_faults (put_unless (put_fault d u) d u) us

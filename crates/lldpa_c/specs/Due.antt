@@ -1,4 +1,4 @@
--- In how many ticks something happens, if nothing but ticks comes.
+-- The number of ticks until something happens, if there is no other event.
 use Rattle.std.specs.Prelude.{◌≡◌, ℕ, ◌+◌, ◌-◌, ◌<◌, ◌≤◌, ◌&&◌, nat_lt, min, if◌then◌else◌, List, [], ◌∷◌, map, Option, Some, None}
 use Rattle.lldp_table.specs.Events.{Neighbor}
 use Rattle.lldp_transmit.specs.Code.Machine.{Machine}
@@ -10,31 +10,31 @@ use Rattle.lldp_engine.specs.Standing.{Stands}
 use Rattle.lldpa_c.specs.declared.due.TheConstants.{NEVER}
 use Rattle.lldpa_c.specs.Ticks.{ticked, IsQuiet}
 
--- the lesser of two numbers, if there are any
+-- the smaller number of ticks; None stands for no number
 abbrev pub sooner : Option ℕ → Option ℕ → Option ℕ
 sooner None b = b
 sooner (Some a) None = Some a
 sooner (Some a) (Some b) = Some (min a b)
 
--- ticks until a machine sends: its timer ends, a frame that waits goes, or the port may start
+-- ticks until a machine sends: its timer ends, a waiting frame is sent, or the port may start
 abbrev pub until_sends : Machine → Option ℕ
 until_sends m =
     if m.active
     then (if m.waiting then Some 1 else (if nat_lt 0 m.timer then Some m.timer else None))
     else (if m.allowed && m.up then Some m.wait else None)
 
--- the fewest ticks that are left of one of these neighbors
+-- ticks until the first of these neighbors ages out
 abbrev pub least_left : List Neighbor → Option ℕ
 least_left [] = None
 least_left (neighbor ∷ neighbors) = sooner (Some neighbor.left) (least_left neighbors)
 
--- ticks until one of these ports sends, or a neighbor of theirs ages out; 0 is at the next tick, as 1 is
+-- ticks until one of these ports sends or loses a neighbor; 0 and 1 both mean the next tick
 abbrev pub due_on : List PortState → Option ℕ
 due_on [] = None
 due_on (port ∷ ports) = sooner (sooner (least_left port.table.neighbors) (until_sends port.machine)) (due_on ports)
 
--- a machine, the counters, a port and an agent without what ticks alone change: the credit and the two clocks, the high
--- part of a sum that wraps, and the seconds that are left
+-- a machine, the counters, neighbors, a port and an agent without what ticks alone change: the
+-- credit, the two clocks, the seconds left, and the part of `ageouts` above 32 bits
 abbrev pub timeless_machine : Machine → Machine
 timeless_machine m = record m { credit = 0; wait = 0; timer = 0 }
 
@@ -61,8 +61,9 @@ timeless_port p = record {
 abbrev pub timeless : AgentState → AgentState
 timeless agent = record { configuration = agent.configuration; ports = map timeless_port agent.ports }
 
--- This many ticks are due: at none before the last of them a port sends or a neighbor ages out, and at that one, if the
--- agent stands for a past, something of it is. NEVER is for no tick. The ticks before it change nothing but clocks.
+-- Something is due after this many ticks, and not before: until then only clocks change. At the
+-- last tick something happens if the agent stands for a past. NEVER means that nothing ever
+-- happens.
 pub record IsDue (agent : AgentState) (seconds : ℕ) : Type 0 where
   pub first : 1 ≤ seconds
   pub quiet : (k : ℕ) → k + 1 < seconds → IsQuiet (ticked k agent)

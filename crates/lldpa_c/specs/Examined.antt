@@ -1,4 +1,4 @@
--- What C is told of an LLDPDU.
+-- The fields of an LLDPDU, in the struct for C.
 use Rattle.std.specs.Prelude.{◌≡◌, ℕ, ◌+◌, ◌<◌, ◌≤◌, List, length, take, Option, Some, None}
 use Rattle.lldp_pdu.specs.declared.fault.PduFault.{PduFault}
 use Rattle.lldp_pdu.specs.FaultNumber.{pdu_fault_number}
@@ -15,25 +15,25 @@ abbrev pub fault_number : Option PduFault → ℕ
 fault_number None = 0
 fault_number (Some fault) = pdu_fault_number fault
 
--- the place holds these octets
+-- the range lies in the octets, and its octets are this body
 pub record Holds (octets : List ℕ) (place : LldpaPlace) (body : List ℕ) : Type 0 where
   pub within : place.start + place.length ≤ length octets
   pub held : octets_at octets place ≡ body
 
--- what is told beside the name if the neighbor lives
+-- the fields other than the identifiers, if the TTL is above 0
 pub record TellsLife (octets : List ℕ) (told : LldpaExamined) : Type 0 where
   pub within : told.extent ≤ length octets
   pub extent : take told.extent octets ≡ extent octets
   pub discarded : told.discarded ≡ discarded_of octets
   pub unrecognized : told.unrecognized ≡ count_unrecognized (kept_of octets)
 
--- what is told beside the name if the neighbor is gone: nothing
+-- the same fields, if the TTL is 0
 pub record TellsNothing (told : LldpaExamined) : Type 0 where
   pub extent : told.extent ≡ 0
   pub discarded : told.discarded ≡ 0
   pub unrecognized : told.unrecognized ≡ 0
 
--- All that a sound LLDPDU tells.
+-- All fields of an LLDPDU without a fault.
 pub record Tells (octets : List ℕ) (told : LldpaExamined) : Type 0 where
   pub ttl : told.ttl ≡ ttl_of octets
   pub chassis : Holds octets told.chassis (msap_of octets).chassis
@@ -41,7 +41,7 @@ pub record Tells (octets : List ℕ) (told : LldpaExamined) : Type 0 where
   pub life : 0 < ttl_of octets → TellsLife octets told
   pub gone : ttl_of octets ≡ 0 → TellsNothing told
 
--- ---- where the code says that identifiers lie: the first two TLVs, each after a header of two octets
+-- ---- where the code finds the identifiers: in the first two TLVs, after a header of 2 octets
 
 abbrev pub chassis_place : MsapId → LldpaPlace
 chassis_place msap = record { start = 2; length = length msap.chassis }
@@ -49,7 +49,7 @@ chassis_place msap = record { start = 2; length = length msap.chassis }
 abbrev pub port_place : MsapId → LldpaPlace
 port_place msap = record { start = 2 + length msap.chassis + 2; length = length msap.port }
 
--- ---- what the code tells of a neighbor that is gone, and of one that lives
+-- ---- the structs that the code writes: if the TTL is 0, and if it is above 0
 
 abbrev pub told_gone : MsapId → LldpaExamined
 told_gone msap = record {

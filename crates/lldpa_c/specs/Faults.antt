@@ -1,5 +1,5 @@
--- The numbers by which C knows faults: those of LLDPDUs from 1 on, of TLVs that are put from 11, of openings from 21, and
--- of commands from 31.
+-- The numbers of faults for C: from 1 on for LLDPDUs, from 11 for TLVs that are built, from 21 for
+-- opening, and from 31 for commands.
 use Rattle.std.specs.Prelude.{ℕ}
 use Rattle.lldp_pdu.specs.declared.fault.BuildFault.{BuildFault}
 use Rattle.lldp_pdu.specs.declared.fault.BuildFault.TheVariants as tlv

@@ -1,4 +1,4 @@
--- Lines of a show, as many as fit into the caller's room.
+-- Lines of a show, as many as fit in the caller's buffer.
 use Rattle.std.specs.Prelude.{◌≡◌, ℕ, ◌+◌, ◌-◌, ◌<◌, ◌≤◌, true, false, not, max, List, [], ◌∷◌, length, take, drop, Option, Some, is_none, slice_get, option_and_then}
 use Rattle.std.specs.List.{flat_map}
 use Rattle.std.specs.Option.{option_map}
@@ -13,20 +13,20 @@ use Rattle.lldpa_c.specs.declared.answer.TheConstants.{OUT_OF_RANGE, NO_ROOM, NO
 use Rattle.lldpa_c.specs.Answer.{is_over}
 use Rattle.lldpa_c.specs.Command.{show_numbered}
 
--- these octets are the lines from one on up to another, each with its line feed
+-- these octets are the lines `from` to `next` - 1, each with its line feed
 pub record Fills (lines : List (List ℕ)) (from next : ℕ) (octets : List ℕ) : Type 0 where
   pub order : from ≤ next
   pub are : octets ≡ flat_map ended (take (next - from) (drop from lines))
 
--- there is a line to go on with, which does not fit into this many octets after those that are used
+-- line `next` exists, and does not fit in a buffer of `room` octets after the used ones
 pub record IsFull (lines : List (List ℕ)) (next room used : ℕ) : Type 0 where
   pub line : List ℕ
   pub is : slice_get lines next ≡ Some line
   pub over : room < used + length line + 1
 
--- What was written of a show by its number, to the front of a room: the lines from one on up to another. If it is said
--- that no line is left, the next is after the last line, or the one that was wanted if that is farther; else at least
--- one was written, and the next does not fit.
+-- What was written of a show to the start of a buffer: the lines `from` to `next` - 1. If it is
+-- `done`, no line is left, and `next` is the number of lines, or `from` if that is greater.
+-- Otherwise at least one line was written, and line `next` does not fit.
 pub record Filled (agent : AgentState) (number from : ℕ) (told : LldpaLines) (room : List ℕ) : Type 0 where
   pub show : Show
   pub numbered : show_numbered number ≡ Some show
@@ -35,12 +35,12 @@ pub record Filled (agent : AgentState) (number from : ℕ) (told : LldpaLines) (
   pub some : told.done ≡ false → from < told.next
   pub full : told.done ≡ false → IsFull (lines_of show agent) told.next (length room) told.length
 
--- that line of the show of that number, if there is one
+-- this line of the show with this number, if there is one
 abbrev pub line_numbered : AgentState → ℕ → ℕ → Option (List ℕ)
 line_numbered agent number line = option_and_then (λ show. slice_get (lines_of show agent) line) (show_numbered number)
 
--- Why no lines are written: no show has that number, the handle is not open, or the show has the first line that
--- is wanted and it does not fit into this many octets with its line feed.
+-- Why no lines are written: no show has this number, the handle is not open, or the first wanted
+-- line exists and does not fit in this many octets with its line feed.
 abbrev pub lines_checks : LldpaAgent → ℕ → ℕ → ℕ → List (Check ℕ)
 lines_checks handle number from room =
     record { fails = is_none (show_numbered number); fault = OUT_OF_RANGE }

@@ -1,4 +1,4 @@
--- The frame that a port of an agent behind a handle sends.
+-- The frames that a port sends, for the agent that a handle holds.
 use Rattle.std.specs.Prelude.{◌≡◌, ℕ, ◌==◌, true, not, nat_lt, Bool, List, [], ◌∷◌, length, Option, Some, None, is_none, slice_get, if◌then◌else◌}
 use Rattle.std.specs.Option.{option_map}
 use Rattle.lldp_pdu.specs.Check.{Check}
@@ -12,27 +12,27 @@ use Rattle.lldpa_c.specs.declared.holder.LldpaAgent.{LldpaAgent}
 use Rattle.lldpa_c.specs.declared.answer.TheConstants.{OUT_OF_RANGE, NO_ROOM, NOT_OPEN, NO_PORT}
 use Rattle.lldpa_c.specs.Answer.{is_over}
 
--- the marks of frames that go, by their numbers
+-- the marks that stand for frames, by their numbers
 abbrev pub mark_numbered : ℕ → Option Mark
 mark_numbered n = if n == 1 then Some Ordinary else if n == 2 then Some Shutdown else None
 
--- The clauses of an agent's frame: these octets are what the port sends.
+-- The contract of an agent's frame: these octets are what the port sends.
 pub record Writes (agent : AgentState) (port : ℕ) (mark : Mark) (octets : List ℕ) : Type 0 where
   pub are : octets ≡ frame_of agent.configuration (name_of agent port) mark
   pub says : SaysBack (draft_of agent.configuration (name_of agent port) mark) octets
   pub past : (past : Past) → Stands past agent → (name : List ℕ) → slice_get past.options.names port ≡ Some name →
       octets ≡ frame_of (configuration_after past.options past.events) name mark
 
--- the frame of a port that the mark of that number asks for
+-- the frame that the mark with this number asks for on a port
 abbrev pub frame_numbered : AgentState → ℕ → ℕ → Option (List ℕ)
 frame_numbered agent port mark = option_map (frame_of agent.configuration (name_of agent port)) (mark_numbered mark)
 
--- no port has that number
+-- true if no port has this number
 abbrev pub has_no_port : AgentState → ℕ → Bool
 has_no_port agent port = not (nat_lt port (length agent.ports))
 
--- Why a frame is not written: no mark has that number, the handle is not open, there is no such port, or the
--- frame does not fit into this many octets.
+-- Why a frame is not written: no mark has this number, the handle is not open, there is no such
+-- port, or the frame does not fit in this many octets.
 abbrev pub frame_checks : LldpaAgent → ℕ → ℕ → ℕ → List (Check ℕ)
 frame_checks handle port mark room =
     record { fails = is_none (mark_numbered mark); fault = OUT_OF_RANGE }
@@ -41,7 +41,7 @@ frame_checks handle port mark room =
     ∷ record { fails = is_over room (frame_numbered handle.held.agent port mark); fault = NO_ROOM }
     ∷ []
 
--- the handle holds what it held
+-- the handle stays open with the same agent, or stays closed
 pub record Keeps (before after : LldpaAgent) : Type 0 where
   pub is_open : after.is_open ≡ before.is_open
   pub agent : before.is_open ≡ true → after.held.agent ≡ before.held.agent

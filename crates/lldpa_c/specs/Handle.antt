@@ -1,4 +1,4 @@
--- What a handle owns: the agent behind its pointer, and the right to free it, if there is one.
+-- What a handle owns: nothing, or the agent behind its pointer and the right to free it.
 use Rattle.std.specs.Prelude.{Bool, true, false}
 use base.Fml.{Fml, ftrue}
 use base.Stored.{Coded}

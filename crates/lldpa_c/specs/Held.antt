@@ -1,4 +1,4 @@
--- Neighbors that an agent holds, as C is told them.
+-- The neighbors that a port holds, in the struct for C.
 use Rattle.std.specs.Prelude.{◌≡◌, ℕ, not, List, [], ◌∷◌, take, Option, Some, None, is_none, slice_get}
 use Rattle.std.specs.Option.{option_map}
 use Rattle.lldp_pdu.specs.Check.{Check}
@@ -19,19 +19,19 @@ neighbors_on (Some port) = port.table.neighbors
 abbrev pub neighbors_at : AgentState → ℕ → List Neighbor
 neighbors_at agent port = neighbors_on (slice_get agent.ports port)
 
--- why nothing is told of an agent: the handle is not open
+-- why nothing is written about an agent: the handle is not open
 abbrev pub open_checks : LldpaAgent → List (Check ℕ)
 open_checks handle = record { fails = not handle.is_open; fault = NOT_OPEN } ∷ []
 
--- Why nothing is told of a port: the handle is not open, or there is no such port.
+-- Why nothing is written about a port: the handle is not open, or there is no such port.
 abbrev pub count_checks : LldpaAgent → ℕ → List (Check ℕ)
 count_checks handle port =
     record { fails = not handle.is_open; fault = NOT_OPEN }
     ∷ record { fails = has_no_port handle.held.agent port; fault = NO_PORT }
     ∷ []
 
--- Why a neighbor is not told: the handle is not open, there is no such port, the port has no neighbor at that place, or
--- its LLDPDU does not fit into this many octets.
+-- Why a neighbor is not written: the handle is not open, there is no such port, the port has no
+-- neighbor with this index, or its LLDPDU does not fit in this many octets.
 abbrev pub neighbor_checks : LldpaAgent → ℕ → ℕ → ℕ → List (Check ℕ)
 neighbor_checks handle port index room =
     let found = slice_get (neighbors_at handle.held.agent port) index in
@@ -41,7 +41,7 @@ neighbor_checks handle port index room =
     ∷ record { fails = is_over room (option_map (λ neighbor. neighbor.octets) found); fault = NO_ROOM }
     ∷ []
 
--- A neighbor is told: the octets of its last stored LLDPDU, all that these tell, and the seconds that are left of it.
+-- What is written about a neighbor: its last stored LLDPDU, the fields, and the seconds left.
 pub record TellsNeighbor (neighbor : Neighbor) (room : List ℕ) (told : LldpaHeld) : Type 0 where
   pub octets : take told.pdu.extent room ≡ neighbor.octets
   pub pdu : Tells neighbor.octets told.pdu

@@ -1,4 +1,4 @@
--- What only laws say.
+-- Definitions that only laws use.
 pub mod Asked
 pub mod Shown
 pub mod Words

@@ -1,4 +1,4 @@
--- Leaving: each port is disabled in its turn.
+-- Leaving: the ports are disabled one after another.
 use Rattle.std.specs.Prelude.{◌≡◌, ℕ, zero, suc, ◌+◌, ◌&&◌, Bool, true, false, List, [], ◌∷◌, ◌++◌, length, map}
 use Rattle.std.specs.List.{AllByRecursion}
 use Rattle.lldp_transmit.specs.declared.event.Mark.{Mark}
@@ -14,11 +14,11 @@ use Rattle.lldpa_c.specs.declared.holder.LldpaAgent.{LldpaAgent}
 use Rattle.lldpa_c.specs.declared.marks.LldpaMarks.{LldpaMarks}
 use Rattle.lldpa_c.specs.Marks.{numbered, marks_told}
 
--- a port is disabled
+-- the event that disables a port
 abbrev pub disables : ℕ → Event
 disables port = set (status port Disabled)
 
--- an agent after its first ports were disabled, this many, and what was sent as they were
+-- an agent after its first n ports were disabled, and the frames that were sent
 abbrev pub left : ℕ → AgentState → AgentState
 left zero agent = agent
 left (suc n) agent = agent_after (disables n) (left n agent)
@@ -27,7 +27,7 @@ abbrev pub sent_leaving : ℕ → AgentState → List (ℕ × Mark)
 sent_leaving zero agent = []
 sent_leaving (suc n) agent = sent_leaving n agent ++ agent_marks (disables n) (left n agent)
 
--- the same past with these events more
+-- the past with these events added
 abbrev pub with_leaving : ℕ → Past → Past
 with_leaving zero past = past
 with_leaving (suc n) past = with_event (with_leaving n past) (disables n)
@@ -37,13 +37,13 @@ abbrev pub shutdown_if : Bool → ℕ → List (ℕ × Mark)
 shutdown_if true i = (i, Shutdown) ∷ []
 shutdown_if false i = []
 
--- a shutdown frame on each of these ports that is active, counted from i; an active port is one that may transmit
+-- a shutdown frame on each of these ports that may transmit and is active, numbered from i on
 abbrev pub shutdowns : ℕ → List PortState → List (ℕ × Mark)
 shutdowns i [] = []
 shutdowns i (port ∷ ports) =
     shutdown_if (transmits port.status && port.machine.active) i ++ shutdowns (i + 1) ports
 
--- All ports are disabled, one event for each, and what was sent is a shutdown frame on each port that was active.
+-- All ports are disabled. A shutdown frame is sent on each port that was active.
 pub record Leaves (before after : AgentState) (sent : List (ℕ × Mark)) : Type 0 where
   pub is : after ≡ left (length before.ports) before
   pub sent_are : sent ≡ sent_leaving (length before.ports) before
@@ -51,7 +51,7 @@ pub record Leaves (before after : AgentState) (sent : List (ℕ × Mark)) : Type
   pub disabled : AllByRecursion (λ port. port.status ≡ Disabled) after.ports
   pub stands : (past : Past) → Stands past before → Stands (with_leaving (length before.ports) past) after
 
--- They are disabled if the handle is open. Otherwise nothing is told.
+-- The ports are disabled if the handle is open. Otherwise nothing is written.
 pub record Left (before : LldpaAgent) (marks_before : LldpaMarks) (answer : ℕ) (after : LldpaAgent) (marks : LldpaMarks) : Type 0 where
   pub left : before.is_open ≡ true → (answer ≡ 0) × (after.is_open ≡ true)
       × ((sent : List (ℕ × Mark)) × (marks_told marks ≡ map numbered sent) × Leaves before.held.agent after.held.agent sent)

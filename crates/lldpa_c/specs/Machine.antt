@@ -1,4 +1,4 @@
--- The transmit machine as C has it.
+-- The transmit machine, with the numbers that C uses.
 use Rattle.std.specs.Prelude.{◌≡◌, ℕ, ◌≤◌, ◌==◌, ◌↔◌, ◌∷◌, Option, Some, None, if◌then◌else◌}
 use Rattle.lldp_transmit.specs.declared.event.Cause.{Cause}
 use Rattle.lldp_transmit.specs.declared.event.Cause.TheVariants.{Tick, Change, Neighbor, Stop, Allow, Down, Up, Nothing}
@@ -30,13 +30,13 @@ mark_number Quiet = 0
 mark_number Ordinary = 1
 mark_number Shutdown = 2
 
--- a machine's credit is no more than its greatest, and a tx-interval is 1 to 3600 seconds
+-- the machine's credit is at most its credit_max, and the tx-interval is 1 to 3600 seconds
 pub record CanTake (machine : Machine) (interval : ℕ) : Type 0 where
   pub credit : machine.credit ≤ machine.credit_max
   pub least : 1 ≤ interval
   pub most : interval ≤ 3600
 
--- The clauses of a machine's event: from this machine, by this event, to that one, with this answer.
+-- The contract of a machine's event: it takes machine `t` to `after` and sends `answer`.
 pub record Takes (t : Machine) (cause : Cause) (interval : ℕ) (after : Machine) (answer : Mark) : Type 0 where
   pub next : after ≡ (stepped t cause interval).0
   pub told : answer ≡ (stepped t cause interval).1

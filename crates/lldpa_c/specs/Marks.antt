@@ -1,4 +1,4 @@
--- The ports that send, as C is told them.
+-- The frames to send, in the struct for C.
 use Rattle.std.specs.Prelude.{ℕ, List, take}
 use Rattle.lldp_transmit.specs.declared.event.Mark.{Mark}
 use Rattle.lldpa_c.specs.declared.marks.LldpaMark.{LldpaMark}
@@ -9,6 +9,6 @@ use Rattle.lldpa_c.specs.Machine.{mark_number}
 abbrev pub numbered : ℕ × Mark → LldpaMark
 numbered x = record { port = x.0; mark = mark_number x.1 }
 
--- the ports that are told, each with the number of its mark
+-- the frames to send that the struct lists
 abbrev pub marks_told : LldpaMarks → List LldpaMark
 marks_told t = take t.count t.items

@@ -1,4 +1,4 @@
--- What the numbers of C stand for.
+-- The meaning of the numbers that C passes and receives.
 use Rattle.std.specs.Prelude.{◌≡◌, ℕ, zero, suc, List, [], ◌∷◌, map, Option, None, slice_get}
 use Rattle.lldp_pdu.specs.declared.fault.PduFault.TheVariants as pdu
 use Rattle.lldp_pdu.specs.declared.fault.BuildFault.TheVariants as tlv
@@ -20,13 +20,13 @@ use Rattle.lldpa_c.specs.Command.{show_number, show_numbered}
 use Rattle.lldpa_c.specs.Settings.{status_number}
 use Rattle.lldpa_c.specs.Opening.{role_numbered}
 
--- the item that has this number, if the first has that one and each other the next
+-- the item with this number, if the items are numbered from `first` on
 abbrev pub item_numbered : {A : Type 0} → ℕ → List A → ℕ → Option A
 item_numbered zero items n = slice_get items n
 item_numbered (suc first) items zero = None
 item_numbered (suc first) items (suc n) = item_numbered first items n
 
--- Each number that C gives stands for one of these, in this order, and every other number for none.
+-- Each number that C passes stands for one of these, in this order, or for nothing.
 pub record AreGiven : Type 0 where
   pub causes : (n : ℕ) → cause_numbered n
       ≡ item_numbered 0 (cause.Tick ∷ cause.Change ∷ cause.Neighbor ∷ cause.Stop ∷ cause.Allow ∷ cause.Down ∷ cause.Up ∷ cause.Nothing ∷ []) n
@@ -35,7 +35,7 @@ pub record AreGiven : Type 0 where
       ≡ item_numbered 1 (shown.Neighbors ∷ shown.Statistics ∷ shown.Chassis ∷ shown.Configuration ∷ []) n
   pub roles : (n : ℕ) → role_numbered n ≡ item_numbered 0 (role.Station ∷ role.Bridge ∷ role.Router ∷ []) n
 
--- These are told by these numbers.
+-- C receives these numbers for these values.
 pub record AreTold : Type 0 where
   pub marks : map mark_number (mark.Quiet ∷ mark.Ordinary ∷ mark.Shutdown ∷ []) ≡ 0 ∷ 1 ∷ 2 ∷ []
   pub shows : map show_number (shown.Neighbors ∷ shown.Statistics ∷ shown.Chassis ∷ shown.Configuration ∷ [])

@@ -1,4 +1,4 @@
--- What C opens an agent with.
+-- The options with which C opens an agent.
 use Rattle.std.specs.Prelude.{◌≡◌, ℕ, ◌==◌, map, take, Option, Some, None, IsSome, if◌then◌else◌}
 use Rattle.std.specs.List.{All}
 use Rattle.std.specs.Str.{IsUtf8}
@@ -14,12 +14,12 @@ use Rattle.lldpa_c.specs.declared.options.LldpaOptions.{LldpaOptions}
 abbrev pub role_numbered : ℕ → Option Role
 role_numbered n = if n == 0 then Some Station else if n == 1 then Some Bridge else if n == 2 then Some Router else None
 
--- the role of a number, a station if there is none
+-- the role, or a station if there is none
 abbrev pub role_or_station : Option Role → Role
 role_or_station None = Station
 role_or_station (Some role) = role
 
--- the options that are asked for
+-- the agent's options, from the struct for C
 abbrev pub asked : LldpaOptions → Options
 asked o = record {
   names = map (λ text. text.octets.now) o.ports.now;
@@ -34,15 +34,15 @@ asked o = record {
   receive_only = o.receive_only;
 }
 
--- What is asked for can be read: the role is that of a number, the first 65 names and the hostname are UTF-8, and the
--- four numbers are in their ranges.
+-- The struct can be read: a role has this number, the first 65 names and the hostname are UTF-8,
+-- and the four numbers are in their ranges.
 pub record IsRead (o : LldpaOptions) : Type 0 where
   pub role : IsSome (role_numbered o.role)
   pub names : All (λ text. IsUtf8 text.octets.now) (take 65 o.ports.now)
   pub hostname : IsUtf8 o.hostname.octets.now
   pub range : InRange (asked o)
 
--- An agent is opened: its options are read and have no fault, and it stands for no events yet.
+-- An agent is opened: the options are read and have no fault, and no event has happened yet.
 pub record Opens (o : LldpaOptions) (agent : AgentState) : Type 0 where
   pub read : IsRead o
   pub checked : fault_of (asked o) ≡ None

@@ -1,4 +1,4 @@
--- What a port counted and how an agent is configured, as C is told it.
+-- The counters of a port and the settings of an agent, in the structs for C.
 use Rattle.std.specs.Prelude.{◌≡◌, ℕ, length, map, take, drop, replicate}
 use Rattle.lldp_engine.specs.declared.port.counters.Counters.{Counters}
 use Rattle.lldp_engine.specs.declared.port.status.Status.{Status}
@@ -8,7 +8,7 @@ use Rattle.lldp_engine.specs.AgentState.{AgentState}
 use Rattle.lldpa_c.specs.declared.settings.LldpaStatistics.{LldpaStatistics}
 use Rattle.lldpa_c.specs.declared.settings.LldpaConfiguration.{LldpaConfiguration}
 
--- each counter by its own name
+-- each counter under its own name
 abbrev pub statistics_of : Counters → LldpaStatistics
 statistics_of c = record {
   sent = c.sent;
@@ -29,7 +29,7 @@ status_number RxOnly = 1
 status_number TxOnly = 2
 status_number Disabled = 3
 
--- What is in force is told: each number, and the status of each port in the order of opening, after which all is 0.
+-- The current settings are written: each number, and each port's status, followed by zeros.
 pub record TellsConfiguration (agent : AgentState) (told : LldpaConfiguration) : Type 0 where
   pub interval : told.interval ≡ agent.configuration.interval
   pub hold : told.hold ≡ agent.configuration.hold

@@ -1,10 +1,10 @@
--- The words of faults.
+-- The descriptions of error numbers.
 use Rattle.std.specs.Prelude.{ℕ, ◌==◌, List, [], ◌∷◌, Option, Some, None, is_none, codes, if◌then◌else◌}
 use Rattle.lldp_pdu.specs.Check.{Check}
 use Rattle.lldpa_c.specs.declared.answer.TheConstants.{OUT_OF_RANGE, NO_ROOM}
 use Rattle.lldpa_c.specs.Answer.{is_over}
 
--- what a fault or a misuse is, by its number, in words
+-- the description of an error number, if there is such an error
 abbrev pub words_of : ℕ → Option (List ℕ)
 words_of n =
     if n == 1 then Some (codes "no complete TLV where a mandatory one belongs")
@@ -40,7 +40,7 @@ words_of n =
     else if n == 105 then Some (codes "a pointer is NULL")
     else None
 
--- Why these words are not written: no fault has that number, or they do not fit into this many octets.
+-- Why a description is not written: there is no such error, or it does not fit in this room.
 abbrev pub words_checks : ℕ → ℕ → List (Check ℕ)
 words_checks number room =
     record { fails = is_none (words_of number); fault = OUT_OF_RANGE }

@@ -1,4 +1,4 @@
--- Seconds that pass, one or several.
+-- Seconds that pass: one tick, or several.
 use Rattle.std.specs.Prelude.{◌≡◌, ℕ, zero, suc, ◌+◌, ◌<◌, ◌≤◌, true, false, List, [], ◌∷◌, length, map}
 use Rattle.lldp_transmit.specs.declared.event.Mark.{Mark}
 use Rattle.lldp_engine.specs.AgentState.{AgentState, PortState}
@@ -21,7 +21,7 @@ held_by (port ∷ ports) = length port.table.neighbors + held_by ports
 abbrev pub neighbors_held : AgentState → ℕ
 neighbors_held agent = held_by agent.ports
 
--- this many neighbors aged out: the agent holds fewer by that number
+-- this many neighbors aged out: the agent holds this many fewer than before
 abbrev pub AgesOut : AgentState → AgentState → ℕ → Type 0
 AgesOut before after gone = gone + neighbors_held after ≡ neighbors_held before
 
@@ -30,7 +30,7 @@ abbrev pub ticked : ℕ → AgentState → AgentState
 ticked zero agent = agent
 ticked (suc n) agent = agent_after tick (ticked n agent)
 
--- the same past with this many ticks more
+-- the past with this many ticks added
 abbrev pub with_ticks : ℕ → Past → Past
 with_ticks zero past = past
 with_ticks (suc n) past = with_event (with_ticks n past) tick
@@ -40,18 +40,18 @@ pub record IsQuiet (agent : AgentState) : Type 0 where
   pub sends : agent_marks tick agent ≡ []
   pub ages : neighbors_held (agent_after tick agent) ≡ neighbors_held agent
 
--- What the last of this many ticks did: these ports sent, and this many neighbors aged out; without ticks nothing.
+-- What the last of n ticks sent, and how many neighbors aged out at it. Nothing if n is 0.
 abbrev pub LastDid : ℕ → AgentState → List (ℕ × Mark) → ℕ → Type 0
 LastDid zero agent sent gone = (sent ≡ []) × (gone ≡ 0)
 LastDid (suc n) agent sent gone = (sent ≡ agent_marks tick (ticked n agent)) × AgesOut (ticked n agent) (ticked (suc n) agent) gone
 
--- What is promised of the last of this many ticks, for each past that the agent stood for before them.
+-- What is promised for the last of n ticks, if the agent stood for this past before them.
 abbrev pub LastPromised : ℕ → Past → List (ℕ × Mark) → AgentState → Type 0
 LastPromised zero past sent after = Unit {0}
 LastPromised (suc n) past sent after = (sent ≡ marks_of (with_ticks (suc n) past)) × PromisedStep (with_ticks n past) tick sent after
 
--- This many of the ticks that were asked for were taken. Before the last of them nothing was sent and nobody aged out;
--- if fewer were taken, something was sent or aged out at the last.
+-- `taken` of the `asked` ticks were applied. Before the last of them no port sent and no neighbor
+-- aged out. If fewer were applied than asked, a port sent or a neighbor aged out at the last.
 pub record Takes (asked taken : ℕ) (before after : AgentState) (sent : List (ℕ × Mark)) (gone : ℕ) : Type 0 where
   pub few : taken ≤ asked
   pub is : after ≡ ticked taken before
@@ -61,7 +61,7 @@ pub record Takes (asked taken : ℕ) (before after : AgentState) (sent : List (�
   pub stands : (past : Past) → Stands past before → Stands (with_ticks taken past) after
   pub promised : (past : Past) → Stands past before → LastPromised taken past sent after
 
--- They are taken if the handle is open. Otherwise nothing is told.
+-- Ticks are applied if the handle is open. Otherwise nothing is written.
 pub record TicksTaken (before : LldpaAgent) (asked : ℕ) (marks_before : LldpaMarks) (told_before : LldpaTicks) (answer : ℕ)
     (after : LldpaAgent) (marks : LldpaMarks) (told : LldpaTicks) : Type 0 where
   pub taken : before.is_open ≡ true → (answer ≡ 0) × (after.is_open ≡ true)

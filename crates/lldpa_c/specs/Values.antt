@@ -1,4 +1,4 @@
--- What `show neighbors` writes of TLVs and texts, as C is given it.
+-- Texts of TLVs and escaped texts, as `show neighbors` writes them.
 use Rattle.std.specs.Prelude.{ℕ, ◌&&◌, ◌==◌, not, nat_le, nat_lt, Bool, List, [], ◌∷◌, ◌++◌, length, codes, Option, Some, None, is_none, if◌then◌else◌}
 use Rattle.lldp_pdu.specs.Check.{Check}
 use Rattle.lldp_pdu.specs.Range.{is_between}
@@ -9,31 +9,31 @@ use Rattle.lldp_text.specs.Text.{escaped}
 use Rattle.lldpa_c.specs.declared.answer.TheConstants.{OUT_OF_RANGE, NO_ROOM}
 use Rattle.lldpa_c.specs.Answer.{is_over}
 
--- Something is written of a TLV of each type from 1 to 127 but the Time To Live, if its body is well formed for its type
--- and has at most 511 octets.
+-- A TLV can be written if its type is 1 to 127 but not 3 (Time To Live), and its body is well
+-- formed for the type and has at most 511 octets.
 abbrev pub may_write : ℕ → List ℕ → Bool
 may_write kind body =
     is_between 1 kind 127 && not (kind == 3) && nat_le (length body) 511 && is_well_formed (record { kind = kind; body = body })
 
--- what is written of it after `lldp.PORT.N.`
+-- the text of a TLV after `lldp.PORT.N.`
 abbrev pub value_of : ℕ → List ℕ → List ℕ
 value_of kind body =
     if kind == 1 then codes "chassis." ++ chassis_text body
     else if kind == 2 then codes "port." ++ port_text body
     else tlv_text (record { kind = kind; body = body })
 
--- the same, if anything is
+-- the same, if the TLV can be written
 abbrev pub tlv_value : ℕ → List ℕ → Option (List ℕ)
 tlv_value kind body = if may_write kind body then Some (value_of kind body) else None
 
--- Why it is not written: there is nothing to write, or it does not fit into this many octets.
+-- Why a TLV is not written: it cannot be written, or its text does not fit in this many octets.
 abbrev pub value_checks : ℕ → List ℕ → ℕ → List (Check ℕ)
 value_checks kind body room =
     record { fails = is_none (tlv_value kind body); fault = OUT_OF_RANGE }
     ∷ record { fails = is_over room (tlv_value kind body); fault = NO_ROOM }
     ∷ []
 
--- Why a text is not escaped: it has more octets than a TLV has, or what is written does not fit into this many octets.
+-- Why a text is not escaped: it is over 511 octets, or the result does not fit in this room.
 abbrev pub escape_checks : List ℕ → ℕ → List (Check ℕ)
 escape_checks text room =
     record { fails = nat_lt 511 (length text); fault = OUT_OF_RANGE }

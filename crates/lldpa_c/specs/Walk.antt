@@ -1,4 +1,4 @@
--- A walk over the kept TLVs of an extent.
+-- A walk over the kept TLVs of an extent (an LLDPDU up to its end or an incomplete TLV).
 use Rattle.std.specs.Prelude.{◌≡◌, ℕ, ◌+◌, ◌-◌, ◌<◌, ◌≤◌, ◌==◌, List, length, take, drop, None, if◌then◌else◌}
 use Rattle.lldp_pdu.specs.Tlv.{TlvUnit}
 use Rattle.lldp_pdu.specs.Cut.{cut}
@@ -7,21 +7,21 @@ use Rattle.lldp_pdu.specs.Lldpdu.{extent, ttl_of}
 use Rattle.lldp_pdu.specs.Code.Seen.{kept_seen}
 use Rattle.lldpa_c.specs.declared.kept.LldpaKept.{LldpaKept}
 
--- the octets are the extent of a sound LLDPDU with a TTL above 0
+-- the octets are the extent of an LLDPDU without a fault and with a TTL above 0
 pub record IsExtent (octets : List ℕ) : Type 0 where
   pub sound : fault_of octets ≡ None
   pub lives : 0 < ttl_of octets
   pub whole : extent octets ≡ octets
 
--- the TLVs from a place on; from 0 on, those after the first three
+-- the TLVs from an offset on; for 0, those after the first three
 abbrev pub tlvs_from : List ℕ → ℕ → List TlvUnit
 tlvs_from octets next = if next == 0 then drop 3 (cut octets).tlvs else (cut (drop next octets)).tlvs
 
--- the TLVs that are kept from where a walk goes on
+-- the kept TLVs from where a walk continues
 abbrev pub left_of : List ℕ → LldpaKept → List TlvUnit
 left_of octets walk = kept_seen walk.met (tlvs_from octets walk.next)
 
--- The octets end with a TLV's body, of which a header stands in front, and these others after it.
+-- The octets end with two octets of a header, the body of the TLV, and `others`.
 pub record GivesKept (octets body others : List ℕ) : Type 0 where
   pub within : 2 + length body + length others ≤ length octets
   pub held : take (length body) (drop (length octets - length others - length body) octets) ≡ body

@@ -1,4 +1,4 @@
-//! What happens to an agent behind a handle.
+//! Frames and link events for an agent, and closing it.
 ghost use Rattle.std.specs.Prelude.{◌≡◌, false};
 ghost use Rattle.lldp_engine.specs.Event.{event_of, frame, link};
 ghost use Rattle.lldpa_c.specs.Agent.{Answers, happening_on};
@@ -12,7 +12,7 @@ use crate::news::{LldpaNews, news_of};
 use lldp_engine::Event;
 use std::alloc::Global;
 
-/// What happens on a port.
+/// A frame that a port received, or a link that came up (true) or went down.
 #[derive(Clone, Copy)]
 enum Happening<'a> {
     Frame(&'a [u8]),
@@ -20,7 +20,7 @@ enum Happening<'a> {
 }
 
 impl<'a> Happening<'a> {
-    /// Returns it as an event of the port of this number.
+    /// Returns the event of this happening on the port with this number.
     fn on(self, port: u8) -> Event<'a>
         ensures { event_of result ≡ happening_on port self.entry }
     {
@@ -31,7 +31,7 @@ impl<'a> Happening<'a> {
     }
 }
 
-/// Gives the agent what happens on a port, if it has that port. Returns which ports send.
+/// Gives the agent a happening, if it has the port, and writes which frames to send.
 fn take_on(
     alloc: Global,
     handle: &mut LldpaAgent,
@@ -54,7 +54,7 @@ fn take_on(
     OK
 }
 
-/// Takes octets that a port received. Returns which ports send.
+/// Gives the agent octets that a port received, and writes which frames to send.
 #[unsafe(no_mangle)]
 pub extern "C" fn lldpa_frame(
     alloc: Global,
@@ -68,7 +68,7 @@ pub extern "C" fn lldpa_frame(
     take_on(alloc, agent, port, Happening::Frame(octets), marks)
 }
 
-/// Takes octets that a port received. Returns which ports send, and what the frame does.
+/// Does the same as `lldpa_frame`, and also writes what the frame did.
 #[unsafe(no_mangle)]
 pub extern "C" fn lldpa_frame_news(
     alloc: Global,
@@ -99,7 +99,7 @@ pub extern "C" fn lldpa_frame_news(
     OK
 }
 
-/// Takes a link event: the link of a port came up, or went down. Returns which ports send.
+/// Reports to the agent that a link came up or went down. Writes which frames to send.
 #[unsafe(no_mangle)]
 pub extern "C" fn lldpa_link(
     alloc: Global,
@@ -113,7 +113,7 @@ pub extern "C" fn lldpa_link(
     take_on(alloc, agent, port, Happening::Link(up), marks)
 }
 
-/// Closes an agent, and gives its memory back.
+/// Closes an agent, and frees its memory. Does nothing if it is not open.
 #[unsafe(no_mangle)]
 pub extern "C" fn lldpa_close(alloc: Global, agent: &mut LldpaAgent)
     ensures { agent.new.is_open ≡ false }

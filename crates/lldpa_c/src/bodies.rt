@@ -1,4 +1,4 @@
-//! The fields of the bodies of two TLVs.
+//! Reads the bodies of System Capabilities and Management Address TLVs.
 ghost use Rattle.std.specs.Prelude.{◌≡◌, ◌+◌, ◌≤◌, false, length, Some, None, IsTrue, if◌then◌else◌};
 ghost use Rattle.lldp_pdu.specs.Capabilities.{caps_of};
 ghost use Rattle.lldp_pdu.specs.ManagementAddress.{address_of};
@@ -8,7 +8,7 @@ ghost use Rattle.lldpa_c.specs.Bodies.{caps_told, address_told, management_of, I
 use crate::place::LldpaPlace;
 use lldp_pdu::{Mgmt, caps, mgmt};
 
-/// What a System Capabilities TLV says.
+/// The fields of a System Capabilities TLV.
 #[repr(C)]
 #[derive(Clone, Copy)]
 pub struct LldpaCapabilities {
@@ -16,7 +16,7 @@ pub struct LldpaCapabilities {
     pub enabled: u16,
 }
 
-/// What a Management Address TLV says. Both places are in its body.
+/// The fields of a Management Address TLV. `address` and `oid` are ranges of its body.
 #[repr(C)]
 #[derive(Clone, Copy)]
 pub struct LldpaManagement {
@@ -27,8 +27,8 @@ pub struct LldpaManagement {
     pub numbering: u8,
 }
 
-/// Reads the fields of the body of a System Capabilities TLV. Returns false exactly if it is not
-/// well formed, and then the struct is unchanged.
+/// Reads the body of a System Capabilities TLV. Returns false exactly if it is not well formed, and
+/// leaves the struct unchanged then.
 #[unsafe(no_mangle)]
 pub extern "C" fn lldpa_caps(body: &[u8], told: &mut LldpaCapabilities) -> bool
     ensures value { (if result then Some (caps_told told.new) else None) ≡ caps_of body.now }
@@ -46,8 +46,8 @@ pub extern "C" fn lldpa_caps(body: &[u8], told: &mut LldpaCapabilities) -> bool
     }
 }
 
-/// Returns where the fields of a Management Address lie in its body: the address after two octets,
-/// and the object identifier after six more.
+/// Returns the fields of a Management Address TLV. In its body the address starts after two octets,
+/// and the object identifier six octets after the address.
 fn management(fields: &Mgmt<'_>) -> LldpaManagement
     ensures { result ≡ management_of (address_view fields.now) }
 {
@@ -66,8 +66,8 @@ fn management(fields: &Mgmt<'_>) -> LldpaManagement
     }
 }
 
-/// Reads the fields of the body of a Management Address TLV. Returns false exactly if it is not
-/// well formed, and then the struct is unchanged.
+/// Reads the body of a Management Address TLV. Returns false exactly if it is not well formed, and
+/// leaves the struct unchanged then.
 #[unsafe(no_mangle)]
 pub extern "C" fn lldpa_mgmt(body: &[u8], told: &mut LldpaManagement) -> bool
     ensures value { (if result then Some (address_told body.now told.new) else None)

@@ -1,4 +1,4 @@
-//! A builder over the caller's room.
+//! Builds LLDPDUs in the caller's buffer.
 ghost use Rattle.std.specs.Prelude.{◌≡◌, ◌≤◌, ◌<◌, ◌↔◌, ℕ, [], ◌∷◌, length, map, take, drop, slice_index_or, IsTrue};
 ghost use Rattle.lldp_pdu.specs.Msap.{IsIdentifier};
 ghost use Rattle.lldp_pdu.specs.Draft.{IsReadBack, lldpdu_octets, put_fault};
@@ -17,14 +17,14 @@ pub struct LldpaTlv<'a> {
     pub kind: u8,
 }
 
-/// Returns whether these octets are the body of a Chassis ID or a Port ID.
+/// True if these octets have the length of a Chassis ID or a Port ID.
 fn is_identifier(body: &[u8]) -> bool
     ensures { IsTrue result ↔ IsIdentifier body.now }
 {
     2 <= body.len() && body.len() <= 256
 }
 
-/// Puts a TLV. Returns the number of its fault, or 0.
+/// Puts a TLV into the LLDPDU. Returns 0, or the number of the fault if it is left out.
 fn put_one(builder: &mut Builder, tlv: &LldpaTlv<'_>) -> u8
     ensures put { builder.new ≡ put_all builder.old (tlv_of tlv.now ∷ []) }
     ensures fault { result ≡ fault_number (put_fault builder.old (tlv_of tlv.now)) }
@@ -35,7 +35,7 @@ fn put_one(builder: &mut Builder, tlv: &LldpaTlv<'_>) -> u8
     }
 }
 
-/// Puts each TLV that can be put after those before it, and writes for each TLV its fault or 0.
+/// Puts the TLVs in their order, leaves out those with a fault, and writes 0 or a fault for each.
 fn put_each(builder: &mut Builder, tlvs: &[LldpaTlv<'_>], faults: &mut [u8])
     requires { length tlvs.now ≤ length faults.old }
     ensures put { builder.new ≡ put_all builder.old (map tlv_of tlvs.now) }
@@ -48,8 +48,8 @@ fn put_each(builder: &mut Builder, tlvs: &[LldpaTlv<'_>], faults: &mut [u8])
     }
 }
 
-/// Builds an LLDPDU in the caller's room, with those of the TLVs that can be put, and writes for
-/// each TLV its fault or 0.
+/// Builds an LLDPDU in the caller's buffer. TLVs with a fault are left out; `faults` receives 0 or
+/// a fault for each TLV.
 #[unsafe(no_mangle)]
 pub extern "C" fn lldpa_build(
     chassis: &[u8],

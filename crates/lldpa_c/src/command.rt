@@ -1,4 +1,4 @@
-//! Commands to the agent behind a handle.
+//! Runs commands on an agent.
 ghost use Rattle.std.specs.Prelude.{◌≡◌};
 ghost use Rattle.lldp_engine.specs.Given.{command_given};
 ghost use Rattle.lldpa_c.specs.Command.{show_number, Obeys, Obeyed};
@@ -22,7 +22,7 @@ fn show_number(show: Show) -> u32
     }
 }
 
-/// Does what a line asks for. For a show it writes only the number.
+/// Runs a command. A show command only writes the number of its show.
 fn obey(agent: &mut Agent, line: &[u8], show: &mut u32, marks: &mut LldpaMarks) -> u8
     ensures { Obeys (command_given agent.old line.now) agent.old show.old marks.old result
         agent.new show.new marks.new }
@@ -43,7 +43,7 @@ fn obey(agent: &mut Agent, line: &[u8], show: &mut u32, marks: &mut LldpaMarks) 
     }
 }
 
-/// Takes the line of a command: carries out a setting, or writes which show is asked for.
+/// Runs a command: applies a setting, or writes the number of the show to print.
 #[unsafe(no_mangle)]
 pub extern "C" fn lldpa_command(
     alloc: Global,

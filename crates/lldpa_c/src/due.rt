@@ -1,4 +1,4 @@
-//! In how many seconds something is due.
+//! Computes when an agent has something to do.
 ghost use Rattle.std.specs.Prelude.{◌≡◌};
 ghost use Rattle.lldpa_c.specs.Answer.{answer_of};
 ghost use Rattle.lldpa_c.specs.Due.{sooner, until_sends, least_left, due_on, IsDue};
@@ -12,10 +12,10 @@ use lldp_table::Table;
 use lldp_transmit::Parts;
 use std::alloc::Global;
 
-/// Nothing will be due.
+/// The number of seconds if nothing is due.
 pub const NEVER: u32 = u32::MAX;
 
-/// Returns the lesser of two numbers of ticks, if there are any.
+/// Returns the smaller number of ticks. None stands for no number.
 fn sooner(a: Option<u16>, b: Option<u16>) -> Option<u16>
     ensures { result ≡ sooner a b }
 {
@@ -25,7 +25,7 @@ fn sooner(a: Option<u16>, b: Option<u16>) -> Option<u16>
     }
 }
 
-/// Returns the ticks until a machine sends.
+/// Returns the ticks until a port sends, if it will.
 fn until_sends(machine: &Parts) -> Option<u16>
     ensures { result ≡ until_sends machine.now }
 {
@@ -44,7 +44,7 @@ fn until_sends(machine: &Parts) -> Option<u16>
     }
 }
 
-/// Returns the fewest ticks that are left of a neighbor.
+/// Returns the ticks until the first neighbor of a table ages out, if it has neighbors.
 fn least_left(table: &Table<Global>) -> Option<u16>
     ensures { result ≡ least_left table.now.shown.neighbors }
 {
@@ -55,7 +55,7 @@ fn least_left(table: &Table<Global>) -> Option<u16>
     least
 }
 
-/// Returns the ticks until a port sends or a neighbor ages out.
+/// Returns the ticks until a port sends or a neighbor ages out, if that will happen.
 fn due_on(agent: &Agent) -> Option<u16>
     ensures { result ≡ due_on agent.now.ports }
 {
@@ -67,7 +67,7 @@ fn due_on(agent: &Agent) -> Option<u16>
     due
 }
 
-/// Returns the seconds until something is due.
+/// Returns the seconds until a port sends or a neighbor ages out, or NEVER.
 fn seconds_of(agent: &Agent) -> u32
     ensures { IsDue agent.now result }
 {
@@ -77,7 +77,7 @@ fn seconds_of(agent: &Agent) -> u32
     }
 }
 
-/// Tells in how many seconds a port sends or a neighbor ages out, if nothing but time passes.
+/// Writes the seconds until a port sends or a neighbor ages out, if there is no other event.
 #[unsafe(no_mangle)]
 pub extern "C" fn lldpa_due(alloc: Global, agent: &mut LldpaAgent, seconds: &mut u32) -> u8
     ensures due { result ≡ 0 → IsDue agent.old.held.agent seconds.new }

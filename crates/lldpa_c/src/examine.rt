@@ -1,4 +1,4 @@
-//! What an LLDPDU says.
+//! Examines LLDPDUs.
 ghost use Rattle.std.specs.Prelude.{◌≡◌, None, IsSome};
 ghost use Rattle.lldp_pdu.specs.Fault.{fault_of};
 ghost use Rattle.lldp_pdu.specs.View.{msap_view};
@@ -7,7 +7,7 @@ ghost use Rattle.lldpa_c.specs.Examined.{fault_number, Tells, chassis_place, por
 use crate::place::LldpaPlace;
 use lldp_pdu::{Examined, Info, Msap, examine};
 
-/// What a sound LLDPDU says.
+/// The fields of an LLDPDU without a fault.
 #[repr(C)]
 #[derive(Clone, Copy)]
 pub struct LldpaExamined {
@@ -15,20 +15,20 @@ pub struct LldpaExamined {
     pub chassis: LldpaPlace,
     /// The body of the Port ID, its subtype first.
     pub port: LldpaPlace,
-    /// How many octets count, from the front. 0 if the TTL is 0.
+    /// The octets before the End Of LLDPDU or an incomplete TLV. 0 if the TTL is 0.
     pub extent: usize,
     /// How many TLVs are discarded. 0 if the TTL is 0.
     pub discarded: usize,
-    /// How many kept TLVs are of the types 9 to 127. 0 if the TTL is 0.
+    /// How many kept TLVs have a type of 9 to 127. 0 if the TTL is 0.
     pub unrecognized: usize,
-    /// The time to live, in seconds. 0 means that the neighbor is gone.
+    /// The time to live, in seconds. 0 means that the neighbor leaves.
     pub ttl: u16,
 }
 
-/// How many octets of a TLV precede its body.
+/// The octets of a TLV before its body: its type and length.
 pub(crate) const TLV_HEADER: usize = 2;
 
-/// Returns where the body of the first TLV lies.
+/// Returns the range of the Chassis ID's body in the LLDPDU.
 fn chassis_place(msap: &Msap<'_>) -> LldpaPlace
     ensures { result ≡ chassis_place (msap_view msap.now) }
 {
@@ -38,7 +38,7 @@ fn chassis_place(msap: &Msap<'_>) -> LldpaPlace
     }
 }
 
-/// Returns where the body of the second TLV lies.
+/// Returns the range of the Port ID's body in the LLDPDU.
 fn port_place(msap: &Msap<'_>) -> LldpaPlace
     ensures { result ≡ port_place (msap_view msap.now) }
 {
@@ -48,7 +48,7 @@ fn port_place(msap: &Msap<'_>) -> LldpaPlace
     }
 }
 
-/// Returns what an LLDPDU says of a neighbor that is gone.
+/// Returns the fields of a shutdown LLDPDU.
 fn gone(msap: &Msap<'_>) -> LldpaExamined
     ensures { result ≡ told_gone (msap_view msap.now) }
 {
@@ -62,7 +62,7 @@ fn gone(msap: &Msap<'_>) -> LldpaExamined
     }
 }
 
-/// Returns what an LLDPDU says of a neighbor that lives.
+/// Returns the fields of an LLDPDU with a TTL above 0.
 fn alive(info: &Info<'_>) -> LldpaExamined
     ensures { result ≡ told_alive info.now }
 {
@@ -77,8 +77,8 @@ fn alive(info: &Info<'_>) -> LldpaExamined
     }
 }
 
-/// Writes what an LLDPDU of any length says, and returns 0. If it has a fault, returns the fault's
-/// number, 1 to 8, and leaves the struct unchanged.
+/// Writes the fields of an LLDPDU of any length, and returns 0. If it has a fault, returns the
+/// fault's number, 1 to 8, and leaves the struct unchanged.
 pub(crate) fn tell_examined(pdu: &[u8], told: &mut LldpaExamined) -> u8
     ensures fault { result ≡ fault_number (fault_of pdu.now) }
     ensures told { fault_of pdu.now ≡ None → Tells pdu.now told.new }
@@ -97,8 +97,8 @@ pub(crate) fn tell_examined(pdu: &[u8], told: &mut LldpaExamined) -> u8
     }
 }
 
-/// Writes what an LLDPDU of any length says, or returns the number of its fault, as
-/// `tell_examined`.
+/// Writes the fields of an LLDPDU of any length, or returns the number of its fault, as
+/// `tell_examined` does.
 #[unsafe(no_mangle)]
 pub extern "C" fn lldpa_examine(pdu: &[u8], told: &mut LldpaExamined) -> u8
     ensures fault { result ≡ fault_number (fault_of pdu.now) }

@@ -1,11 +1,11 @@
-//! The numbers of faults for C, of each kind in a range of its own.
+//! The numbers of faults for C. Each kind of fault has its own range.
 ghost use Rattle.std.specs.Prelude.{◌≡◌};
 ghost use Rattle.lldpa_c.specs.Faults.{tlv_fault_number, refusal_number, command_fault_number};
 
 use lldp_engine::{CommandFault, OpenFault};
 use lldp_pdu::BuildFault;
 
-/// Returns the number of a fault of putting a TLV.
+/// Returns the number of a fault of a TLV that is built.
 pub(crate) fn tlv_fault_number(fault: BuildFault) -> u8
     ensures { result ≡ tlv_fault_number fault }
 {
@@ -16,7 +16,7 @@ pub(crate) fn tlv_fault_number(fault: BuildFault) -> u8
     }
 }
 
-/// Returns the number of a fault of opening.
+/// Returns the number of a fault of opening an agent.
 pub(crate) fn refusal_number(fault: OpenFault) -> u8
     ensures { result ≡ refusal_number fault }
 {

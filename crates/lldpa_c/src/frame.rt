@@ -1,4 +1,4 @@
-//! The LLDPDU of an Ethernet frame.
+//! Finds the LLDPDU in an Ethernet frame.
 ghost use Rattle.std.specs.Prelude.{◌≡◌, ◌+◌, false, length, Some, None, IsTrue, if◌then◌else◌};
 ghost use Rattle.lldp_pdu.specs.Frame.{lldpdu_of};
 ghost use Rattle.lldpa_c.specs.Place.{octets_at};
@@ -6,11 +6,11 @@ ghost use Rattle.lldpa_c.specs.Place.{octets_at};
 use crate::place::LldpaPlace;
 use lldp_pdu::frame_pdu;
 
-/// How many octets precede the LLDPDU of a frame.
+/// The octets of a frame before the LLDPDU: two addresses and the EtherType.
 pub(crate) const HEADER: usize = 14;
 
-/// Returns whether the octets are an LLDP frame, and writes where its LLDPDU lies. If they are not,
-/// the place is unchanged.
+/// Returns true if the octets are an LLDP frame, and writes the range of its LLDPDU. Otherwise
+/// leaves the range unchanged.
 #[unsafe(no_mangle)]
 pub extern "C" fn lldpa_frame_pdu(frame: &[u8], pdu: &mut LldpaPlace) -> bool
     ensures value { (if result then Some (octets_at frame.now pdu.new) else None)

@@ -1,4 +1,4 @@
-//! The frame that a port sends.
+//! Writes the frames that a port sends.
 ghost use Rattle.std.specs.Prelude.{◌≡◌, ◌<◌, ◌≤◌, length, take, drop, Some, IfSome};
 ghost use Rattle.lldp_transmit.specs.declared.event.Mark.{Mark};
 ghost use Rattle.lldp_engine.specs.AgentState.{IsPort};
@@ -14,7 +14,7 @@ use crate::holder::LldpaAgent;
 use lldp_engine::{Agent, Mark};
 use std::alloc::Global;
 
-/// Returns the mark of that number, if it is that of a frame.
+/// Returns the mark with this number, if it stands for a frame.
 fn mark_numbered(number: u32) -> Option<Mark>
     ensures value { result ≡ mark_numbered number }
     ensures sent { IfSome result IsSent }
@@ -26,9 +26,9 @@ fn mark_numbered(number: u32) -> Option<Mark>
     }
 }
 
-/// Writes the frame of a port into the caller's room.
-// Its stack frame exceeds a page. When it was inlined, LLVM moved a branch of the export before
-// the loop that probes the pages, and the loop overwrote the register that the branch needed.
+/// Writes the frame that a port sends into the caller's buffer.
+// Not inlined, since its stack frame exceeds a page. When it was, LLVM moved a branch of the caller
+// before the loop that probes the pages, and the loop overwrote a register of that branch.
 #[inline(never)]
 fn write(agent: &Agent, port: u32, mark: Mark, room: &mut [u8], written: &mut usize) -> u8
     requires { IsSent mark }
@@ -49,7 +49,7 @@ fn write(agent: &Agent, port: u32, mark: Mark, room: &mut [u8], written: &mut us
     give(agent.frame(port as u8, mark).as_slice(), room, written)
 }
 
-/// Writes the frame that a port sends with the present configuration into the caller's room.
+/// Writes the frame of a mark and a port, with the current settings, into the caller's buffer.
 #[unsafe(no_mangle)]
 pub extern "C" fn lldpa_frame_of(
     alloc: Global,

@@ -1,9 +1,9 @@
-//! Octets that are written into the caller's room.
+//! Copies octets into the caller's buffer.
 ghost use Rattle.std.specs.Prelude.{◌≡◌, ◌<◌, ◌≤◌, length, take, drop};
 
 use crate::answer::{NO_ROOM, OK};
 
-/// Writes octets into the front of the room, if they fit.
+/// Copies octets to the start of the buffer if they fit, and writes how many there are.
 pub(crate) fn give(octets: &[u8], room: &mut [u8], written: &mut usize) -> u8
     ensures fits { length octets.now ≤ length room.old → result ≡ 0 }
     ensures within { result ≡ 0 → written.new ≤ length room.new }

@@ -1,4 +1,4 @@
-//! What C's handle holds: an agent behind a pointer, or nothing.
+//! A pointer that owns an agent or is empty, in a form that C can hold.
 ghost use Rattle.std.specs.Prelude.{◌≡◌, Bool, true, false};
 ghost use Rattle.lldp_engine.specs.AgentState.{AgentState};
 ghost use Rattle.lldpa_c.specs.Handle.{held_owns, agent_coded};
@@ -10,8 +10,8 @@ use parts::Parts;
 use std::alloc::Global;
 use std::marker::Model;
 
-/// An agent in memory of its own, as C has it: a pointer whose type C does not know. `owned` says
-/// whether there is an agent. Dropping this forgets the agent, and gives no memory back.
+/// An agent on the heap, behind an untyped pointer, or no agent. The ghost field `owned` says
+/// which. Dropping this value does not free the agent.
 #[repr(C)]
 #[derive(Drop)]
 pub struct Held {
@@ -25,7 +25,6 @@ impl Model for Held {
     ghost also_owns = { λ h. held_owns h.owned h.alloc h.ptr h.agent };
 }
 
-/// Returns a pointer to no agent.
 fn nowhere() -> *mut u8 {
     std::ptr::null_mut()
 }
@@ -54,14 +53,14 @@ impl Held {
         Held { ptr, alloc }
     }
 
-    /// Returns the empty one.
+    /// Returns a value that holds no agent.
     pub fn none(alloc: Global) -> Held
         ensures { result.owned ≡ false }
     {
         Held::closed(nowhere(), alloc)
     }
 
-    /// Returns one that holds the agent of this box.
+    /// Returns a value that holds the agent of this box.
     pub fn of(agent: Box<Agent>) -> Held
         ensures owned { result.owned ≡ true }
         ensures agent { result.agent ≡ agent.value }
@@ -69,7 +68,7 @@ impl Held {
         Held::of_parts(Parts::of(agent))
     }
 
-    /// Returns the box of the agent.
+    /// Returns the agent in its box.
     pub fn into_box(self) -> Box<Agent>
         requires { self.owned ≡ true }
         ensures { result.value ≡ self.agent }

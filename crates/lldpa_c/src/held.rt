@@ -1,4 +1,4 @@
-//! The neighbors that an agent holds.
+//! Writes the neighbors that a port holds.
 ghost use Rattle.std.specs.Prelude.{◌≡◌, ◌<◌, ◌≤◌, ℕ, None, Some, length, drop, slice_get};
 ghost use Rattle.lldp_table.specs.Events.{Neighbor};
 ghost use Rattle.lldp_engine.specs.AgentState.{IsPort};
@@ -18,7 +18,7 @@ use std::alloc::Global;
 #[repr(C)]
 #[derive(Clone, Copy)]
 pub struct LldpaHeld {
-    /// What its last stored LLDPDU says.
+    /// The fields of its last stored LLDPDU.
     pub pdu: LldpaExamined,
     /// The seconds until it ages out.
     pub left: u32,
@@ -49,7 +49,7 @@ pub extern "C" fn lldpa_neighbor_count(
     OK
 }
 
-/// Writes what is known of a neighbor, with its octets in the front of the room.
+/// Writes a neighbor's fields, and its octets to the start of the buffer.
 fn tell_entry(entry: &Entry<'_>, room: &mut [u8], told: &mut LldpaHeld) -> u8
     ensures fits { length entry.now.octets ≤ length room.old → result ≡ 0 }
     ensures over { length room.old < length entry.now.octets → result ≡ 101 }
@@ -69,7 +69,7 @@ fn tell_entry(entry: &Entry<'_>, room: &mut [u8], told: &mut LldpaHeld) -> u8
     OK
 }
 
-/// Writes what is known of the neighbor at a place of a port's table.
+/// Writes the neighbor with this index in a port's table.
 fn tell_neighbor(agent: &Agent, port: u8, index: u32, room: &mut [u8], told: &mut LldpaHeld) -> u8
     requires { IsPort agent.now port }
     ensures none { slice_get (neighbors_at agent.now port) index ≡ None → result ≡ 100 }
@@ -93,8 +93,8 @@ fn tell_neighbor(agent: &Agent, port: u8, index: u32, room: &mut [u8], told: &mu
     tell_entry(&table.entry(index as u8), room, told)
 }
 
-/// Writes what is known of the neighbor at a place of a port's table, from 0: its LLDPDU into the
-/// caller's room, what that says, and the seconds left.
+/// Writes the neighbor with this index, from 0, in a port's table: its LLDPDU into the caller's
+/// buffer, the LLDPDU's fields, and the seconds left.
 #[unsafe(no_mangle)]
 pub extern "C" fn lldpa_neighbor(
     alloc: Global,

@@ -1,4 +1,4 @@
-//! C's handle of an agent.
+//! The handle of an agent that C holds.
 ghost use Rattle.std.specs.Prelude.{◌≡◌, true, false, IfSome, IfNone};
 
 use crate::handle::Held;
@@ -6,7 +6,6 @@ use lldp_engine::Agent;
 use std::alloc::Global;
 use std::mem::replace;
 
-/// C's handle of an agent.
 #[repr(C)]
 #[derive(Drop)]
 pub struct LldpaAgent {

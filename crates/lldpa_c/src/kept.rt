@@ -1,4 +1,4 @@
-//! A walk over the kept TLVs of an extent.
+//! Walks over the kept TLVs of an LLDPDU.
 ghost use Rattle.std.specs.Prelude.{◌≡◌, ◌≤◌, ◌+◌, ◌-◌, [], ◌∷◌, true, false, length, drop, None, IsTrue, IfNone, IfSome};
 ghost use Rattle.lldp_pdu.specs.Cut.{cut};
 ghost use Rattle.lldp_pdu.specs.View.{tlv_view};
@@ -10,21 +10,21 @@ ghost use Rattle.lldpa_c.specs.Walk.{tlvs_from, left_of, IsExtent, GivesKept};
 use crate::place::LldpaPlace;
 use lldp_pdu::{Seen, Tlv, Tlvs};
 
-/// A walk over the kept TLVs. It begins with all fields 0.
+/// The state of a walk over the kept TLVs. All fields are 0 at the start.
 #[repr(C)]
 #[derive(Clone, Copy)]
 pub struct LldpaKept {
-    /// Where it continues. 0: at the first TLV after the mandatory ones.
+    /// The offset where the walk continues. 0 for the first TLV after the mandatory ones.
     pub next: usize,
-    /// The body of the last TLV.
+    /// The body of the TLV that was found last.
     pub body: LldpaPlace,
-    /// For each of the types 4 to 7, whether a well-formed TLV was met.
+    /// For each of the types 4 to 7, whether a well-formed TLV was found.
     pub met: [bool; 4],
-    /// The type of the last TLV.
+    /// The type of the TLV that was found last.
     pub kind: u8,
 }
 
-/// A kept TLV, what was met up to it, and the octets after it.
+/// A kept TLV, the types found up to and including it, and the octets after it.
 #[derive(Drop)]
 struct Found<'a> {
     tlv: Tlv<'a>,
@@ -56,7 +56,7 @@ fn rest_from(extent: &[u8], next: usize) -> &[u8]
     }
 }
 
-/// Returns the first kept TLV of these octets, if these types were met before.
+/// Returns the first kept TLV of these octets, after TLVs of the types `met` were found.
 fn first_kept(octets: &[u8], met: Seen) -> Option<Found<'_>>
     ensures none { IfNone result (kept_seen met.types (cut octets.now).tlvs ≡ []) }
     ensures some { IfSome result (λ found. kept_seen met.types (cut octets.now).tlvs
@@ -78,8 +78,8 @@ fn first_kept(octets: &[u8], met: Seen) -> Option<Found<'_>>
     None
 }
 
-/// Continues a walk with the next kept TLV of an extent. Returns false if no TLV is left, and then
-/// the walk is unchanged.
+/// Advances a walk to the next kept TLV of an extent. Returns false, and leaves the walk unchanged,
+/// if no TLV is left.
 #[unsafe(no_mangle)]
 pub extern "C" fn lldpa_next_kept(extent: &[u8], walk: &mut LldpaKept) -> bool
     ensures given { IsTrue result → left_of extent.now walk.old

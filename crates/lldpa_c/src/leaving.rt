@@ -1,4 +1,4 @@
-//! Leaving: every port is disabled.
+//! Disables every port of an agent before it is closed.
 ghost use Rattle.std.specs.Prelude.{◌≡◌};
 ghost use Rattle.lldp_engine.specs.AgentState.{IsPort};
 ghost use Rattle.lldp_engine.specs.Code.Step.{agent_after, agent_marks};
@@ -24,7 +24,7 @@ fn disable(agent: &mut Agent, port: u8) -> bool
     !sent.is_empty()
 }
 
-/// Disables every port. Returns which ports send.
+/// Disables every port. Returns the shutdown frames to send.
 fn disable_each(agent: &mut Agent) -> Marks
     ensures { Leaves agent.old agent.new result.items }
 {
@@ -37,7 +37,7 @@ fn disable_each(agent: &mut Agent) -> Marks
     sent
 }
 
-/// Disables every port. Returns which ports send: a shutdown frame each that was active.
+/// Disables every port. Writes the frames to send: a shutdown frame for each active port.
 #[unsafe(no_mangle)]
 pub extern "C" fn lldpa_leave(alloc: Global, agent: &mut LldpaAgent, marks: &mut LldpaMarks) -> u8
     ensures { Left agent.old marks.old result agent.new marks.new }

@@ -1,7 +1,7 @@
-//! The proved reader, the transmit machine and the agent for C, and for what calls C.
+//! The verified reader, transmit machine and agent, for C and for languages that call C.
 //!
-//! Each export calls one function of the crates below and restates its clauses. `lldpa.h` declares
-//! them.
+//! Each exported function calls one function of the crates below and restates its clauses.
+//! `lldpa.h` documents them.
 #![tactic(auto)]
 
 mod agent;

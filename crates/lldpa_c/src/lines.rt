@@ -1,4 +1,4 @@
-//! Lines of a show, as many as fit into the caller's room.
+//! Writes lines of a show, as many as fit in the caller's buffer.
 ghost use Rattle.std.specs.Prelude.{◌≡◌, ◌+◌, ◌≤◌, ◌<◌, ◌++◌, true, false, max, length, take, drop, IfSome, IfNone};
 ghost use Rattle.lldp_engine.specs.Lines.{lines_of};
 ghost use Rattle.lldpa_c.specs.Frame.{Keeps};
@@ -12,19 +12,19 @@ use crate::holder::LldpaAgent;
 use lldp_engine::{Agent, LineSink, Show, Writer};
 use std::alloc::Global;
 
-/// What was written of a show.
+/// The part of a show that was written.
 #[repr(C)]
 #[derive(Clone, Copy)]
 pub struct LldpaLines {
-    /// How many octets were written, the line feed of each line among them.
+    /// How many octets were written, including a line feed after each line.
     pub length: usize,
-    /// The line to continue with.
+    /// The number of the line to continue with.
     pub next: u32,
-    /// Whether no line is left.
+    /// True if no line is left.
     pub done: bool,
 }
 
-/// Returns the show of that number.
+/// Returns the show with this number.
 fn show_numbered(number: u32) -> Option<Show>
     ensures { result ≡ show_numbered number }
 {
@@ -37,7 +37,7 @@ fn show_numbered(number: u32) -> Option<Show>
     }
 }
 
-/// Writes a text after the used octets of the room, if it fits. Returns how many are then used.
+/// Writes a text after the used octets of the buffer, if it fits. Returns the new number used.
 fn append(room: &mut [u8], used: usize, text: &[u8]) -> Option<usize>
     ensures end { IfSome result (λ end. end ≡ used + length text.now) }
     ensures within { IfSome result (λ end. end ≤ length room.new) }
@@ -55,8 +55,8 @@ fn append(room: &mut [u8], used: usize, text: &[u8]) -> Option<usize>
     Some(end)
 }
 
-/// Lines of a show on their way into the caller's room. The line that was written last waits, and
-/// is copied there if it is wanted and fits.
+/// Copies the lines of a show to the caller's buffer. The last line stays in `line` until the next
+/// one begins; then it is copied if it is wanted and fits.
 #[derive(Drop)]
 struct Filling<'a> {
     room: &'a mut [u8],
@@ -69,7 +69,7 @@ struct Filling<'a> {
 }
 
 impl<'a> Filling<'a> {
-    /// Begins with nothing written, at the wanted line.
+    /// Returns a state in which nothing is written, and `from` is the first line that is wanted.
     fn new(room: &'a mut [u8], from: u32) -> Filling<'a>
         ensures room { result.room.now ≡ room.old }
         ensures same { result.room.ghost_name ≡ room.entry.ghost_name }
@@ -87,7 +87,7 @@ impl<'a> Filling<'a> {
         }
     }
 
-    /// Copies the line that waits into the room, if it is wanted and fits.
+    /// Copies `line` to the buffer, if it is wanted and fits.
     fn settle(&mut self)
         ensures moved { settled self.new ≡ view self.old }
         ensures rest { LeavesRest self.old self.new }
@@ -100,7 +100,7 @@ impl<'a> Filling<'a> {
             match append(self.room, used, self.line.as_slice()) {
                 Some(end) => {
                     self.used = end;
-                    // No show has enough lines for this to wrap.
+                    // No show has so many lines that this wraps.
                     self.next = self.next.wrapping_add(1);
                 }
                 None => self.is_full = true,
@@ -109,7 +109,7 @@ impl<'a> Filling<'a> {
         self.is_wanted = false;
     }
 
-    /// Takes all lines of a show.
+    /// Accepts all lines of a show.
     fn take(&mut self, agent: &Agent, show: Show)
         ensures lines { settled self.new
             ≡ come_all (length self.old.room.now) (view self.old) (lines_of show agent.now) }
@@ -145,9 +145,9 @@ impl LineSink for Filling<'_> {
     }
 }
 
-/// Writes lines of a show from one of them on, as many whole lines as fit.
-// Its stack frame exceeds a page. When it was inlined, LLVM moved a branch of the export before
-// the loop that probes the pages, and the loop overwrote the register that the branch needed.
+/// Writes lines of a show, beginning with line `from`: as many whole lines as fit.
+// Not inlined, since its stack frame exceeds a page. When it was, LLVM moved a branch of the caller
+// before the loop that probes the pages, and the loop overwrote a register of that branch.
 #[inline(never)]
 fn fill(agent: &Agent, show: Show, from: u32, room: &mut [u8]) -> LldpaLines
     ensures within { result.length ≤ length room.new }
@@ -167,7 +167,7 @@ fn fill(agent: &Agent, show: Show, from: u32, room: &mut [u8]) -> LldpaLines
     }
 }
 
-/// Writes lines of a show from one of them on: as many whole lines as fit into the caller's room.
+/// Writes lines of a show, beginning with line `from`: as many whole lines as fit in the buffer.
 #[unsafe(no_mangle)]
 pub extern "C" fn lldpa_show_lines(
     alloc: Global,

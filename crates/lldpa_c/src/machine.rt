@@ -1,4 +1,4 @@
-//! The transmit machine of one port.
+//! The transmit machine of one port, for C.
 ghost use Rattle.std.specs.Prelude.{◌≡◌, ◌≤◌, ◌↔◌, ℕ, [], ◌∷◌, Some, None, IsSome, IsTrue};
 ghost use Rattle.lldp_transmit.specs.declared.event.Cause.{Cause};
 ghost use Rattle.lldp_transmit.specs.declared.event.Mark.{Mark};
@@ -13,7 +13,7 @@ use lldp_transmit::{Cause, MOST_CREDIT, MOST_FAST, MOST_REINIT, Mark, Parts, Tra
 /// The greatest tx-interval, in seconds.
 const MOST_INTERVAL: u32 = 3600;
 
-/// Returns the cause of that number.
+/// Returns the cause with this number.
 fn cause_numbered(number: u32) -> Option<Cause>
     ensures { result ≡ cause_numbered number }
 {
@@ -41,7 +41,7 @@ pub(crate) fn mark_number(mark: Mark) -> u8
     }
 }
 
-/// Returns whether a machine can be opened with these.
+/// True if these settings are in their ranges.
 fn are_settings(credit_max: u32, fast_init: u32, reinit: u32, allowed: bool) -> bool
     ensures { IsTrue result ↔ AreSettings (settings credit_max fast_init reinit allowed) }
 {
@@ -50,7 +50,7 @@ fn are_settings(credit_max: u32, fast_init: u32, reinit: u32, allowed: bool) -> 
         && (1..=u32::from(MOST_REINIT)).contains(&reinit)
 }
 
-/// Makes a machine with full credit, on a port whose link is up and that is not active. If a number
+/// Makes a machine with full credit, for a port that is not active and has its link up. If a number
 /// is out of its range, the machine is unchanged.
 #[unsafe(no_mangle)]
 pub extern "C" fn lldpa_transmit_new(
@@ -75,7 +75,7 @@ pub extern "C" fn lldpa_transmit_new(
     OK
 }
 
-/// Takes one event, with the tx-interval in force after it, and writes which frame is sent. If a
+/// Applies one event, with the tx-interval in force after it, and writes which frame to send. If a
 /// number is out of its range, nothing changes.
 #[unsafe(no_mangle)]
 pub extern "C" fn lldpa_transmit_event(

@@ -1,11 +1,11 @@
-//! The ports that send, as C is passed them.
+//! The frames to send, in a form for C.
 ghost use Rattle.std.specs.Prelude.{◌≡◌, map};
 ghost use Rattle.lldpa_c.specs.Marks.{marks_told, numbered};
 
 use crate::machine::mark_number;
 use lldp_engine::Marks;
 
-/// A port that sends, and what.
+/// A port, and the number of the frame to send on it.
 #[repr(C)]
 #[derive(Clone, Copy)]
 pub struct LldpaMark {
@@ -13,7 +13,7 @@ pub struct LldpaMark {
     pub mark: u8,
 }
 
-/// The ports that send: the first `count` of the items, in ascending order.
+/// The frames to send: the first `count` items, by ascending port.
 #[repr(C)]
 #[derive(Clone, Copy)]
 pub struct LldpaMarks {
@@ -21,7 +21,7 @@ pub struct LldpaMarks {
     pub count: u8,
 }
 
-/// Writes for C which ports send.
+/// Writes the frames to send for C.
 pub(crate) fn tell(sent: &Marks, told: &mut LldpaMarks)
     ensures { marks_told told.new ≡ map numbered sent.now.items }
 {

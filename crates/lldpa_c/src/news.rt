@@ -1,4 +1,4 @@
-//! What a frame does.
+//! Finds out what a frame will do to an agent.
 ghost use Rattle.std.specs.Prelude.{◌≡◌, None, Some, IfNone, IfSome};
 ghost use Rattle.lldp_pdu.specs.declared.fault.PduFault.{PduFault as Fault};
 ghost use Rattle.lldp_pdu.specs.FaultNumber.{pdu_fault_number};
@@ -26,34 +26,34 @@ pub const NOT_LLDP: u32 = 1;
 /// The port does not receive, or its link is down.
 pub const DEAF: u32 = 2;
 
-/// The LLDPDU is not sound.
+/// The LLDPDU has a fault.
 pub const REFUSED: u32 = 3;
 
 /// A neighbor that was not held is stored.
 pub const NEW: u32 = 4;
 
-/// A neighbor that is held says something else.
+/// A neighbor that is held sent other octets than before.
 pub const CHANGED: u32 = 5;
 
-/// A neighbor that is held says the same again.
+/// A neighbor that is held sent the same octets as before.
 pub const SAME: u32 = 6;
 
 /// There is no room for a neighbor that is not held.
 pub const DROPPED: u32 = 7;
 
-/// A neighbor that was held leaves.
+/// A neighbor that is held leaves.
 pub const GONE: u32 = 8;
 
 /// A neighbor that is not held leaves.
 pub const UNKNOWN: u32 = 9;
 
-/// What a frame does.
+/// What a frame does, and to which neighbor.
 #[repr(C)]
 #[derive(Clone, Copy)]
 pub struct LldpaNews {
-    /// The body of the Chassis ID, its subtype first.
+    /// The range of the Chassis ID's body in the frame, its subtype first.
     pub chassis: LldpaPlace,
-    /// The body of the Port ID, its subtype first.
+    /// The range of the Port ID's body in the frame, its subtype first.
     pub port: LldpaPlace,
     pub what: u32,
     /// The number of the fault of the LLDPDU, or 0.
@@ -65,7 +65,7 @@ const NOWHERE: LldpaPlace = LldpaPlace {
     length: 0,
 };
 
-/// Returns news that name no neighbor.
+/// Returns news without a neighbor.
 fn unnamed(what: u32, fault: u32) -> LldpaNews
     ensures what { result.what ≡ what }
     ensures fault { result.fault ≡ fault }
@@ -79,7 +79,7 @@ fn unnamed(what: u32, fault: u32) -> LldpaNews
     }
 }
 
-/// Returns news of the neighbor of this name.
+/// Returns news about the neighbor with this MSAP identifier.
 fn named(what: u32, name: &Msap<'_>) -> LldpaNews
     ensures what { result.what ≡ what }
     ensures fault { result.fault ≡ 0 }
@@ -112,7 +112,7 @@ fn is_same(one: &Msap<'_>, other: &Msap<'_>) -> bool
     one.chassis == other.chassis && one.port == other.port
 }
 
-/// Returns the stored octets of the neighbor of this name, if it is held.
+/// Returns the stored octets of the neighbor with this MSAP identifier, if it is held.
 fn stored<'a>(table: &'a Table<Global>, name: &Msap<'_>) -> Option<&'a [u8]>
     ensures none { IfNone result (stored_of table.now.shown (msap_view name.now) ≡ None) }
     ensures some { IfSome result (λ octets. stored_of table.now.shown (msap_view name.now)
@@ -127,7 +127,7 @@ fn stored<'a>(table: &'a Table<Global>, name: &Msap<'_>) -> Option<&'a [u8]>
     None
 }
 
-/// Returns what an LLDPDU with a TTL above 0 does to a table.
+/// Returns what an LLDPDU with a TTL above 0 does to a table, as one of the numbers above.
 fn life_news(table: &Table<Global>, info: &Info<'_>) -> u32
     ensures news { result ≡ life_news table.now.shown info.now.octets
         (stored_of table.now.shown info.now.msap) }
@@ -141,7 +141,7 @@ fn life_news(table: &Table<Global>, info: &Info<'_>) -> u32
     }
 }
 
-/// Returns what an LLDPDU with a TTL of 0 does to a table.
+/// Returns what a shutdown LLDPDU does to a table, as one of the numbers above.
 fn leave_news(table: &Table<Global>, name: &Msap<'_>) -> u32
     ensures news { result ≡ leave_news (stored_of table.now.shown (msap_view name.now)) }
     ensures sound { IsSound table.now.shown }
@@ -152,7 +152,7 @@ fn leave_news(table: &Table<Global>, name: &Msap<'_>) -> u32
     }
 }
 
-/// Returns what an LLDPDU that is heard does to a table.
+/// Returns what an LLDPDU that a port receives does to its table.
 fn pdu_news(table: &Table<Global>, pdu: &[u8]) -> LldpaNews
     ensures what { result.what ≡ pdu_news table.now.shown pdu.now (fault_of pdu.now) }
     ensures refused { (fault : Fault) → fault_of pdu.now ≡ Some fault →
@@ -171,7 +171,7 @@ fn pdu_news(table: &Table<Global>, pdu: &[u8]) -> LldpaNews
     }
 }
 
-/// Returns what octets that a port receives do.
+/// Returns what these octets do if a port receives them.
 pub(crate) fn news_of(agent: &Agent, port: u8, octets: &[u8]) -> LldpaNews
     requires { IsPort agent.now port }
     ensures news { ReportsAt agent.now port octets.now result }

@@ -1,4 +1,4 @@
-//! Opening and closing an agent.
+//! Opens an agent.
 ghost use Rattle.std.specs.Prelude.{◌≡◌, ◌⊎◌, ◌<◌, ◌↔◌, IsTrue, true, false, length, map, min, take, Some, None, IfSome, IfNone, IfOk, IfErr};
 ghost use Rattle.std.specs.List.{All};
 ghost use Rattle.std.specs.Str.{IsUtf8};
@@ -16,7 +16,7 @@ use arrayvec::ArrayVec;
 use lldp_engine::{Agent, OpenFault, Options, Role};
 use std::alloc::Global;
 
-/// Returns the role of that number.
+/// Returns the role with this number.
 fn role_numbered(number: u32) -> Option<Role>
     ensures { result ≡ role_numbered number }
 {
@@ -28,7 +28,7 @@ fn role_numbered(number: u32) -> Option<Role>
     }
 }
 
-/// Returns the first 65 names, one more than an agent has ports, or None if one is not UTF-8.
+/// Returns the first 65 names, one more than an agent may have, or None if one is not UTF-8.
 fn names_of<'a>(ports: &'a [LldpaText<'a>]) -> Option<ArrayVec<&'a str, 65>>
     ensures names { IfSome result (λ names. map (λ name. name.now) names.items
         ≡ map (λ text. text.octets.now) (take (min (length ports.now) 65) ports.now)) }
@@ -46,7 +46,7 @@ fn names_of<'a>(ports: &'a [LldpaText<'a>]) -> Option<ArrayVec<&'a str, 65>>
     Some(names)
 }
 
-/// Returns whether the four numbers are in their ranges.
+/// True if the four numbers of the options are in their ranges.
 fn are_in_range(options: &LldpaOptions<'_>) -> bool
     ensures { IsTrue result ↔ InRange (asked options.now) }
 {
@@ -56,7 +56,7 @@ fn are_in_range(options: &LldpaOptions<'_>) -> bool
         && (1..=10).contains(&options.reinit)
 }
 
-/// Returns an agent of these options in a box, or the number of the fault.
+/// Opens an agent with these options in a box. Otherwise returns the number of the error.
 fn opened(alloc: Global, options: &LldpaOptions<'_>) -> Result<Box<Agent>, u8>
     ensures ok { IfOk result (λ agent. Opens options.now agent.value) }
     ensures range { ¬ (IsRead options.now) → IfErr result (λ number. number ≡ 100) }
@@ -103,7 +103,7 @@ fn opened(alloc: Global, options: &LldpaOptions<'_>) -> Result<Box<Agent>, u8>
     }
 }
 
-/// Opens an agent of these options behind a handle that is not open.
+/// Opens an agent with these options, unless the handle is open already.
 #[unsafe(no_mangle)]
 pub extern "C" fn lldpa_open(
     alloc: Global,

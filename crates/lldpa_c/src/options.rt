@@ -1,17 +1,16 @@
-//! What C opens an agent with.
+//! The options with which C opens an agent.
 
-/// A text: octets, not ended by a 0.
+/// A text that is not terminated by a 0.
 #[repr(C)]
 #[derive(Clone, Copy)]
 pub struct LldpaText<'a> {
     pub octets: &'a [u8],
 }
 
-/// What an agent is opened with.
 #[repr(C)]
 #[derive(Clone, Copy)]
 pub struct LldpaOptions<'a> {
-    /// How many octets the struct has. The front checks it.
+    /// The octets of the struct. The C front checks this field.
     pub size: usize,
     pub ports: &'a [LldpaText<'a>],
     pub hostname: LldpaText<'a>,

@@ -1,11 +1,11 @@
-//! Places in the caller's octets.
+//! Ranges of the caller's octets.
 
-/// Octets among those that the caller gave.
+/// A range of octets in a buffer of the caller.
 #[repr(C)]
 #[derive(Clone, Copy)]
 pub struct LldpaPlace {
-    /// How many octets precede them.
+    /// The offset of the first octet.
     pub start: usize,
-    /// How many octets there are.
+    /// The number of octets.
     pub length: usize,
 }

@@ -1,4 +1,4 @@
-//! What a port counted, and how an agent is configured.
+//! Writes the counters of a port and the settings of an agent.
 ghost use Rattle.std.specs.Prelude.{◌≡◌, Some, length, map, take, drop, replicate, slice_get};
 ghost use Rattle.std.specs.Option.{option_map};
 ghost use Rattle.lldpa_c.specs.Answer.{answer_of};
@@ -11,7 +11,7 @@ use crate::holder::LldpaAgent;
 use lldp_engine::{Agent, Counters, Status};
 use std::alloc::Global;
 
-/// What a port counted, each modulo 2^32.
+/// The counters of a port, each modulo 2^32.
 #[repr(C)]
 #[derive(Clone, Copy)]
 pub struct LldpaStatistics {
@@ -26,25 +26,25 @@ pub struct LldpaStatistics {
     pub drops: u32,
 }
 
-/// How an agent is configured.
+/// The current settings of an agent.
 #[repr(C)]
 #[derive(Clone, Copy)]
 pub struct LldpaConfiguration {
     pub interval: u32,
     pub hold: u32,
-    /// The time to live of an ordinary frame.
+    /// The time to live of an ordinary frame, in seconds.
     pub ttl: u32,
     pub reinit: u32,
     pub fast_init: u32,
     pub credit_max: u32,
-    /// The limit in force.
+    /// How many neighbors each port may hold.
     pub max_neighbors: u32,
     pub ports: u32,
-    /// The number of the status of each port.
+    /// The number of each port's status. 0 after the last port.
     pub status: [u8; 64],
 }
 
-/// Returns the counters for C.
+/// Returns the counters in the struct for C.
 fn statistics_of(counters: &Counters) -> LldpaStatistics
     ensures { result ≡ statistics_of counters.now }
 {
@@ -61,7 +61,7 @@ fn statistics_of(counters: &Counters) -> LldpaStatistics
     }
 }
 
-/// Tells what a port counted.
+/// Writes the counters of a port.
 #[unsafe(no_mangle)]
 pub extern "C" fn lldpa_statistics(
     alloc: Global,
@@ -99,7 +99,7 @@ fn status_number(status: Status) -> u8
     }
 }
 
-/// Returns the numbers of the statuses of the ports.
+/// Returns the number of each port's status, and 0 after the last port.
 fn statuses(agent: &Agent) -> [u8; 64]
     ensures status { take (length agent.now.ports) result
         ≡ map (λ p. status_number p.status) agent.now.ports }
@@ -113,7 +113,7 @@ fn statuses(agent: &Agent) -> [u8; 64]
     statuses
 }
 
-/// Returns the configuration for C.
+/// Returns the settings in the struct for C.
 fn configuration_of(agent: &Agent) -> LldpaConfiguration
     ensures { TellsConfiguration agent.now result }
 {
@@ -132,7 +132,7 @@ fn configuration_of(agent: &Agent) -> LldpaConfiguration
     }
 }
 
-/// Tells how an agent is configured.
+/// Writes the settings of an agent.
 #[unsafe(no_mangle)]
 pub extern "C" fn lldpa_configuration(
     alloc: Global,

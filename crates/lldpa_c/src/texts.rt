@@ -1,4 +1,4 @@
-//! The words of faults.
+//! The descriptions of error numbers.
 ghost use Rattle.std.specs.Prelude.{◌≡◌, ◌≤◌, Some, IfSome, length, take, drop};
 ghost use Rattle.std.specs.Option.{option_map};
 ghost use Rattle.lldpa_c.specs.Answer.{answer_of};
@@ -7,7 +7,7 @@ ghost use Rattle.lldpa_c.specs.Texts.{words_of, words_checks};
 use crate::answer::OUT_OF_RANGE;
 use crate::giving::give;
 
-/// Returns what a fault or a misuse is, by its number, in words.
+/// Returns the description of an error number.
 fn words_of(number: u32) -> Option<&'static [u8]>
     ensures words { option_map (λ words. words.now) result ≡ words_of number }
     ensures short { IfSome result (λ words. length words.now ≤ 65) }
@@ -48,7 +48,7 @@ fn words_of(number: u32) -> Option<&'static [u8]>
     }
 }
 
-/// Writes what a fault or a misuse is, by its number, in words.
+/// Writes the description of an error number.
 #[unsafe(no_mangle)]
 pub extern "C" fn lldpa_fault_text(fault: u32, room: &mut [u8], written: &mut usize) -> u8
     ensures words { result ≡ 0 → words_of fault ≡ Some (take written.new room.new) }

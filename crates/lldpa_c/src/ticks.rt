@@ -1,4 +1,4 @@
-//! Seconds that pass, one or several.
+//! Reports to an agent that seconds have passed.
 ghost use Rattle.std.specs.Prelude.{◌≡◌};
 ghost use Rattle.lldp_engine.specs.Event.{tick};
 ghost use Rattle.lldpa_c.specs.Agent.{Steps};
@@ -14,13 +14,13 @@ use std::alloc::Global;
 #[repr(C)]
 #[derive(Clone, Copy)]
 pub struct LldpaTicks {
-    /// How many were taken.
+    /// How many ticks were counted.
     pub taken: u32,
     /// How many neighbors aged out at the last of them.
     pub aged_out: u32,
 }
 
-/// Returns how many neighbors the ports hold together.
+/// Returns how many neighbors all ports hold together.
 fn count_neighbors(agent: &Agent) -> u32
     ensures { result ≡ neighbors_held agent.now }
 {
@@ -31,7 +31,7 @@ fn count_neighbors(agent: &Agent) -> u32
     count
 }
 
-/// Takes one tick. Returns which ports send, and how many neighbors aged out.
+/// Applies one tick. Returns the frames to send, and how many neighbors aged out.
 fn tick_once(agent: &mut Agent) -> (Marks, u32)
     ensures steps { Steps agent.old tick agent.new result.0.items }
     ensures aged_out { AgesOut agent.old agent.new result.1 }
@@ -42,7 +42,7 @@ fn tick_once(agent: &mut Agent) -> (Marks, u32)
     (sent, before - after)
 }
 
-/// Takes ticks, at most `count`, up to the first at which a port sends or a neighbor ages out.
+/// Applies at most `count` ticks, up to the first at which a port sends or a neighbor ages out.
 fn take_ticks(agent: &mut Agent, count: u32) -> (Marks, LldpaTicks)
     ensures { Takes count result.1.taken agent.old agent.new result.0.items result.1.aged_out }
 {
@@ -56,7 +56,7 @@ fn take_ticks(agent: &mut Agent, count: u32) -> (Marks, LldpaTicks)
     (sent, LldpaTicks { taken, aged_out })
 }
 
-/// Takes this many ticks, or fewer: it ends at the first at which a port sends or a neighbor ages
+/// Applies at most `count` ticks. Stops after the first at which a port sends or a neighbor ages
 /// out.
 #[unsafe(no_mangle)]
 pub extern "C" fn lldpa_ticks(

@@ -1,4 +1,4 @@
-//! What `show neighbors` writes of TLVs and texts.
+//! Writes TLVs and texts as `show neighbors` does.
 ghost use Rattle.std.specs.Prelude.{◌≡◌, ◌≤◌, ◌<◌, ◌*◌, [], Some, IsTrue, length, take, drop};
 ghost use Rattle.lldp_text.specs.Text.{escaped};
 ghost use Rattle.lldpa_c.specs.Answer.{answer_of};
@@ -11,10 +11,10 @@ use lldp_pdu::tlv_type::{CHASSIS_ID, ORGANIZATIONALLY_SPECIFIC, PORT_ID, TIME_TO
 use lldp_pdu::{Seen, Tlv};
 use lldp_text::{write_chassis, write_kept_tlv, write_port};
 
-/// The most octets of a TLV's body.
+/// The greatest length of a TLV's body, in octets.
 const MOST_BODY: usize = 511;
 
-/// Returns whether something is written of a TLV.
+/// True if `show neighbors` can write a TLV of this type with this body.
 fn may_write(kind: u32, body: &[u8]) -> bool
     ensures { result ≡ may_write kind body.now }
 {
@@ -30,7 +30,7 @@ fn may_write(kind: u32, body: &[u8]) -> bool
     none.keeps(&Tlv { kind, body })
 }
 
-/// Writes a TLV.
+/// Writes a TLV to a line.
 fn write_value(line: &mut Writer, tlv: Tlv<'_>)
     requires empty { line.old ≡ [] }
     requires may { IsTrue (may_write tlv.kind tlv.body.now) }
@@ -50,9 +50,9 @@ fn write_value(line: &mut Writer, tlv: Tlv<'_>)
     }
 }
 
-/// Writes a TLV into the caller's room.
-// Its stack frame exceeds a page. When it was inlined, LLVM moved a branch of the export before
-// the loop that probes the pages, and the loop overwrote the register that the branch needed.
+/// Writes a TLV as text into the caller's buffer.
+// Not inlined, since its stack frame exceeds a page. When it was, LLVM moved a branch of the caller
+// before the loop that probes the pages, and the loop overwrote a register of that branch.
 #[inline(never)]
 fn give_value(tlv: Tlv<'_>, room: &mut [u8], written: &mut usize) -> u8
     requires { IsTrue (may_write tlv.kind tlv.body.now) }
@@ -70,7 +70,7 @@ fn give_value(tlv: Tlv<'_>, room: &mut [u8], written: &mut usize) -> u8
     give(line.as_slice(), room, written)
 }
 
-/// Writes what `show neighbors` writes of a TLV.
+/// Writes a TLV as `show neighbors` does.
 #[unsafe(no_mangle)]
 pub extern "C" fn lldpa_tlv_text(kind: u32, body: &[u8], room: &mut [u8], written: &mut usize) -> u8
     ensures text { result ≡ 0 → tlv_value kind body.now ≡ Some (take written.new room.new) }
@@ -87,7 +87,7 @@ pub extern "C" fn lldpa_tlv_text(kind: u32, body: &[u8], room: &mut [u8], writte
     give_value(Tlv { kind, body }, room, written)
 }
 
-/// Writes escaped text into the caller's room.
+/// Writes the escaped text into the caller's buffer.
 #[inline(never)]
 fn give_escaped(text: &[u8], room: &mut [u8], written: &mut usize) -> u8
     requires { length text.now ≤ 511 }
@@ -104,7 +104,7 @@ fn give_escaped(text: &[u8], room: &mut [u8], written: &mut usize) -> u8
     give(line.as_slice(), room, written)
 }
 
-/// Writes a text as shows write it: escaped.
+/// Escapes a text as the show commands do.
 #[unsafe(no_mangle)]
 pub extern "C" fn lldpa_escape(text: &[u8], room: &mut [u8], written: &mut usize) -> u8
     ensures text { result ≡ 0 → take written.new room.new ≡ escaped text.now }

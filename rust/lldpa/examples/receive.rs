@@ -1,5 +1,5 @@
-//! Reads received frames from standard input, each as a line of hexadecimal digits, and prints every neighbor that
-//! comes, changes, leaves or ages out.
+//! Reads received frames from standard input, a line of hexadecimal digits for each, and prints
+//! every neighbor that appears, changes, leaves or ages out.
 
 use lldpa::{tlv_text, Agent, Msap, News, Options};
 use std::error::Error;
@@ -8,7 +8,7 @@ use std::sync::mpsc::{channel, Receiver, RecvTimeoutError};
 use std::thread;
 use std::time::{Duration, Instant};
 
-/// Returns the octets that digits spell, if they do.
+/// Returns the octets that hexadecimal digits stand for. None if they are not such digits.
 fn octets_of(digits: &str) -> Option<Vec<u8>> {
     (0..digits.len()).step_by(2).map(|at| u8::from_str_radix(digits.get(at..at + 2)?, 16).ok()).collect()
 }
@@ -19,7 +19,7 @@ fn print(what: &str, name: Msap<'_>) {
     println!("{what} {} {}", text(1, name.chassis), text(2, name.port));
 }
 
-/// Gives the agent the seconds that passed, and prints the neighbors that age out.
+/// Reports to the agent that seconds passed, and prints the neighbors that age out.
 fn pass(agent: &mut Agent, seconds: u32) -> Result<(), Box<dyn Error>> {
     for neighbor in agent.neighbors(0)?.filter(|neighbor| neighbor.left() <= seconds) {
         if let Some(info) = neighbor.info() {
@@ -45,7 +45,7 @@ fn hear(agent: &mut Agent, frame: &[u8]) -> Result<(), Box<dyn Error>> {
     Ok(())
 }
 
-/// Returns the lines of standard input as they come.
+/// Returns a channel that receives the lines of standard input.
 fn lines() -> Receiver<String> {
     let (sender, receiver) = channel();
     thread::spawn(move || {
@@ -60,7 +60,7 @@ fn main() -> Result<(), Box<dyn Error>> {
     let mut now = Instant::now();
     loop {
         let came = lines.recv_timeout(Duration::from_secs(agent.due().map_or(3600, u64::from)));
-        // First the seconds that passed, and then the frame.
+        // First report the seconds that passed, and then the frame.
         let passed = now.elapsed().as_secs();
         now += Duration::from_secs(passed);
         pass(&mut agent, passed as u32)?;

@@ -1,11 +1,11 @@
-//! Gives events to an agent, and writes what the program lldpa writes. The words and the lines of standard input are
-//! those of tools/library/c/transcript.c. At each show the structs of the agent are compared with its lines.
+//! Gives an agent events, and prints what the program lldpa prints. Arguments and input are those
+//! of tools/library/c/transcript.c. Each show is compared with the agent's structs.
 
 use lldpa::{Agent, CommandFault, Neighbor, News, Options, Role, Sent, Show, Statistics};
 use std::io::{stdin, BufRead};
 use std::str::from_utf8;
 
-/// Returns the octets that digits spell.
+/// Returns the octets that hexadecimal digits stand for.
 fn octets(digits: &str) -> Vec<u8> {
     (0..digits.len())
         .step_by(2)
@@ -17,7 +17,7 @@ fn number(word: &str) -> u8 {
     word.parse().expect("a number")
 }
 
-/// Opens the agent that the words describe.
+/// Opens an agent with the options in the arguments.
 fn open(words: &[&str]) -> Agent {
     let options = Options {
         ports: &words[9..],
@@ -34,7 +34,7 @@ fn open(words: &[&str]) -> Agent {
     Agent::open(&options).expect("an agent")
 }
 
-/// Writes the frames that were sent.
+/// Prints the frames to send.
 fn write(agent: &Agent, ports: &[&str], sent: &[Sent]) {
     for one in sent {
         let frame = agent.frame_of(one.port, one.mark).expect("a port that sends");
@@ -43,14 +43,14 @@ fn write(agent: &Agent, ports: &[&str], sent: &[Sent]) {
     }
 }
 
-/// Returns the lines that a port's counters have in `show statistics`. The `Debug` form has their names and numbers.
+/// Returns the lines of `show statistics` for a port, from the `Debug` text of its counters.
 fn counter_lines(port: &str, told: &Statistics) -> String {
     let text = format!("{told:?}").replace('_', "-").replace(": ", "=");
     let fields = text.trim_start_matches("Statistics { ").trim_end_matches(" }").split(", ");
     fields.map(|field| format!("lldp.{port}.{field}\n")).collect()
 }
 
-/// Checks that the structs of an agent say what its shows do.
+/// Checks that the agent's structs have the same values as its shows.
 fn see_structs(agent: &Agent, ports: &[&str]) {
     let mut counters = String::new();
     for (port, name) in ports.iter().enumerate() {
@@ -77,7 +77,7 @@ fn see_structs(agent: &Agent, ports: &[&str]) {
     assert!(agent.statistics(ports.len() as u8).is_err());
 }
 
-/// Runs a command. Each line of its show is also asked for by itself.
+/// Runs a command. If it is a show, also compares its lines with those that are read one by one.
 fn command(agent: &mut Agent, ports: &[&str], line: &[u8]) -> Result<(), CommandFault> {
     let done = agent.command(line)?;
     write(agent, ports, &done.sent);
@@ -90,7 +90,7 @@ fn command(agent: &mut Agent, ports: &[&str], line: &[u8]) -> Result<(), Command
     Ok(())
 }
 
-/// Gives the agent a frame. The neighbors of its port afterwards are those that its news say.
+/// Gives the agent a frame, and checks that its news agree with the port's neighbors.
 fn heard(agent: &mut Agent, port: u8, frame: &[u8]) -> Vec<Sent> {
     let before = agent.neighbors(port).expect("a port").len();
     let (sent, news) = agent.frame_news(port, frame).expect("a port");
@@ -104,7 +104,7 @@ fn heard(agent: &mut Agent, port: u8, frame: &[u8]) -> Vec<Sent> {
     sent
 }
 
-/// Gives the agent seconds, as many at once as it accepts.
+/// Reports to the agent that seconds passed, as many at once as it accepts.
 fn tick(agent: &mut Agent, ports: &[&str], mut left: u32) {
     while left > 0 {
         let due = agent.due();

@@ -1,4 +1,4 @@
-//! The agent.
+//! An LLDP agent on up to 64 ports.
 
 use crate::fault::{expect_ok, CommandFault, OpenFault, PortFault};
 use crate::machine::Mark;
@@ -12,11 +12,11 @@ use alloc::vec::Vec;
 use core::mem::size_of;
 use core::ptr;
 
-/// An open agent. [`Agent::open`] allocates all its memory, and dropping it frees it; it sends no shutdown frames. Lists
-/// and texts that a call returns are allocated by the call. A call that names a port fails if the agent has no such port.
+/// An open agent. [`Agent::open`] allocates all its memory, and dropping it frees it, but sends no
+/// shutdown frames. Calls also allocate what they return. A call fails if its port does not exist.
 ///
-/// It stays on the thread that opened it, and is neither `Send` nor `Sync`: its memory is behind a raw pointer, and no
-/// proof says that another thread may use it and free it.
+/// It stays on the thread that opened it, and is neither `Send` nor `Sync`: its memory is behind
+/// a raw pointer, and it is not proved that another thread may use it and free it.
 ///
 /// ```compile_fail,E0277
 /// fn crosses<T: Send>() {}
@@ -35,13 +35,13 @@ use core::ptr;
 /// ```
 #[derive(Debug)]
 pub struct Agent {
-    // It has memory of its own, since an open handle must not be copied.
+    // In a box, so that moving the `Agent` does not copy the open handle.
     pub(crate) handle: Box<sys::lldpa_agent>,
-    /// How many ports it has.
+    /// The number of ports.
     pub(crate) ports: u8,
 }
 
-/// Returns the marks that a call wrote.
+/// Returns the frames to send that a call wrote.
 fn sent(marks: &sys::lldpa_marks) -> Vec<Sent> {
     marks.items[..usize::from(marks.count)]
         .iter()
@@ -49,7 +49,7 @@ fn sent(marks: &sys::lldpa_marks) -> Vec<Sent> {
         .collect()
 }
 
-/// Returns a text that is lent for as long as the caller says.
+/// Returns a pointer to a text and its length. The text must outlive the result.
 fn text_of(text: &str) -> sys::lldpa_text {
     sys::lldpa_text { octets: text.as_ptr(), length: text.len() }
 }
@@ -59,7 +59,7 @@ impl Agent {
     ///
     /// # Errors
     ///
-    /// The first fault of the options; `Memory`; or `Version` if the archive is of another version.
+    /// The first fault of the options; `Memory`; or `Version` for an archive of another version.
     pub fn open(options: &Options<'_>) -> Result<Agent, OpenFault> {
         if !crate::is_of_this_version() {
             return Err(OpenFault::Version);
@@ -81,84 +81,84 @@ impl Agent {
             reinit: options.reinit.into(),
         };
         let mut handle = Box::<sys::lldpa_agent>::default();
-        // SAFETY: the names live until the call returns, which keeps none of them; the handle is closed.
+        // SAFETY: the names outlive the call, which keeps no pointer to them. The handle is closed.
         let answer = unsafe { sys::lldpa_open(&given, &mut *handle) };
         OpenFault::check(answer)?;
         let ports = options.ports.len() as u8;
         Ok(Agent { handle, ports })
     }
 
-    /// Tells the agent that one second has passed. Returns the frames to send, by ascending port: [`Agent::frame_of`]
-    /// writes each.
+    /// Tells the agent that one second has passed. Returns the frames to send, by ascending port.
+    /// [`Agent::frame_of`] writes each frame.
     #[must_use = "send the frames that it lists"]
     pub fn tick(&mut self) -> Vec<Sent> {
         self.ticks(1).sent
     }
 
-    /// Tells the agent that `count` seconds have passed. It stops early, after the first second at which a port sends or
-    /// a neighbor ages out: send the frames, and call it again for the remaining seconds.
+    /// Tells the agent that `count` seconds passed. It stops after the first at which a port sends
+    /// or a neighbor ages out: send the frames, and call it again for the other seconds.
     #[must_use = "send the frames that it lists"]
     pub fn ticks(&mut self, count: u32) -> Ticks {
         let (mut marks, mut told) = (sys::lldpa_marks::default(), sys::lldpa_ticks_taken::default());
-        // SAFETY: the handle is open, and the others are values of their own.
+        // SAFETY: the handle is open, and the other pointers are to local values.
         expect_ok(unsafe { sys::lldpa_ticks(&mut *self.handle, count, &mut marks, &mut told) });
         Ticks { taken: told.taken, aged_out: told.aged_out, sent: sent(&marks) }
     }
 
-    /// Returns the number of seconds until a port sends or a neighbor ages out, if you make no other call first; None if
-    /// nothing is due. You may sleep that long, and then give all these seconds to [`Agent::ticks`]. If you wake for a
-    /// frame, first give the seconds that passed, and then the frame.
+    /// Returns the seconds until a port sends or a neighbor ages out if no other call is made, or
+    /// None. You may sleep that long, and then pass these seconds to [`Agent::ticks`]. If a frame
+    /// wakes you, first report the seconds that passed, and then the frame.
     #[must_use]
     pub fn due(&self) -> Option<u32> {
         let mut seconds = sys::LLDPA_NEVER;
-        // SAFETY: the handle is open, and the seconds are a value of their own.
+        // SAFETY: the handle is open, and the other pointer is to a local value.
         expect_ok(unsafe { sys::lldpa_due(&*self.handle, &mut seconds) });
         (seconds != sys::LLDPA_NEVER).then_some(seconds)
     }
 
-    /// Returns what a port counted.
+    /// Returns the counters of a port.
     pub fn statistics(&self, port: u8) -> Result<Statistics, PortFault> {
         let mut told = Statistics::default();
-        // SAFETY: the handle is open, and what is told is a value of its own.
+        // SAFETY: the handle is open, and the other pointer is to a local value.
         PortFault::check(unsafe { sys::lldpa_statistics(&*self.handle, port.into(), &mut told) })?;
         Ok(told)
     }
 
-    /// Returns how the agent is configured.
+    /// Returns the current settings of the agent.
     #[must_use]
     pub fn configuration(&self) -> Configuration {
         let mut told = sys::lldpa_configuration_told::default();
-        // SAFETY: the handle is open, and what is told is a value of its own.
+        // SAFETY: the handle is open, and the other pointer is to a local value.
         expect_ok(unsafe { sys::lldpa_configuration(&*self.handle, &mut told) });
         Configuration::of(&told)
     }
 
-    /// Gives the agent a frame that a port received: any octets; if they are not an LLDP frame, nothing changes. First
-    /// give the seconds that passed before it came. Returns the frames to send.
+    /// Gives the agent a frame that a port received; octets that are not an LLDP frame change
+    /// nothing. First report the seconds that passed before it arrived. Returns the frames to send.
     pub fn frame(&mut self, port: u8, octets: &[u8]) -> Result<Vec<Sent>, PortFault> {
         self.hear(port, octets, ptr::null_mut())
     }
 
-    /// Gives the agent a frame as [`Agent::frame`] does, and also returns what it did.
+    /// Does the same as [`Agent::frame`], and also returns what the frame did.
     pub fn frame_news<'f>(&mut self, port: u8, octets: &'f [u8]) -> Result<(Vec<Sent>, News<'f>), PortFault> {
         let mut news = sys::lldpa_news::default();
         let sent = self.hear(port, octets, &mut news)?;
         Ok((sent, News::of(&news, octets)))
     }
 
-    /// Gives the agent a frame. What it did is written to the news, if they are not null.
+    /// Gives the agent a frame. Writes what it did to `news`, unless that is null.
     fn hear(&mut self, port: u8, octets: &[u8], news: *mut sys::lldpa_news) -> Result<Vec<Sent>, PortFault> {
         let mut marks = sys::lldpa_marks::default();
         let (agent, at, length) = (&mut *self.handle, octets.as_ptr(), octets.len());
-        // SAFETY: the handle is open, the octets are as many as their length, and the others are values of their own.
+        // SAFETY: the handle is open, `length` is the octets', `news` is null or valid.
         PortFault::check(unsafe { sys::lldpa_frame(agent, port.into(), at, length, &mut marks, news) })?;
         Ok(sent(&marks))
     }
 
-    /// Returns the neighbors of a port, in the order in which they were last [`News::New`].
+    /// Returns the neighbors of a port, in the order in which they were stored ([`News::New`]).
     pub fn neighbors(&self, port: u8) -> Result<Neighbors<'_>, PortFault> {
         let mut count = 0;
-        // SAFETY: the handle is open, and the count is a value of its own.
+        // SAFETY: the handle is open, and the other pointer is to a local value.
         PortFault::check(unsafe { sys::lldpa_neighbor_count(&*self.handle, port.into(), &mut count) })?;
         Ok(Neighbors::new(self, port, count))
     }
@@ -166,17 +166,17 @@ impl Agent {
     /// Tells the agent that the link of a port came up or went down. Returns the frames to send.
     pub fn link(&mut self, port: u8, up: bool) -> Result<Vec<Sent>, PortFault> {
         let mut marks = sys::lldpa_marks::default();
-        // SAFETY: the handle is open, and the marks are a value of their own.
+        // SAFETY: the handle is open, and the other pointer is to a local value.
         PortFault::check(unsafe { sys::lldpa_link(&mut *self.handle, port.into(), up, &mut marks) })?;
         Ok(sent(&marks))
     }
 
-    /// Runs a command, `configure ..`, `update` or `show ..`, without its line feed. A show command changes nothing:
-    /// [`Agent::show`] writes its lines. Fails with the first fault of the command, and then changes nothing.
+    /// Runs a command, `configure ..`, `update` or `show ..`, without a line feed. [`Agent::show`]
+    /// writes the lines of a show command. A command with a fault, or for a show, changes nothing.
     pub fn command(&mut self, line: impl AsRef<[u8]>) -> Result<Commanded, CommandFault> {
         let line = line.as_ref();
         let (mut marks, mut show) = (sys::lldpa_marks::default(), 0);
-        // SAFETY: the handle is open, the line has as many octets as are told, and the others are values of their own.
+        // SAFETY: the handle is open, the length is the line's, and the others point to locals.
         let answer = unsafe {
             sys::lldpa_command(&mut *self.handle, line.as_ptr(), line.len(), &mut show, &mut marks)
         };
@@ -188,16 +188,16 @@ impl Agent {
     #[must_use = "send the frames that it lists"]
     pub fn leave(&mut self) -> Vec<Sent> {
         let mut marks = sys::lldpa_marks::default();
-        // SAFETY: the handle is open, and the marks are a value of their own.
+        // SAFETY: the handle is open, and the other pointer is to a local value.
         expect_ok(unsafe { sys::lldpa_leave(&mut *self.handle, &mut marks) });
         sent(&marks)
     }
 
-    /// Returns a frame to send, with the present configuration: at most 1514 octets.
+    /// Returns the frame of a mark on a port, with the current settings: at most 1514 octets.
     pub fn frame_of(&self, port: u8, mark: Mark) -> Result<Vec<u8>, PortFault> {
         let mut frame = vec![0u8; sys::LLDPA_FRAME_ROOM as usize];
         let (at, room, mut length) = (frame.as_mut_ptr(), frame.len(), 0);
-        // SAFETY: the handle is open, the room has as many octets as its length, and the length is a value of its own.
+        // SAFETY: the handle is open, and `room` is the length of the local buffer.
         PortFault::check(unsafe {
             sys::lldpa_frame_of(&*self.handle, port.into(), mark as u32, at, room, &mut length)
         })?;
@@ -208,7 +208,7 @@ impl Agent {
 
 impl Drop for Agent {
     fn drop(&mut self) {
-        // SAFETY: the handle is open, and nobody uses it any more.
+        // SAFETY: the handle is open, and it is not used after this.
         unsafe { sys::lldpa_close(&mut *self.handle) };
     }
 }

@@ -1,4 +1,4 @@
-//! LLDPDUs that are built.
+//! Builds LLDPDUs.
 
 use crate::fault::{BuildFault, RangeFault};
 use crate::reading::Tlv;
@@ -26,13 +26,13 @@ pub struct Builder<'a> {
 }
 
 impl<'a> Builder<'a> {
-    /// Begins with the bodies of the Chassis ID and the Port ID, their subtypes first, 2 to 256 octets each, and the time
-    /// to live in seconds. One of 0 makes a shutdown LLDPDU, which has no other TLVs.
+    /// Begins an LLDPDU with the bodies of its identifiers, 2 to 256 octets each, their subtypes
+    /// first, and its time to live in seconds. With 0 it is a shutdown LLDPDU without other TLVs.
     pub fn new(chassis: &'a [u8], port: &'a [u8], ttl: u16) -> Builder<'a> {
         Builder { chassis, port, ttl, tlvs: Vec::new() }
     }
 
-    /// Puts a TLV after the others. [`Built::faults`] says what is wrong with it.
+    /// Adds a TLV. [`Built::faults`] says if it was left out, and why.
     pub fn put(mut self, kind: u8, body: &'a [u8]) -> Builder<'a> {
         self.tlvs.push(Tlv { kind, body });
         self
@@ -46,7 +46,7 @@ impl<'a> Builder<'a> {
         let mut faults = vec![0u8; tlvs.len()];
         let mut octets = vec![0u8; sys::LLDPA_PDU_ROOM as usize];
         let mut length = 0;
-        // SAFETY: each pointer is that of a slice whose length stands behind it; the bodies live as long as the builder.
+        // SAFETY: each length is that of the slice before it, and the bodies outlive the builder.
         let answer = unsafe {
             sys::lldpa_build(
                 self.chassis.as_ptr(),
@@ -80,12 +80,12 @@ pub struct Built {
 }
 
 impl Built {
-    /// Returns its octets, at most 1500, the End Of LLDPDU included.
+    /// Returns its octets, at most 1500, including the End Of LLDPDU.
     pub fn octets(&self) -> &[u8] {
         &self.octets
     }
 
-    /// Returns for each TLV that was put, in their order, why it was left out, or None.
+    /// Returns for each TLV, in order, why it was left out, or None if it was put.
     pub fn faults(&self) -> &[Option<BuildFault>] {
         &self.faults
     }

@@ -1,4 +1,4 @@
-//! Why a call gives nothing.
+//! The faults of calls.
 
 use crate::sys;
 use alloc::format;
@@ -17,7 +17,7 @@ macro_rules! faults {
         }
 
         impl $name {
-            /// Returns the fault that an answer means, if it is not 0.
+            /// Returns the fault with this number as an error, or Ok if the number is 0.
             pub(crate) fn check(answer: u8) -> Result<(), $name> {
                 match answer {
                     sys::LLDPA_OK => Ok(()),
@@ -47,7 +47,7 @@ macro_rules! faults {
 }
 
 faults! {
-    /// What is wrong with an LLDPDU, in the order of the checks.
+    /// The faults of an LLDPDU, in the order of the checks.
     PduFault {
         Truncated = 1, "no complete TLV where a mandatory one belongs";
         NoChassis = 2, "the first TLV is not a Chassis ID";
@@ -63,9 +63,9 @@ faults! {
 faults! {
     /// Why a TLV is left out of an LLDPDU that is built.
     BuildFault {
-        /// It and the End Of LLDPDU do not fit in 1500 octets.
+        /// The TLV and the End Of LLDPDU do not fit in 1500 octets.
         Full = 11, "it does not fit in 1500 octets";
-        /// Its type is not 4 to 127, or one of 4 to 7 that was put before, or the TTL is 0.
+        /// Its type is not 4 to 127, or is 4 to 7 and was put before; or the TTL is 0.
         Kind = 12, "a TLV of its type may not be put";
         /// Its body is over 511 octets, or not well formed for its type.
         Body = 13, "its body is not well formed for its type";
@@ -81,14 +81,14 @@ faults! {
         PortName = 24, "the name of a port is not valid";
         SamePort = 25, "two ports have the same name";
         Text = 26, "the hostname is over 255 octets, or has one that is not printable";
-        /// `max_neighbors`, `credit_max`, `fast_init` or `reinit` is not in its range.
+        /// `max_neighbors`, `credit_max`, `fast_init` or `reinit` is out of its range.
         OutOfRange = 100, "a number of the options is not in its range";
         Version = 254, "the archive is of another version than this crate";
     }
 }
 
 faults! {
-    /// Why a command is refused: the leftmost error.
+    /// Why a command is refused. The leftmost error in the line counts.
     CommandFault {
         /// A word is missing, or is not known at its position.
         Unknown = 31, "unknown command";
@@ -96,12 +96,12 @@ faults! {
         /// A word is not one or more decimal digits.
         Number = 33, "not a number";
         Range = 34, "out of range";
-        /// A text is over 255 octets, or has one that is not printable ASCII.
+        /// A text is over 255 octets, or has an octet that is not printable ASCII.
         Text = 35, "bad text";
         /// A word follows a complete command.
         Extra = 36, "extra word";
         Quote = 37, "bad quote";
-        /// Some port holds more neighbors than the limit.
+        /// A port holds more neighbors than the new limit.
         InUse = 38, "too many held";
     }
 }
@@ -113,7 +113,7 @@ impl CommandFault {
     }
 }
 
-/// Returns the text that a call writes to a room, with its length; None if it answers that something is out of range.
+/// Returns the text that a call writes to a buffer. None if the call returns OUT_OF_RANGE.
 pub(crate) fn text_written(
     room: &mut [u8],
     call: impl FnOnce(&mut [u8], &mut usize) -> u8,
@@ -129,14 +129,14 @@ pub(crate) fn text_written(
 /// Returns the description of an error number of `lldpa.h`, or None if there is no such number.
 #[must_use]
 pub fn fault_text(number: u32) -> Option<String> {
-    // SAFETY: the room has as many octets as its length says, and the length is a value of its own.
+    // SAFETY: the length is the buffer's, and the other pointer is to a local value.
     text_written(&mut [0; sys::LLDPA_FAULT_ROOM as usize], |room, length| unsafe {
         sys::lldpa_fault_text(number, room.as_mut_ptr(), room.len(), length)
     })
 }
 
 faults! {
-    /// Why an LLDPDU is not built, or a machine refuses its settings or an event.
+    /// Why an LLDPDU is not built, or why a machine refuses its settings or an event.
     RangeFault {
         OutOfRange = 100, "a number or a length is not in its range";
         Version = 254, "the archive is of another version than this crate";
@@ -150,7 +150,7 @@ faults! {
     }
 }
 
-/// Ends a call without an error result, if the archive returns a number that this crate does not know.
+/// Panics, since a call without an error result got a number that this crate does not know.
 ///
 /// # Panics
 ///
@@ -160,7 +160,7 @@ pub(crate) fn unexpected(answer: impl fmt::Display) -> ! {
     panic!("liblldpa answered {answer}, which this crate does not know")
 }
 
-/// Checks that the answer of a call that has no fault is 0.
+/// Panics if a call that cannot fail returns another number than 0.
 pub(crate) fn expect_ok(answer: u8) {
     if answer != sys::LLDPA_OK {
         unexpected(answer);
@@ -176,7 +176,7 @@ mod tests {
         fault_text(number).expect("a fault")
     }
 
-    /// Checks that the texts of faults are the words of the archive.
+    /// Checks that the texts of these faults are those in the archive.
     fn same<F: ToString>(check: fn(u8) -> Result<(), F>, numbers: core::ops::RangeInclusive<u8>) {
         for number in numbers {
             let fault = check(number).expect_err("a fault");

@@ -1,4 +1,4 @@
-//! The greatest agent there can be, full.
+//! Tests the largest possible agent with full tables.
 
 use crate::{Agent, News, Options, Show};
 use alloc::format;
@@ -8,7 +8,7 @@ use alloc::vec::Vec;
 const PORTS: u8 = 64;
 const NEIGHBORS: u8 = 128;
 
-/// A frame of a neighbor of that number.
+/// Returns a frame of the neighbor with this number.
 fn frame_of(number: u8) -> Vec<u8> {
     let header = b"\x01\x80\xc2\0\0\x0e\0\x11\x22\x33\x44\x55\x88\xcc";
     let pdu = [

@@ -1,17 +1,17 @@
-//! The proved LLDP reader, transmit machine and agent of lldpa (IEEE 802.1AB-2009), as safe types over `liblldpa.a`.
+//! Safe types over `liblldpa.a`, a formally verified LLDP agent and its parts (IEEE 802.1AB-2009).
 //!
-//! - Reading: [`frame_pdu`], [`examine`], [`Info::kept`], [`caps`], [`mgmt`]. Nothing is copied and no memory is taken.
+//! - Reading: [`frame_pdu`], [`examine`], [`Info::kept`], [`caps`], [`mgmt`]. Nothing is copied.
 //! - Building: [`Builder`].
 //! - The transmit machine of one port: [`Machine`].
 //! - A whole agent on up to 64 ports: [`Agent`].
 //!
-//! `docs/LIBRARY.md` of lldpa's repository says what is proved of the library. This crate over it is only tested.
-//! `build.rs` takes the archive from the folder that `LLDPA_LIB_DIR` names or, if that is not set, from where
-//! `tools/library/library.sh` writes it, or else from where pkg-config finds it.
+//! `docs/LIBRARY.md` in lldpa's repository says what is proved. This crate itself is only tested.
+//! `build.rs` searches for the archive in the folder `LLDPA_LIB_DIR`; if that is not set, in the
+//! output folder of `tools/library/library.sh`, and then with pkg-config.
 //!
 //! Without the feature `std` the crate needs only `alloc`.
 //!
-//! All but an [`Agent`] and its [`Neighbors`] is `Send` and `Sync`:
+//! All types except [`Agent`] and its [`Neighbors`] are `Send` and `Sync`:
 //!
 //! ```
 //! fn crosses<T: Send + Sync>() {}
@@ -53,15 +53,15 @@ pub use reading::{
 pub use sys::Statistics;
 pub use told::{Commanded, Configuration, Sent, Show, Status, Ticks};
 
-/// Returns the version of the archive, major * 10000 + minor * 100 + patch. The build, [`Agent::open`] and
-/// [`Machine::new`] accept only an archive of the major and minor version of this crate.
+/// Returns the version of the archive, major * 10000 + minor * 100 + patch. The build,
+/// [`Agent::open`] and [`Machine::new`] accept only this crate's major and minor version.
 #[must_use]
 pub fn version() -> u32 {
-    // SAFETY: nothing is lent.
+    // SAFETY: the call has no arguments.
     unsafe { sys::lldpa_version() }
 }
 
-/// Whether the archive is of a version that fits this crate.
+/// True if the archive's major and minor version are those of this crate.
 fn is_of_this_version() -> bool {
     version() / 100 == u32::from(sys::LLDPA_VERSION) / 100
 }

@@ -13,9 +13,9 @@ pub enum Cause {
     Change = 1,
     /// A new neighbor was stored.
     Neighbor = 2,
-    /// The right to transmit was taken away.
+    /// From now on the port may not transmit.
     Stop = 3,
-    /// The right to transmit was given.
+    /// From now on the port may transmit.
     Allow = 4,
     /// The link went down.
     Down = 5,
@@ -28,9 +28,9 @@ pub enum Cause {
 numbered! {
     /// Which frame to send.
     Mark {
-        /// One with the whole configuration.
+        /// A frame with the whole configuration.
         Ordinary = 1,
-        /// One with a time to live of 0.
+        /// A frame with a time to live of 0.
         Shutdown = 2,
     }
 }
@@ -50,15 +50,15 @@ pub struct Machine {
 }
 
 impl Machine {
-    /// Returns a machine with full credit, on a port whose link is up and that is not active: txCreditMax, 1 to 10;
-    /// txFastInit, 1 to 8; reinitDelay in seconds, 1 to 10; and whether the port may transmit from the start. Fails if a
-    /// number is not in its range, or the archive is of another version.
+    /// Returns a machine with full credit, for an inactive port with its link up. `credit_max` is 1
+    /// to 10, `fast_init` 1 to 8, `reinit` 1 to 10 seconds. `allowed` says whether the port may
+    /// transmit. Fails for other numbers, and with an archive of another version.
     pub fn new(credit_max: u8, fast_init: u8, reinit: u8, allowed: bool) -> Result<Machine, RangeFault> {
         let mut held = sys::lldpa_machine::default();
         if !crate::is_of_this_version() {
             return Err(RangeFault::Version);
         }
-        // SAFETY: the struct is a value of its own.
+        // SAFETY: the pointer is to a local value.
         let answer = unsafe {
             sys::lldpa_transmit_new(&mut held, credit_max.into(), fast_init.into(), reinit.into(), allowed)
         };
@@ -66,11 +66,11 @@ impl Machine {
         Ok(Machine { held })
     }
 
-    /// Applies one event, with the tx-interval in force after it, 1 to 3600 seconds, and returns which frame to send. If the
-    /// interval is not in its range, the machine stays as it was.
+    /// Applies an event, and returns which frame to send. `interval` is the tx-interval in force
+    /// after it, 1 to 3600 seconds. If it is out of its range, the machine is unchanged.
     pub fn event(&mut self, cause: Cause, interval: u16) -> Result<Option<Mark>, RangeFault> {
         let mut mark = 0;
-        // SAFETY: both are values of their own.
+        // SAFETY: the pointers are to the machine's own struct and to a local value.
         let answer =
             unsafe { sys::lldpa_transmit_event(&mut self.held, cause as u32, interval.into(), &mut mark) };
         RangeFault::check(answer)?;

@@ -1,4 +1,4 @@
-//! The neighbors of a port, and what a frame does to them.
+//! The neighbors of a port, and the news of a frame.
 
 use crate::agent::Agent;
 use crate::fault::{unexpected, PduFault};
@@ -12,15 +12,15 @@ use alloc::vec::Vec;
 pub enum News<'f> {
     /// It is not an LLDP frame.
     NotLldp,
-    /// The port does not receive, or its link is down: nobody looked at the frame.
+    /// The port does not receive, or its link is down: the frame is ignored.
     Deaf,
     /// Its LLDPDU has a fault.
     Refused(PduFault),
     /// A neighbor that was not held is stored.
     New(Msap<'f>),
-    /// A neighbor that is held says something else, which is stored.
+    /// A neighbor that is held sent different octets, which are stored.
     Changed(Msap<'f>),
-    /// A neighbor that is held says the same again; its time to live starts again.
+    /// A neighbor that is held sent the same octets; its time to live starts again.
     Same(Msap<'f>),
     /// There is no room for a neighbor that is not held.
     Dropped(Msap<'f>),
@@ -28,12 +28,12 @@ pub enum News<'f> {
     Gone(Msap<'f>),
     /// A neighbor that is not held leaves.
     Unknown(Msap<'f>),
-    /// Something that this crate does not know. An archive that fits never returns it.
+    /// A number that this crate does not know. An archive that fits never returns it.
     Unexpected,
 }
 
 impl<'f> News<'f> {
-    /// Returns the news of a frame.
+    /// Returns the news that a call wrote about this frame.
     pub(crate) fn of(told: &sys::lldpa_news, frame: &'f [u8]) -> News<'f> {
         let at = |place: sys::lldpa_place| &frame[place.start..][..place.length];
         let msap = Msap { chassis: at(told.chassis), port: at(told.port) };
@@ -63,17 +63,17 @@ pub struct Neighbor {
 }
 
 impl Neighbor {
-    /// Its LLDPDU without the End Of LLDPDU, at most 1500 octets.
+    /// Returns its LLDPDU without the End Of LLDPDU, at most 1500 octets.
     pub fn octets(&self) -> &[u8] {
         &self.octets
     }
 
-    /// The seconds until it ages out, at least 1.
+    /// Returns the seconds until it ages out, at least 1.
     pub fn left(&self) -> u32 {
         self.left
     }
 
-    /// Returns what its LLDPDU says. None only if the archive does not fit the crate.
+    /// Returns the fields of its LLDPDU. None only if the archive does not fit the crate.
     pub fn info(&self) -> Option<Info<'_>> {
         match examine(&self.octets) {
             Ok(Examined::Info(info)) => Some(info),
@@ -82,7 +82,7 @@ impl Neighbor {
     }
 }
 
-/// The neighbors of a port.
+/// An iterator over the neighbors of a port.
 #[derive(Debug)]
 #[must_use]
 pub struct Neighbors<'a> {
@@ -104,7 +104,7 @@ impl Iterator for Neighbors<'_> {
     fn next(&mut self) -> Option<Neighbor> {
         let mut octets = vec![0u8; sys::LLDPA_NEIGHBOR_ROOM as usize];
         let mut told = sys::lldpa_held::default();
-        // SAFETY: the handle is open, the room has as many octets as are told, and what is told is a value of its own.
+        // SAFETY: the handle is open, the length is the buffer's, and `told` is local.
         let answer = unsafe {
             sys::lldpa_neighbor(
                 &*self.agent.handle,

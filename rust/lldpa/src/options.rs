@@ -1,6 +1,6 @@
-//! What an agent is opened with.
+//! The options of an agent.
 
-/// What the agent says it is, in its System Capabilities.
+/// The role that the agent announces in its System Capabilities.
 #[derive(Clone, Copy, Debug, PartialEq, Eq, Hash)]
 pub enum Role {
     /// An end station.
@@ -11,7 +11,7 @@ pub enum Role {
     Router = 2,
 }
 
-/// What an agent is opened with.
+/// The options of [`crate::Agent::open`].
 #[derive(Clone, Copy, Debug)]
 pub struct Options<'a> {
     /// The names of the ports in order, 1 to 64: each 1 to 15 letters, digits, `-`, `_`, `/` and `:`.
@@ -20,11 +20,11 @@ pub struct Options<'a> {
     pub hostname: &'a str,
     /// The source address and the chassis ID of every frame.
     pub mac: [u8; 6],
-    /// The IPv4 address under which the agent can be managed.
+    /// The IPv4 management address that the agent announces.
     pub management: Option<[u8; 4]>,
     /// Whether each port begins with the status rx-only.
     pub receive_only: bool,
-    /// What the agent says it is.
+    /// The role that the agent announces.
     pub role: Role,
     /// How many neighbors each port may hold, 1 to 128.
     pub max_neighbors: u8,

@@ -1,4 +1,4 @@
-//! Frames, LLDPDUs and TLVs that are read. Nothing is copied: all that is told is part of what was given.
+//! Reads frames, LLDPDUs and TLVs. Results are parts of the given octets: nothing is copied.
 
 use crate::fault::{text_written, PduFault};
 use crate::sys;
@@ -10,17 +10,17 @@ fn at(octets: &[u8], place: sys::lldpa_place) -> &[u8] {
     &octets[place.start..][..place.length]
 }
 
-/// Returns the LLDPDU of an Ethernet frame, which begins with its destination address and has no VLAN tag and no check
-/// sequence. None if it is not an LLDP frame: 14 to 1514 octets, to 01-80-C2-00-00-0E, of EtherType 88-CC.
+/// Returns the LLDPDU in an Ethernet frame without VLAN tag and check sequence. None unless it has
+/// 14 to 1514 octets, is sent to 01-80-C2-00-00-0E, and has the EtherType 88-CC.
 #[must_use]
 pub fn frame_pdu(frame: &[u8]) -> Option<&[u8]> {
     let mut place = sys::lldpa_place::default();
-    // SAFETY: the frame has as many octets as are told; the place is a value of its own.
+    // SAFETY: the length is that of the frame, and the other pointer is to a local value.
     let is_one = unsafe { sys::lldpa_frame_pdu(frame.as_ptr(), frame.len(), &mut place) };
     is_one.then(|| at(frame, place))
 }
 
-/// Who sent an LLDPDU: the bodies of its Chassis ID and its Port ID, each 2 to 256 octets, the subtype first.
+/// The sender of an LLDPDU, as the bodies of two TLVs: 2 to 256 octets each, the subtype first.
 #[derive(Clone, Copy, Debug, PartialEq, Eq, Hash)]
 pub struct Msap<'a> {
     /// The body of the Chassis ID.
@@ -29,17 +29,17 @@ pub struct Msap<'a> {
     pub port: &'a [u8],
 }
 
-/// What a sound LLDPDU says.
+/// The content of an LLDPDU without a fault.
 #[derive(Clone, Copy, Debug, PartialEq, Eq)]
 pub enum Examined<'a> {
-    /// The neighbor is gone: the time to live is 0.
+    /// The time to live is 0: the neighbor leaves.
     Shutdown(Msap<'a>),
-    /// The neighbor lives.
+    /// The time to live is above 0.
     Info(Info<'a>),
 }
 
 impl<'a> Examined<'a> {
-    /// Who sent it.
+    /// Returns who sent it.
     pub fn msap(&self) -> Msap<'a> {
         match self {
             Examined::Shutdown(msap) => *msap,
@@ -48,7 +48,7 @@ impl<'a> Examined<'a> {
     }
 }
 
-/// What an LLDPDU says of a neighbor that lives.
+/// The fields of an LLDPDU with a time to live above 0.
 #[derive(Clone, Copy, Debug, PartialEq, Eq)]
 pub struct Info<'a> {
     msap: Msap<'a>,
@@ -59,17 +59,17 @@ pub struct Info<'a> {
 }
 
 impl<'a> Info<'a> {
-    /// Who sent it.
+    /// Returns who sent it.
     pub fn msap(&self) -> Msap<'a> {
         self.msap
     }
 
-    /// Returns the octets up to the End Of LLDPDU, or up to a TLV that is not complete.
+    /// Returns the octets before the End Of LLDPDU, or before an incomplete TLV.
     pub fn octets(&self) -> &'a [u8] {
         self.octets
     }
 
-    /// The time to live in seconds, 1 to 65535.
+    /// Returns the time to live in seconds, 1 to 65535.
     pub fn ttl(&self) -> u16 {
         self.ttl
     }
@@ -79,18 +79,18 @@ impl<'a> Info<'a> {
         self.discarded
     }
 
-    /// Returns how many kept TLVs are of the types 9 to 127.
+    /// Returns how many kept TLVs have a type of 9 to 127.
     pub fn unrecognized(&self) -> usize {
         self.unrecognized
     }
 
-    /// Returns the kept TLVs in their order: those that are well formed and, for types 4 to 7, the first of their type.
+    /// Returns the kept TLVs: those well formed and, for types 4 to 7, the first of the type.
     pub fn kept(&self) -> Kept<'a> {
         Kept { extent: self.octets, walk: sys::lldpa_kept::default() }
     }
 }
 
-/// Examines an LLDPDU of any length. Returns what it says, or its first fault in the order of [`PduFault`].
+/// Examines an LLDPDU of any length. Returns its fields, or the first fault that was found.
 ///
 /// ```
 /// let pdu = b"\x02\x07\x04\x00\x11\x22\x33\x44\x55\x04\x05\x05eth0\x06\x02\x00\x78\x0a\x03sw1\0\0";
@@ -105,7 +105,7 @@ impl<'a> Info<'a> {
 /// ```
 pub fn examine(pdu: &[u8]) -> Result<Examined<'_>, PduFault> {
     let mut told = sys::lldpa_examined::default();
-    // SAFETY: the LLDPDU has as many octets as are told; the struct is a value of its own.
+    // SAFETY: the length is that of the LLDPDU, and the other pointer is to a local value.
     let fault = unsafe { sys::lldpa_examine(pdu.as_ptr(), pdu.len(), &mut told) };
     PduFault::check(fault)?;
     let msap = Msap { chassis: at(pdu, told.chassis), port: at(pdu, told.port) };
@@ -124,13 +124,13 @@ pub fn examine(pdu: &[u8]) -> Result<Examined<'_>, PduFault> {
 /// A TLV.
 #[derive(Clone, Copy, Debug, PartialEq, Eq, Hash)]
 pub struct Tlv<'a> {
-    /// Its type, 4 to 127 of a kept one.
+    /// Its type. A kept TLV has a type of 4 to 127.
     pub kind: u8,
     /// Its body, 0 to 511 octets.
     pub body: &'a [u8],
 }
 
-/// The kept TLVs of an LLDPDU.
+/// An iterator over the kept TLVs of an LLDPDU.
 #[derive(Clone, Debug)]
 #[must_use]
 pub struct Kept<'a> {
@@ -142,7 +142,7 @@ impl<'a> Iterator for Kept<'a> {
     type Item = Tlv<'a>;
 
     fn next(&mut self) -> Option<Tlv<'a>> {
-        // SAFETY: the extent has as many octets as are told; the walk is a value of its own.
+        // SAFETY: the length is that of the extent, and the other pointer is to the walk.
         let is_one = unsafe { sys::lldpa_next_kept(self.extent.as_ptr(), self.extent.len(), &mut self.walk) };
         is_one.then(|| Tlv { kind: self.walk.kind, body: at(self.extent, self.walk.body) })
     }
@@ -150,26 +150,26 @@ impl<'a> Iterator for Kept<'a> {
 
 impl core::iter::FusedIterator for Kept<'_> {}
 
-/// What a System Capabilities TLV (type 7) says: two sets of the standard's bits.
+/// The fields of a System Capabilities TLV (type 7): two sets of the standard's bits.
 #[derive(Clone, Copy, Debug, PartialEq, Eq, Hash)]
 pub struct Capabilities {
     /// The functions that the system has.
     pub available: u16,
-    /// Those that are enabled.
+    /// The functions that are enabled.
     pub enabled: u16,
 }
 
-/// Reads the body of a System Capabilities TLV. None if it is not well formed: four octets, and no bit enabled that is
-/// not available.
+/// Reads the body of a System Capabilities TLV. None if it is not well formed: it must have four
+/// octets, and each enabled bit must be available.
 #[must_use]
 pub fn caps(body: &[u8]) -> Option<Capabilities> {
     let mut told = sys::lldpa_capabilities::default();
-    // SAFETY: the body has as many octets as are told; the struct is a value of its own.
+    // SAFETY: the length is that of the body, and the other pointer is to a local value.
     let is_read = unsafe { sys::lldpa_caps(body.as_ptr(), body.len(), &mut told) };
     is_read.then_some(Capabilities { available: told.available, enabled: told.enabled })
 }
 
-/// What a Management Address TLV (type 8) says.
+/// The fields of a Management Address TLV (type 8).
 #[derive(Clone, Copy, Debug, PartialEq, Eq, Hash)]
 pub struct Management<'a> {
     /// The family of the address: 1 IPv4, 2 IPv6, 6 all 802 media, ..
@@ -188,7 +188,7 @@ pub struct Management<'a> {
 #[must_use]
 pub fn mgmt(body: &[u8]) -> Option<Management<'_>> {
     let mut told = sys::lldpa_management::default();
-    // SAFETY: the body has as many octets as are told; the struct is a value of its own.
+    // SAFETY: the length is that of the body, and the other pointer is to a local value.
     let is_read = unsafe { sys::lldpa_mgmt(body.as_ptr(), body.len(), &mut told) };
     is_read.then(|| Management {
         family: told.family,
@@ -199,8 +199,8 @@ pub fn mgmt(body: &[u8]) -> Option<Management<'_>> {
     })
 }
 
-/// Returns a TLV as text, as the command `show neighbors` writes it: `chassis.mac=00:11:22:33:44:55`. The type is 1 for a
-/// Chassis ID, 2 for a Port ID, or 4 to 127. None if the body is not well formed for the type.
+/// Returns a TLV as text, as `show neighbors` writes it: `chassis.mac=00:11:22:33:44:55`. `kind` is
+/// 1 (Chassis ID), 2 (Port ID), or 4 to 127. None if the body is not well formed for the type.
 ///
 /// ```
 /// assert_eq!(lldpa::tlv_text(2, b"\x05eth0").as_deref(), Some("port.ifname=eth0"));
@@ -208,21 +208,21 @@ pub fn mgmt(body: &[u8]) -> Option<Management<'_>> {
 #[must_use]
 pub fn tlv_text(kind: u8, body: &[u8]) -> Option<String> {
     let kind = kind.into();
-    // SAFETY: the body and the room have as many octets as their lengths say.
+    // SAFETY: each length is that of the slice before it.
     text_written(&mut [0; sys::LLDPA_VALUE_ROOM as usize], |room, length| unsafe {
         sys::lldpa_tlv_text(kind, body.as_ptr(), body.len(), room.as_mut_ptr(), room.len(), length)
     })
 }
 
-/// Escapes a text that came from a neighbor, so that you can print it: doubles each backslash, and replaces each octet
-/// that is not printable ASCII by `\x` and two digits. None if it has more than 511 octets.
+/// Escapes a neighbor's text, so that you can print it: doubles each backslash, and replaces each
+/// octet that is not printable ASCII by `\x` and two digits. None if it is over 511 octets.
 ///
 /// ```
 /// assert_eq!(lldpa::escape(b"sw1\x1b").as_deref(), Some("sw1\\x1b"));
 /// ```
 #[must_use]
 pub fn escape(text: &[u8]) -> Option<String> {
-    // SAFETY: the text and the room have as many octets as their lengths say.
+    // SAFETY: each length is that of the slice before it.
     text_written(&mut vec![0; 4 * text.len()], |room, length| unsafe {
         sys::lldpa_escape(text.as_ptr(), text.len(), room.as_mut_ptr(), room.len(), length)
     })

@@ -1,4 +1,4 @@
-//! The lines of the shows of an agent.
+//! Writes the lines of shows.
 
 use crate::agent::Agent;
 use crate::fault::expect_ok;
@@ -7,18 +7,18 @@ use crate::told::Show;
 use alloc::string::String;
 use alloc::vec;
 
-/// The room for the lines of a show beside those of neighbors, and for those of one neighbor, which mostly has fewer.
+/// The octets that most shows need without their neighbors, and that most neighbors need.
 const SHOW_ROOM: usize = 1 << 16;
 const SHOW_ROOM_OF_NEIGHBOR: usize = 1 << 10;
 
 impl Agent {
-    /// A room for which a show mostly has not too many lines.
+    /// Returns the size of a buffer that is large enough for most shows.
     pub(crate) fn room_of_show(&self) -> usize {
         let held: usize = (0..self.ports).map(|port| self.neighbors(port).map_or(0, |all| all.len())).sum();
         SHOW_ROOM + SHOW_ROOM_OF_NEIGHBOR * held
     }
 
-    /// Returns all lines of a show, each with its line feed.
+    /// Returns all lines of a show, with a line feed after each.
     #[must_use]
     pub fn show(&self, show: Show) -> String {
         let mut text = String::new();
@@ -27,13 +27,13 @@ impl Agent {
         while !lines.done {
             lines = self.show_lines(show, lines.next, &mut room);
             text.push_str(&String::from_utf8_lossy(&room[..lines.length]));
-            // Each further call goes through the lines before again, so it gets twice the room.
+            // The next call goes through these lines again, so its buffer is larger.
             room.resize(2 * room.len(), 0);
         }
         text
     }
 
-    /// Returns one line of a show, from 0, without its line feed. None after the last.
+    /// Returns one line of a show, without its line feed. Lines count from 0. None after the last.
     #[must_use]
     pub fn show_line(&self, show: Show, line: u32) -> Option<String> {
         let mut room = [0u8; sys::LLDPA_LINE_ROOM as usize];
@@ -42,10 +42,10 @@ impl Agent {
         text.lines().next().map(String::from)
     }
 
-    /// Writes lines of a show from one on into a room, as many as fit.
+    /// Writes lines of a show, beginning with line `from`, as many as fit in the buffer.
     fn show_lines(&self, show: Show, from: u32, room: &mut [u8]) -> sys::lldpa_lines {
         let mut lines = sys::lldpa_lines::default();
-        // SAFETY: the handle is open, the room has as many octets as are told, and the lines are a value of their own.
+        // SAFETY: the handle is open, the length is the buffer's, and `lines` is local.
         let answer = unsafe {
             sys::lldpa_show_lines(&*self.handle, show as u32, from, room.as_mut_ptr(), room.len(), &mut lines)
         };

@@ -77,10 +77,10 @@ extern "C" {
     pub fn lldpa_version() -> u32;
 }
 extern "C" {
-    #[doc = " Writes what a fault or a misuse is, in words, such as \"the first TLV is not a Chassis ID\"."]
-    #[doc = "   fault   an answer other than 0: the number of a fault in this header, or one of those above"]
+    #[doc = " Writes the description of an error number, such as \"the first TLV is not a Chassis ID\"."]
+    #[doc = "   fault   a number other than 0 that a function of this header returns or writes as a fault"]
     #[doc = "   length  the number of octets written, at most LLDPA_FAULT_ROOM"]
-    #[doc = " Returns 0, LLDPA_OUT_OF_RANGE or LLDPA_NO_ROOM. Nothing is written unless it returns 0."]
+    #[doc = " Returns 0; LLDPA_OUT_OF_RANGE if there is no such error; or LLDPA_NO_ROOM. It writes only on success."]
     pub fn lldpa_fault_text(
         fault: u32,
         room: *mut u8,
@@ -98,12 +98,12 @@ pub struct lldpa_place {
 extern "C" {
     #[doc = " Finds the LLDPDU in an Ethernet frame."]
     #[doc = "   frame, length  the frame from its destination address on, without a VLAN tag and without the check sequence"]
-    #[doc = "   pdu            written if the answer is true: what follows the EtherType, at most 1500 octets"]
-    #[doc = " Returns true exactly for an LLDP frame: 14 to 1514 octets, to 01-80-C2-00-00-0E, of EtherType 88-CC."]
+    #[doc = "   pdu            written if the result is true: the octets after the EtherType, at most 1500"]
+    #[doc = " Returns true exactly for an LLDP frame: 14 to 1514 octets, sent to 01-80-C2-00-00-0E, with the EtherType 88-CC."]
     pub fn lldpa_frame_pdu(frame: *const u8, length: usize, pdu: *mut lldpa_place) -> bool;
 }
-#[doc = " What a sound LLDPDU says. *Kept* TLVs are those after the three mandatory ones that are well formed for their type"]
-#[doc = " and, if the type is 4 to 7, the first of it."]
+#[doc = " The fields of an LLDPDU without a fault. A TLV after the three mandatory ones is *kept* if it is well formed for its"]
+#[doc = " type and, if the type is 4 to 7, is the first such TLV of that type."]
 #[repr(C)]
 #[derive(Debug, Default, Copy, Clone, Hash, PartialEq, Eq)]
 pub struct lldpa_examined {
@@ -111,18 +111,18 @@ pub struct lldpa_examined {
     pub chassis: lldpa_place,
     #[doc = " the body of the Port ID, in the same form"]
     pub port: lldpa_place,
-    #[doc = " the octets up to the End Of LLDPDU, or up to a TLV that is not complete"]
+    #[doc = " the number of octets before the End Of LLDPDU, or before an incomplete TLV"]
     pub extent: usize,
     #[doc = " how many TLVs are discarded, including an incomplete one at the end"]
     pub discarded: usize,
-    #[doc = " how many kept TLVs are of the types 9 to 127"]
+    #[doc = " how many kept TLVs have a type of 9 to 127"]
     pub unrecognized: usize,
-    #[doc = " the time to live in seconds; 0: the neighbor is gone, and the three numbers above are 0"]
+    #[doc = " the time to live in seconds; at 0 the neighbor leaves, and the three numbers above are 0"]
     pub ttl: u16,
 }
 extern "C" {
     #[doc = " Examines an LLDPDU of any length."]
-    #[doc = "   told  written if the answer is 0"]
+    #[doc = "   told  the fields, written on success"]
     #[doc = " Returns 0, or the number of the first fault, 1 to 8."]
     pub fn lldpa_examine(pdu: *const u8, length: usize, told: *mut lldpa_examined) -> u8;
 }
@@ -130,11 +130,11 @@ extern "C" {
 #[repr(C)]
 #[derive(Debug, Default, Copy, Clone, Hash, PartialEq, Eq)]
 pub struct lldpa_kept {
-    #[doc = " where the walk continues; 0: at the first TLV after the three mandatory ones"]
+    #[doc = " the offset where the walk continues; 0 for the first TLV after the three mandatory ones"]
     pub next: usize,
     #[doc = " the body of the TLV that was found last"]
     pub body: lldpa_place,
-    #[doc = " whether a well-formed TLV of type 4, 5, 6, 7 was found"]
+    #[doc = " for the types 4, 5, 6 and 7: whether a well-formed TLV was found"]
     pub met: [bool; 4usize],
     #[doc = " the type of the TLV that was found last, 4 to 127"]
     pub kind: u8,
@@ -144,10 +144,10 @@ extern "C" {
     #[doc = "   extent, length  an LLDPDU for which lldpa_examine returned 0, with a TTL above 0, and its lldpa_examined.extent"]
     #[doc = "                   as the length; the same in every call of a walk"]
     #[doc = "   walk            is advanced to the TLV; it is unchanged if no TLV is left"]
-    #[doc = " Returns whether there is one. For other octets it finds some TLV in them, or none."]
+    #[doc = " Returns whether there is one. If the octets are not such an LLDPDU, it finds some TLV in them, or none."]
     pub fn lldpa_next_kept(extent: *const u8, length: usize, walk: *mut lldpa_kept) -> bool;
 }
-#[doc = " What a System Capabilities TLV (type 7) says: two sets of bits, as in table 8-4 of the standard."]
+#[doc = " The fields of a System Capabilities TLV (type 7): two sets of bits, as in table 8-4 of the standard."]
 #[repr(C)]
 #[derive(Debug, Default, Copy, Clone, Hash, PartialEq, Eq)]
 pub struct lldpa_capabilities {
@@ -156,11 +156,11 @@ pub struct lldpa_capabilities {
 }
 extern "C" {
     #[doc = " Reads the body of a System Capabilities TLV."]
-    #[doc = "   told  written if the answer is true"]
-    #[doc = " Returns true exactly if the body is well formed: four octets, and no bit enabled that is not available."]
+    #[doc = "   told  the fields, written if the result is true"]
+    #[doc = " Returns true exactly if the body is well formed: it has four octets, and each enabled bit is also available."]
     pub fn lldpa_caps(body: *const u8, length: usize, told: *mut lldpa_capabilities) -> bool;
 }
-#[doc = " What a Management Address TLV (type 8) says. Address and oid are ranges of its body."]
+#[doc = " The fields of a Management Address TLV (type 8). address and oid are ranges of its body."]
 #[repr(C)]
 #[derive(Debug, Default, Copy, Clone, Hash, PartialEq, Eq)]
 pub struct lldpa_management {
@@ -177,17 +177,17 @@ pub struct lldpa_management {
 }
 extern "C" {
     #[doc = " Reads the body of a Management Address TLV."]
-    #[doc = "   told  written if the answer is true"]
+    #[doc = "   told  the fields, written if the result is true"]
     #[doc = " Returns true exactly if the body is well formed."]
     pub fn lldpa_mgmt(body: *const u8, length: usize, told: *mut lldpa_management) -> bool;
 }
 extern "C" {
     #[doc = " Writes a TLV as text, as the command `show neighbors` does: \"chassis.mac=00:11:22:33:44:55\", \"port.ifname=eth0\","]
-    #[doc = " \"chassis.mgmt=192.0.2.1,2,3,\". The value is what follows the first '='. Texts are escaped as by lldpa_escape."]
+    #[doc = " \"chassis.mgmt=192.0.2.1,2,3,\". The value follows the first '='. Texts are escaped as lldpa_escape does."]
     #[doc = "   kind    the type of the TLV: 1 for a Chassis ID, 2 for a Port ID, or 4 to 127"]
     #[doc = "   body    its body, which must be well formed for the type and have at most 511 octets"]
     #[doc = "   room    LLDPA_VALUE_ROOM octets are always enough"]
-    #[doc = "   length  the number of octets written, if the answer is 0"]
+    #[doc = "   length  the number of octets written, on success"]
     #[doc = " Returns the first of these that applies: LLDPA_OUT_OF_RANGE for the type or the body, LLDPA_NO_ROOM; otherwise 0."]
     pub fn lldpa_tlv_text(
         kind: u32,
@@ -203,7 +203,7 @@ extern "C" {
     #[doc = " that is not printable ASCII by a backslash, an x and two hexadecimal digits."]
     #[doc = "   text    at most 511 octets"]
     #[doc = "   room    four times as many octets are always enough"]
-    #[doc = "   length  the number of octets written, if the answer is 0"]
+    #[doc = "   length  the number of octets written, on success"]
     #[doc = " Returns the first of these that applies: LLDPA_OUT_OF_RANGE for the length of the text, LLDPA_NO_ROOM; otherwise 0."]
     pub fn lldpa_escape(
         text: *const u8,
@@ -231,16 +231,16 @@ impl Default for lldpa_tlv {
     }
 }
 extern "C" {
-    #[doc = " Builds an LLDPDU in the caller's room."]
+    #[doc = " Builds an LLDPDU in the caller's buffer `room`."]
     #[doc = "   chassis, port  the bodies of the Chassis ID and the Port ID, their subtypes first, 2 to 256 octets each"]
-    #[doc = "   ttl            in seconds; 0 makes a shutdown LLDPDU, which has no other TLVs"]
-    #[doc = "   tlvs           the TLVs to put, in their order, any number"]
-    #[doc = "   faults         one for each TLV (as many as tlvs has): 0 if it was put; 11 to 13 if it is left out"]
+    #[doc = "   ttl            the time to live in seconds; 0 makes a shutdown LLDPDU, which has no other TLVs"]
+    #[doc = "   tlvs           the TLVs to put after the Time To Live, in their order; any number"]
+    #[doc = "   faults         receives a number for each TLV: 0 if it was put, or 11 to 13 if it is left out"]
     #[doc = "   room           LLDPA_PDU_ROOM octets are always enough"]
-    #[doc = "   length         the number of octets of the LLDPDU, its End Of LLDPDU included"]
+    #[doc = "   length         the number of octets of the LLDPDU, including its End Of LLDPDU"]
     #[doc = " Returns the first of these that applies: LLDPA_OUT_OF_RANGE for the length of an identifier; LLDPA_NO_ROOM if"]
-    #[doc = " faults has fewer elements than tlvs; LLDPA_NO_ROOM if the LLDPDU is longer than the room, and only then faults are"]
-    #[doc = " written; otherwise 0. Unless it returns 0, room and length are not written."]
+    #[doc = " faults has fewer elements than tlvs; LLDPA_NO_ROOM if the LLDPDU is longer than room; otherwise 0. The second"]
+    #[doc = " LLDPA_NO_ROOM writes faults, but not room and length; the other errors write nothing."]
     pub fn lldpa_build(
         chassis: *const u8,
         chassis_length: usize,
@@ -256,11 +256,11 @@ extern "C" {
         length: *mut usize,
     ) -> u8;
 }
-#[doc = " The machine. lldpa_transmit_new makes it. The caller may copy it and read its fields, but not change them."]
+#[doc = " A transmit machine, made by lldpa_transmit_new. You may copy it and read its fields, but not change them."]
 #[repr(C)]
 #[derive(Debug, Default, Copy, Clone, Hash, PartialEq, Eq)]
 pub struct lldpa_machine {
-    #[doc = " ticks until the timer ends"]
+    #[doc = " txTTR: ticks until the next frame is due"]
     pub timer: u16,
     #[doc = " txCreditMax"]
     pub credit_max: u8,
@@ -268,7 +268,7 @@ pub struct lldpa_machine {
     pub fast_init: u8,
     #[doc = " reinitDelay, in seconds"]
     pub reinit: u8,
-    #[doc = " ordinary frames that may be sent before the next tick, 0 to credit_max"]
+    #[doc = " how many ordinary frames may be sent before the next tick, 0 to credit_max"]
     pub credit: u8,
     #[doc = " ticks until the port may start again"]
     pub wait: u8,
@@ -276,7 +276,7 @@ pub struct lldpa_machine {
     pub left: u8,
     #[doc = " a frame is wanted and was not sent yet"]
     pub waiting: bool,
-    #[doc = " it has started, and since then has neither stopped nor lost its link"]
+    #[doc = " the port has started, and since then has neither stopped nor lost its link"]
     pub active: bool,
     #[doc = " the port may transmit"]
     pub allowed: bool,
@@ -284,12 +284,12 @@ pub struct lldpa_machine {
     pub up: bool,
 }
 extern "C" {
-    #[doc = " Makes a machine with full credit, on a port whose link is up and that is not active."]
+    #[doc = " Makes a machine with full credit, for a port that is not active and has its link up."]
     #[doc = "   credit_max  txCreditMax, 1 to 10"]
     #[doc = "   fast_init   txFastInit, 1 to 8"]
     #[doc = "   reinit      reinitDelay in seconds, 1 to 10"]
     #[doc = "   allowed     whether the port may transmit from the start"]
-    #[doc = " Returns 0; or LLDPA_OUT_OF_RANGE, and the machine stays as it was."]
+    #[doc = " Returns 0, or LLDPA_OUT_OF_RANGE, which leaves the machine unchanged."]
     pub fn lldpa_transmit_new(
         machine: *mut lldpa_machine,
         credit_max: u32,
@@ -302,9 +302,9 @@ extern "C" {
     #[doc = " Applies one event, and writes which frame to send."]
     #[doc = "   cause     LLDPA_CAUSE_TICK to LLDPA_CAUSE_NOTHING"]
     #[doc = "   interval  the tx-interval in force after the event, 1 to 3600 seconds"]
-    #[doc = "   mark      LLDPA_QUIET, LLDPA_ORDINARY or LLDPA_SHUTDOWN"]
-    #[doc = " Returns 0; or LLDPA_OUT_OF_RANGE for a cause or an interval, or for a machine whose credit is above its"]
-    #[doc = " credit_max, and writes nothing."]
+    #[doc = "   mark      LLDPA_QUIET, LLDPA_ORDINARY or LLDPA_SHUTDOWN, written on success"]
+    #[doc = " Returns 0; or LLDPA_OUT_OF_RANGE for the cause or the interval, or for a machine whose credit is above its"]
+    #[doc = " credit_max. An error writes nothing."]
     pub fn lldpa_transmit_event(
         machine: *mut lldpa_machine,
         cause: u32,
@@ -328,7 +328,7 @@ impl Default for lldpa_text {
         }
     }
 }
-#[doc = " What an agent is opened with."]
+#[doc = " The options of lldpa_open."]
 #[repr(C)]
 #[derive(Debug, Copy, Clone, Hash, PartialEq, Eq)]
 pub struct lldpa_options {
@@ -342,9 +342,9 @@ pub struct lldpa_options {
     pub hostname: lldpa_text,
     #[doc = " the source address and the chassis ID of every frame"]
     pub mac: [u8; 6usize],
-    #[doc = " the IPv4 address under which the agent can be managed"]
+    #[doc = " the IPv4 management address that the agent announces"]
     pub management: [u8; 4usize],
-    #[doc = " whether there is one; if not, management is not read"]
+    #[doc = " whether there is a management address; if not, management is not read"]
     pub managed: bool,
     #[doc = " whether each port begins with the status rx-only"]
     pub receive_only: bool,
@@ -387,18 +387,18 @@ impl Default for lldpa_agent {
 }
 extern "C" {
     #[doc = " Opens an agent, and allocates all memory that it will ever need: about 1.6 KB for each of max_neighbors on each port."]
-    #[doc = " The link of each port is up. Returns the first of these that applies: LLDPA_OUT_OF_RANGE if the library does not"]
+    #[doc = " Each port has its link up. Returns the first of these that applies: LLDPA_OUT_OF_RANGE if the library does not"]
     #[doc = " know an lldpa_options of this `size`; LLDPA_IS_OPEN; LLDPA_OUT_OF_RANGE for role, max_neighbors, credit_max,"]
     #[doc = " fast_init or reinit, or for a text that is not UTF-8; the first fault, 22 to 26; LLDPA_MEMORY; otherwise 0, and"]
-    #[doc = " the agent is open. Unless it returns 0, the handle stays as it was. With more than 64 names the call fails, and"]
-    #[doc = " names after the 65th are not read."]
+    #[doc = " the agent is open. An error leaves the handle unchanged. With more than 64 names the call fails, and names after"]
+    #[doc = " the 65th are not read."]
     pub fn lldpa_open(options: *const lldpa_options, agent: *mut lldpa_agent) -> u8;
 }
 #[doc = " A frame that you must send: lldpa_frame_of writes it."]
 #[repr(C)]
 #[derive(Debug, Default, Copy, Clone, Hash, PartialEq, Eq)]
 pub struct lldpa_mark {
-    #[doc = " its number, from 0, in the order of the options"]
+    #[doc = " the number of the port, from 0, in the order of the options"]
     pub port: u8,
     #[doc = " LLDPA_ORDINARY or LLDPA_SHUTDOWN"]
     pub mark: u8,
@@ -429,12 +429,12 @@ pub struct lldpa_ticks_taken {
     pub aged_out: u32,
 }
 extern "C" {
-    #[doc = " Tells the agent that `count` seconds have passed. It stops early, after the first second at which a port sends or a"]
-    #[doc = " neighbor ages out. Returns 0 or LLDPA_NOT_OPEN."]
-    #[doc = "   count  the seconds that passed; do not give LLDPA_NEVER, which would take minutes"]
-    #[doc = "   marks  the frames to send at the last second, if the answer is 0"]
-    #[doc = "   told   written if the answer is 0. Send the frames of marks; then, if told->taken is less than count, call it again"]
-    #[doc = "          for the remaining seconds. The neighbors that age out are those that had 1 second left."]
+    #[doc = " Tells the agent that `count` seconds have passed. The call stops early, after the first second at which a port sends"]
+    #[doc = " or a neighbor ages out. Returns 0 or LLDPA_NOT_OPEN."]
+    #[doc = "   count  the seconds that passed; do not pass LLDPA_NEVER, which could take minutes"]
+    #[doc = "   marks  the frames to send at the last second counted, on success"]
+    #[doc = "   told   written on success. Send the frames of marks; then, if told->taken is less than count, call lldpa_ticks"]
+    #[doc = "          again for the remaining seconds. The neighbors that age out are those that had 1 second left."]
     pub fn lldpa_ticks(
         agent: *mut lldpa_agent,
         count: u32,
@@ -445,35 +445,35 @@ extern "C" {
 extern "C" {
     #[doc = " Writes the number of seconds until a port sends or a neighbor ages out, if you make no other call first. Returns 0 or"]
     #[doc = " LLDPA_NOT_OPEN."]
-    #[doc = "   seconds  1 to 65535, or LLDPA_NEVER, if the answer is 0"]
-    #[doc = " You may sleep that long, and then give all these seconds to lldpa_ticks, which stops only after the last of them."]
-    #[doc = " Until then only the seconds left of neighbors and the credit of ports change. Any other call may change the"]
-    #[doc = " number, so ask again after it. If you wake for something else, such as a frame, first give the seconds that"]
-    #[doc = " passed, and then the frame."]
+    #[doc = "   seconds  1 to 65535, or LLDPA_NEVER, on success"]
+    #[doc = " You may sleep that long, and then pass all these seconds to lldpa_ticks, which stops only after the last of them."]
+    #[doc = " Until then nothing changes except the neighbors' remaining seconds and the ports' credit. Any other call may change"]
+    #[doc = " the number, so call lldpa_due again after it. If you wake for something else, such as a frame, first report the"]
+    #[doc = " seconds that passed, and then the frame."]
     pub fn lldpa_due(agent: *const lldpa_agent, seconds: *mut u32) -> u8;
 }
-#[doc = " What a frame did. The octets of both ranges together are the key of the neighbor: no two neighbors of a port have the"]
-#[doc = " same ones."]
+#[doc = " What a frame did. The octets of both ranges together identify the neighbor: no two neighbors of a port have the same"]
+#[doc = " ones."]
 #[repr(C)]
 #[derive(Debug, Default, Copy, Clone, Hash, PartialEq, Eq)]
 pub struct lldpa_news {
-    #[doc = " in the frame: the body of the Chassis ID, if what is LLDPA_NEWS_NEW or above; otherwise 0 and 0"]
+    #[doc = " in the frame: the body of the Chassis ID; 0 and 0 if `what` is below LLDPA_NEWS_NEW"]
     pub chassis: lldpa_place,
     #[doc = " in the frame: the body of the Port ID, in the same form"]
     pub port: lldpa_place,
     #[doc = " LLDPA_NEWS_NOT_LLDP to LLDPA_NEWS_UNKNOWN"]
     pub what: u32,
-    #[doc = " for LLDPA_NEWS_REFUSED the fault of the LLDPDU, 1 to 8; otherwise 0"]
+    #[doc = " for LLDPA_NEWS_REFUSED, the fault of the LLDPDU, 1 to 8; otherwise 0"]
     pub fault: u32,
 }
 extern "C" {
-    #[doc = " Gives the agent a frame that a port received: any octets; if they are not an LLDP frame, nothing changes. Returns 0,"]
-    #[doc = " LLDPA_NOT_OPEN or LLDPA_NO_PORT. First give the seconds that passed before the frame came (lldpa_ticks): its time"]
-    #[doc = " to live begins at this call, and a second that you give later counts against it. A full table stores no new"]
-    #[doc = " neighbor, but what it holds is still refreshed."]
-    #[doc = "   port   its number, from 0, in the order of the options"]
-    #[doc = "   marks  the frames to send, if the answer is 0"]
-    #[doc = "   news   what the frame did, if the answer is 0; or NULL"]
+    #[doc = " Gives the agent a frame that a port received. You may pass any octets: if they are not an LLDP frame, nothing"]
+    #[doc = " changes. Returns 0, LLDPA_NOT_OPEN or LLDPA_NO_PORT. First report the seconds that passed before the frame arrived"]
+    #[doc = " (lldpa_ticks): its time to live starts at this call, and seconds that you report later count against it. A full"]
+    #[doc = " table accepts no new neighbor, but the neighbors that it holds are still refreshed."]
+    #[doc = "   port   the number of the port, from 0, in the order of the options"]
+    #[doc = "   marks  the frames to send, on success"]
+    #[doc = "   news   what the frame did, on success; or NULL"]
     pub fn lldpa_frame(
         agent: *mut lldpa_agent,
         port: u32,
@@ -484,35 +484,35 @@ extern "C" {
     ) -> u8;
 }
 extern "C" {
-    #[doc = " Tells the agent that the link of a port came up or went down. Port, marks and answers are as for lldpa_frame."]
+    #[doc = " Tells the agent that the link of a port came up or went down. port, marks and results are as for lldpa_frame."]
     pub fn lldpa_link(agent: *mut lldpa_agent, port: u32, up: bool, marks: *mut lldpa_marks) -> u8;
 }
 extern "C" {
-    #[doc = " Disables every port, as at the end of a program. Returns 0 or LLDPA_NOT_OPEN. Send the frames of marks before you"]
-    #[doc = " close the agent; lldpa_close sends none."]
-    #[doc = "   marks  if the answer is 0: a shutdown frame on each port that was active, and nothing else"]
+    #[doc = " Disables every port. Call it before you close the agent, and send the frames of marks: lldpa_close sends none."]
+    #[doc = " Returns 0 or LLDPA_NOT_OPEN."]
+    #[doc = "   marks  on success: a shutdown frame on each port that was active, and no other frame"]
     pub fn lldpa_leave(agent: *mut lldpa_agent, marks: *mut lldpa_marks) -> u8;
 }
 extern "C" {
-    #[doc = " Writes how many neighbors a port holds. Returns 0, LLDPA_NOT_OPEN or LLDPA_NO_PORT; count is written if it is 0."]
+    #[doc = " Writes how many neighbors a port holds. Returns 0, LLDPA_NOT_OPEN or LLDPA_NO_PORT; count is written on success."]
     pub fn lldpa_neighbor_count(agent: *const lldpa_agent, port: u32, count: *mut u32) -> u8;
 }
 #[doc = " A neighbor that a port holds."]
 #[repr(C)]
 #[derive(Debug, Default, Copy, Clone, Hash, PartialEq, Eq)]
 pub struct lldpa_held {
-    #[doc = " what its last stored LLDPDU says; its ranges are in the octets that were written. An"]
-    #[doc = "incomplete TLV at its end is not stored, and `discarded` does not count it here"]
+    #[doc = " the fields of its last stored LLDPDU, as ranges of the octets in `room`. An incomplete TLV"]
+    #[doc = "at the end is not stored, and `discarded` does not count it here"]
     pub pdu: lldpa_examined,
     #[doc = " seconds until it ages out"]
     pub left: u32,
 }
 extern "C" {
     #[doc = " Writes a neighbor of a port. lldpa_next_kept reads its TLVs from the octets."]
-    #[doc = "   index  from 0, in the order in which neighbors were last LLDPA_NEWS_NEW. If one leaves, later ones move up"]
-    #[doc = "   room   told->pdu.extent octets are written to its front: the neighbor's LLDPDU without the End Of LLDPDU."]
-    #[doc = "          LLDPA_NEIGHBOR_ROOM octets are always enough"]
-    #[doc = "   told   written if the answer is 0"]
+    #[doc = "   index  from 0, in the order in which neighbors were stored (LLDPA_NEWS_NEW). If one is removed, later ones move up"]
+    #[doc = "   room   receives told->pdu.extent octets: the neighbor's LLDPDU without the End Of LLDPDU. LLDPA_NEIGHBOR_ROOM"]
+    #[doc = "          octets are always enough"]
+    #[doc = "   told   written on success"]
     #[doc = " Returns the first of these that applies: LLDPA_NOT_OPEN, LLDPA_NO_PORT, LLDPA_OUT_OF_RANGE for the index,"]
     #[doc = " LLDPA_NO_ROOM; otherwise 0."]
     pub fn lldpa_neighbor(
@@ -524,7 +524,7 @@ extern "C" {
         told: *mut lldpa_held,
     ) -> u8;
 }
-#[doc = " What a port counted, each modulo 2^32. Nothing resets them."]
+#[doc = " The counters of a port, each modulo 2^32. Nothing resets them."]
 #[repr(C)]
 #[derive(Debug, Default, Copy, Clone, Hash, PartialEq, Eq)]
 pub struct Statistics {
@@ -532,7 +532,7 @@ pub struct Statistics {
     pub sent: u32,
     #[doc = " shutdown frames sent"]
     pub shutdowns: u32,
-    #[doc = " LLDP frames that came while the port received and its link was up"]
+    #[doc = " LLDP frames that arrived while the port could receive and its link was up"]
     pub received: u32,
     #[doc = " LLDPDUs that were refused"]
     pub discarded: u32,
@@ -540,7 +540,7 @@ pub struct Statistics {
     pub errors: u32,
     #[doc = " TLVs that were discarded"]
     pub tlvs_discarded: u32,
-    #[doc = " kept TLVs of the types 9 to 127"]
+    #[doc = " kept TLVs with a type of 9 to 127"]
     pub unrecognized: u32,
     #[doc = " neighbors that aged out"]
     pub ageouts: u32,
@@ -548,14 +548,14 @@ pub struct Statistics {
     pub drops: u32,
 }
 extern "C" {
-    #[doc = " Writes what a port counted. Returns 0, LLDPA_NOT_OPEN or LLDPA_NO_PORT; told is written if it is 0."]
+    #[doc = " Writes the counters of a port. Returns 0, LLDPA_NOT_OPEN or LLDPA_NO_PORT; told is written on success."]
     pub fn lldpa_statistics(
         agent: *const lldpa_agent,
         port: u32,
         told: *mut Statistics,
     ) -> u8;
 }
-#[doc = " How an agent is configured: as it was opened, or by the last command that changed it."]
+#[doc = " The current settings of an agent."]
 #[repr(C)]
 #[derive(Debug, Copy, Clone, Hash, PartialEq, Eq)]
 pub struct lldpa_configuration_told {
@@ -571,7 +571,7 @@ pub struct lldpa_configuration_told {
     pub fast_init: u32,
     #[doc = " txCreditMax"]
     pub credit_max: u32,
-    #[doc = " the limit in force"]
+    #[doc = " how many neighbors each port may hold"]
     pub max_neighbors: u32,
     #[doc = " how many ports there are"]
     pub ports: u32,
@@ -588,7 +588,7 @@ impl Default for lldpa_configuration_told {
     }
 }
 extern "C" {
-    #[doc = " Writes how an agent is configured. Returns 0 or LLDPA_NOT_OPEN; told is written if it is 0."]
+    #[doc = " Writes the settings of an agent. Returns 0 or LLDPA_NOT_OPEN; told is written on success."]
     pub fn lldpa_configuration(
         agent: *const lldpa_agent,
         told: *mut lldpa_configuration_told,
@@ -596,10 +596,10 @@ extern "C" {
 }
 extern "C" {
     #[doc = " Runs a command, \"configure ..\", \"update\" or \"show ..\", without a line feed; lldpa(1) describes the commands. A show"]
-    #[doc = " command changes nothing: give its number to lldpa_show_lines."]
-    #[doc = "   show   LLDPA_SHOW_NOTHING, or the number of the show, if the answer is 0"]
-    #[doc = "   marks  the frames to send, if the answer is 0"]
-    #[doc = " Returns 0; or 31 to 38 or LLDPA_NOT_OPEN, and then changes nothing."]
+    #[doc = " command changes nothing: pass its number to lldpa_show_lines to get its lines."]
+    #[doc = "   show   LLDPA_SHOW_NOTHING, or the number of the show, on success"]
+    #[doc = "   marks  the frames to send, on success"]
+    #[doc = " Returns 0; or 31 to 38 or LLDPA_NOT_OPEN, which change nothing."]
     pub fn lldpa_command(
         agent: *mut lldpa_agent,
         line: *const u8,
@@ -608,11 +608,11 @@ extern "C" {
         marks: *mut lldpa_marks,
     ) -> u8;
 }
-#[doc = " What was written of a show."]
+#[doc = " The part of a show that was written."]
 #[repr(C)]
 #[derive(Debug, Default, Copy, Clone, Hash, PartialEq, Eq)]
 pub struct lldpa_lines {
-    #[doc = " the number of octets, each line with its line feed"]
+    #[doc = " the number of octets, including a line feed after each line"]
     pub length: usize,
     #[doc = " the line to continue with; if no line is left, the number of lines, or `from` if it is greater"]
     pub next: u32,
@@ -624,11 +624,11 @@ extern "C" {
     #[doc = "   show  LLDPA_SHOW_NEIGHBORS to LLDPA_SHOW_CONFIGURATION"]
     #[doc = "   from  the first line that you want, from 0"]
     #[doc = "   room  LLDPA_LINE_ROOM octets hold any line"]
-    #[doc = "   told  written if the answer is 0"]
+    #[doc = "   told  written on success"]
     #[doc = " Returns the first of these that applies: LLDPA_OUT_OF_RANGE for the show, LLDPA_NOT_OPEN, LLDPA_NO_ROOM if not"]
-    #[doc = " even the first line fits; otherwise 0. Unless it returns 0, nothing is written. To get all lines, continue with"]
-    #[doc = " `next`, and make no other call of the agent in between. A call also goes through the lines before `from`, so a"]
-    #[doc = " room for the whole show costs least."]
+    #[doc = " even the first line fits; otherwise 0. It writes only on success. To get all lines, call it again with `next` as"]
+    #[doc = " `from`, and make no other call on the agent in between. A call also goes through the lines before `from`, so one"]
+    #[doc = " call with a buffer for the whole show is fastest."]
     pub fn lldpa_show_lines(
         agent: *const lldpa_agent,
         show: u32,
@@ -639,10 +639,10 @@ extern "C" {
     ) -> u8;
 }
 extern "C" {
-    #[doc = " Writes the frame of a mark, with the present configuration. Send it on the port of the mark."]
+    #[doc = " Writes the frame that a mark asks for, with the current settings. Send it on the port of the mark."]
     #[doc = "   mark    LLDPA_ORDINARY or LLDPA_SHUTDOWN"]
     #[doc = "   room    LLDPA_FRAME_ROOM octets are always enough"]
-    #[doc = "   length  the number of octets of the frame, if the answer is 0"]
+    #[doc = "   length  the number of octets of the frame, on success"]
     #[doc = " Returns the first of these that applies: LLDPA_OUT_OF_RANGE for the mark, LLDPA_NOT_OPEN, LLDPA_NO_PORT,"]
     #[doc = " LLDPA_NO_ROOM; otherwise 0."]
     pub fn lldpa_frame_of(

@@ -1,43 +1,43 @@
-//! What an agent tells.
+//! The values that the calls of an agent return.
 
 use crate::machine::Mark;
 use crate::numbers::numbered;
 use crate::sys;
 use alloc::vec::Vec;
 
-/// A frame to send, by the port's number from 0 in the order of the options.
+/// A frame to send.
 #[derive(Clone, Copy, Debug, PartialEq, Eq, Hash)]
 pub struct Sent {
-    /// The number of the port.
+    /// The number of the port, from 0, in the order of the options.
     pub port: u8,
     /// The kind of the frame.
     pub mark: Mark,
 }
 
 numbered! {
-    /// What a command shows.
+    /// A show: the lines that a show command asks for.
     Show {
         /// The neighbors of each port.
         Neighbors = 1,
         /// The counters of each port.
         Statistics = 2,
-        /// What the agent says of itself.
+        /// The chassis of the agent itself.
         Chassis = 3,
-        /// The numbers in force, and the status of each port.
+        /// The current settings, and the status of each port.
         Configuration = 4,
     }
 }
 
-/// What a command did: a show that [`crate::Agent::show`] writes, or frames to send.
+/// The result of a command: a show for [`crate::Agent::show`], or frames to send.
 #[derive(Clone, Debug, PartialEq, Eq)]
 pub struct Commanded {
-    /// The show that was asked for, or None if something was changed.
+    /// The show that was asked for, or None if the command changed something.
     pub show: Option<Show>,
     /// The frames to send.
     pub sent: Vec<Sent>,
 }
 
-/// What several seconds did.
+/// The result of [`crate::Agent::ticks`].
 #[derive(Clone, Debug, PartialEq, Eq)]
 pub struct Ticks {
     /// The number of seconds that were counted.
@@ -49,20 +49,20 @@ pub struct Ticks {
 }
 
 numbered! {
-    /// What a port may do.
+    /// The status of a port.
     Status {
         /// It receives and transmits.
         RxAndTx = 0,
-        /// It receives.
+        /// It only receives.
         RxOnly = 1,
-        /// It transmits.
+        /// It only transmits.
         TxOnly = 2,
-        /// Neither.
+        /// It neither receives nor transmits.
         Disabled = 3,
     }
 }
 
-/// How an agent is configured: as it was opened, or by the last command that changed it.
+/// The current settings of an agent.
 #[derive(Clone, Debug, PartialEq, Eq, Hash)]
 pub struct Configuration {
     /// The tx-interval in seconds.
@@ -77,7 +77,7 @@ pub struct Configuration {
     pub fast_init: u32,
     /// txCreditMax.
     pub credit_max: u32,
-    /// How many neighbors each port may hold now.
+    /// How many neighbors each port may hold.
     pub max_neighbors: u32,
     /// The status of each port, in the order of the options.
     pub status: Vec<Status>,

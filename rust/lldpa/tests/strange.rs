@@ -1,5 +1,6 @@
-//! Over an archive that answers 77 to every call except `lldpa_open`, and is of another version once `LLDPA_STRANGE` is
-//! set, no call takes an unknown answer for success. `tools/library/check-library.py` makes the archive.
+//! Checks that no call accepts an unknown answer or version as success. The archive for this test,
+//! by `tools/library/check-library.py`, returns 77 from each call except `lldpa_open`, and another
+//! version if `LLDPA_STRANGE` is set.
 
 use lldpa::{
     examine, fault_text, Agent, Builder, CommandFault, Machine, Mark, OpenFault, Options, PduFault,
@@ -7,7 +8,7 @@ use lldpa::{
 };
 use std::panic::{catch_unwind, AssertUnwindSafe};
 
-/// Returns whether a call that has no fault ends in a panic.
+/// Returns whether a call without an error result panics.
 fn panics<T>(call: impl FnOnce() -> T) -> bool {
     catch_unwind(AssertUnwindSafe(call)).is_err()
 }

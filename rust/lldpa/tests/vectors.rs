@@ -1,4 +1,4 @@
-//! Some rows of examples/vectors.rows, one or two of each kind, by hand. A program in C runs all.
+//! Tests one or two rows of each kind in examples/vectors.rows. A C program tests all rows.
 
 use lldpa::{
     caps, examine, frame_pdu, mgmt, Agent, BuildFault, Builder, Cause, Examined, Machine, Mark, OpenFault,
@@ -8,7 +8,7 @@ use lldpa::{
 /// The mandatory TLVs of 00:11:22:33:44:55, port eth0, with a time to live of 120 seconds.
 const MANDATORY: &[u8] = b"\x02\x07\x04\x00\x11\x22\x33\x44\x55\x04\x05\x05eth0\x06\x02\x00\x78";
 
-/// Those, and more octets.
+/// Returns the mandatory TLVs, followed by more octets.
 fn with(more: &[u8]) -> Vec<u8> {
     [MANDATORY, more].concat()
 }
@@ -17,7 +17,7 @@ fn with(more: &[u8]) -> Vec<u8> {
 fn lldpdus_are_examined() {
     assert_eq!(examine(b""), Err(PduFault::Truncated));
     assert_eq!(examine(&with(b"\x02\x02\x07a")), Err(PduFault::Repeated));
-    // Of two System Names the first is kept, and a TLV that is not complete is discarded.
+    // The first of two System Names is kept, and an incomplete TLV is discarded.
     let pdu = with(b"\x0a\x03sw1\x0a\x03sw2\x12\x01\xff\x0a\x09s");
     let info = match examine(&pdu) {
         Ok(Examined::Info(info)) => info,

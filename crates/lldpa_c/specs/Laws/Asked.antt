@@ -1,10 +1,10 @@
--- What C asks for, field by field.
+-- The options that C passes, field by field.
 use Rattle.std.specs.Prelude.{◌≡◌, true, false, map, Some, None}
 use Rattle.lldp_engine.specs.declared.agent.options.Role.{Role}
 use Rattle.lldpa_c.specs.declared.options.LldpaOptions.{LldpaOptions}
 use Rattle.lldpa_c.specs.Opening.{asked, role_numbered}
 
--- Each value is that of its field, and the management address is none exactly if it is said that there is none.
+-- Each option has the value of its field. `management` is None exactly if `managed` is false.
 pub record AsksForEach (o : LldpaOptions) : Type 0 where
   pub names : (asked o).names ≡ map (λ text. text.octets.now) o.ports.now
   pub mac : (asked o).mac ≡ o.mac

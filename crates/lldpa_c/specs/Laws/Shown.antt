@@ -1,4 +1,4 @@
--- What C is told, by the lines of shows, and by the places of bodies.
+-- Values in the structs for C, compared with the lines of shows and with the octets of bodies.
 use Rattle.std.specs.Prelude.{◌≡◌, ℕ, ◌+◌, ◌*◌, ◌↔◌, false, List, [], ◌∷◌, ◌++◌, map, codes, decimal, Some, slice_get, slice_index}
 use Rattle.std.specs.Option.{option_map}
 use Rattle.lldp_pdu.specs.Tlv.{TlvUnit}
@@ -23,7 +23,7 @@ use Rattle.lldpa_c.specs.Held.{TellsNeighbor}
 use Rattle.lldpa_c.specs.Settings.{statistics_of, TellsConfiguration}
 use Rattle.lldpa_c.specs.Values.{tlv_value}
 
--- each number after the key of its line
+-- each number with the key of its line
 abbrev pub counters_told : LldpaStatistics → List (List ℕ × ℕ)
 counters_told told =
     (codes "sent=", told.sent)
@@ -47,8 +47,8 @@ settings_told told =
     ∷ (codes "max-neighbors=", told.max_neighbors)
     ∷ (codes "ports=", told.ports) ∷ []
 
--- The numbers of structs are those of the lines of shows: all of `show statistics` of a port, all of `show
--- configuration`, and that of `expires=` of a neighbor. Readers refuse exactly what is no port.
+-- The numbers in structs equal those in the lines of `show statistics` and `show configuration`,
+-- and in the line `expires=` of a neighbor. A port number is refused exactly if no port has it.
 pub record AreShown : Type 0 where
   pub counters : (port : PortState) →
       counter_lines port ≡ number_lines (port_key port.name) (counters_told (statistics_of port.counters))
@@ -58,8 +58,8 @@ pub record AreShown : Type 0 where
       slice_get (neighbor_lines name number neighbor) 3 ≡ Some (neighbor_key name number ++ (codes "expires=" ++ decimal told.left))
   pub ports : (agent : AgentState) (port : ℕ) → (has_no_port agent port ≡ false) ↔ IsPort agent port
 
--- What is written of TLVs are the lines of `show neighbors` after `lldp.PORT.N.`: the first of a neighbor of its
--- Chassis ID, the second of its Port ID, and those of its kept TLVs.
+-- The texts of TLVs equal the lines of `show neighbors` after `lldp.PORT.N.`: a neighbor's first
+-- line for its Chassis ID, its second line for its Port ID, and the lines of its kept TLVs.
 pub record AreLines : Type 0 where
   pub chassis : (name : List ℕ) (number : ℕ) (neighbor : Neighbor) → IsIdentifier neighbor.msap.chassis →
       option_map (λ text. neighbor_key name number ++ text) (tlv_value 1 neighbor.msap.chassis) ≡ slice_get (neighbor_lines name number neighbor) 0
@@ -67,8 +67,8 @@ pub record AreLines : Type 0 where
       option_map (λ text. neighbor_key name number ++ text) (tlv_value 2 neighbor.msap.port) ≡ slice_get (neighbor_lines name number neighbor) 1
   pub kept : (key : List ℕ) (tlv : TlvUnit) → IsKeptTlv tlv → option_map (λ text. key ++ text) (tlv_value tlv.kind tlv.body) ≡ Some (kept_line key tlv)
 
--- The fields of the two bodies are the octets at these places: two pairs of octets; the octets after the first one, and
--- after the address.
+-- The fields of the two bodies are these octets: each set of capabilities is a pair of octets; the
+-- family is the second octet, and the numbering is the octet after the address.
 pub record AreRead : Type 0 where
   pub capabilities : (body : List ℕ) (told : LldpaCapabilities) → caps_of body ≡ Some (caps_told told) →
       (told.available ≡ 256 * slice_index body 0 + slice_index body 1)

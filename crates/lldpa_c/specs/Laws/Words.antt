@@ -1,11 +1,11 @@
--- The words of faults, number by number.
+-- The descriptions of error numbers, number by number.
 use Rattle.std.specs.Prelude.{◌≡◌, ℕ, ◌<◌, List, [], ◌∷◌, ◌++◌, map, drop, replicate, Option, Some, None, codes}
 use Rattle.std.specs.List.{range_with_len}
 use Rattle.lldp_text.specs.declared.fault.CommandFault.TheVariants.{Unknown, NoSuchPort, Number, Range, Text, Extra, Quote, InUse}
 use Rattle.lldp_text.specs.Fault.{text_of}
 use Rattle.lldpa_c.specs.Texts.{words_of}
 
--- those of LLDPDUs, from 1 on
+-- faults of LLDPDUs, from 1 on
 abbrev pub pdu_words : List (List ℕ)
 pdu_words =
     codes "no complete TLV where a mandatory one belongs"
@@ -17,14 +17,14 @@ pdu_words =
     ∷ codes "the Time To Live has fewer than 2 octets"
     ∷ codes "a mandatory TLV is repeated after the third" ∷ []
 
--- those of TLVs that are put, from 11 on
+-- faults of TLVs that are built, from 11 on
 abbrev pub tlv_words : List (List ℕ)
 tlv_words =
     codes "it does not fit in 1500 octets"
     ∷ codes "a TLV of its type may not be put"
     ∷ codes "its body is not well formed for its type" ∷ []
 
--- those of openings, from 21 on
+-- faults of opening, from 21 on
 abbrev pub opening_words : List (List ℕ)
 opening_words =
     codes "there was no memory"
@@ -34,11 +34,11 @@ opening_words =
     ∷ codes "two ports have the same name"
     ∷ codes "the hostname is over 255 octets, or has one that is not printable" ∷ []
 
--- those of commands, from 31 on: the lines that report them, without the `error: ` that they begin with
+-- faults of commands, from 31 on: the lines that report them, without the `error: ` at the start
 abbrev pub command_words : List (List ℕ)
 command_words = map (λ fault. drop 7 (text_of fault)) (Unknown ∷ NoSuchPort ∷ Number ∷ Range ∷ Text ∷ Extra ∷ Quote ∷ InUse ∷ [])
 
--- those of misuses, from 100 on
+-- misuses, from 100 on
 abbrev pub misuse_words : List (List ℕ)
 misuse_words =
     codes "a number or a length is not in its range"
@@ -48,11 +48,11 @@ misuse_words =
     ∷ codes "the agent is open already"
     ∷ codes "a pointer is NULL" ∷ []
 
--- this many numbers without words
+-- this many numbers without a description
 abbrev pub no_words : ℕ → List (Option (List ℕ))
 no_words count = replicate count None
 
--- Each number has these words, and every other number none.
+-- Each number has this description, and no other number has one.
 pub record AreWords : Type 0 where
   pub few : map words_of (range_with_len 0 106)
       ≡ no_words 1 ++ map Some pdu_words ++ no_words 2 ++ map Some tlv_words ++ no_words 7 ++ map Some opening_words

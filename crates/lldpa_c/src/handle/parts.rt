@@ -1,4 +1,4 @@
-//! A box whose fields the module above can reach.
+//! A box as its pointer and allocator, which the parent module can read.
 ghost use Rattle.std.specs.Prelude.{◌≡◌};
 ghost use Rattle.std.specs.Box.Ownership.{box_owns};
 

@@ -2,8 +2,8 @@ use Rattle.std.proofs.Common.{◌≡◌, ℕ, ◌<◌, length, map, drop, get_or
 use Rattle.lldpa_c.specs.Building.{tlv_of, put_all, put_faults}
 use Rattle.lldpa_c.proofs.build.put_each.Given as goal
 
--- What is left to put makes of the draft so far what all makes of the first, and its faults are the rest of all; those
--- before stand there, and what is after all stays.
+-- Putting the remaining TLVs into the draft so far gives the draft and the faults of putting all.
+-- The faults so far are written, and the elements after the last fault are unchanged.
 abbrev pub invariant-loop-i : goal.invariant-loop-i
 invariant-loop-i l =
     (put_all l.builder (drop l.i (map tlv_of l.tlvs)) ≡ put_all l.initial.builder (map tlv_of l.tlvs))

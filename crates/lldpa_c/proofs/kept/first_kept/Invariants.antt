@@ -4,7 +4,7 @@ use Rattle.lldp_pdu.specs.Code.Seen.{kept_seen}
 use Rattle.lldpa_c.specs.Place.{EndsWith}
 use Rattle.lldpa_c.proofs.kept.first_kept.Given as goal
 
--- nothing was passed over that is kept
+-- none of the TLVs so far is kept
 abbrev pub invariant-loop-tlv : goal.invariant-loop-tlv
 invariant-loop-tlv l =
     (kept_seen l.seen.types (cut l.tlvs).tlvs ≡ kept_seen l.initial.seen.types (cut l.initial.tlvs).tlvs)

@@ -8,7 +8,7 @@ use Rattle.std.proofs.lemmas.List.Elements.{All-get_or, All-nil, All-cons, All-a
 use Rattle.lldpa_c.specs.declared.options.LldpaText.{LldpaText}
 use Rattle.lldpa_c.proofs.open.names_of.Goals as goal
 
--- the first 65 are as many of the first as there are
+-- the first min(length, 65) names are the first 65 names
 first_names : (xs : List LldpaText) (n : ℕ) → n ≡ min (length xs) 65 → take n xs ≡ take 65 xs
 first_names xs n e = ap (λ (m : ℕ). take m xs) (e ∙ omega arith) ∙ take_min 65 xs
 

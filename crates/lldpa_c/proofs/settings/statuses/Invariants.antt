@@ -2,7 +2,7 @@ use Rattle.std.proofs.Common.{◌≡◌, length, map, take, drop, replicate}
 use Rattle.lldpa_c.specs.Settings.{status_number}
 use Rattle.lldpa_c.proofs.settings.statuses.Given as goal
 
--- the ports so far are told
+-- the statuses of the ports so far are written
 abbrev pub invariant-loop-port : goal.invariant-loop-port
 invariant-loop-port l = record {
   told : take l.port l.statuses ≡ map (λ port. status_number port.status) (take l.port l.agent.ports);

@@ -6,7 +6,7 @@ use Rattle.lldp_pdu.specs.WellFormed.{is_well_formed}
 use Rattle.lldpa_c.specs.Values.{may_write}
 use Rattle.lldpa_c.proofs.values.write_value.Goals as goal
 
--- a body of 2 to 256 octets is that of an identifier
+-- a body of 2 to 256 octets is the body of an identifier
 fits : (body : List ℕ) → (nat_le (length body) 511 && (nat_le 2 (length body) && nat_le (length body) 256)) ≡ true → IsIdentifier body
 fits body h =
     let p = and_parts _ _ (and_parts _ _ h).1 in
