@@ -1,4 +1,4 @@
--- A Management Address is well formed exactly if it is spelled so.
+-- A Management Address body is well formed exactly if it is the spelling of an address.
 use Rattle.std.proofs.Common.{◌≡◌, ℕ, suc, ◌+◌, ◌-◌, ◌^◌, ◌<◌, ◌≤◌, Bool, true, cond, ◌&&◌, leb, eqb, List, [], ◌∷◌, ◌++◌, length, take, drop, get_or, Option, Some, None, refl, sym, ap, subst, ◌∙◌, append_assoc, arith}
 use Rattle.std.specs.Int.{w32, from_be_bytes, to_be_bytes}
 use Rattle.std.proofs.lemmas.Bool.{and_parts, leb-true, le-leb, eq-eqb, eqb-true}
@@ -11,7 +11,7 @@ use Rattle.lldp_pdu.specs.ManagementAddress.{Address, IsSpelled, address_of}
 use Rattle.lldp_pdu.proofs.Cuts.{AreOctets-right}
 use Rattle.std.proofs.lemmas.Grind.{common_steps}
 
--- ---- an address at its places
+-- ---- the fields of an address, read at their places
 
 -- the octets after the address
 abbrev tail_of : ℕ → ℕ → ℕ → ℕ → ℕ → ℕ → List ℕ → List ℕ
@@ -41,12 +41,12 @@ address_at m f n a b c d o address oid e =
         → ◌≡◌ {A = Option Address} (cond (fits m o len) (Some (record { family = f; address = x; numbering = n; interface = i; oid = y })) None) (cond (fits m o' len) (Some (record { family = f; address = x'; numbering = n'; interface = i'; oid = y' })) None)
     same len m f p q r s t = cc
 
--- ---- what is spelled is well formed
+-- ---- a spelling is well formed
 
 pub spelled_is_address : (body : List ℕ) (a : Address) → IsSpelled body a → address_of body ≡ Some a
 spelled_is_address body a h = grind (arith, common_steps, append_assoc, address_at, le-leb, eq-eqb, length-append, from_be_bytes-to_be_bytes_4)
 
--- ---- what is well formed is spelled
+-- ---- a well-formed body is a spelling
 
 record Fits (m o len : ℕ) : Type 0 where
   pub least : 2 ≤ m
@@ -103,7 +103,7 @@ six_octets : (xs : List ℕ) → 6 ≤ length xs → Tail xs
 six_octets (n ∷ a ∷ b ∷ c ∷ d ∷ o ∷ oid) h = record { n = n; a = a; b = b; c = c; d = d; o = o; oid = oid; is = refl }
 six_octets other h = absurd (omega (arith, h))
 
--- the lengths of a well-formed body
+-- the lengths in a well-formed body are in range
 long_enough : (body : List ℕ) (found : Address) → address_of body ≡ Some found → Fits (get_or body 0 0) (get_or body (get_or body 0 0 + 6) 0) (length body)
 long_enough body found h = grind (arith, common_steps, fits_parts, cond_some)
 

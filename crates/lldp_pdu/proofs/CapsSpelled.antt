@@ -1,4 +1,4 @@
--- System Capabilities are well formed exactly if they are spelled so.
+-- A System Capabilities body is well formed exactly if it is the spelling of capabilities.
 use Rattle.std.proofs.Common.{◌≡◌, ℕ, zero, suc, Bool, ◌&&◌, ◌==◌, cond, eqb, List, length, Option, Some, None, refl, arith}
 use Rattle.std.specs.Prelude.{bit_and}
 use Rattle.std.specs.Int.{bit_at}
@@ -23,9 +23,7 @@ and_from_among enabled available among = same_from_bits (bit_and enabled availab
         let one : bit_at enabled bit ≡ 1 = omega (arith, e, lt) in
         omega (arith, bit_at_and enabled available bit, one, among bit one)
 
--- ---- four octets
-
--- ---- both ways
+-- ---- both directions
 
 is_right : List ℕ → Bool
 is_right body = (length body == 4) && (bit_and (caps_fields body).enabled (caps_fields body).available == (caps_fields body).enabled)

@@ -1,4 +1,4 @@
--- There is one cut, and `cut` computes it.
+-- Each list of octets has exactly one cut, and `cut` computes it.
 use Rattle.std.proofs.Common.{◌≡◌, ℕ, zero, suc, ◌+◌, ◌/◌, ◌%◌, ◌<◌, ◌≤◌, cond, ltb, List, [], ◌∷◌, ◌++◌, length, take, drop, get_or, ◌⊎◌, Option, Some, None, refl, sym, ap, ◌∙◌, append_assoc, arith, inl, inr}
 use Rattle.std.specs.List.{AllByRecursion}
 use Rattle.std.proofs.lemmas.Bool.{ltb-false, le-ltb}
@@ -17,7 +17,7 @@ pub AreOctets-right : (xs ys : List ℕ) → AreOctets (xs ++ ys) → AreOctets 
 AreOctets-right [] ys p = p
 AreOctets-right (x ∷ xs) ys p = AreOctets-right xs ys p.1
 
--- from what is known of a slice
+-- the elements of a list are octets if each is below 256
 pub AreOctets-from_index : (xs : List ℕ) → ((i : ℕ) → get_or xs i 0 < 256) → AreOctets xs
 AreOctets-from_index [] h = tt
 AreOctets-from_index (x ∷ xs) h = (h 0, AreOctets-from_index xs (λ i. h (suc i)))
@@ -32,7 +32,7 @@ pub first_tlv-spelling : (u : TlvUnit) (others : List ℕ) → IsTlv u → first
 unfolding announced
 first_tlv-spelling u others h = grind (arith, common_steps, le-ltb, length-append, take_at, drop_at)
 
--- what is read at the front is spelled there
+-- the octets begin with the spelling of this TLV, and the others follow
 pub record Takes (octets : List ℕ) (u : TlvUnit) (others : List ℕ) : Type 0 where
   pub parts : octets ≡ spelling u ++ others
   pub tlv : IsTlv u
@@ -42,7 +42,7 @@ pub first_takes : (octets : List ℕ) (u : TlvUnit) (others : List ℕ) → AreO
 unfolding announced
 first_takes octets u others fits h = grind (arith, common_steps, ltb-false, length-take, take-append-drop, AreOctets-right)
 
--- a list that begins with a TLV shows one at its front, and the other way round
+-- `first_tlv` returns None exactly if the octets do not begin with a complete TLV
 pub begins_none : (octets : List ℕ) → first_tlv octets ≡ None → ¬ (BeginsTlv octets)
 begins_none octets h b = let e : first_tlv octets ≡ Some (b.0, b.1) = ap first_tlv b.3 ∙ first_tlv-spelling b.0 b.1 b.2 in absurd (cc (h, e))
 
@@ -57,7 +57,7 @@ none_begins octets fits h =
       | inr (x, e) ↦ let t = first_takes octets x.0 x.1 fits e in absurd (h (x.0, x.1, t.tlv, t.parts))
     ]
 
--- what follows the first TLV stands after it
+-- the octets left are those after the first TLV
 pub first_left : (octets : List ℕ) (u : TlvUnit) (others : List ℕ) → first_tlv octets ≡ Some (u, others) → others ≡ drop (2 + length u.body) octets
 unfolding announced
 first_left octets u others h = grind (arith, common_steps, ltb-false, length-take)
@@ -68,7 +68,7 @@ first_shorter octets u others h = grind (arith, common_steps, length-drop)
 
 -- ---- the cut
 
--- any number that is no less than the list's length gives the same cut
+-- any bound of at least the list's length gives the same cut
 enough : (n m : ℕ) (octets : List ℕ) → length octets ≤ n → length octets ≤ m → cut_within n octets ≡ cut_within m octets
 unfolding cut_within
 enough zero zero octets h k = refl
@@ -82,7 +82,7 @@ enough (suc n) (suc m) octets h k = after_same (first_tlv octets) (λ u others e
     after_same None same = refl
     after_same (Some x) same = ap (λ (c : Cut). record { tlvs = x.0 ∷ c.tlvs; rest = c.rest }) (same x.0 x.1 refl)
 
--- the cut is the first TLV, and the cut of what follows it
+-- the cut is the first TLV, followed by the cut of the octets after it
 pub cut_none : (octets : List ℕ) → first_tlv octets ≡ None → cut octets ≡ record { tlvs = []; rest = octets }
 unfolding cut cut_within
 cut_none octets h = grind (arith, common_steps)
@@ -91,7 +91,7 @@ pub cut_some : (octets : List ℕ) (u : TlvUnit) (others : List ℕ) → first_t
 unfolding cut cut_within
 cut_some octets u others h = grind (arith, common_steps, enough, first_shorter)
 
--- TLVs in front of octets are TLVs in front of their cut
+-- TLVs that are spelled before some octets come before the TLVs of their cut
 pub cut-spellings : (us : List TlvUnit) (octets : List ℕ) → AllByRecursion IsTlv us → cut (spellings us ++ octets) ≡ record { tlvs = us ++ (cut octets).tlvs; rest = (cut octets).rest }
 cut-spellings [] octets h = refl
 cut-spellings (u ∷ us) octets h =
@@ -100,7 +100,7 @@ cut-spellings (u ∷ us) octets h =
     ∙ cut_some (spelling u ++ (spellings us ++ octets)) u (spellings us ++ octets) (first_tlv-spelling u (spellings us ++ octets) h.0)
     ∙ ap (λ (c : Cut). record { tlvs = u ∷ c.tlvs; rest = c.rest }) (cut-spellings us octets h.1)
 
--- Each list of octets has a cut, which `cut` computes, and no other.
+-- Each list of octets has exactly one cut, which `cut` computes.
 is_cut_within : (n : ℕ) (octets : List ℕ) → length octets ≤ n → AreOctets octets → IsCut octets (cut octets)
 is_cut_within n octets h fits = at_first n octets h fits (first_tlv octets) refl
   where

@@ -1,4 +1,4 @@
--- Drafts: what is built is sound, and tells what was begun and put.
+-- Drafts: a built LLDPDU is sound, and examining it returns what was begun and put.
 use Rattle.std.proofs.Common.{◌≡◌, ℕ, ◌+◌, ◌^◌, ◌<◌, ◌≤◌, Bool, true, false, cond, not, ◌&&◌, ◌||◌, ltb, leb, eqb, List, [], ◌∷◌, ◌++◌, length, drop, Option, Some, None, refl, sym, ap, subst, ◌∙◌, append_assoc, arith}
 use Rattle.std.specs.List.{list_any, AllByRecursion}
 use Rattle.std.specs.Int.{w16, to_be_bytes}
@@ -47,7 +47,7 @@ pub builds : (d : Draft) (octets : List ℕ) (met : List Bool) (lives : Bool) �
 unfolding draft_of
 builds d octets met lives e h room flags l = grind (arith, common_steps, cut_draft, ttl_tlvs, seconds_back, msap_tlvs)
 
--- ---- begun
+-- ---- beginning a draft
 
 abbrev pub begun : List ℕ → List ℕ → ℕ → Draft
 begun chassis port ttl = record { msap = record { chassis = chassis; port = port }; ttl = ttl; tlvs = [] }
@@ -63,7 +63,7 @@ begins chassis port octets ttl h k l e =
     let len : length octets ≡ length a + length b + length c = ap length e ∙ (length-append (a ++ b) c ∙ ap (λ (n : ℕ). n + length c) (length-append a b)) in
     builds (begun chassis port ttl) octets none_seen (ltb 0 ttl) spelled (record { chassis = h; port = k; ttl = l; tlvs = tt; kept = tt }) (omega (arith, len, h.greatest, k.greatest)) flags_none refl
 
--- ---- put
+-- ---- putting a TLV
 
 put_spells : (d : Draft) (u : TlvUnit) → spellings (all_tlvs d) ++ spelling u ≡ spellings (all_tlvs (with_tlv d u))
 put_spells d u = flat_map_more spelling [] (all_tlvs d) u
@@ -71,7 +71,7 @@ put_spells d u = flat_map_more spelling [] (all_tlvs d) u
 pub put_length : (d : Draft) (u : TlvUnit) → length (lldpdu_octets (with_tlv d u)) ≡ length (spellings (all_tlvs d)) + length u.body + 4
 put_length d u = grind (arith, common_steps, length-append, put_spells)
 
--- the checks, each with its outcome
+-- the fault, given the outcome of each check
 abbrev decided : Bool → Bool → Bool → Bool → Bool → Bool → Option BuildFault
 decided a b c d e f = cond (not a || b || c) (Some Kind) (cond (d || not e) (Some Body) (cond f (Some Full) None))
 
@@ -80,18 +80,18 @@ pub put_fault_is : (d : Draft) (u : TlvUnit) (a b c e f g : Bool) → is_between
 unfolding put_fault
 put_fault_is d u a b c e f g p q r s t v = grind (arith, common_steps)
 
--- what passes each check, and the other way round
+-- a TLV that passes the checks can be put, and a TLV that can be put passes them
 pub passes : (d : Draft) (u : TlvUnit) → put_fault d u ≡ None → CanPut d u
 passes d u h = grind (arith, common_steps, put_fault_is, and_parts, leb-true, eqb-false, ltb-false, put_length)
 
 pub can_put : (d : Draft) (u : TlvUnit) → CanPut d u → put_fault d u ≡ None
 can_put d u h = grind (arith, common_steps, put_fault_is, ne_eqb, le-ltb, put_length, le-leb)
 
--- the length of the LLDPDU with one more TLV, by the builder's octets
+-- the length of the LLDPDU with one more TLV, from the number of the builder's octets
 pub long : (d : Draft) (u : TlvUnit) (octets : List ℕ) (met : List Bool) (lives : Bool) → draft_of octets ≡ d → Builds octets met lives → length (lldpdu_octets (with_tlv d u)) ≡ length octets + length u.body + 4
 long d u octets met lives v b = put_length d u ∙ ap (λ (n : ℕ). n + length u.body + 4) (sym (ap length (b.spelled ∙ ap (λ (d : Draft). spellings (all_tlvs d)) v)))
 
--- the bit says whether the TTL is 0
+-- `lives` is false exactly if the TTL is 0
 pub tells_shutdown : (d : Draft) (octets : List ℕ) (met : List Bool) (lives : Bool) → Builds octets met lives → draft_of octets ≡ d → not lives ≡ eqb d.ttl 0
 tells_shutdown d octets met lives b v = grind (arith, common_steps, ne_eqb, eq-eqb, lt-ltb, le-ltb)
 
@@ -128,7 +128,7 @@ puts d u old octets met lives v b h e =
     builds (with_tlv d u) octets (with_flag met u.kind) lives spelled (draft_more d u draft p)
     (omega (arith, len, put_length d u, p.room)) (flags_put met d.tlvs u flags) (b.lives_is ∙ ap (λ (d : Draft). ltb 0 d.ttl) v)
 
--- ---- finished
+-- ---- finishing a draft
 
 no_mandatory : (us : List TlvUnit) → AllByRecursion IsKeptTlv us → list_any is_mandatory us ≡ false
 no_mandatory [] h = refl
@@ -193,9 +193,9 @@ finished d octets h e =
         → ◌≡◌ {A = LldpInfo} (record { msap = m; ttl = t; octets = x; kept = k; discarded = l; unrecognized = u }) (record { msap = m'; ttl = t'; octets = x'; kept = k'; discarded = l'; unrecognized = u' })
     same p q r s t u = cc
 
--- ---- whatever can be built
+-- ---- every draft that can be built
 
--- the octets of a draft, with room for the End Of LLDPDU
+-- the octets of the draft leave room for the End Of LLDPDU
 abbrev Fits : Draft → Type 0
 Fits d = length (spellings (all_tlvs d)) + 2 ≤ 1500
 

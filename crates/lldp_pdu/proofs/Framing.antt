@@ -1,4 +1,4 @@
--- An LLDPDU after the three fields of an LLDP frame is that frame's, and an LLDP frame has that form.
+-- A frame has an LLDPDU exactly if it is the three LLDP header fields and that LLDPDU.
 use Rattle.std.proofs.Common.{◌≡◌, ℕ, ◌≤◌, true, leb, List, [], ◌∷◌, ◌++◌, length, Some, arith, Bool, ◌&&◌, take, drop, sym, ap, ◌∙◌, append_assoc}
 use Rattle.std.proofs.lemmas.Bool.{le-leb, and_parts, leb-true}
 use Rattle.lldp_pdu.specs.Frame.{nearest_bridge, lldp_ethertype, is_lldp_frame, lldpdu_of}
@@ -19,7 +19,7 @@ pub has_lldpdu : (source lldpdu : List ℕ) → length source ≡ 6 → length l
 has_lldpdu (a ∷ b ∷ c ∷ d ∷ e ∷ f ∷ []) lldpdu l h = framed a b c d e f lldpdu h
 has_lldpdu other lldpdu l h = absurd (omega arith)
 
--- six of at least 14 octets
+-- a frame of at least 14 octets has a source of six octets
 six_octets : (frame : List ℕ) → 14 ≤ length frame → length (take 6 (drop 6 frame)) ≡ 6
 six_octets frame h = length-take-le 6 (drop 6 frame) (grind (arith, length-drop 6 frame))
 
@@ -43,11 +43,11 @@ form frame h =
       octets = joined frame each.1 each.2;
     }
 
--- the LLDPDU of an LLDP frame has that form
+-- if a frame has an LLDPDU, `HasForm` holds
 pub has_form : (frame lldpdu : List ℕ) → lldpdu_of frame ≡ Some lldpdu → HasForm frame lldpdu
 has_form frame lldpdu h = grind (arith, common_steps, form, none-some)
 
--- and what has that form is an LLDP frame, with that LLDPDU
+-- if `HasForm` holds, the frame has that LLDPDU
 pub of_form : (frame lldpdu : List ℕ) → HasForm frame lldpdu → lldpdu_of frame ≡ Some lldpdu
 of_form frame lldpdu f =
     ap lldpdu_of (f.octets ∙ sym (append_assoc (nearest_bridge ++ f.source) lldp_ethertype lldpdu))

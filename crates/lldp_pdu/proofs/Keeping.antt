@@ -1,4 +1,4 @@
--- The flags of the single types tell what "an earlier TLV" tells.
+-- The flags of the types that count once give the same result as a look at all earlier TLVs.
 use Rattle.std.proofs.Common.{◌≡◌, ℕ, ◌+◌, Bool, true, false, cond, not, ◌&&◌, ◌||◌, eqb, List, [], ◌∷◌, length, refl, sym, ap, ◌∙◌, arith}
 use Rattle.std.proofs.lemmas.Bool.{cases_eq, and_parts, leb-true, eq-eqb, ne_eqb, and_right, and_left, or_right, le-leb, true≢false}
 use Rattle.std.proofs.Math.Bool.{or-false}
@@ -15,23 +15,23 @@ use Rattle.std.proofs.lemmas.Grind.{common_steps}
 pub flags_none : Flags none_seen (λ kind. false)
 flags_none = grind (arith, common_steps)
 
--- once a flag is set its type is met too, and no other
+-- setting a flag adds exactly its type to the types that are met
 pub flags_more : (seen : List Bool) (is_met : ℕ → Bool) (met : ℕ) → Flags seen is_met → Flags (with_flag seen met) (λ kind. is_met kind || eqb met kind)
 unfolding with_flag
 flags_more seen is_met met f = grind (arith, common_steps, ne_eqb, or-false, true≢false, le-leb, and_parts, leb-true, length-set, cases_eq, get_or-set_same, or_right, eq-eqb, get_or-set_other)
 
--- what is read is whether a type with a flag is met
+-- `has_flag` is true exactly if the type counts once and is met
 pub flag_is : (seen : List Bool) (is_met : ℕ → Bool) (kind : ℕ) → Flags seen is_met → has_flag seen kind ≡ (is_single kind && is_met kind)
 unfolding has_flag
 flag_is seen is_met kind f = grind (arith, common_steps, and_parts, leb-true, and_left)
 
--- the same types are met, said otherwise
+-- the flags also fit any equal test of which types are met
 pub flags_as : (seen : List Bool) (is_met also : ℕ → Bool) → ((kind : ℕ) → is_met kind ≡ also kind) → Flags seen is_met → Flags seen also
 flags_as seen is_met also e f = record { four = f.four; set = λ kind low high. f.set kind low high ∙ e kind }
 
--- ---- what is kept
+-- ---- which TLVs are kept
 
--- the flags tell of which types a well-formed TLV is among those that came
+-- the flags are set for the types of which an earlier TLV is well formed
 abbrev FlagsMet : List Bool → List TlvUnit → Type 0
 FlagsMet seen earlier = Flags seen (λ kind. has_well_formed kind earlier)
 
@@ -49,7 +49,7 @@ flags_after seen earlier u f = go (is_well_formed u) refl
     go true e = flags_as (with_flag seen u.kind) _ _ (λ kind. now kind e) (flags_more seen (λ kind. has_well_formed kind earlier) u.kind f)
     go false e = flags_as seen _ _ (λ kind. sym (ap (λ (b : Bool). b || has_well_formed kind earlier) (and_right (eqb u.kind kind) (is_well_formed u) e))) f
 
--- so the flags keep what the definition keeps
+-- with these flags, the code keeps a TLV exactly if the definition keeps it
 kept_same : (seen : List Bool) (earlier : List TlvUnit) (u : TlvUnit) → FlagsMet seen earlier → is_kept_seen seen u ≡ is_kept earlier u
 kept_same seen earlier u f = ap (λ (b : Bool). is_well_formed u && not b) (flag_is seen (λ kind. has_well_formed kind earlier) u.kind f)
 
@@ -60,7 +60,7 @@ kept_all seen earlier (u ∷ us) f = grind (arith, common_steps, flags_after, ke
 pub kept_seen-none : (us : List TlvUnit) → kept_seen none_seen us ≡ kept_after [] us
 kept_seen-none us = kept_all none_seen [] us flags_none
 
--- what is not kept is counted as lost
+-- `count_lost` counts the TLVs that are not kept
 lost_all : (seen : List Bool) (earlier us : List TlvUnit) → FlagsMet seen earlier → count_lost seen us ≡ length (others_after earlier us)
 lost_all seen earlier [] f = refl
 lost_all seen earlier (u ∷ us) f = grind (arith, common_steps, kept_same, flags_after, lost_all (seen_after seen u) (u ∷ earlier) us (flags_after seen earlier u f))
@@ -68,7 +68,7 @@ lost_all seen earlier (u ∷ us) f = grind (arith, common_steps, kept_same, flag
 pub count_lost-none : (us : List TlvUnit) → count_lost none_seen us ≡ length (others_after [] us)
 count_lost-none us = lost_all none_seen [] us flags_none
 
--- each TLV is kept or not
+-- each TLV is either kept or not
 pub kept_and_others : (earlier us : List TlvUnit) → length (kept_after earlier us) + length (others_after earlier us) ≡ length us
 kept_and_others earlier [] = omega arith
 kept_and_others earlier (u ∷ us) = grind (arith, common_steps, kept_and_others (u ∷ earlier) us)

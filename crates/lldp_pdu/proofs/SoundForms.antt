@@ -1,4 +1,4 @@
--- An LLDPDU is sound exactly if it has the form of one, and any other has the fault of its first part that is wrong.
+-- An LLDPDU is sound exactly if `IsSound` holds. Otherwise its first wrong part decides the fault.
 use Rattle.std.proofs.Common.{◌≡◌, ℕ, ◌<◌, ◌≤◌, ◌⊎◌, inl, inr, Bool, true, false, cond, ◌&&◌, List, [], ◌∷◌, length, Some, None, refl, sym, ap, ◌∙◌, eq-zero-or-pos, arith}
 use Rattle.std.specs.Prelude.{nat_lt}
 use Rattle.std.specs.List.{list_any, AllByRecursion}
@@ -18,7 +18,7 @@ use Rattle.lldp_pdu.proofs.Opening.{fault_from, sound_checks}
 use Rattle.lldp_pdu.proofs.Telling.{sound_opens, ttl_tlvs, fault_tlvs, sound_last, later_kind}
 use Rattle.lldp_pdu.proofs.Drafts.{later_from}
 
--- ---- no other of the mandatory types
+-- ---- no other TLV of a mandatory type
 
 later_kinds : (us : List TlvUnit) → list_any is_mandatory (before_end us) ≡ false → AreOther us
 later_kinds [] m = tt
@@ -33,7 +33,7 @@ no_mandatory : (us : List TlvUnit) → AllByRecursion (λ (u : TlvUnit). 4 ≤ u
 no_mandatory [] h = refl
 no_mandatory (u ∷ us) h = grind (arith, common_steps, h.0, no_mandatory us h.1)
 
--- ---- both ways
+-- ---- both directions
 
 pub sound_has_form : (octets : List ℕ) → fault_of octets ≡ None → IsSound octets
 sound_has_form octets h =

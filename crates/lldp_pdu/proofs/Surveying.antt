@@ -16,7 +16,7 @@ use Rattle.lldp_pdu.proofs.Opening.{with_front}
 abbrev pub extent_left : List ℕ → List TlvUnit
 extent_left octets = before_end (cut octets).tlvs
 
--- what was counted, and what is counted in the octets left, is what is counted in all of them
+-- the counts so far and those of the octets left add up to the counts of all octets
 pub record Surveys (after left : List ℕ) (seen : List Bool) (len lost unknown : ℕ) : Type 0 where
   pub length_is : len + length (spellings (extent_left left)) ≡ length (spellings (extent_left after))
   pub lost_are : lost + count_lost seen (extent_left left) ≡ count_lost none_seen (extent_left after)
@@ -28,7 +28,7 @@ pub record Surveys (after left : List ℕ) (seen : List Bool) (len lost unknown 
 pub starts : (after left : List ℕ) (seen : List Bool) → left ≡ after → seen ≡ none_seen → Surveys after left seen 0 0 0
 starts after left seen e f = rw (e, f) (record { length_is = omega arith; lost_are = omega arith; unknown_are = omega arith; repeats = refl; ends = refl; rest = refl })
 
--- ---- a TLV that is neither the end nor a mandatory one
+-- ---- a TLV that is neither an End Of LLDPDU nor mandatory
 
 extent_front : (left next : List ℕ) (u : TlvUnit) → cut left ≡ with_front u next → is_end u ≡ false → extent_left left ≡ u ∷ extent_left next
 extent_front left next u e k = ap (λ (c : Cut). before_end c.tlvs) e ∙ rw k refl
@@ -45,7 +45,7 @@ all_of_front (u ∷ us) =
     go true more e = (u ∷ us, refl)
     go false more e = (more, ap (λ (vs : List TlvUnit). u ∷ vs) e)
 
--- the extent stands at the front of the octets
+-- the extent is the front of the octets
 pub extent_is_front : (octets : List ℕ) → AreOctets octets → (more : List ℕ) × (octets ≡ spellings (extent_left octets) ++ more) × (length (cut octets).rest ≤ length more)
 extent_is_front octets fits =
     let c = cut octets in
@@ -62,7 +62,7 @@ unknown_few : (seen : List Bool) (us : List TlvUnit) → count_unrecognized (kep
 unknown_few seen [] = omega arith
 unknown_few seen (u ∷ us) = grind (arith, common_steps, length-append, unknown_few (seen_after seen u) us)
 
--- what the counters stay below
+-- upper bounds of the counters
 pub record Bounds (after left : List ℕ) (n lose know : ℕ) : Type 0 where
   pub len : n + length (spellings (extent_left left)) ≤ length after
   pub lost : lose ≤ length after
@@ -81,9 +81,9 @@ bounds after left seen len lost unknown fits s =
 pub one_more : (left next : List ℕ) (u : TlvUnit) → cut left ≡ with_front u next → is_end u ≡ false → 2 + length u.body ≤ length (spellings (extent_left left))
 one_more left next u e k = rw (extent_front left next u e k) (omega (arith, length-append (spelling u) (spellings (extent_left next))))
 
--- ---- the end
+-- ---- the end of the loop
 
--- nothing is left of the extent
+-- the survey is complete if nothing is left of the extent
 is_survey : (after left : List ℕ) (seen : List Bool) (len lost unknown more : ℕ) → ((i : ℕ) → get_or after i 0 < 256) → Surveys after left seen len lost unknown → extent_left left ≡ [] → more ≡ lost + cond (ended_incomplete after) 1 0
     → IsSurveyOf after (take len after) more unknown
 is_survey after left seen len lost unknown more fits s e m =
@@ -97,7 +97,7 @@ is_survey after left seen len lost unknown more fits s e m =
       unrecognized = unknowns;
     }
 
--- an End Of LLDPDU came
+-- the loop ends at an End Of LLDPDU
 pub survey_at_end : (after left next : List ℕ) (seen : List Bool) (len lost unknown : ℕ) (u : TlvUnit) → ((i : ℕ) → get_or after i 0 < 256) → Surveys after left seen len lost unknown → cut left ≡ with_front u next → is_end u ≡ true
     → IsSurveyOf after (take len after) lost unknown
 unfolding ended_incomplete
@@ -106,7 +106,7 @@ survey_at_end after left next seen len lost unknown u fits s e k =
     let ended : list_any is_end (cut after).tlvs ≡ true = sym s.ends ∙ ap (λ (c : Cut). list_any is_end c.tlvs) e ∙ rw k refl in
     is_survey after left seen len lost unknown lost fits s none (rw ended (omega arith))
 
--- no TLV is left
+-- the loop ends because no TLV is left
 pub survey_at_rest : (after left : List ℕ) (seen : List Bool) (len lost unknown more : ℕ) → ((i : ℕ) → get_or after i 0 < 256) → Surveys after left seen len lost unknown → cut left ≡ record { tlvs = []; rest = left } → more ≡ lost + cond (ltb 0 (length left)) 1 0
     → IsSurveyOf after (take len after) more unknown
 unfolding ended_incomplete

@@ -1,4 +1,4 @@
--- What the extent of a sound LLDPDU tells again.
+-- The extent of a sound LLDPDU has the same contents as the LLDPDU.
 use Rattle.std.proofs.Common.{◌≡◌, ℕ, ◌+◌, ◌*◌, ◌<◌, ◌≤◌, Bool, true, false, cond, ◌&&◌, leb, eqb, List, [], ◌∷◌, length, drop, get_or, None, refl, sym, ap, subst, ◌∙◌, arith}
 use Rattle.std.specs.List.{list_any, AllByRecursion}
 use Rattle.std.proofs.lemmas.Bool.{not-false, eqb-true, lt-leb, true≢false, ltb-false, and_right, and_parts, leb-true, lt-ltb, or_parts}
@@ -19,12 +19,12 @@ use Rattle.lldp_pdu.proofs.Opening.{fault_from}
 use Rattle.lldp_pdu.proofs.Keeping.{kept_and_others}
 use Rattle.std.proofs.lemmas.Grind.{common_steps}
 
--- ---- an LLDPDU with no fault begins with the mandatory TLVs
+-- ---- an LLDPDU without a fault begins with the mandatory TLVs
 
 abbrev no_check : Check PduFault
 no_check = record { fails = false; fault = Truncated }
 
--- with no fault each check passes
+-- without a fault, every check passes
 all_pass : (cs : List (Check PduFault)) → first_fault cs ≡ None → (i : ℕ) → (get_or cs i no_check).fails ≡ false
 all_pass [] h i = refl
 all_pass (c ∷ cs) h i = grind (arith, common_steps, all_pass cs)
@@ -55,7 +55,7 @@ pub tlvs_before_end : (us : List TlvUnit) → AllByRecursion IsTlv us → AllByR
 tlvs_before_end [] h = tt
 tlvs_before_end (u ∷ us) h = grind (arith, common_steps, tlvs_before_end us h.1)
 
--- TLVs alone are their own cut
+-- the cut of the spellings of some TLVs is these TLVs
 pub cut_alone : (us : List TlvUnit) → AllByRecursion IsTlv us → cut (spellings us) ≡ record { tlvs = us; rest = [] }
 unfolding cut cut_within
 cut_alone us h =
@@ -65,7 +65,7 @@ pub cut_extent : (octets : List ℕ) → AreOctets octets → cut (extent octets
 unfolding extent
 cut_extent octets fits = cut_alone (extent_tlvs octets) (tlvs_before_end (cut octets).tlvs (cut_is_cut octets fits).complete)
 
--- ---- what the extent tells
+-- ---- the contents of the extent
 
 pub extent-again : (octets : List ℕ) → AreOctets octets → extent (extent octets) ≡ extent octets
 unfolding extent
@@ -79,15 +79,15 @@ pub kept-again : (octets : List ℕ) → AreOctets octets → kept_of (extent oc
 unfolding kept_of
 kept-again octets fits = ap (kept_after []) (later-again octets fits)
 
--- the mandatory TLVs stand in the extent
+-- the extent begins with the mandatory TLVs
 opened_extent : (octets : List ℕ) (o : Opened (cut octets).tlvs) → extent_tlvs octets ≡ o.chassis ∷ o.port ∷ o.ttl ∷ before_end o.others
 opened_extent octets o = ap before_end o.parts ∙ rw (o.chassis_kind, o.port_kind, o.ttl_kind) refl
 
--- the checks read nothing else of the TLVs after the third
+-- the checks use the TLVs after the third only as `later`
 same_checks : (a b d : TlvUnit) (us vs : List TlvUnit) (ttl : ℕ) (later : List TlvUnit) → first_fault (checks (a ∷ b ∷ d ∷ us) ttl later) ≡ first_fault (checks (a ∷ b ∷ d ∷ vs) ttl later)
 same_checks a b d us vs ttl later = grind (arith, common_steps, lt-leb)
 
--- the definitions, opened
+-- the definitions, unfolded
 pub ttl_tlvs : (octets : List ℕ) → ttl_of octets ≡ seconds (tlv_at (cut octets).tlvs 2).body
 unfolding ttl_of
 ttl_tlvs octets = refl
@@ -104,7 +104,7 @@ fewer_discarded : (octets : List ℕ) → AreOctets octets → discarded_of (ext
 unfolding discarded_of ended_incomplete
 fewer_discarded octets fits = grind (arith, common_steps, later-again, cut_extent, and_right)
 
--- what a sound LLDPDU tells, and its extent again
+-- the extent has the same TTL, MSAP identifier and fault as the octets
 record Again (octets : List ℕ) : Type 0 where
   pub ttl : ttl_of (extent octets) ≡ ttl_of octets
   pub msap : msap_of (extent octets) ≡ msap_of octets
@@ -133,9 +133,9 @@ again octets fits o =
     msap_is : (octets : List ℕ) (a b d : TlvUnit) (us : List TlvUnit) → (cut octets).tlvs ≡ a ∷ b ∷ d ∷ us → msap_of octets ≡ record { chassis = a.body; port = b.body }
     msap_is octets a b d us e = msap_tlvs octets ∙ ap (λ (vs : List TlvUnit). record { chassis = (tlv_at vs 0).body; port = (tlv_at vs 1).body }) e
 
--- ---- what is kept
+-- ---- which TLVs are kept
 
--- neither the end nor a mandatory TLV
+-- the TLV is neither an End Of LLDPDU nor mandatory
 record IsLater (u : TlvUnit) : Type 0 where
   pub tlv : IsTlv u
   pub not_end : is_end u ≡ false
@@ -168,13 +168,13 @@ extent_octets : (octets : List ℕ) → AreOctets octets → AreOctets (extent o
 unfolding extent
 extent_octets octets fits = let f = extent_is_front octets fits in AreOctets-left (extent octets) f.0 (subst AreOctets f.1 fits)
 
--- ---- how many there are
+-- ---- numbers of TLVs
 
 tlvs_fewer : (us : List TlvUnit) → 2 * length us ≤ length (spellings us)
 tlvs_fewer [] = omega arith
 tlvs_fewer (u ∷ us) = omega (arith, tlvs_fewer us, length-append (spelling u) (spellings us))
 
--- three mandatory TLVs of at least 4 octets each, and the others of at least 2
+-- the three mandatory TLVs have at least 4 octets each, and the others at least 2
 later_fewer : (octets : List ℕ) → Opened (cut octets).tlvs → 12 + 2 * length (later_tlvs octets) ≤ length (extent octets)
 unfolding extent
 later_fewer octets o = grind (arith, common_steps, later_of, opened_extent, tlvs_fewer, length-append)
@@ -198,7 +198,7 @@ few_unrecognized (u ∷ us) = grind (arith, common_steps, few_unrecognized us)
 pub sound_last : (us : List TlvUnit) (ttl : ℕ) (later : List TlvUnit) → first_fault (checks us ttl later) ≡ None → 0 < ttl → list_any is_mandatory later ≡ false
 sound_last us ttl later h l = grind (arith, common_steps, all_pass, lt-ltb)
 
--- The octets of what a sound LLDPDU tells tell the same.
+-- The extent of a sound LLDPDU has the same contents as the LLDPDU.
 pub tells_itself : (octets : List ℕ) → AreOctets octets → fault_of octets ≡ None → 0 < ttl_of octets → IsInfo (info_of octets) × TellsItself (info_of octets)
 tells_itself octets fits sound lives =
     let checked = fault_tlvs octets ∙ sound in

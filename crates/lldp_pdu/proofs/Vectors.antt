@@ -1,4 +1,4 @@
--- Vectors: literal octets and what they are, computed from the definitions alone.
+-- Test vectors: literal octets and their contents, computed from the definitions alone.
 pub mod Parts
 pub mod Rows
 pub mod Frames

@@ -1,4 +1,4 @@
--- The two parts of an examination make the whole.
+-- The two steps of an examination together give the contents of the LLDPDU.
 use Rattle.std.proofs.Common.{◌≡◌, ℕ, ◌+◌, ◌-◌, ◌<◌, ◌≤◌, Bool, cond, not, ◌&&◌, ltb, List, [], ◌++◌, length, take, drop, get_or, Some, None, refl, sym, ap, subst, ◌∙◌, arith}
 use Rattle.std.specs.List.{list_any, AllByRecursion}
 use Rattle.std.proofs.lemmas.Bool.{lt-ltb}
@@ -34,11 +34,11 @@ module _ (octets after : List ℕ) (msap : MsapId) (ttl : ℕ) (o : OpensWith oc
   unfolding ended_incomplete
   incomplete_is = ap (λ (c : Cut). not (list_any is_end c.tlvs) && ltb 0 (length c.rest)) o.parts
 
-  -- with a TTL above 0 the last check is left
+  -- with a TTL above 0, only the last check can fail
   pub last_check : (r : Bool) → 0 < ttl → list_any is_mandatory (before_end (cut after).tlvs) ≡ r → fault_of octets ≡ cond r (Some Repeated) None
   last_check r p h = o.fault ∙ rw (later_is, h, lt-ltb 0 ttl p) refl
 
--- where the parts of the examination stand in the octets
+-- the places in the octets of the parts that the examination found
 pub record Stands (octets after found : List ℕ) : Type 0 where
   pub within : length after ≤ length octets
   pub end : length octets - length after + length found ≤ length octets
@@ -54,7 +54,7 @@ pub extent_front : (octets : List ℕ) → AreOctets octets → (more : List ℕ
 unfolding extent
 extent_front octets fits = let f = extent_is_front octets fits in (f.0, f.1)
 
--- the lengths of three TLVs and the others
+-- the length of three TLVs and the others is the sum of their lengths
 three_lengths : (a b d e : List ℕ) → length (a ++ (b ++ (d ++ e))) ≡ length a + length b + length d + length e
 three_lengths a b d e = omega (arith, length-append a (b ++ (d ++ e)), length-append b (d ++ e), length-append d e)
 
@@ -84,7 +84,7 @@ stands octets after found msap ttl lost unknown bytes o s =
       optional = ap cut s.octets ∙ cut_alone (before_end vs) (tlvs_before_end vs others);
     }
 
--- what was found is what the octets tell
+-- the definition of `discarded_of`, unfolded
 pub discarded_is : (octets : List ℕ) → discarded_of octets ≡ length (others_after [] (later_tlvs octets)) + cond (ended_incomplete octets) 1 0
 unfolding discarded_of
 discarded_is octets = refl

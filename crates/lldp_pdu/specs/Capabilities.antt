@@ -9,7 +9,7 @@ caps_fields body = record {
   enabled = 256 * slice_index body 2 + slice_index body 3;
 }
 
--- Four octets, and no bit is enabled that is not available.
+-- the fields, if the body has four octets and every enabled bit is available
 abbrev pub caps_of : List ℕ → Option Caps
 caps_of body =
     if (length body == 4)

@@ -1,4 +1,4 @@
--- What the code remembers while it reads and builds, and how an Info and a Builder are seen as what they stand for.
+-- The state that the code keeps to read and to build, and how contracts see an Info and a Builder.
 pub mod Seen
 pub mod Survey
 pub mod InfoView

@@ -1,4 +1,4 @@
--- An LLDPDU that is built.
+-- An LLDPDU under construction.
 use Rattle.std.specs.Prelude.{◌≡◌, ℕ, ◌+◌, ◌<◌, ◌≤◌, ◌^◌, Bool, true, false, not, ◌&&◌, ◌||◌, List, [], ◌∷◌, ◌++◌, length, Option, None, nat_lt, ◌==◌}
 use Rattle.std.specs.List.{list_any}
 use Rattle.std.specs.Int.{w16, to_be_bytes}
@@ -15,13 +15,13 @@ use Rattle.lldp_pdu.specs.Lldpdu.{msap_of, ttl_of}
 use Rattle.lldp_pdu.specs.Kept.{is_single, count_unrecognized}
 use Rattle.lldp_pdu.specs.Info.{LldpInfo, info_of}
 
--- what was begun, and the TLVs put since
+-- the MSAP identifier and the TTL that a draft was begun with, and the TLVs put since
 pub record Draft : Type 0 where
   pub msap : MsapId
   pub ttl : ℕ
   pub tlvs : List TlvUnit
 
--- its TLVs, the mandatory ones first
+-- all TLVs of a draft, the mandatory ones first
 abbrev pub all_tlvs : Draft → List TlvUnit
 all_tlvs d =
     record { kind = chassis_id_type; body = d.msap.chassis }
@@ -33,11 +33,11 @@ all_tlvs d =
 abbrev pub end_of_lldpdu : TlvUnit
 end_of_lldpdu = record { kind = end_of_lldpdu_type; body = [] }
 
--- the finished LLDPDU
+-- the octets of the finished LLDPDU
 abbrev pub lldpdu_octets : Draft → List ℕ
 lldpdu_octets d = spellings (all_tlvs d) ++ spelling end_of_lldpdu
 
--- one TLV more, after those that were put
+-- the draft with one more TLV after those that were put
 abbrev pub with_tlv : Draft → TlvUnit → Draft
 with_tlv d u = record { msap = d.msap; ttl = d.ttl; tlvs = d.tlvs ++ u ∷ [] }
 
@@ -45,7 +45,7 @@ with_tlv d u = record { msap = d.msap; ttl = d.ttl; tlvs = d.tlvs ++ u ∷ [] }
 abbrev pub was_put : ℕ → List TlvUnit → Bool
 was_put kind us = list_any (λ u. u.kind == kind) us
 
--- the checks on a TLV that is put, in their order
+-- the checks on a TLV that is to be put, in order
 abbrev pub put_checks : Draft → TlvUnit → List (Check BuildFault)
 put_checks d u =
     record {
@@ -57,11 +57,11 @@ put_checks d u =
     ∷ record { fails = nat_lt 1500 (length (lldpdu_octets (with_tlv d u))); fault = Full }
     ∷ []
 
--- the first check that fails
+-- the fault of the first check that fails, if any
 unfoldable pub put_fault : Draft → TlvUnit → Option BuildFault
 put_fault d u = first_fault (put_checks d u)
 
--- what passes each of them (the law `checked_tlvs_are_put`)
+-- the TLV passes every check (the law `checked_tlvs_are_put`)
 pub record CanPut (d : Draft) (u : TlvUnit) : Type 0 where
   pub least : port_description_type ≤ u.kind
   pub greatest : u.kind ≤ organizationally_specific_type
@@ -76,14 +76,14 @@ abbrev pub CanPutEach : Draft → List TlvUnit → Type 0
 CanPutEach d [] = Unit {0}
 CanPutEach d (u ∷ us) = CanPut d u × CanPutEach (with_tlv d u) us
 
--- A builder can build it: its identifiers have 2 to 256 octets, its TTL has two, and each TLV can be put in its turn.
+-- A builder can build the draft: identifiers and TTL are in range, and each TLV can be put in turn.
 pub record CanBuild (d : Draft) : Type 0 where
   pub chassis : IsIdentifier d.msap.chassis
   pub port : IsIdentifier d.msap.port
   pub ttl : d.ttl < 2 ^ 16
   pub puts : CanPutEach (record { msap = d.msap; ttl = d.ttl; tlvs = [] }) d.tlvs
 
--- what the finished LLDPDU says
+-- the contents of the finished LLDPDU
 abbrev pub info_of_draft : Draft → LldpInfo
 info_of_draft d =
     record {

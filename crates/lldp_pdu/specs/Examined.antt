@@ -1,4 +1,4 @@
--- What a sound LLDPDU says.
+-- The result of examining a sound LLDPDU.
 use Rattle.std.specs.Prelude.{◌≡◌, ℕ, ◌<◌, ◌≤◌, List, length}
 use Rattle.lldp_pdu.specs.declared.examination.Examined.{Examined}
 use Rattle.lldp_pdu.specs.declared.examination.Examined.TheVariants.{Shutdown, Info}
@@ -6,7 +6,7 @@ use Rattle.lldp_pdu.specs.Lldpdu.{ttl_of, msap_of}
 use Rattle.lldp_pdu.specs.Info.{info_of}
 use Rattle.lldp_pdu.specs.View.{msap_view}
 
--- with a TTL of 0 the neighbor's name, else all that the octets say
+-- Shutdown with the MSAP identifier if the TTL is 0, and otherwise the contents of the octets
 abbrev pub Answers : List ℕ → Examined → Type 0
 Answers octets (Shutdown msap) = (ttl_of octets ≡ 0) × (msap_view msap ≡ msap_of octets)
 Answers octets (Info info) = (0 < ttl_of octets) × (info ≡ info_of octets)

@@ -10,11 +10,11 @@ use Rattle.lldp_pdu.specs.TlvType.{chassis_id_type, port_id_type, time_to_live_t
 use Rattle.lldp_pdu.specs.Cut.{cut}
 use Rattle.lldp_pdu.specs.Lldpdu.{tlv_at, ttl_of, later_tlvs}
 
--- of the type of a Chassis ID, a Port ID or a Time To Live
+-- the TLV is a Chassis ID, a Port ID or a Time To Live
 abbrev pub is_mandatory : TlvUnit → Bool
 is_mandatory u = is_between chassis_id_type u.kind time_to_live_type
 
--- the checks in their order, on the TLVs of the cut, the TTL and the later TLVs
+-- the checks in order, given the TLVs of the cut, the TTL, and the TLVs after the mandatory ones
 abbrev pub checks : List TlvUnit → ℕ → List TlvUnit → List (Check PduFault)
 checks us ttl later =
     record { fails = nat_le (length us) 0; fault = Truncated }
@@ -29,6 +29,6 @@ checks us ttl later =
     ∷ record { fails = nat_lt 0 ttl && list_any is_mandatory later; fault = Repeated }
     ∷ []
 
--- The fault is that of the first check that fails; an LLDPDU with none is sound.
+-- The fault of the first check that fails. An LLDPDU without a fault is sound.
 unfoldable pub fault_of : List ℕ → Option PduFault
 fault_of octets = first_fault (checks (cut octets).tlvs (ttl_of octets) (later_tlvs octets))

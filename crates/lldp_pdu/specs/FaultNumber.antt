@@ -1,11 +1,11 @@
--- The numbers of faults, by which other programs know them.
+-- The numbers under which faults are reported to other programs.
 use Rattle.std.specs.Prelude.{ℕ}
 use Rattle.lldp_pdu.specs.declared.fault.PduFault.{PduFault}
 use Rattle.lldp_pdu.specs.declared.fault.PduFault.TheVariants.{Truncated, NoChassis, ChassisLength, NoPort, PortLength, NoTtl, TtlLength, Repeated}
 use Rattle.lldp_pdu.specs.declared.fault.BuildFault.{BuildFault}
 use Rattle.lldp_pdu.specs.declared.fault.BuildFault.TheVariants.{Full, Kind, Body}
 
--- of an LLDPDU that is examined
+-- the number of a fault of an LLDPDU
 abbrev pub pdu_fault_number : PduFault → ℕ
 pdu_fault_number Truncated = 1
 pdu_fault_number NoChassis = 2
@@ -16,7 +16,7 @@ pdu_fault_number NoTtl = 6
 pdu_fault_number TtlLength = 7
 pdu_fault_number Repeated = 8
 
--- of a TLV that is put
+-- the number of a fault of a TLV that is to be put
 abbrev pub build_fault_number : BuildFault → ℕ
 build_fault_number Full = 1
 build_fault_number Kind = 2

@@ -1,4 +1,4 @@
--- What a sound LLDPDU with a TTL above 0 says.
+-- The contents of a sound LLDPDU with a TTL above 0.
 use Rattle.std.specs.Prelude.{◌≡◌, ℕ, ◌+◌, ◌*◌, ◌<◌, ◌≤◌, List, length, None}
 use Rattle.std.specs.List.{AllByRecursion}
 use Rattle.lldp_pdu.specs.Tlv.{TlvUnit, AreOctets}
@@ -7,8 +7,8 @@ use Rattle.lldp_pdu.specs.Lldpdu.{extent, ttl_of, msap_of}
 use Rattle.lldp_pdu.specs.Fault.{fault_of}
 use Rattle.lldp_pdu.specs.Kept.{kept_of, discarded_of, count_unrecognized, IsKeptTlv}
 
--- its MSAP identifier, TTL, extent and kept TLVs, and how many TLVs were discarded and how many kept ones are
--- unrecognized
+-- the MSAP identifier, TTL, extent and kept TLVs, and the numbers of discarded TLVs and of kept
+-- TLVs that are unrecognized
 pub record LldpInfo : Type 0 where
   pub msap : MsapId
   pub ttl : ℕ
@@ -17,7 +17,7 @@ pub record LldpInfo : Type 0 where
   pub discarded : ℕ
   pub unrecognized : ℕ
 
--- what these octets say, part by part
+-- the contents of these octets
 abbrev pub info_of : List ℕ → LldpInfo
 info_of octets =
     record {
@@ -29,8 +29,8 @@ info_of octets =
       unrecognized = count_unrecognized (kept_of octets);
     }
 
--- It lives, with an MSAP identifier and TLVs of their lengths and types. The three mandatory TLVs have at least 4
--- octets each and every other TLV at least 2, which bounds the numbers of TLVs.
+-- The TTL is above 0, and the lengths and types are in range. A mandatory TLV has at least 4 octets
+-- and any other TLV at least 2, which bounds the numbers of TLVs.
 pub record IsInfo (info : LldpInfo) : Type 0 where
   pub lives : 0 < info.ttl
   pub chassis : IsIdentifier info.msap.chassis
@@ -40,7 +40,7 @@ pub record IsInfo (info : LldpInfo) : Type 0 where
   pub few_discarded : 10 + 2 * info.discarded ≤ length info.octets
   pub few_unrecognized : info.unrecognized ≤ length info.kept
 
--- Its octets alone are a sound LLDPDU that says the same, except for a TLV that is not complete.
+-- The extent alone is a sound LLDPDU with the same contents and at most as many discarded TLVs.
 pub record TellsItself (info : LldpInfo) : Type 0 where
   pub are_octets : AreOctets info.octets
   pub sound : fault_of info.octets ≡ None

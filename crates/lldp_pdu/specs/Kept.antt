@@ -7,43 +7,43 @@ use Rattle.lldp_pdu.specs.TlvType.{port_description_type, system_capabilities_ty
 use Rattle.lldp_pdu.specs.WellFormed.{is_well_formed}
 use Rattle.lldp_pdu.specs.Lldpdu.{later_tlvs, ended_incomplete}
 
--- a type of which one TLV counts: Port Description to System Capabilities
+-- only one TLV of this type counts: Port Description to System Capabilities
 abbrev pub is_single : ℕ → Bool
 is_single kind = is_between port_description_type kind system_capabilities_type
 
--- a well-formed TLV of that type is among them
+-- the list has a well-formed TLV of this type
 abbrev pub has_well_formed : ℕ → List TlvUnit → Bool
 has_well_formed kind us = list_any (λ u. (u.kind == kind) && is_well_formed u) us
 
--- A TLV is kept if it is well formed and, for a type of which one counts, no earlier TLV is well formed and of its
--- type.
+-- A TLV is kept if it is well formed and, for a type of which only one TLV counts, no earlier
+-- well-formed TLV has that type.
 abbrev pub is_kept : List TlvUnit → TlvUnit → Bool
 is_kept earlier u = is_well_formed u && not (is_single u.kind && has_well_formed u.kind earlier)
 
--- those of the TLVs that are kept, in order, if these others come before them
+-- the kept TLVs of the second list, in order, if the TLVs of the first list precede them
 abbrev pub kept_after : List TlvUnit → List TlvUnit → List TlvUnit
 kept_after earlier [] = []
 kept_after earlier (u ∷ us) = if is_kept earlier u then u ∷ kept_after (u ∷ earlier) us else kept_after (u ∷ earlier) us
 
--- those that are not
+-- the TLVs of the second list that are not kept
 abbrev pub others_after : List TlvUnit → List TlvUnit → List TlvUnit
 others_after earlier [] = []
 others_after earlier (u ∷ us) =
     if is_kept earlier u then others_after (u ∷ earlier) us else u ∷ others_after (u ∷ earlier) us
 
--- the kept TLVs are those of the later ones
+-- the kept TLVs of an LLDPDU, all of them after the mandatory TLVs
 unfoldable pub kept_of : List ℕ → List TlvUnit
 kept_of octets = kept_after [] (later_tlvs octets)
 
--- the number of later TLVs that are not kept, and one more if a TLV that is not complete ended the extent
+-- the number of TLVs after the mandatory ones that are not kept, plus one for an incomplete TLV
 unfoldable pub discarded_of : List ℕ → ℕ
 discarded_of octets = length (others_after [] (later_tlvs octets)) + (if ended_incomplete octets then 1 else 0)
 
--- the number of TLVs of reserved types and organizationally specific ones among kept TLVs
+-- the number of these TLVs that are reserved or organizationally specific
 abbrev pub count_unrecognized : List TlvUnit → ℕ
 count_unrecognized us = length (filter (λ u. nat_le first_reserved_type u.kind) us)
 
--- what each kept TLV is
+-- what holds for each kept TLV
 pub record IsKeptTlv (u : TlvUnit) : Type 0 where
   pub least : port_description_type ≤ u.kind
   pub greatest : u.kind ≤ organizationally_specific_type

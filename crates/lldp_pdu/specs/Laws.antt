@@ -1,4 +1,4 @@
--- What only laws say: the definitions of the calls in other words.
+-- Definitions that only the laws use. They describe the same rules in another way.
 pub mod CapsSpelling
 pub mod FrameForm
 pub mod KeptOnce

@@ -3,7 +3,7 @@ use Rattle.std.specs.Prelude.{◌≡◌, ℕ, ◌+◌, ◌-◌, ◌<◌, ◌≤�
 use Rattle.std.specs.Int.{w32, from_be_bytes, to_be_bytes}
 use Rattle.lldp_pdu.specs.Range.{is_between}
 
--- a management address: its family and its octets, how the interface is numbered and its number, and an OID
+-- a management address: family, address, interface numbering subtype, interface number and OID
 pub record Address : Type 0 where
   pub family : ℕ
   pub address : List ℕ
@@ -11,15 +11,16 @@ pub record Address : Type 0 where
   pub interface : ℕ
   pub oid : List ℕ
 
--- ---- by its spelling
+-- ---- the octets that spell a management address
 
--- m, the number of octets of family and address together; the family; the address; the interface numbering subtype;
--- the interface number, four octets, most significant first; the number of octets of the OID; the OID
+-- in order: m, the number of octets of family and address together; the family; the address; the
+-- interface numbering subtype; the interface number, four octets, most significant first; the
+-- number of octets of the OID; the OID
 abbrev pub address_spelling : Address → List ℕ
 address_spelling a =
     (length a.address + 1) ∷ a.family ∷ a.address ++ a.numbering ∷ to_be_bytes w32 a.interface ++ length a.oid ∷ a.oid
 
--- An address has 1 to 31 octets, an interface number fits in 32 bits, an OID has at most 128 octets.
+-- The address has 1 to 31 octets, the interface number 32 bits, and the OID at most 128 octets.
 pub record IsAddress (a : Address) : Type 0 where
   pub least : 1 ≤ length a.address
   pub greatest : length a.address ≤ 31
@@ -31,9 +32,9 @@ pub record IsSpelled (body : List ℕ) (a : Address) : Type 0 where
   pub address : IsAddress a
   pub octets : body ≡ address_spelling a
 
--- ---- by its places, which the law `management_addresses_are_spelled` proves equal
+-- ---- the fields read from the octets (the law `management_addresses_are_spelled` links both)
 
--- the fields, if m octets have family and address
+-- the fields, if the family and the address have m octets together
 abbrev pub address_fields : List ℕ → ℕ → Address
 address_fields body m =
     record {
@@ -44,7 +45,7 @@ address_fields body m =
       oid = drop (m + 7) body;
     }
 
--- m is 2 to 32, o is at most 128, and there are exactly m + o + 7 octets
+-- The fields, if m is 2 to 32, o is at most 128, and the body has m + o + 7 octets.
 abbrev pub address_of : List ℕ → Option Address
 address_of body =
     let m = slice_index body 0 in

@@ -1,4 +1,4 @@
--- The MSAP identifier, which names a neighbor (IEEE 802.1AB-2009, 8.5.2 and 8.5.3).
+-- The MSAP identifier, which identifies a neighbor (IEEE 802.1AB-2009, 8.5.2 and 8.5.3).
 use Rattle.std.specs.Prelude.{ℕ, ◌≤◌, List, length}
 
 -- the bodies of the Chassis ID and the Port ID, subtypes included

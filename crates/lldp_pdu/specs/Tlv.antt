@@ -8,12 +8,12 @@ pub record TlvUnit : Type 0 where
   pub kind : ℕ
   pub body : List ℕ
 
--- 7 bits of type and 9 bits of length can spell it
+-- the type fits in 7 bits, and the length of the body in 9 bits
 pub record IsTlv (u : TlvUnit) : Type 0 where
   pub kind : u.kind < 128
   pub body : length u.body < 512
 
--- two octets of header, most significant first: 7 bits of type, 9 bits of length; then the body
+-- the octets of a TLV: 7 bits of type and 9 bits of length, most significant first, then the body
 abbrev pub spelling : TlvUnit → List ℕ
 spelling u = to_be_bytes w16 (512 * u.kind + length u.body) ++ u.body
 
@@ -25,6 +25,6 @@ spellings us = flat_map spelling us
 abbrev pub BeginsTlv : List ℕ → Type 0
 BeginsTlv octets = (u : TlvUnit) × (others : List ℕ) × IsTlv u × (octets ≡ spelling u ++ others)
 
--- each is an octet
+-- each number is below 256
 abbrev pub AreOctets : List ℕ → Type 0
 AreOctets octets = AllByRecursion (λ octet. octet < 256) octets

@@ -1,39 +1,30 @@
 -- The TLV types of the basic set (IEEE 802.1AB-2009, table 8-1).
 use Rattle.std.specs.Prelude.{ℕ}
 
--- End Of LLDPDU
 abbrev pub end_of_lldpdu_type : ℕ
 end_of_lldpdu_type = 0
 
--- Chassis ID
 abbrev pub chassis_id_type : ℕ
 chassis_id_type = 1
 
--- Port ID
 abbrev pub port_id_type : ℕ
 port_id_type = 2
 
--- Time To Live
 abbrev pub time_to_live_type : ℕ
 time_to_live_type = 3
 
--- Port Description
 abbrev pub port_description_type : ℕ
 port_description_type = 4
 
--- System Name
 abbrev pub system_name_type : ℕ
 system_name_type = 5
 
--- System Description
 abbrev pub system_description_type : ℕ
 system_description_type = 6
 
--- System Capabilities
 abbrev pub system_capabilities_type : ℕ
 system_capabilities_type = 7
 
--- Management Address
 abbrev pub management_address_type : ℕ
 management_address_type = 8
 
@@ -41,6 +32,5 @@ management_address_type = 8
 abbrev pub first_reserved_type : ℕ
 first_reserved_type = 9
 
--- organizationally specific TLVs
 abbrev pub organizationally_specific_type : ℕ
 organizationally_specific_type = 127

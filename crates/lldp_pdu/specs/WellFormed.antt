@@ -6,7 +6,7 @@ use Rattle.lldp_pdu.specs.Range.{is_between}
 use Rattle.lldp_pdu.specs.Capabilities.{caps_of}
 use Rattle.lldp_pdu.specs.ManagementAddress.{address_of}
 
--- Whether the body is well formed for the type; that of an End Of LLDPDU or a reserved type always is.
+-- True if the body is well formed for its type; always true for End Of LLDPDU and reserved types.
 unfoldable pub is_well_formed : TlvUnit → Bool
 is_well_formed u =
     if u.kind == chassis_id_type || u.kind == port_id_type then is_between 2 (length u.body) 256

@@ -1,5 +1,5 @@
-//! The bodies of TLVs: which are well formed, and the fields of two (IEEE 802.1AB-2009, 8.5 and
-//! 8.6).
+//! Checks of TLV bodies, and the fields of System Capabilities and Management Address (IEEE
+//! 802.1AB-2009, 8.5 and 8.6).
 ghost use Rattle.std.specs.Prelude.{◌≡◌};
 ghost use Rattle.std.specs.Option.{option_map};
 ghost use Rattle.lldp_pdu.specs.Capabilities.{caps_of};
@@ -15,7 +15,7 @@ use crate::tlv_type::{
 };
 
 /// Reads the fields of System Capabilities. Returns None exactly if the body is not well formed: it
-/// does not have four octets, or a bit is enabled that is not available (IEEE 802.1AB-2009, 8.5.8).
+/// does not have four octets, or it enables an unavailable bit (IEEE 802.1AB-2009, 8.5.8).
 pub fn caps(body: &[u8]) -> Option<Caps>
     ensures { result ≡ caps_of body.now }
 {
@@ -28,8 +28,8 @@ pub fn caps(body: &[u8]) -> Option<Caps>
 }
 
 /// Reads the fields of a Management Address. Returns None exactly if the body is not well formed:
-/// `m`, its first octet, is not 2 to 32, the OID has more than 128 octets, or the body is longer or
-/// shorter than these say (IEEE 802.1AB-2009, 8.5.9).
+/// its first octet `m` is not 2 to 32, the OID has more than 128 octets, or the body's length is
+/// not `m` + 7 + that of the OID (IEEE 802.1AB-2009, 8.5.9).
 pub fn mgmt(body: &[u8]) -> Option<Mgmt<'_>>
     ensures { option_map address_view result ≡ address_of body.now }
 {
@@ -50,7 +50,7 @@ pub fn mgmt(body: &[u8]) -> Option<Mgmt<'_>>
     })
 }
 
-/// Returns whether the body is well formed for the type.
+/// Returns whether the TLV's body is well formed for its type.
 #[tactic(auto, unfolding(crate::specs::WellFormed::is_well_formed))]
 pub(crate) fn body_is_well_formed(tlv: &Tlv<'_>) -> bool
     ensures { result ≡ is_well_formed (tlv_view tlv.now) }

@@ -22,7 +22,7 @@ use crate::tlv_type::{
 use arrayvec::ArrayVec;
 use std::marker::Model;
 
-/// An LLDPDU under construction: at most 1,500 octets, the End Of LLDPDU among them.
+/// An LLDPDU under construction, of at most 1,500 octets including its End Of LLDPDU TLV.
 #[derive(Drop)]
 pub struct Builder {
     octets: ArrayVec<u8, MOST_OCTETS>,
@@ -42,7 +42,7 @@ impl Model for Builder {
     ghost invariant = { λ b. Builds b.octets.items b.met.types b.lives };
 }
 
-/// Returns whether TLVs of the type belong after the mandatory ones.
+/// Returns whether TLVs of this type may follow the mandatory TLVs.
 fn is_optional_type(kind: u8) -> bool
     ensures { result ≡ is_between port_description_type kind organizationally_specific_type }
 {
@@ -61,9 +61,9 @@ impl Builder {
     ghost use Rattle.std.specs.Prelude.{◌≡◌, ◌==◌, ◌<◌, ◌≤◌, [], length, None, OnOk, OnErr};
     ghost use Rattle.lldp_pdu.specs.Msap.{IsIdentifier};
 
-    /// Begins an LLDPDU with the mandatory TLVs: the bodies of the Chassis ID and the Port ID, of 2
-    /// to 256 octets each, and the TTL in seconds. A TTL of 0 makes it a shutdown LLDPDU, which has
-    /// no other TLVs.
+    /// Begins an LLDPDU with its three mandatory TLVs. `chassis` and `port` are the bodies of the
+    /// Chassis ID and the Port ID, 2 to 256 octets each; `ttl` is in seconds. A TTL of 0 makes a
+    /// shutdown LLDPDU, which can have no other TLVs.
     pub fn begin(chassis: &[u8], port: &[u8], ttl: u16) -> Builder
         requires chassis { IsIdentifier chassis.now }
         requires port { IsIdentifier port.now }
@@ -93,7 +93,7 @@ impl Builder {
         !self.lives
     }
 
-    /// Returns why a TLV can't be put next, if it can't.
+    /// Returns why this TLV can't be put next, or None if it can.
     fn refusal(&self, tlv: &Tlv<'_>) -> Option<BuildFault>
         ensures { result ≡ put_fault self.now (tlv_view tlv.now) }
     {
@@ -118,13 +118,13 @@ impl Builder {
         None
     }
 
-    /// Puts a TLV after those before it.
+    /// Adds a TLV after those already put.
     ///
     ///
-    /// If a check fails, nothing changes, and Err is the first of these that fails. Kind: the kind
-    /// is not 4 to 127, or one of 4 to 7 that was put before, or the TTL is 0. Body: the body has
-    /// more than 511 octets or is not well formed for its kind. Full: the TLV and the End Of LLDPDU
-    /// do not fit in 1,500 octets.
+    /// Returns the first of these faults that applies, if any, and then changes nothing. Kind: the
+    /// type is not 4 to 127, or it is one of 4 to 7 and was put before, or the TTL is 0. Body: the
+    /// body has more than 511 octets or is not well formed for its type. Full: the TLV and the End
+    /// Of LLDPDU do not fit in 1,500 octets.
     pub fn put(&mut self, kind: u8, body: &[u8]) -> Result<(), BuildFault>
         ensures fault { result_err result
             ≡ put_fault self.old (record { kind = kind; body = body.now }) }
@@ -140,8 +140,8 @@ impl Builder {
         Ok(())
     }
 
-    /// Returns the LLDPDU, with its End Of LLDPDU: the spelling of what was begun and put.
-    /// Examining it returns exactly that: it is sound, every TLV put is kept, and none is
+    /// Returns the finished LLDPDU, with the End Of LLDPDU as its last TLV. Examining it returns
+    /// what was begun and put: the LLDPDU is sound, every TLV that was put is kept, and none is
     /// discarded.
     pub fn finish(self) -> ArrayVec<u8, MOST_OCTETS>
         ensures octets { result.items ≡ lldpdu_octets self }

@@ -1,4 +1,4 @@
-//! The examination of a whole LLDPDU.
+//! Checks and reads a whole LLDPDU.
 ghost use Rattle.std.specs.Prelude.{◌≡◌, ◌+◌, ◌-◌, ◌<◌, ◌≤◌, Bool, true, false, ◌&&◌, List, length, nat_lt, Some, None, IfOk, IfErr, OnErr, if◌then◌else◌};
 ghost use Rattle.std.specs.Result.{result_err};
 ghost use Rattle.std.specs.List.{list_any};
@@ -17,10 +17,10 @@ use crate::seen::Seen;
 use crate::tlv::Tlvs;
 use crate::tlv_type::{CHASSIS_ID, END_OF_LLDPDU, FIRST_RESERVED, PORT_ID, TIME_TO_LIVE};
 
-/// What a sound LLDPDU says.
+/// The contents of a sound LLDPDU, that is, one that passes every check.
 #[derive(Debug, Drop)]
 pub enum Examined<'a> {
-    /// The neighbor is gone: its TTL is 0.
+    /// The TTL is 0: the neighbor with this MSAP identifier has shut down.
     Shutdown(Msap<'a>),
     Info(Info<'a>),
 }
@@ -33,7 +33,7 @@ struct Mandatory<'a> {
     after: &'a [u8],
 }
 
-/// The TLVs after the mandatory ones, up to the End Of LLDPDU or to one that is not complete.
+/// The TLVs between the mandatory ones and the End Of LLDPDU or the first incomplete TLV.
 #[derive(Drop)]
 struct Optional<'a> {
     octets: &'a [u8],
@@ -84,7 +84,7 @@ fn mandatory_tlvs(pdu: &[u8]) -> Result<Mandatory<'_>, PduFault>
     })
 }
 
-/// Counts the octets left over: a TLV that is not complete is discarded, and those before it stay.
+/// Returns 1 if octets are left over, and else 0. They are an incomplete TLV, which is discarded.
 fn incomplete_tlvs(rest: &[u8]) -> usize
     ensures { result ≡ (if nat_lt 0 (length rest.now) then 1 else 0) }
 {
@@ -127,14 +127,14 @@ fn optional_tlvs(after: &[u8]) -> Result<Optional<'_>, PduFault>
     })
 }
 
-/// Examines an LLDPDU of any length. Ok is Shutdown with the neighbor's name if the TTL is 0, and
-/// else an Info of exactly what the definition says. The answer borrows from the LLDPDU, and the
-/// octets of an Info are a front of it.
+/// Examines an LLDPDU of any length. Returns Shutdown with the MSAP identifier if the TTL is 0, and
+/// otherwise an Info with the contents that the definition `info_of` gives. The result borrows from
+/// `pdu`, and the octets of an Info are the beginning of `pdu`.
 ///
 ///
-/// Err is the first check that fails, in the order of `PduFault`; Truncated is checked at each of
-/// the three places. If the TTL is 0, nothing after the third TLV is read (IEEE 802.1AB-2009, 8.2
-/// and 9.2.7.7).
+/// The error is the first check that fails, in the order of `PduFault`, but Truncated is checked
+/// for before each of the three mandatory TLVs. If the TTL is 0, nothing after the third TLV is
+/// read (IEEE 802.1AB-2009, 8.2 and 9.2.7.7).
 pub fn examine(pdu: &[u8]) -> Result<Examined<'_>, PduFault>
     ensures fault { result_err result ≡ fault_of pdu.now }
     ensures answer { IfOk result (Answers pdu.now) }

@@ -1,11 +1,11 @@
-//! Why an LLDPDU, or a TLV put into one, is refused.
+//! The faults for which an LLDPDU, or a TLV put into one, is refused.
 ghost use Rattle.std.specs.Prelude.{◌≡◌};
 ghost use Rattle.lldp_pdu.specs.FaultNumber.{pdu_fault_number, build_fault_number};
 
 /// The first check that an LLDPDU fails.
 #[derive(Clone, Copy, Debug, PartialEq, Eq)]
 pub enum PduFault {
-    /// No complete TLV where a mandatory one belongs.
+    /// The octets end before the three mandatory TLVs are complete.
     Truncated = 1,
     /// The first TLV is not a Chassis ID.
     NoChassis = 2,
@@ -19,12 +19,12 @@ pub enum PduFault {
     NoTtl = 6,
     /// The Time To Live has fewer than 2 octets.
     TtlLength = 7,
-    /// A mandatory TLV occurs again after the third.
+    /// A Chassis ID, Port ID or Time To Live occurs again after the third TLV.
     Repeated = 8,
 }
 
 impl PduFault {
-    /// Returns its number, 1 to 8: the faults in the order in which they are first checked for.
+    /// Returns the fault's number, 1 to 8, in the order in which the faults are first checked.
     pub fn number(self) -> u8
         ensures { result ≡ pdu_fault_number self }
     {
@@ -32,20 +32,20 @@ impl PduFault {
     }
 }
 
-/// The first check that a TLV fails when it is put.
+/// The first check of `Builder::put` that a TLV fails.
 #[derive(Clone, Copy, Debug, PartialEq, Eq)]
 pub enum BuildFault {
     /// The TLV and the End Of LLDPDU do not fit in 1,500 octets.
     Full = 1,
-    /// Not a type for this LLDPDU: not 4 to 127, one of 4 to 7 that was put before, or the TTL is
-    /// 0.
+    /// The type can't be put here: it is not 4 to 127, it is one of 4 to 7 and was put before, or
+    /// the TTL is 0.
     Kind = 2,
-    /// The body is not well formed.
+    /// The body has more than 511 octets or is not well formed.
     Body = 3,
 }
 
 impl BuildFault {
-    /// Returns its number, 1 to 3.
+    /// Returns the fault's number, 1 to 3.
     pub fn number(self) -> u8
         ensures { result ≡ build_fault_number self }
     {

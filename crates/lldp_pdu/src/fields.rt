@@ -1,23 +1,22 @@
-//! What bodies of TLVs say: whom those of a Chassis ID and a Port ID name, and the fields of two
-//! others.
+//! The fields of TLV bodies: MSAP identifiers, System Capabilities and Management Addresses.
 
-/// What names a neighbor: the bodies of its Chassis ID and its Port ID, subtypes included (IEEE
-/// 802.1AB-2009, 8.5.2 and 8.5.3).
+/// An MSAP identifier, which identifies a neighbor: the bodies of its Chassis ID and its Port ID,
+/// subtypes included (IEEE 802.1AB-2009, 8.5.2 and 8.5.3).
 #[derive(Clone, Copy, Debug, PartialEq, Eq)]
 pub struct Msap<'a> {
     pub chassis: &'a [u8],
     pub port: &'a [u8],
 }
 
-/// System Capabilities: the bits for what a system can do, and those for what is enabled of it.
+/// System Capabilities: a bit for each capability that a system has, and for each that is enabled.
 #[derive(Clone, Copy, Debug, PartialEq, Eq)]
 pub struct Caps {
     pub available: u16,
     pub enabled: u16,
 }
 
-/// A Management Address: its family and the address, the interface numbering subtype and number,
-/// and an object identifier.
+/// A Management Address: its family and the address, the interface numbering subtype and the
+/// interface number, and an object identifier (OID).
 #[derive(Clone, Copy, Debug, PartialEq, Eq)]
 pub struct Mgmt<'a> {
     pub family: u8,

@@ -1,4 +1,4 @@
-//! What a sound LLDPDU says of a neighbor that lives.
+//! The contents of a sound LLDPDU with a TTL above 0.
 ghost use Rattle.std.specs.Prelude.{◌≡◌, ◌+◌, ◌*◌, ◌<◌, ◌≤◌, length};
 ghost use Rattle.std.specs.List.{AllByRecursion};
 ghost use Rattle.lldp_pdu.specs.Msap.{IsIdentifier};
@@ -10,7 +10,7 @@ use crate::fields::Msap;
 use crate::kept::Kept;
 use std::marker::Model;
 
-/// What a sound LLDPDU says of a neighbor that lives: its TTL is not 0.
+/// The contents of a sound LLDPDU with a TTL above 0.
 #[derive(Debug, Drop)]
 pub struct Info<'a> {
     pub(crate) msap: Msap<'a>,
@@ -34,7 +34,7 @@ impl<'a> Model for Info<'a> {
 }
 
 impl<'a> Info<'a> {
-    /// Returns the neighbor's name: both bodies have 2 to 256 octets.
+    /// Returns the neighbor's MSAP identifier. Its two bodies have 2 to 256 octets each.
     pub fn msap(&self) -> Msap<'a>
         ensures value { msap_view result ≡ self.now.msap }
         ensures chassis { IsIdentifier self.now.msap.chassis }
@@ -51,10 +51,10 @@ impl<'a> Info<'a> {
         self.ttl
     }
 
-    /// Returns the kept TLVs, in order: of type 4 to 127, below 512 octets, well formed, at most
-    /// one of each of the types 4 to 7, and at most one for every two octets of the extent past the
-    /// first 12. They are read again from the octets, so a walk takes time linear in them and
-    /// nothing is stored.
+    /// Returns the kept TLVs, in order. Each has a type from 4 to 127 and a well-formed body of at
+    /// most 511 octets, and none of the types 4 to 7 occurs twice. Their number is at most half the
+    /// number of octets in the extent after the first 12. They are read again from the octets, in
+    /// linear time, and nothing is stored.
     pub fn kept(&self) -> Kept<'a>
         ensures value { result ≡ self.now.kept }
         ensures each { AllByRecursion IsKeptTlv self.now.kept }
@@ -63,9 +63,8 @@ impl<'a> Info<'a> {
         Kept::of(self.optional)
     }
 
-    /// Returns the extent: the octets before the End Of LLDPDU, or before a TLV that is not
-    /// complete. By themselves they are a sound LLDPDU that says the same, with no more discarded
-    /// TLVs.
+    /// Returns the extent: the octets before the End Of LLDPDU, or before an incomplete TLV. The
+    /// extent alone is a sound LLDPDU with the same contents and at most as many discarded TLVs.
     pub fn octets(&self) -> &'a [u8]
         ensures value { result.now ≡ self.now.octets }
         ensures again { TellsItself self.now }
@@ -73,8 +72,8 @@ impl<'a> Info<'a> {
         self.octets
     }
 
-    /// Returns how many TLVs were discarded, one that is not complete among them: at most one for
-    /// every two octets of the extent past the first 10.
+    /// Returns how many TLVs were discarded, including an incomplete one: at most half the number
+    /// of octets in the extent after the first 10.
     pub fn discarded(&self) -> usize
         ensures value { result ≡ self.now.discarded }
         ensures few { 10 + 2 * result ≤ length self.now.octets }
@@ -82,7 +81,7 @@ impl<'a> Info<'a> {
         self.discarded
     }
 
-    /// Returns how many kept TLVs are of types 9 to 127: reserved, or organizationally specific.
+    /// Returns how many kept TLVs have types 9 to 127: reserved or organizationally specific.
     pub fn unrecognized(&self) -> usize
         ensures value { result ≡ self.now.unrecognized }
         ensures few { result ≤ length self.now.kept }

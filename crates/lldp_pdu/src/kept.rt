@@ -44,9 +44,9 @@ fn behind_first(octets: &[u8]) -> &[u8]
 }
 
 impl<'a> Kept<'a> {
-    /// Returns those of an extent, as `Info::octets` returns it: octets that, by themselves, are a
-    /// sound LLDPDU with a TTL above 0 and are its whole extent. Their types, lengths and number
-    /// are as `Info::kept` says.
+    /// Returns the kept TLVs of an extent, as `Info::octets` returns it: octets that alone are a
+    /// sound LLDPDU with a TTL above 0, and that are its whole extent. The types, lengths and
+    /// number of these TLVs are as for `Info::kept`.
     pub fn of_extent(octets: &'a [u8]) -> Kept<'a>
         requires sound { fault_of octets.now ≡ None }
         requires lives { 0 < ttl_of octets.now }
@@ -58,7 +58,7 @@ impl<'a> Kept<'a> {
         Kept::of(behind_first(behind_first(behind_first(octets))))
     }
 
-    /// Returns those of the TLVs of the octets.
+    /// Returns the kept TLVs of octets that begin after the mandatory TLVs.
     pub(crate) fn of(octets: &'a [u8]) -> Kept<'a>
         ensures { result ≡ kept_seen none_seen (cut octets.now).tlvs }
     {

@@ -1,4 +1,4 @@
-//! Laws of the definitions, for every list of octets.
+//! Laws that the definitions obey, for every list of octets.
 ghost use Rattle.std.specs.Prelude.{◌≡◌, ℕ, true, ◌<◌, ◌≤◌, ◌↔◌, List, ◌++◌, length, map, Some, None};
 ghost use Rattle.std.specs.Iterator.{YieldsThen};
 ghost use Rattle.lldp_pdu.specs.declared.tlv.Tlv.{Tlv};
@@ -23,7 +23,7 @@ ghost use Rattle.lldp_pdu.specs.declared.frame.TheConstants.{MOST_OCTETS};
 ghost use Rattle.lldp_pdu.specs.declared.tlv_type.TheConstants as code;
 ghost use Rattle.lldp_pdu.specs.TlvType as standard;
 
-/// Each list of octets has a cut, and no other.
+/// Each list of octets has exactly one cut into complete TLVs and a rest.
 #[tactic(auto, using(crate::proofs::Cuts::cut_is_cut, crate::proofs::Cuts::only_cut))]
 pub fn octets_have_one_cut()
     ensures is_cut { (octets : List ℕ) → AreOctets octets → IsCut octets (cut octets) }
@@ -31,7 +31,7 @@ pub fn octets_have_one_cut()
         c ≡ cut octets }
 {}
 
-/// `Tlvs`, called until it has no more, returns the TLVs of the cut, and is left with its rest.
+/// Calling `Tlvs::next` until it returns None returns the TLVs of the cut and leaves its rest.
 pub fn tlvs_give_the_cut()
     ensures tlvs { (octets left : List ℕ) (given : List Tlv) →
         YieldsThen GivesFirstTlv octets given None left → map tlv_view given ≡ (cut octets).tlvs }
@@ -40,9 +40,9 @@ pub fn tlvs_give_the_cut()
 {}
 
 /// An LLDPDU is sound exactly if it begins with a Chassis ID and a Port ID of 2 to 256 octets each
-/// and a Time To Live of 2 or more, and its TTL is 0 or no other TLV before its End Of LLDPDU is of
-/// these types. Any other has the fault of the first of these three that is wrong, or else
-/// Repeated.
+/// and a Time To Live of 2 or more octets and, unless its TTL is 0, no other TLV before its End Of
+/// LLDPDU has one of these types. The fault of any other LLDPDU is that of the first of these three
+/// TLVs that is wrong, and otherwise Repeated.
 #[tactic(auto, using(crate::proofs::SoundForms::sound_has_form, crate::proofs::SoundForms::form_is_sound, crate::proofs::SoundForms::faults_are))]
 pub fn sound_lldpdus_have_their_form()
     ensures sound { (octets : List ℕ) → (fault_of octets ≡ None) ↔ IsSound octets }
@@ -50,16 +50,16 @@ pub fn sound_lldpdus_have_their_form()
         HasFaults octets chassis port ttl u us }
 {}
 
-/// A later TLV is kept exactly if it is well formed and, if its type is 4 to 7, no earlier one is
-/// well formed and of its type. The kept ones stay in their order; all others are discarded, and so
-/// is a TLV that is not complete.
+/// A TLV after the mandatory ones is kept exactly if it is well formed and, for types 4 to 7, no
+/// earlier well-formed TLV has its type. The kept TLVs stay in their order. All others are
+/// discarded, and so is an incomplete TLV.
 pub fn later_tlvs_are_kept_once()
     ensures kept { (earlier us : List TlvUnit) (u : TlvUnit) → AreKeptOnce earlier u us }
     ensures counted { (octets : List ℕ) → AreCounted octets }
 {}
 
-/// The extent of a sound LLDPDU with a TTL above 0 says the same as the LLDPDU, with no more
-/// discarded TLVs.
+/// The extent of a sound LLDPDU with a TTL above 0 has the same contents as the LLDPDU, and at most
+/// as many discarded TLVs.
 #[tactic(auto, using(crate::proofs::Telling::tells_itself))]
 pub fn extents_tell_the_same()
     ensures info { (octets : List ℕ) → AreOctets octets → fault_of octets ≡ None →
@@ -75,40 +75,40 @@ pub fn lldpdus_begin_with_extents()
         (more : List ℕ) × (octets ≡ extent octets ++ more) }
 {}
 
-/// An LLDPDU of at most 1,500 octets after the three fields of an LLDP frame is that frame's.
+/// A frame of the three LLDP header fields and an LLDPDU of at most 1,500 octets has that LLDPDU.
 #[tactic(auto, using(crate::proofs::Framing::has_lldpdu))]
 pub fn frames_hold_lldpdus()
     ensures { (source lldpdu : List ℕ) → length source ≡ 6 → length lldpdu ≤ 1500 →
         lldpdu_of (nearest_bridge ++ source ++ lldp_ethertype ++ lldpdu) ≡ Some lldpdu }
 {}
 
-/// A frame has an LLDPDU exactly if it is 01-80-C2-00-00-0E, six octets, 88-CC and that LLDPDU, of
-/// at most 1,500 octets.
+/// A frame has an LLDPDU exactly if the frame is 01-80-C2-00-00-0E, six octets of source address,
+/// 88-CC and that LLDPDU, of at most 1,500 octets.
 pub fn lldp_frames_have_their_form()
     ensures { (frame lldpdu : List ℕ) → (lldpdu_of frame ≡ Some lldpdu) ↔ HasForm frame lldpdu }
 {}
 
-/// A TLV is put exactly if it passes each check of `Builder::put`.
+/// A TLV can be put exactly if no check of `Builder::put` fails.
 #[tactic(auto, using(crate::proofs::Drafts::can_put, crate::proofs::Drafts::passes))]
 pub fn checked_tlvs_are_put()
     ensures { (draft : Draft) (tlv : TlvUnit) → CanPut draft tlv ↔ (put_fault draft tlv ≡ None) }
 {}
 
-/// What a `Builder` can build has at most 1,500 octets, and examining it returns what was begun and
-/// put, however its octets were written.
+/// An LLDPDU that a `Builder` can build has at most 1,500 octets, and examining it returns what was
+/// begun and put. This also holds if its octets were written without a `Builder`.
 pub fn drafts_are_read_back()
     ensures short { (draft : Draft) → CanBuild draft → length (lldpdu_octets draft) ≤ 1500 }
     ensures read_back { (draft : Draft) → CanBuild draft → IsReadBack draft (lldpdu_octets draft) }
 {}
 
-/// A body is a well-formed Management Address with these fields exactly if it is their spelling.
+/// A body is a well-formed Management Address with these fields exactly if it spells these fields.
 pub fn management_addresses_are_spelled()
     ensures { (body : List ℕ) (address : Address) → AreOctets body →
         (address_of body ≡ Some address) ↔ IsSpelled body address }
 {}
 
-/// The constants of `tlv_type` are the types of the standard's table, as the definitions write them
-/// out.
+/// The constants of `tlv_type` equal the types of the standard's table, as the definitions list
+/// them.
 pub fn tlv_types_are_the_standards()
     ensures end { code.END_OF_LLDPDU ≡ standard.end_of_lldpdu_type }
     ensures chassis_id { code.CHASSIS_ID ≡ standard.chassis_id_type }
@@ -124,17 +124,17 @@ pub fn tlv_types_are_the_standards()
         ≡ standard.organizationally_specific_type }
 {}
 
-/// A body is a well-formed System Capabilities with these fields exactly if it is their spelling:
-/// four octets, with no bit enabled that is not available.
+/// A body is a well-formed System Capabilities with these fields exactly if it spells these fields:
+/// four octets, and every enabled bit is available.
 pub fn capabilities_are_spelled()
     ensures { (body : List ℕ) (caps : Caps) → AreOctets body →
         (caps_of body ≡ Some caps) ↔ AreSpelled body caps }
 {}
 
-/// Exactly these bodies are well formed: those of a Chassis ID and a Port ID with 2 to 256 octets,
-/// of a Time To Live with 2 or more, of the three texts with at most 255, of System Capabilities
-/// and of a Management Address as their laws spell them, organizationally specific ones with 4
-/// octets or more, and all of an End Of LLDPDU and of the reserved types, 9 to 126.
+/// Exactly these bodies are well formed: 2 to 256 octets for a Chassis ID or a Port ID, 2 or more
+/// for a Time To Live, at most 255 for the three text types, 4 or more for an organizationally
+/// specific TLV, a spelling of System Capabilities or a Management Address (by their laws above),
+/// and any body for an End Of LLDPDU or a reserved type, 9 to 126.
 pub fn types_decide_which_bodies_are_well_formed()
     ensures end { (body : List ℕ) → is_well_formed (record { kind = 0; body = body }) ≡ true }
     ensures identifiers { (kind : ℕ) (body : List ℕ) → 1 ≤ kind → kind ≤ 2 →
@@ -155,7 +155,7 @@ pub fn types_decide_which_bodies_are_well_formed()
         (is_well_formed (record { kind = 127; body = body }) ≡ true) ↔ 4 ≤ length body }
 {}
 
-/// A built LLDPDU has at most 1,500 octets: this is the room of a `Builder`.
+/// `MOST_OCTETS`, the capacity of a `Builder`, is 1,500.
 pub fn lldpdus_have_at_most_1500_octets()
     ensures { MOST_OCTETS ≡ 1500 }
 {}

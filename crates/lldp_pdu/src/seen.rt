@@ -1,4 +1,4 @@
-//! Which single TLVs were met.
+//! Records the types of earlier TLVs, for types of which only the first well-formed TLV counts.
 ghost use Rattle.std.specs.Prelude.{◌≡◌};
 ghost use Rattle.lldp_pdu.specs.Kept.{is_single};
 ghost use Rattle.lldp_pdu.specs.Code.Seen.{has_flag, with_flag, is_kept_seen, seen_after};
@@ -8,26 +8,26 @@ use crate::bodies::body_is_well_formed;
 use crate::tlv::Tlv;
 use crate::tlv_type::{PORT_DESCRIPTION, SYSTEM_CAPABILITIES};
 
-/// Returns whether one TLV of the type counts: Port Description to System Capabilities.
+/// Returns whether only one TLV of the type counts: Port Description to System Capabilities.
 fn counts_once(kind: u8) -> bool
     ensures { result ≡ is_single kind }
 {
     (PORT_DESCRIPTION..=SYSTEM_CAPABILITIES).contains(&kind)
 }
 
-/// For each type that counts once, whether a well-formed TLV of it was met. A walk over the TLVs of
-/// an LLDPDU without a `Kept`, for instance in parts, keeps it between them.
+/// Records, for each type that counts once, whether a well-formed TLV of it has occurred. Code that
+/// reads the TLVs of an LLDPDU in parts, without a `Kept`, keeps this between the parts.
 #[derive(Clone, Copy, Debug)]
 pub struct Seen {
-    /// One for each of the types from Port Description to System Capabilities.
+    /// One flag for each type from Port Description to System Capabilities.
     pub types: [bool; 4],
 }
 
 impl Seen {
-    /// None was met.
+    /// No type has occurred.
     pub const NONE: Seen = Seen { types: [false; 4] };
 
-    /// Returns whether a TLV of the type was met, if one of the type counts.
+    /// Returns whether the type counts once and has occurred.
     #[tactic(auto, unfolding(crate::specs::Code::Seen::has_flag))]
     pub(crate) fn has(&self, kind: u8) -> bool
         ensures { result ≡ has_flag self.now.types kind }
@@ -35,7 +35,7 @@ impl Seen {
         counts_once(kind) && self.types[usize::from(kind - PORT_DESCRIPTION)]
     }
 
-    /// Notes that a TLV of the type was met.
+    /// Records that a TLV of the type has occurred.
     #[tactic(auto, unfolding(crate::specs::Code::Seen::with_flag))]
     pub(crate) fn add(&mut self, kind: u8)
         ensures { self.new.types ≡ with_flag self.old.types kind }
@@ -45,7 +45,7 @@ impl Seen {
         }
     }
 
-    /// Returns whether the next TLV is kept. It counts as met from then on if it is well formed.
+    /// Returns whether the next TLV is kept, and records its type if the TLV is well formed.
     pub fn keeps(&mut self, tlv: &Tlv<'_>) -> bool
         ensures kept { result ≡ is_kept_seen self.old.types (tlv_view tlv.now) }
         ensures met { self.new.types ≡ seen_after self.old.types (tlv_view tlv.now) }

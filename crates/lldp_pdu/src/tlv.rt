@@ -1,4 +1,4 @@
-//! TLVs, an iterator over those of a list of octets, and how one is written.
+//! TLVs, an iterator over the TLVs in a list of octets, and a function that writes a TLV.
 ghost use Rattle.std.specs.Prelude.{◌≡◌, ◌+◌, ◌<◌, ◌≤◌, ◌++◌, ℕ, List, length};
 ghost use Rattle.std.specs.Option.{option_map};
 ghost use Rattle.std.specs.Iterator.{item_count};
@@ -19,9 +19,9 @@ pub struct Tlv<'a> {
     pub body: &'a [u8],
 }
 
-/// The complete TLVs of some octets, from the front. An End Of LLDPDU is a TLV like any other, and
-/// does not end them. Each `next` returns the first TLV of the cut of the octets left, and leaves
-/// those after it; if no complete TLV is left it returns None and leaves the rest as it is.
+/// An iterator over the complete TLVs of some octets. It returns an End Of LLDPDU like any other
+/// TLV and goes on after it. `next` removes the TLV at the front of the octets that are left and
+/// returns it. If no complete TLV is left, `next` returns None and changes nothing.
 #[derive(Debug, Drop)]
 pub struct Tlvs<'a> {
     rest: &'a [u8],
@@ -36,14 +36,14 @@ impl<'a> Model for Tlvs<'a> {
 }
 
 impl<'a> Tlvs<'a> {
-    /// Begins with these octets, which may hold any number of TLVs.
+    /// Returns an iterator over the TLVs of these octets, which may hold any number of TLVs.
     pub fn new(octets: &'a [u8]) -> Tlvs<'a>
         ensures { result ≡ octets.now }
     {
         Tlvs { rest: octets }
     }
 
-    /// Returns the octets not yet read: once no TLV is left, those that are not a complete TLV.
+    /// Returns the octets not yet read. After the last TLV, they do not begin with a complete TLV.
     pub fn rest(&self) -> &'a [u8]
         ensures { result.now ≡ self.now }
     {
@@ -65,7 +65,7 @@ impl<'a> Iterator for Tlvs<'a> {
     }
 }
 
-/// Returns the TLV at the front, and the octets after it.
+/// Returns the TLV at the front and the octets after it, or None if it is not complete.
 fn first(octets: &[u8]) -> Option<(Tlv<'_>, &[u8])>
     ensures { option_map (λ x. (tlv_view x.0, x.1.now)) result ≡ first_tlv octets.now }
 {
@@ -78,9 +78,9 @@ fn first(octets: &[u8]) -> Option<(Tlv<'_>, &[u8])>
     Some((Tlv { kind, body }, others))
 }
 
-/// Appends a TLV of this type, below 128, with this body, of at most 511 octets (IEEE 802.1AB-2009,
-/// 8.4), as a `Builder` does. Use it to write an LLDPDU directly into a frame; the law
-/// `drafts_are_read_back` says what such an LLDPDU says.
+/// Appends a TLV (IEEE 802.1AB-2009, 8.4). Its type must be below 128, its body must have at most
+/// 511 octets, and there must be room. Use this to write an LLDPDU directly into a frame; the law
+/// `drafts_are_read_back` covers such LLDPDUs.
 pub fn append_tlv<const N: usize>(octets: &mut ArrayVec<u8, N>, kind: u8, body: &[u8])
     requires kind { kind < 128 }
     requires body { length body.now < 512 }

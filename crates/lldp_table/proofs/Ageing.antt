@@ -1,4 +1,4 @@
--- The queue of times, and what a tick takes out of it.
+-- The queue of times, and what a tick removes from it.
 pub mod Timed
 pub mod Ticks
 pub mod Steps

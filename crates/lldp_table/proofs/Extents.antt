@@ -1,4 +1,4 @@
--- What the extent of a learned frame tells.
+-- The contents of the extent of a learned frame.
 use Rattle.std.proofs.Common.{◌≡◌, ℕ, ◌+◌, ◌*◌, ◌<◌, ◌≤◌, List, length, length-append, None, ap, arith}
 use Rattle.lldp_pdu.specs.Tlv.{AreOctets}
 use Rattle.lldp_pdu.specs.Lldpdu.{extent, ttl_of, msap_of}
@@ -11,7 +11,7 @@ use Rattle.lldp_table.specs.Events.{Neighbor}
 use Rattle.lldp_table.specs.Contents.{IsExtent, IsHeld}
 use Rattle.std.proofs.lemmas.Grind.{common_steps}
 
--- what an `Info` tells can be stored
+-- the octets of an `Info` can be stored
 pub info_is_extent : (info : LldpInfo) → TellsItself info → 0 < info.ttl → length info.octets ≤ 1500 → IsExtent info.msap info.ttl info.octets
 info_is_extent info t l s = grind (arith, common_steps, tells_itself)
 

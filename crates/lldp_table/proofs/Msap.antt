@@ -1,4 +1,4 @@
--- That `same_msap` says whether two MSAP identifiers are equal.
+-- `same_msap` is true exactly if two MSAP identifiers are equal.
 use Rattle.std.proofs.Common.{◌≡◌, true, ap, refl, arith}
 use Rattle.std.specs.Bool.{Decides}
 use Rattle.std.specs.Cmp.{IsEquivalence}

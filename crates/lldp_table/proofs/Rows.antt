@@ -1,4 +1,4 @@
--- Worked rows, computed from the definitions alone. Calls are written newest first.
+-- Worked examples, computed from the definitions alone. Calls are written newest first.
 use Rattle.std.proofs.Common.{◌≡◌, ℕ, List, [], ◌∷◌, Option, Some, None, refl}
 use Rattle.std.specs.List.{filter_map}
 use Rattle.lldp_pdu.specs.Msap.{MsapId}
@@ -8,7 +8,7 @@ use Rattle.lldp_table.specs.Standing.{table_of}
 use Rattle.lldp_table.specs.declared.learned.Learned.{Learned}
 use Rattle.lldp_table.specs.declared.learned.Learned.TheVariants.{New, Refreshed, Dropped}
 
--- the Chassis ID with the MAC 00:11:22:33:44:55 and the Port ID with the interface name `eth` and this octet
+-- the Chassis ID with MAC 00:11:22:33:44:55, and the Port ID with the name `eth` and this octet
 abbrev name : ℕ → MsapId
 name port = record { chassis = 4 ∷ 0x00 ∷ 0x11 ∷ 0x22 ∷ 0x33 ∷ 0x44 ∷ 0x55 ∷ []; port = 5 ∷ 0x65 ∷ 0x74 ∷ 0x68 ∷ port ∷ [] }
 
@@ -19,15 +19,15 @@ extent port ttl = 0x02 ∷ 0x07 ∷ 0x04 ∷ 0x00 ∷ 0x11 ∷ 0x22 ∷ 0x33 ∷
 abbrev frame : ℕ → ℕ → Call
 frame port ttl = learn (name port) ttl (extent port ttl)
 
--- a neighbor of this port and TTL, with so many ticks left
+-- a neighbor with this port and TTL, and with this many ticks left
 abbrev held : ℕ → ℕ → ℕ → Neighbor
 held port ttl left = record { msap = name port; octets = extent port ttl; ttl = ttl; left = left }
 
--- a table that was opened for two neighbors
+-- a table opened for two neighbors
 abbrev table : ℕ → ℕ → List Neighbor → Contents
 table limit timer held = record { capacity = 2; limit = limit; neighbors = held; too_many_left = timer }
 
--- what frames were answered
+-- the answer to a learned frame
 abbrev answer_of : TableEvent → Option Learned
 answer_of (learned msap ttl octets answer) = Some answer
 answer_of _ = None
@@ -75,14 +75,14 @@ who_left_comes_last : table_of 2 (frame 0x30 120 ∷ forget (name 0x30) ∷ fram
 unfolding neighbors live events_of too_many_left
 who_left_comes_last = refl
 
--- ## Names
+-- ## MSAP identifiers
 
--- the same port of another chassis is another neighbor
+-- the same port ID with another chassis ID is another neighbor
 another_chassis : answers (events_of 2 (learn (record { chassis = 7 ∷ 0x61 ∷ []; port = 7 ∷ 0x31 ∷ [] }) 9 [] ∷ learn (record { chassis = 7 ∷ 0x62 ∷ []; port = 7 ∷ 0x31 ∷ [] }) 9 [] ∷ [])) ≡ New ∷ New ∷ []
 unfolding neighbors live events_of
 another_chassis = refl
 
--- so is the same name by another subtype
+-- the same port ID with another subtype is another neighbor
 another_subtype : answers (events_of 2 (learn (record { chassis = 7 ∷ 0x61 ∷ []; port = 7 ∷ 0x31 ∷ [] }) 9 [] ∷ learn (record { chassis = 7 ∷ 0x61 ∷ []; port = 5 ∷ 0x31 ∷ [] }) 9 [] ∷ [])) ≡ New ∷ New ∷ []
 unfolding neighbors live events_of
 another_subtype = refl
@@ -93,7 +93,7 @@ who_leaves_goes_alone = refl
 
 -- ## A full table
 
--- a new neighbor is ignored, a refresh is taken, and the timer is that of the greatest TTL left
+-- a new neighbor is dropped, a refresh is stored, and the longest TTL dropped sets the timer
 full_table : table_of 2 (tick ∷ frame 0x30 120 ∷ frame 0x33 5 ∷ frame 0x32 9 ∷ frame 0x31 120 ∷ frame 0x30 60 ∷ []) ≡ table 2 8 (held 0x30 120 119 ∷ held 0x31 120 119 ∷ [])
 unfolding neighbors live events_of too_many_left
 full_table = refl
@@ -106,7 +106,7 @@ the_timer_ends : table_of 2 (tick ∷ tick ∷ frame 0x32 2 ∷ frame 0x31 120 �
 unfolding neighbors live events_of too_many_left
 the_timer_ends = refl
 
--- also a frame whose name was held before
+-- a frame of a neighbor that aged out is dropped too
 who_is_dropped_is_not_held : table_of 2 (frame 0x30 9 ∷ frame 0x32 60 ∷ tick ∷ frame 0x31 60 ∷ frame 0x30 1 ∷ []) ≡ table 2 9 (held 0x31 60 59 ∷ held 0x32 60 60 ∷ [])
 unfolding neighbors live events_of too_many_left
 who_is_dropped_is_not_held = refl
@@ -117,7 +117,7 @@ room_again = refl
 
 -- ## Limit and purge, while the timer runs
 
--- two are held, one was dropped, and a tick came; then one leaves
+-- two neighbors are held, a frame was dropped, and a tick came; then a neighbor is forgotten
 abbrev crowded : List Call
 crowded = forget (name 0x31) ∷ tick ∷ frame 0x32 9 ∷ frame 0x31 120 ∷ frame 0x30 60 ∷ []
 

@@ -1,5 +1,5 @@
--- How the code lays a table out, keeps its times, and what a slot stores. And what each call makes of what a table
--- shows (Steps), by which callers compute.
+-- How the code stores a table and its times, and what each call does to the contents of a table
+-- (`Steps`), which callers compute with.
 pub mod Steps
 pub mod Stored
 pub mod Queue

@@ -1,4 +1,4 @@
--- What a table shows, and what is true of every table.
+-- The contents of a table, and what holds for every table.
 use Rattle.std.specs.Prelude.{◌≡◌, ℕ, ◌<◌, ◌≤◌, Bool, List, length, map, None}
 use Rattle.std.specs.List.{list_any, IsDistinct, AllByRecursion}
 use Rattle.lldp_pdu.specs.Tlv.{AreOctets}
@@ -8,24 +8,24 @@ use Rattle.lldp_pdu.specs.Fault.{fault_of}
 use Rattle.lldp_table.specs.Msap.{same_msap}
 use Rattle.lldp_table.specs.Events.{Neighbor}
 
--- a table: the limit of opening, that in force, its neighbors in the order in which they were last new, and the ticks
--- left of its too-many timer
+-- a table: the limit of opening, the limit in force, the neighbors in the order in which they were
+-- last new, and the ticks left of the too-many timer
 pub record Contents : Type 0 where
   pub capacity : ℕ
   pub limit : ℕ
   pub neighbors : List Neighbor
   pub too_many_left : ℕ
 
--- the neighbor has this name
+-- the neighbor has this MSAP identifier
 abbrev pub is_named : MsapId → Neighbor → Bool
 is_named name neighbor = same_msap name neighbor.msap
 
--- a neighbor of this name is held
+-- a neighbor with this MSAP identifier is held
 abbrev pub holds_name : Contents → MsapId → Bool
 holds_name table name = list_any (is_named name) table.neighbors
 
--- what a learned frame said: at most 1,500 octets, which alone are a sound LLDPDU with this MSAP identifier and this
--- TTL, not 0, and are its whole extent
+-- An extent that can be stored: at most 1,500 octets that alone are a sound LLDPDU with this MSAP
+-- identifier and this TTL, above 0, and that are its whole extent.
 pub record IsExtent (msap : MsapId) (ttl : ℕ) (octets : List ℕ) : Type 0 where
   pub short : length octets ≤ 1500
   pub lives : 0 < ttl
@@ -43,12 +43,12 @@ pub record IsHeld (neighbor : Neighbor) : Type 0 where
   pub lives : 0 < neighbor.left
   pub left : neighbor.left ≤ neighbor.ttl
 
--- the names of neighbors
+-- the MSAP identifiers of neighbors
 abbrev pub names_of : List Neighbor → List MsapId
 names_of neighbors = map (λ neighbor. neighbor.msap) neighbors
 
--- room for 1 to 128 neighbors, a limit from 1 to that, no more neighbors than the limit, each as a table holds it, and
--- no two of one name
+-- The capacity is at most 128 and the limit is from 1 to the capacity. At most as many neighbors as
+-- the limit are held, each as `IsHeld` says, and no two have the same MSAP identifier.
 pub record IsSound (table : Contents) : Type 0 where
   pub most : table.capacity ≤ 128
   pub room : table.limit ≤ table.capacity

@@ -1,5 +1,5 @@
--- The calls that were made on a table, and what they leave live (IEEE 802.1AB-2009, 9.2.7.7). Each list is newest
--- first, so the calls after one in its list came before it.
+-- The calls that were made on a table, and which neighbors are live after them (IEEE 802.1AB-2009,
+-- 9.2.7.7). Every list has the newest call first: what follows a call in a list came before it.
 use Rattle.std.specs.Prelude.{ℕ, suc, ◌-◌, Bool, true, false, not, ◌&&◌, if◌then◌else◌, nat_lt, max, List, [], ◌∷◌, ◌++◌, length, filter, find, filter_map, Option, Some, None, is_some, option_and_then, count_by, is_none}
 use Rattle.lldp_pdu.specs.Msap.{MsapId}
 use Rattle.lldp_table.specs.Msap.{same_msap}
@@ -14,7 +14,7 @@ pub data Call : Type 0 where
   tick : Call
   set_limit : (limit : ℕ) → Call
 
--- a call that was made: a `learn` with what it answered
+-- a call that was made; for a `learn`, with its answer
 pub data TableEvent : Type 0 where
   learned : (msap : MsapId) (ttl : ℕ) (octets : List ℕ) (answer : Learned) → TableEvent
   forgot : (msap : MsapId) → TableEvent
@@ -22,7 +22,7 @@ pub data TableEvent : Type 0 where
   ticked : TableEvent
   limit_set : (limit : ℕ) → TableEvent
 
--- a live neighbor: its name, the octets and the TTL of its last stored frame, and the ticks that are left of it
+-- a live neighbor: MSAP identifier, octets and TTL of its last stored frame, and the ticks left
 pub record Neighbor : Type 0 where
   pub msap : MsapId
   pub octets : List ℕ
@@ -31,22 +31,22 @@ pub record Neighbor : Type 0 where
 
 -- ## Last events, and ticks since
 
--- a tick came
+-- the event is a tick
 abbrev pub is_tick : TableEvent → Bool
 is_tick ticked = true
 is_tick _ = false
 
--- the table was purged
+-- the event is a purge
 abbrev pub is_purge : TableEvent → Bool
 is_purge purged = true
 is_purge _ = false
 
--- new and refreshed frames are stored, dropped ones aren't
+-- new and refreshed frames are stored, dropped ones are not
 abbrev pub is_stored : Learned → Bool
 is_stored Dropped = false
 is_stored _ = true
 
--- how many ticks came
+-- the number of ticks among these events
 abbrev pub ticks : List TableEvent → ℕ
 ticks [] = 0
 ticks (event ∷ past) = if is_tick event then suc (ticks past) else ticks past
@@ -56,32 +56,32 @@ abbrev pub since : (TableEvent → Bool) → List TableEvent → List TableEvent
 since test [] = []
 since test (event ∷ past) = if test event then [] else event ∷ since test past
 
--- the event stored a frame of this name, forgot the name or purged the table
+-- the event stored a frame with this MSAP identifier, forgot the identifier, or purged the table
 abbrev pub decides_on : MsapId → TableEvent → Bool
 decides_on name (learned other ttl octets answer) = is_stored answer && same_msap other name
 decides_on name (forgot other) = same_msap other name
 decides_on name purged = true
 decides_on name _ = false
 
--- ## Who is live
+-- ## Which neighbors are live
 
--- what is live of a name if its last deciding event is this one, n ticks ago: its TTL less n is left
+-- the live neighbor, if the last event that decides on it is this one, n ticks ago
 abbrev pub live_after : ℕ → TableEvent → Option Neighbor
 live_after n (learned msap ttl octets answer) =
     if nat_lt n ttl then Some (record { msap = msap; octets = octets; ttl = ttl; left = ttl - n }) else None
 live_after n _ = None
 
--- The neighbor of this name, if it is live: the last of the events that stored it, forgot it or purged the table stored
--- it, and fewer ticks than its TTL came since.
+-- The neighbor with this MSAP identifier, if it is live: of the events that stored it, forgot it or
+-- purged the table, the last one stored it, and fewer ticks than its TTL have passed since.
 unfoldable pub live : MsapId → List TableEvent → Option Neighbor
 live name events = option_and_then (live_after (ticks (since (decides_on name) events))) (find (decides_on name) events)
 
--- an event's name comes last if it is new
+-- the MSAP identifiers after an event: one that is new goes to the end
 abbrev pub arrive : TableEvent → List MsapId → List MsapId
 arrive (learned name ttl octets New) names = filter (λ other. not (same_msap name other)) names ++ name ∷ []
 arrive _ names = names
 
--- the names that were ever new, each once, in the order of the events at which each was last new
+-- the MSAP identifiers that were ever new, each once, in the order in which they were last new
 abbrev pub arrivals : List TableEvent → List MsapId
 arrivals [] = []
 arrivals (event ∷ past) = arrive event (arrivals past)
@@ -90,7 +90,7 @@ arrivals (event ∷ past) = arrive event (arrivals past)
 unfoldable pub neighbors : List TableEvent → List Neighbor
 neighbors events = filter_map (λ name. live name events) (arrivals events)
 
--- ## What is stored
+-- ## Which frames are stored
 
 -- the limit after these events: the last one that was set, or that of opening
 abbrev pub limit_after : ℕ → List TableEvent → ℕ
@@ -98,14 +98,14 @@ limit_after opened [] = opened
 limit_after opened (limit_set limit ∷ past) = limit
 limit_after opened (event ∷ past) = limit_after opened past
 
--- What a `learn` of this name answers. A live name is refreshed, whether or not there is room. Another name is new
--- if fewer neighbors than the limit in force are live, else its frame is dropped.
+-- The answer of a `learn`: Refreshed if this MSAP identifier is live; otherwise New if fewer
+-- neighbors than the limit in force are live, and else Dropped.
 abbrev pub answer : ℕ → MsapId → List TableEvent → Learned
 answer opened name past =
     if is_some (live name past) then Refreshed
     else (if nat_lt (length (neighbors past)) (limit_after opened past) then New else Dropped)
 
--- a call after these events
+-- the event that a call makes after these events
 abbrev pub event_of : ℕ → Call → List TableEvent → TableEvent
 event_of opened (learn msap ttl octets) past = learned msap ttl octets (answer opened msap past)
 event_of opened (forget msap) past = forgot msap
@@ -113,24 +113,24 @@ event_of opened purge past = purged
 event_of opened tick past = ticked
 event_of opened (set_limit limit) past = limit_set limit
 
--- the calls with what they answered, on a table that was opened with this limit
+-- the calls with their answers, on a table that was opened with this limit
 unfoldable pub events_of : ℕ → List Call → List TableEvent
 events_of opened [] = []
 events_of opened (call ∷ calls) = let past = events_of opened calls in event_of opened call past ∷ past
 
--- how many names that are live after these events are no longer live one tick later
+-- the number of neighbors that are live after these events and no longer live one tick later
 abbrev pub aged_out : List TableEvent → ℕ
 aged_out past = count_by (λ (neighbor : Neighbor). is_none (live neighbor.msap (ticked ∷ past))) (neighbors past)
 
 -- ## Too many neighbors
 
--- the most ticks that a dropped one of these frames has left, n ticks after the last event
+-- the most ticks left of any dropped frame among these events, n ticks after the last event
 abbrev pub most_left : ℕ → List TableEvent → ℕ
 most_left n [] = 0
 most_left n (learned msap ttl octets Dropped ∷ past) = max (ttl - n) (most_left n past)
 most_left n (ticked ∷ past) = most_left (suc n) past
 most_left n (event ∷ past) = most_left n past
 
--- The most ticks that a frame dropped since the last purge has left. There are too many neighbors while it isn't 0.
+-- The most ticks left of a frame dropped since the last purge. Above 0 means too many neighbors.
 unfoldable pub too_many_left : List TableEvent → ℕ
 too_many_left events = most_left 0 (since is_purge events)

@@ -1,2 +1,2 @@
--- What only laws say: what changes from one call to the next.
+-- Definitions that only the laws use: what changes from one call to the next.
 pub mod Changes

@@ -1,4 +1,4 @@
--- When two MSAP identifiers name the same neighbor.
+-- When two MSAP identifiers identify the same neighbor.
 use Rattle.std.specs.Prelude.{Bool, ◌&&◌}
 use Rattle.std.specs.Str.{bytes_eq}
 use Rattle.lldp_pdu.specs.Msap.{MsapId}

@@ -1,5 +1,5 @@
--- Which neighbors are live, in which order, and whether too many came, in terms of positions: by splits of a list of
--- events at one of them, whose front part came later.
+-- Which neighbors are live, in which order, and whether there are too many, by position: a list of
+-- events is split into a later part in front and an earlier part.
 use Rattle.std.specs.Prelude.{◌≡◌, ℕ, ◌+◌, ◌<◌, Bool, false, List, ◌∷◌, ◌++◌, length, IsTrue}
 use Rattle.std.specs.List.{AllByRecursion, list_any}
 use Rattle.lldp_pdu.specs.Msap.{MsapId}
@@ -8,8 +8,9 @@ use Rattle.lldp_table.specs.declared.learned.Learned.{Learned}
 use Rattle.lldp_table.specs.declared.learned.Learned.TheVariants.{New, Dropped}
 use Rattle.lldp_table.specs.Events.{TableEvent, learned, Neighbor, neighbors, limit_after, is_purge, is_stored, decides_on, ticks}
 
--- The neighbor is its name's last stored frame that hasn't expired: no later event stored another of the name, forgot
--- the name or purged the table, and the ticks since then plus those left, at least one, are its TTL.
+-- The neighbor has the last stored frame of its MSAP identifier, which has not expired: no later
+-- event stored another, forgot the identifier or purged the table, and the ticks since then and
+-- those left, at least one, add up to the TTL.
 pub record IsLastStored (events : List TableEvent) (neighbor : Neighbor) : Type 0 where
   pub later : List TableEvent
   pub answer : Learned
@@ -20,7 +21,7 @@ pub record IsLastStored (events : List TableEvent) (neighbor : Neighbor) : Type 
   pub left : ticks later + neighbor.left ≡ neighbor.ttl
   pub lives : 0 < neighbor.left
 
--- a neighbor of this name is live
+-- a neighbor with this MSAP identifier is live
 abbrev pub IsLive : List TableEvent → MsapId → Type 0
 IsLive events name = (neighbor : Neighbor) × (neighbor.msap ≡ name) × IsLastStored events neighbor
 
@@ -28,13 +29,13 @@ IsLive events name = (neighbor : Neighbor) × (neighbor.msap ≡ name) × IsLast
 abbrev pub HasRoom : ℕ → List TableEvent → Type 0
 HasRoom opened events = length (neighbors events) < limit_after opened events
 
--- the event made this name new
+-- the event made this MSAP identifier new
 abbrev pub makes_new : MsapId → TableEvent → Bool
 makes_new name (learned other ttl octets New) = same_msap other name
 makes_new name _ = false
 
--- One neighbor's name was last new before another's: at some moment the first had been new, the second became new
--- later, and the first did not become new again after that.
+-- The MSAP identifier of `one` was last new before that of `other`: at some moment `one` had been
+-- new, `other` became new later, and `one` did not become new again after that moment.
 pub record IsNewBefore (events : List TableEvent) (one other : Neighbor) : Type 0 where
   pub later : List TableEvent
   pub earlier : List TableEvent
@@ -43,7 +44,7 @@ pub record IsNewBefore (events : List TableEvent) (one other : Neighbor) : Type 
   pub other_later : IsTrue (list_any (makes_new other.msap) later)
   pub one_not_later : list_any (makes_new one.msap) later ≡ false
 
--- A frame was dropped, the table has not been purged since, and this many ticks of its TTL are left.
+-- A frame was dropped, the table was not purged since, and this many ticks of its TTL are left.
 pub record WasDropped (events : List TableEvent) (left : ℕ) : Type 0 where
   pub later : List TableEvent
   pub msap : MsapId

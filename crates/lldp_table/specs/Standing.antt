@@ -1,10 +1,10 @@
--- What a table holds after a list of calls.
+-- The contents of a table after a list of calls.
 use Rattle.std.specs.Prelude.{◌≡◌, ℕ, ◌<◌, ◌≤◌, List, [], ◌∷◌, length}
 use Rattle.lldp_table.specs.Events.{Call, learn, forget, purge, tick, set_limit, events_of, neighbors, too_many_left, limit_after}
 use Rattle.lldp_table.specs.Contents.{Contents, IsExtent}
 
--- the table that these calls leave, by the definitions alone: the limits, the live names, each with the octets, the TTL
--- and the ticks left of its last stored frame, in the order in which they were last new, and the too-many timer
+-- the contents after these calls, by the definitions alone: the limits, the live neighbors in the
+-- order in which they were last new, and the too-many timer
 abbrev pub table_of : ℕ → List Call → Contents
 table_of opened calls =
     let past = events_of opened calls in
@@ -15,13 +15,13 @@ table_of opened calls =
       too_many_left = too_many_left past;
     }
 
--- a new limit: from 1 to the limit of opening, and no more neighbors than it are held
+-- a limit that can be set: 1 to the limit of opening, and no less than the neighbors held
 pub record IsNewLimit (table : Contents) (limit : ℕ) : Type 0 where
   pub least : 0 < limit
   pub most : limit ≤ table.capacity
   pub held : length table.neighbors ≤ limit
 
--- a call that such a table can be given: a learn of an extent, a set_limit to a new limit, all others always
+-- the call is possible: a `learn` needs an extent, and a `set_limit` a limit that can be set
 abbrev pub IsPossible : Contents → Call → Type 0
 IsPossible table (learn msap ttl octets) = IsExtent msap ttl octets
 IsPossible table (forget msap) = Unit {0}
@@ -29,19 +29,19 @@ IsPossible table purge = Unit {0}
 IsPossible table tick = Unit {0}
 IsPossible table (set_limit limit) = IsNewLimit table limit
 
--- each call of the list, after those before it
+-- each call of the list is possible after the calls before it
 abbrev pub ArePossible : ℕ → List Call → Type 0
 ArePossible opened [] = Unit {0}
 ArePossible opened (call ∷ calls) = IsPossible (table_of opened calls) call × ArePossible opened calls
 
--- The table stands for a limit of opening, from 1 to 128, and a list of calls, each of which could be given, the newest
--- first: it is the one that they leave.
+-- The table stands for a limit of opening, from 1 to 128, and a list of possible calls, the newest
+-- first: its contents are those that the calls leave by the definitions.
 pub record Stands (opened : ℕ) (calls : List Call) (table : Contents) : Type 0 where
   pub least : 0 < opened
   pub most : opened ≤ 128
   pub allowed : ArePossible opened calls
   pub is : table ≡ table_of opened calls
 
--- for each limit of opening and list of calls that the table stands for
+-- P holds for each limit of opening and list of calls that the table stands for
 abbrev pub ForEachCalls : Contents → (ℕ → List Call → Type 0) → Type 0
 ForEachCalls table P = (opened : ℕ) (calls : List Call) → Stands opened calls table → P opened calls

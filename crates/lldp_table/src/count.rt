@@ -1,10 +1,10 @@
-//! A count that exists for clauses only.
+//! A counter that exists only in contracts.
 ghost use Rattle.std.specs.Prelude.{◌≡◌, ℕ, ◌+◌};
 ghost use Rattle.std.specs.Borrow.{ftrue};
 
 use std::marker::Model;
 
-/// A count that takes no bytes, and that only `add` changes.
+/// A counter that takes no memory and that only `add` changes.
 #[derive(Drop)]
 pub(crate) struct Count {
     ghost number: { ℕ },
@@ -15,8 +15,8 @@ impl Model for Count {
 }
 
 impl Count {
-    /// Begins a count at some number. No clause says which, so that nobody can begin anew and claim
-    /// that less was counted.
+    /// Begins at a number that no clause states. So code can't replace a counter by a new one to
+    /// claim that less was counted.
     pub(crate) fn new() -> Count
         ensures { result ≡ result }
     {

@@ -1,4 +1,4 @@
-//! The neighbors of a table, one after another.
+//! An iterator over the neighbors of a table.
 ghost use Rattle.std.specs.Iterator.{YieldsFirst, item_count};
 
 use crate::entry::Entry;
@@ -6,11 +6,11 @@ use crate::limits::MOST_NEIGHBORS;
 use crate::slot::Slot;
 use std::marker::Model;
 
-/// The neighbors of a table, in its order.
+/// An iterator over the neighbors of a table, in the table's order.
 #[derive(Drop)]
 pub struct Entries<'a> {
     pub(crate) slots: &'a [Slot],
-    /// The indices of the slots whose neighbors are not yet returned.
+    /// The indices of the slots whose neighbors have not been returned yet.
     pub(crate) order: &'a [u8],
     /// The ticks left of each slot.
     pub(crate) ticks: [u16; MOST_NEIGHBORS],

@@ -31,7 +31,7 @@ impl<'a> Model for Entry<'a> {
 }
 
 impl<'a> Entry<'a> {
-    /// Returns its name: both bodies have 2 to 256 octets.
+    /// Returns the neighbor's MSAP identifier. Its two bodies have 2 to 256 octets each.
     pub fn msap(&self) -> Msap<'a>
         ensures value { msap_view result ≡ self.now.msap }
         ensures chassis { IsIdentifier self.now.msap.chassis }
@@ -48,7 +48,7 @@ impl<'a> Entry<'a> {
         self.slot.ttl()
     }
 
-    /// Returns the ticks left of it, at least 1 and no more than its TTL.
+    /// Returns how many ticks (seconds) are left: at least 1, and at most the TTL.
     pub fn left(&self) -> u16
         ensures value { result ≡ self.now.left }
         ensures lives { 0 < result }
@@ -57,8 +57,8 @@ impl<'a> Entry<'a> {
         self.left
     }
 
-    /// Returns the kept TLVs of its frame, in order, each well formed, read again from the stored
-    /// octets: exactly theirs, at most one for every two octets past the first 12.
+    /// Returns the kept TLVs of the neighbor's frame, in order, read again from the stored octets.
+    /// Each is well formed, and their number is at most half that of the octets after the first 12.
     pub fn kept(&self) -> Kept<'a>
         ensures value { result ≡ kept_of self.now.octets }
         ensures each { AllByRecursion IsKeptTlv (kept_of self.now.octets) }
@@ -67,7 +67,7 @@ impl<'a> Entry<'a> {
         Kept::of_extent(self.octets())
     }
 
-    /// Returns the stored octets, the extent of its last stored LLDPDU: at most 1,500.
+    /// Returns the extent of the neighbor's last stored LLDPDU, at most 1,500 octets.
     pub fn octets(&self) -> &'a [u8]
         ensures value { result.now ≡ self.now.octets }
         ensures extent { IsExtent self.now.msap self.now.ttl self.now.octets }

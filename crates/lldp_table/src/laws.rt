@@ -1,4 +1,4 @@
-//! Laws of the definitions, for every list of calls.
+//! Laws that the definitions obey, for every list of calls.
 ghost use Rattle.std.specs.Prelude.{◌≡◌, ℕ, false, ◌+◌, ◌-◌, ◌*◌, ◌^◌, ◌<◌, ◌≤◌, ◌↔◌, ◌⊎◌, max, List, [], ◌∷◌, ◌++◌, length, None};
 ghost use Rattle.std.specs.List.{Contains, AllPairs, AllByRecursion};
 ghost use Rattle.lldp_pdu.specs.Tlv.{AreOctets};
@@ -16,17 +16,17 @@ ghost use Rattle.lldp_table.specs.Standing.{Stands, ForEachCalls, IsPossible, Ar
 ghost use Rattle.lldp_table.specs.Positions.{IsLastStored, IsLive, HasRoom, IsNewBefore, WasDropped};
 ghost use Rattle.lldp_table.specs.declared.limits.TheConstants.{MOST_NEIGHBORS};
 
-/// A table that stands for a list of calls stands, after one more call, for the list with that
-/// call, if the call is possible (`IsPossible`).
+/// If a table stands for a list of calls and one more call is possible (`IsPossible`), the table
+/// after that call stands for the list with that call.
 #[tactic(auto, using(crate::proofs::Standing::Calls::carries))]
 pub fn calls_carry_standing()
     ensures { (table : Contents) (call : Call) → IsPossible table call →
         ForEachCalls table (λ opened calls. Stands opened (call ∷ calls) (table_after table call)) }
 {}
 
-/// A table opened with a limit of 1 to 128 stands for no calls. A table that stands for a list of
-/// calls answers what the definitions say of the list. Each call is one event more, and a tick ages
-/// out as many neighbors as are live before it and not after it.
+/// A table opened with a limit of 1 to 128 stands for the empty list of calls. A table that stands
+/// for a list of calls answers as the definitions say for the list. Each call adds one event. The
+/// neighbors that a tick ages out and those live after it are as many as those live before it.
 pub fn calls_tell_standing_tables()
     ensures opened { (opened : ℕ) → 0 < opened → opened ≤ 128 →
         Stands opened [] (newly_opened opened) }
@@ -50,7 +50,7 @@ pub fn calls_leave_sound_tables()
 {}
 
 /// The extent of a sound LLDPDU with a TTL above 0 and at most 1,500 octets can be stored. A stored
-/// one has twelve octets and two more for each kept TLV, or more.
+/// extent has at least twelve octets, plus two for each kept TLV.
 #[tactic(auto, using(crate::proofs::Extents::lldpdu_is_extent, crate::proofs::Extents::kept_is_short))]
 pub fn extents_can_be_stored()
     ensures stored { (pdu : List ℕ) → AreOctets pdu → fault_of pdu ≡ None → 0 < ttl_of pdu →
@@ -60,12 +60,12 @@ pub fn extents_can_be_stored()
         12 + 2 * length (kept_of neighbor.octets) ≤ length neighbor.octets }
 {}
 
-/// The calls leave for each name its last stored frame that has not expired, and nothing else:
-/// since that frame no call stored another of its name, forgot it or purged the table, and fewer
-/// ticks than its TTL came. They are in the order in which the names were last new. If the table
-/// was opened with a limit of 1 to 128 and each call was possible, the resulting table is sound and
-/// stands for the list, and a table that stands for it is that one: it holds no more neighbors than
-/// the limit, nor more than 1,500 octets for each.
+/// A list of calls leaves exactly the unexpired last stored frame of each MSAP identifier: since
+/// that frame, no call stored another with this identifier, forgot it or purged the table, and
+/// fewer ticks than its TTL passed. The frames are in the order in which their identifiers were
+/// last new. If the table was opened with a limit of 1 to 128 and each call was possible, the
+/// resulting table stands for the list, as no other table does, and is sound: it holds at most as
+/// many neighbors as the limit, with at most 1,500 octets each.
 pub fn tables_hold_last_stored_frames()
     ensures held { (opened : ℕ) (calls : List Call) (neighbor : Neighbor) →
         Contains (neighbors (events_of opened calls)) neighbor
@@ -78,8 +78,8 @@ pub fn tables_hold_last_stored_frames()
         ArePossible opened calls → Stands opened calls (table_of opened calls) }
 {}
 
-/// A frame is a refresh exactly if a neighbor of its name is live, new exactly if none is and fewer
-/// than the limit in force are live, and else it is dropped.
+/// A frame is Refreshed exactly if a neighbor with its MSAP identifier is live, New exactly if none
+/// is and fewer neighbors than the limit in force are live, and otherwise Dropped.
 #[tactic(auto, using(crate::proofs::Standing::Lists::refreshed_is, crate::proofs::Standing::Lists::new_is, crate::proofs::Standing::Lists::dropped_is))]
 pub fn live_neighbors_decide_answers()
     ensures refreshed { (opened : ℕ) (calls : List Call) (name : MsapId) →
@@ -94,8 +94,8 @@ pub fn live_neighbors_decide_answers()
         × (¬ (HasRoom opened (events_of opened calls)))) }
 {}
 
-/// What is left of the too-many timer is the most that any frame dropped since the last purge has
-/// left of its TTL, and 0 if no such frame has anything left.
+/// The ticks left of the too-many timer are the most that any frame dropped since the last purge
+/// has left of its TTL, or 0 if no such frame has any left.
 #[tactic(auto, using(crate::proofs::Live::Order::greatest_dropped, crate::proofs::Live::Order::none_dropped_above))]
 pub fn timers_keep_the_greatest_dropped()
     ensures one { (events : List TableEvent) → 0 < too_many_left events →
@@ -109,8 +109,8 @@ pub fn timers_keep_the_greatest_dropped()
         WasDropped (events_of opened calls) left → left ≤ table.too_many_left) }
 {}
 
-/// If a name is forgotten, for instance by a frame with a TTL of 0, that name is removed and no
-/// other; nothing else changes.
+/// `forget`, called for instance for a frame with a TTL of 0, removes the neighbor with this MSAP
+/// identifier and no other, and changes nothing else.
 pub fn forgotten_names_go_alone()
     ensures held { (opened : ℕ) (calls : List Call) (name : MsapId) (neighbor : Neighbor) →
         Contains (table_of opened (forget name ∷ calls)).neighbors neighbor
@@ -120,8 +120,8 @@ pub fn forgotten_names_go_alone()
         ≡ table_of opened calls }
 {}
 
-/// A tick removes exactly those neighbors that had one tick left. The others, and the too-many
-/// timer, have one tick less, and the limit stays.
+/// A tick removes exactly the neighbors that had one tick left. The others and the too-many timer
+/// then have one tick less, and the limit stays the same.
 pub fn ticks_take_expired_neighbors_alone()
     ensures held { (opened : ℕ) (calls : List Call) (neighbor : Neighbor) →
         Contains (table_of opened (tick ∷ calls)).neighbors neighbor
@@ -133,8 +133,8 @@ pub fn ticks_take_expired_neighbors_alone()
         (table_of opened (tick ∷ calls)).limit ≡ (table_of opened calls).limit }
 {}
 
-/// A frame with a TTL above 0 that is not dropped is held with all of its TTL left, in place of
-/// what its name had; nothing else changes.
+/// A frame that has a TTL above 0 and is not dropped is held with its whole TTL left. It replaces
+/// the frame held for its MSAP identifier, if any; nothing else changes.
 pub fn stored_frames_replace_their_name_alone()
     ensures held { (opened : ℕ) (calls : List Call) (name : MsapId) (ttl : ℕ) (octets : List ℕ)
         (neighbor : Neighbor) → 0 < ttl → ¬ (answer opened name (events_of opened calls) ≡ Dropped) →
@@ -156,16 +156,16 @@ pub fn dropped_frames_change_the_timer_alone()
         ≡ record (table_of opened calls) { too_many_left = max (table_of opened calls).too_many_left ttl } }
 {}
 
-/// A purge removes all neighbors and ends the too-many timer, and the limit stays.
+/// A purge removes all neighbors and ends the too-many timer; the limit stays the same.
 #[tactic(auto, using(crate::proofs::Live::Calls::purge_leaves))]
 pub fn purges_end_timers_too()
     ensures { (opened : ℕ) (calls : List Call) → table_of opened (purge ∷ calls)
         ≡ record (table_of opened calls) { neighbors = []; too_many_left = 0 } }
 {}
 
-/// A limit is in force from the call that sets it until another call sets one, and the limit of
-/// opening until the first such call: a frame of a name that is not live is dropped exactly if as
-/// many neighbors are held. Setting it changes nothing else.
+/// A limit is in force from the call that sets it until the next such call, and the limit of
+/// opening until the first. A frame whose MSAP identifier is not live is dropped exactly if at
+/// least as many neighbors as the limit are held. Setting a limit changes nothing else.
 pub fn limits_last_until_the_next()
     ensures set { (opened limit : ℕ) (later calls : List Call) →
         AllByRecursion (λ call. sets_limit call ≡ false) later →
@@ -181,8 +181,8 @@ pub fn limits_last_until_the_next()
         table_of opened (set_limit limit ∷ calls) ≡ record (table_of opened calls) { limit = limit } }
 {}
 
-/// If the octets of two names, the chassis ID's followed by the port ID's, differ in one place,
-/// their tags differ. The tag affects only speed.
+/// If two MSAP identifiers, written as the chassis ID followed by the port ID, differ in exactly
+/// one octet, their tags differ. The tags affect only speed.
 #[tactic(auto, using(crate::proofs::Slots::Tags::same_octet))]
 pub fn names_one_octet_apart_have_tags_apart()
     ensures { (one other : MsapId) (front back : List ℕ) (a b : ℕ) →
@@ -190,7 +190,7 @@ pub fn names_one_octet_apart_have_tags_apart()
         a < 2 ^ 8 → b < 2 ^ 8 → tag_of one ≡ tag_of other → a ≡ b }
 {}
 
-/// A table has room for at most 128 neighbors, the number that definitions and clauses write out.
+/// `MOST_NEIGHBORS`, the most neighbors that a table can hold, is 128.
 pub fn tables_have_room_for_128()
     ensures { MOST_NEIGHBORS ≡ 128 }
 {}

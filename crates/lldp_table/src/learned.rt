@@ -3,10 +3,10 @@
 /// What `Table::learn` did with a frame.
 #[derive(Clone, Copy, Debug, PartialEq, Eq)]
 pub enum Learned {
-    /// Its neighbor was not held, and now is.
+    /// The frame's neighbor was not held, and now is.
     New,
-    /// Its neighbor was held, and now has this frame in place of the one before.
+    /// The frame's neighbor was held, and now has this frame in place of the previous one.
     Refreshed,
-    /// Its neighbor was not held, and there was no room.
+    /// The frame's neighbor was not held, and there was no room for it.
     Dropped,
 }

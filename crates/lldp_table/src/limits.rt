@@ -1,4 +1,4 @@
-//! What a table has room for.
+//! The greatest size of a table.
 
-/// How many neighbors a table holds at most.
+/// The most neighbors that a table can hold.
 pub const MOST_NEIGHBORS: usize = 128;

@@ -1,4 +1,4 @@
-//! The order of a table's slots, those in use first: what is found, added, aged out and read by it.
+//! The order of a table's slots, those in use first, and the functions that search or change it.
 ghost use Rattle.std.specs.Prelude.{◌≡◌, ◌≤◌, ◌<◌, ◌+◌, ◌*◌, true, false, List, length, take, map, MatchOption, slice_index_or, sum_by, IsPermutation, nat_eq};
 ghost use Rattle.std.specs.List.{list_any, filter_map, AllByRecursion, IsDistinct};
 ghost use Rattle.lldp_pdu.specs.View.{msap_view};
@@ -16,7 +16,7 @@ use arrayvec::ArrayVec;
 use lldp_pdu::{MOST_OCTETS, Msap};
 use std::alloc::Allocator;
 
-/// Returns the place of the slot whose frame has this MSAP identifier. The tag is the name's.
+/// Returns the place in `order` of the slot with the MSAP identifier `name`, whose tag is `tag`.
 pub(crate) fn place_of(slots: &[Slot], order: &[u8], name: &Msap<'_>, tag: u32) -> Option<usize>
     requires tag { tag ≡ tag_of (msap_view name.now) }
     requires within { AllByRecursion (λ i. i < length slots.now) order.now }
@@ -34,7 +34,7 @@ pub(crate) fn place_of(slots: &[Slot], order: &[u8], name: &Msap<'_>, tag: u32) 
     None
 }
 
-/// Writes one more slot if all that were written are in use. Opening made the room for it.
+/// Creates one more slot if all existing slots are in use. Opening allocated the memory for it.
 pub(crate) fn write_next<A: Allocator>(
     slots: &mut Room<Slot, A>,
     order: &mut ArrayVec<u8, MOST_NEIGHBORS>,
@@ -54,8 +54,8 @@ pub(crate) fn write_next<A: Allocator>(
     }
 }
 
-/// Takes a tick: moves the slots whose neighbors expire out of the queue, and after the others in
-/// the order. Returns how many slots are still in use.
+/// Processes a tick: removes from the queue the slots whose neighbors expire, and moves them to the
+/// end of the order. Returns how many slots are still in use.
 #[inline(always)]
 pub(crate) fn age_out(
     queue: &mut Queue,
@@ -86,7 +86,7 @@ pub(crate) fn age_out(
     kept
 }
 
-/// Returns how many octets these slots store.
+/// Returns how many octets the slots in `order` store together.
 pub(crate) fn octets_of(slots: &[Slot], order: &[u8]) -> u32
     requires within { AllByRecursion (λ i. i < length slots.now) order.now }
     requires few { length order.now ≤ MOST_NEIGHBORS }

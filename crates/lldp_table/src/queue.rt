@@ -9,7 +9,7 @@ use arrayvec::ArrayVec;
 use memchr::memchr;
 use std::marker::Model;
 
-/// Returns the place of a slot among these.
+/// Returns the place of `slot` in `slots`. It must be there.
 pub(crate) fn place_in(slots: &[u8], slot: u8) -> usize
     requires { list_any (nat_eq slot) slots.now ≡ true }
     ensures within { result < length slots.now }
@@ -21,7 +21,7 @@ pub(crate) fn place_in(slots: &[u8], slot: u8) -> usize
     }
 }
 
-/// Returns the place at which a neighbor with this many ticks left enters, and its difference.
+/// Returns where a neighbor with this many ticks left enters the queue, and its difference there.
 #[tactic(auto, using(crate::proofs::Ageing::Due::enters_here, crate::proofs::Ageing::Due::enters_behind))]
 fn place_for(slots: &[u8], times: &mut Times, left: u16) -> (usize, u16)
     requires { AllByRecursion (λ i. i < MOST_NEIGHBORS) slots.now }
@@ -45,7 +45,7 @@ fn place_for(slots: &[u8], times: &mut Times, left: u16) -> (usize, u16)
     (slots.len(), rest)
 }
 
-/// Takes so much from the difference at a place, if a slot is there.
+/// Subtracts `less` from the difference at a place, if a slot is there.
 #[tactic(auto, using(crate::proofs::Ageing::Due::lessened, crate::proofs::Ageing::Due::within_times))]
 fn lessen(times: &mut Times, slots: &[u8], at: usize, less: u16)
     requires queue { IsQueue times.old.shown slots.now }
@@ -63,7 +63,7 @@ fn lessen(times: &mut Times, slots: &[u8], at: usize, less: u16)
     times.set(slot, gap - less);
 }
 
-/// Adds so much to the difference at a place, if a slot is there.
+/// Adds `more` to the difference at a place, if a slot is there.
 #[tactic(auto, using(crate::proofs::Ageing::Due::raised, crate::proofs::Ageing::Due::within_times))]
 fn raise(times: &mut Times, slots: &[u8], at: usize, more: u16)
     requires queue { IsQueue times.old.shown slots.now }
@@ -81,7 +81,7 @@ fn raise(times: &mut Times, slots: &[u8], at: usize, more: u16)
     times.set(slot, more + gap);
 }
 
-/// Enters a slot whose neighbor has this many ticks left.
+/// Inserts a slot whose neighbor has this many ticks left.
 fn enter_into(slots: &mut ArrayVec<u8, MOST_NEIGHBORS>, times: &mut Times, slot: u8, left: u16)
     requires queue { IsQueue times.old.shown slots.old.items }
     requires room { length slots.old.items < MOST_NEIGHBORS }
@@ -97,7 +97,7 @@ fn enter_into(slots: &mut ArrayVec<u8, MOST_NEIGHBORS>, times: &mut Times, slot:
     slots.insert(at, slot);
 }
 
-/// Enters a slot as the last, this many ticks after the one that was last before.
+/// Appends a slot that expires `gap` ticks after the slot that was last.
 fn enter_last(slots: &mut ArrayVec<u8, MOST_NEIGHBORS>, times: &mut Times, slot: u8, gap: u16)
     requires queue { IsQueue times.old.shown slots.old.items }
     requires room { length slots.old.items < MOST_NEIGHBORS }
@@ -113,8 +113,8 @@ fn enter_last(slots: &mut ArrayVec<u8, MOST_NEIGHBORS>, times: &mut Times, slot:
     slots.push(slot);
 }
 
-/// Removes a slot, and adds its difference to the one after it. Returns how much less is left of
-/// the last slot now.
+/// Removes a slot, and adds its difference to that of the slot after it. Returns by how much the
+/// ticks left of the last slot decrease.
 fn leave_from(slots: &mut ArrayVec<u8, MOST_NEIGHBORS>, times: &mut Times, slot: u8) -> u16
     requires queue { IsQueue times.old.shown slots.old.items }
     requires there { holds slot (dues times.old.shown slots.old.items) ≡ true }
@@ -133,13 +133,13 @@ fn leave_from(slots: &mut ArrayVec<u8, MOST_NEIGHBORS>, times: &mut Times, slot:
     gap
 }
 
-/// The slots in use, in the order in which their neighbors expire, each with the difference of its
-/// ticks left to those of the slot before it.
+/// The slots in use, in the order in which their neighbors expire. Each slot has the difference
+/// between its ticks left and those of the slot before it.
 #[derive(Drop)]
 pub(crate) struct Queue {
     slots: ArrayVec<u8, MOST_NEIGHBORS>,
-    /// The ticks left of the last: the sum of the differences. A slot that expires no earlier is
-    /// entered after it at once.
+    /// The ticks left of the last slot: the sum of the differences. A slot that expires no earlier
+    /// is appended without a search.
     last: u16,
     times: Times,
 }
@@ -179,7 +179,7 @@ impl Queue {
         self.last = 0;
     }
 
-    /// Enters a slot whose neighbor has this many ticks left, after those that expire no later.
+    /// Inserts a slot whose neighbor has this many ticks left, after those that expire no later.
     pub(crate) fn enter(&mut self, slot: u8, left: u16)
         requires room { length self.old.shown < MOST_NEIGHBORS }
         requires within { slot < MOST_NEIGHBORS }
@@ -203,8 +203,8 @@ impl Queue {
         self.last -= leave_from(&mut self.slots, &mut self.times, slot);
     }
 
-    /// Takes a tick: one less for the first, and so for all. Returns whether the first has none
-    /// left.
+    /// Processes a tick: subtracts one from the first difference, and so from the ticks left of
+    /// every slot. Returns whether the first slot has none left.
     pub(crate) fn pass(&mut self) -> bool
         requires { IsRunning self.old.shown }
         ensures after { self.new.shown ≡ less_first 1 self.old.shown }
@@ -231,7 +231,7 @@ impl Queue {
         self.slots.remove(0)
     }
 
-    /// Returns whether the first has no ticks left.
+    /// Returns whether the first slot has no ticks left.
     pub(crate) fn is_spent(&mut self) -> bool
         ensures same { self.new.shown ≡ self.old.shown }
         ensures spent { result ≡ is_spent self.old.shown }
@@ -243,7 +243,7 @@ impl Queue {
         self.times.get(self.slots[0]) == 0
     }
 
-    /// Returns the ticks left of each slot.
+    /// Returns the ticks left of each slot in the queue, by slot index.
     pub(crate) fn lefts(&self) -> [u16; MOST_NEIGHBORS]
         ensures { (slot : ℕ) → holds slot self.now.shown ≡ true →
             slice_index result slot ≡ ticks_left self.now.shown slot }

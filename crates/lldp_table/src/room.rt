@@ -1,4 +1,4 @@
-//! Room for a number of items, all taken at opening.
+//! A list with a fixed capacity, whose memory is allocated when it is opened.
 ghost use Rattle.std.specs.Prelude.{◌≡◌, ◌<◌, [], ◌∷◌, ◌++◌, length, slice_index_or, IfOk};
 ghost use Rattle.std.specs.Borrow.{sem};
 ghost use Rattle.lldp_table.specs.Code.Lent.{LendsItem, LendsItems};
@@ -6,9 +6,9 @@ ghost use Rattle.lldp_table.specs.Code.Lent.{LendsItem, LendsItems};
 use std::alloc::{AllocError, Allocator};
 use std::marker::Model;
 
-/// Room for a number of items. `open` takes the memory for all of them, and no other call takes
-/// any. No call hands out the allocator, or the `Vec` that has it, so a room cannot be used to take
-/// memory.
+/// A list with a fixed capacity. `open` allocates the memory for all items, and no other call
+/// allocates any. No call gives access to the allocator, or to the `Vec` that has it, so a room
+/// cannot be used to allocate memory.
 #[derive(Drop)]
 pub struct Room<T, A: Allocator> {
     items: Vec<T, A>,
@@ -24,7 +24,7 @@ impl<T, A: Allocator> Model for Room<T, A> {
 }
 
 impl<T, A: Allocator> Room<T, A> {
-    /// Takes room for this many items, and holds none yet. An error means that there was no memory.
+    /// Returns an empty room with memory for this many items. Fails if there is not enough memory.
     pub fn open(alloc: A, capacity: usize) -> Result<Room<T, A>, AllocError>
         ensures items { IfOk result (λ room. room.items ≡ []) }
         ensures capacity { IfOk result (λ room. room.capacity ≡ capacity) }
@@ -63,7 +63,7 @@ impl<T, A: Allocator> Room<T, A> {
         &self.items[i]
     }
 
-    /// Lends the item at this index, from 0, for changes; nothing else of the room changes.
+    /// Returns a mutable reference to the item at index `i`, from 0. Nothing else changes.
     pub fn at_mut(&mut self, i: usize) -> &mut T
         requires { i < length self.old.items }
         ensures* lent { sem 𝓛 (LendsItem T.row A.row A.Allocator self.entry i result) }
@@ -72,7 +72,7 @@ impl<T, A: Allocator> Room<T, A> {
         &mut self.items[i]
     }
 
-    /// Lends the items for changes; nothing else of the room changes.
+    /// Returns the items as a mutable slice. Nothing else in the room changes.
     pub fn as_mut_slice(&mut self) -> &mut [T]
         ensures* lent { sem 𝓛 (LendsItems T.row A.row A.Allocator self.entry result) }
         ensures value { result.now ≡ self.old.items }

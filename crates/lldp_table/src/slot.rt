@@ -1,4 +1,4 @@
-//! The room for one neighbor.
+//! The memory for one neighbor.
 ghost use Rattle.std.specs.Prelude.{◌≡◌, ◌+◌, ◌*◌, ◌≤◌, ◌<◌, ◌^◌, true, length};
 ghost use Rattle.std.specs.Str.{bytes_eq};
 ghost use Rattle.lldp_pdu.specs.Cut.{cut};
@@ -11,16 +11,16 @@ ghost use Rattle.lldp_table.specs.Code.Stored.{mixed, tag_of};
 use lldp_pdu::{MOST_OCTETS, Msap, Tlvs};
 use std::marker::Model;
 
-/// The room for one neighbor, which stores the extent of its frame.
+/// The memory for one neighbor. It stores the extent of the neighbor's frame.
 #[derive(Drop)]
 pub(crate) struct Slot {
-    /// The tag of its name, which decides most comparisons of names. It precedes the octets, which
-    /// begin with the name, since both are read together.
+    /// The tag of the MSAP identifier, which decides most comparisons. It is before the octets,
+    /// which begin with the MSAP identifier, since both are read together.
     tag: u32,
     ttl: u16,
     /// How many octets are stored.
     length: u16,
-    /// Its first octets are stored. Those after them are left from earlier frames.
+    /// The first `length` octets are stored. The others are left over from earlier frames.
     room: [u8; MOST_OCTETS],
 }
 
@@ -66,20 +66,20 @@ fn msap_in(octets: &[u8]) -> Msap<'_>
 /// The factor by which a tag is multiplied for each octet that is mixed into it.
 const FACTOR: u32 = 16_777_619;
 
-/// The same for two octets at once: the power of the factor, modulo 2^32.
+/// The factor for two octets at once: the square of `FACTOR`, modulo 2^32.
 const FACTOR_OF_TWO: u32 = 637_696_617;
 
-/// The same for four octets at once.
+/// The factor for four octets at once: the fourth power of `FACTOR`, modulo 2^32.
 const FACTOR_OF_FOUR: u32 = 1_345_077_009;
 
-/// Returns two octets mixed into 0.
+/// Returns the tag 0 with these two octets mixed into it.
 fn pair(a: u8, b: u8) -> u32
     ensures { result ≡ a * FACTOR + b }
 {
     u32::from(a) * FACTOR + u32::from(b)
 }
 
-/// Mixes four octets into a tag. Only one multiplication waits for the tag.
+/// Mixes four octets into a tag. Only one of the multiplications needs the tag.
 fn mix_four(tag: u32, four: [u8; 4]) -> u32
     ensures { result ≡ mixed tag four }
 {
@@ -114,14 +114,14 @@ fn mix_octets(tag: u32, octets: &[u8]) -> u32
     mix_singly(mix, rest)
 }
 
-/// Returns the tag of a name: a mix of all its octets.
+/// Returns the tag of an MSAP identifier: a mix of all its octets.
 pub(crate) fn mix_name(name: &Msap<'_>) -> u32
     ensures { result ≡ tag_of (msap_view name.now) }
 {
     mix_octets(mix_octets(0, name.chassis), name.port)
 }
 
-/// Returns whether these may be the same octets, by their number and the last eight of them.
+/// Returns whether the octets may be equal: false if their lengths or last eight octets differ.
 fn may_be_same(one: &[u8], other: &[u8]) -> bool
     ensures { bytes_eq one.now other.now ≡ true → result ≡ true }
 {
@@ -146,7 +146,7 @@ impl Slot {
         }
     }
 
-    /// Returns the octets that it stores.
+    /// Returns the stored octets.
     pub(crate) fn octets(&self) -> &[u8]
         ensures value { result.now ≡ self.now.octets }
         ensures short { length result.now ≤ MOST_OCTETS }
@@ -166,7 +166,7 @@ impl Slot {
         msap_in(self.octets())
     }
 
-    /// Returns whether its frame has this name. The tag is the name's.
+    /// Returns whether the stored frame has the MSAP identifier `name`, whose tag is `tag`.
     pub(crate) fn is_named(&self, name: &Msap<'_>, tag: u32) -> bool
         requires { tag ≡ tag_of (msap_view name.now) }
         ensures { result ≡ same_msap (msap_view name.now) (msap_of self.now.octets) }
@@ -181,7 +181,7 @@ impl Slot {
         name.chassis == held.chassis && name.port == held.port
     }
 
-    /// Stores a frame, whose name has this tag, in place of the one before.
+    /// Stores a frame in place of the previous one. `tag` is the tag of its MSAP identifier.
     pub(crate) fn store(&mut self, octets: &[u8], ttl: u16, tag: u32)
         requires short { length octets.now ≤ MOST_OCTETS }
         requires tag { tag ≡ tag_of (msap_of octets.now) }

@@ -23,19 +23,19 @@ use lldp_pdu::{Info, Msap};
 use std::alloc::{AllocError, Allocator};
 use std::marker::Model;
 
-/// The neighbors of one port. Only `open` is given an allocator, and no other call is ever refused.
-/// The others keep the capacity, which is that of the room itself, and cannot reach an allocator:
-/// `Room` hands out none, and no other field has one.
+/// The neighbors of one port. Only `open` gets an allocator, and only `open` can fail. All other
+/// calls keep the capacity and cannot allocate memory: `Room` gives no access to its allocator, and
+/// no other field has one.
 ///
 ///
-/// What a call says of a list of calls holds for every list on a table that was opened with a limit
-/// from 1 to 128, if each call met its condition.
+/// A clause about lists of calls holds for every list of calls on a table that was opened with a
+/// limit of 1 to 128, if each call met its preconditions.
 #[derive(Drop)]
 pub struct Table<A: Allocator> {
-    /// The slots that were ever used. The room for all neighbors is taken at opening, and no slot
-    /// is ever moved.
+    /// The slots that were ever used. The memory for all neighbors is allocated at opening, and
+    /// slots never move.
     slots: Room<Slot, A>,
-    /// The index of each of these: first those in use, in the order in which their neighbors were
+    /// The indices of the slots: first those in use, in the order in which their neighbors were
     /// last new.
     order: ArrayVec<u8, MOST_NEIGHBORS>,
     /// How many slots are in use.
@@ -67,8 +67,8 @@ impl<A: Allocator> Model for Table<A> {
 }
 
 impl<A: Allocator> Table<A> {
-    /// Opens an empty table, which stands for the limit and no calls. Takes the memory for `limit`
-    /// neighbors, 1 to 128, of 1,500 octets each, at once. An error means that there was none.
+    /// Opens an empty table, which stands for this limit and no calls. Allocates the memory for
+    /// `limit` neighbors, 1 to 128, of 1,500 octets each. Fails if there is not enough memory.
     pub fn open(alloc: A, limit: u8) -> Result<Table<A>, AllocError>
         requires least { 0 < limit }
         requires most { limit ≤ 128 }
@@ -85,10 +85,10 @@ impl<A: Allocator> Table<A> {
         })
     }
 
-    /// Stores a frame, whose extent has at most 1,500 octets, if its neighbor is held or if there
-    /// is room for it. A frame of a live name is Refreshed, even if the table is full; of another
-    /// name it is New if fewer names than the limit in force are live, else Dropped. The stored
-    /// octets have the kept TLVs of the frame. The table then stands for the list with that call.
+    /// Stores a frame, whose extent has at most 1,500 octets, if its neighbor is held or there is
+    /// room. Returns Refreshed if its MSAP identifier is live, even if the table is full; otherwise
+    /// New if fewer neighbors are live than the limit in force, and else Dropped. The stored octets
+    /// have the kept TLVs of the frame. The table then stands for the list with this call.
     pub fn learn(&mut self, info: &Info<'_>) -> Learned
         requires { length info.now.octets ≤ 1500 }
         ensures answer { result ≡ learn_answer self.old.shown info.now.msap }
@@ -116,7 +116,7 @@ impl<A: Allocator> Table<A> {
         Learned::Dropped
     }
 
-    /// Returns the place in the order of the neighbor of this name. The tag is the name's.
+    /// Returns the place in the order of the neighbor with this MSAP identifier and this tag.
     fn place(&self, name: &Msap<'_>, tag: u32) -> Option<usize>
         requires { tag ≡ tag_of (msap_view name.now) }
         ensures { MatchOption result (holds_name self.now.shown (msap_view name.now) ≡ false)
@@ -126,7 +126,7 @@ impl<A: Allocator> Table<A> {
         place_of(self.slots.as_slice(), order, name, tag)
     }
 
-    /// Gives the neighbor at this place, which has the frame's name, the frame and its time.
+    /// Stores a frame and its TTL for the neighbor at this place, which has the same identifier.
     fn refresh(&mut self, at: usize, octets: &[u8], ttl: u16, tag: u32)
         requires extent { IsExtent (msap_of octets.now) ttl octets.now }
         requires tag { tag ≡ tag_of (msap_of octets.now) }
@@ -139,7 +139,7 @@ impl<A: Allocator> Table<A> {
         self.queue.enter(slot, ttl);
     }
 
-    /// Adds a new neighbor after the others, with this frame and its time. There is room for it.
+    /// Adds a new neighbor with this frame and its TTL after the others. There must be room.
     fn admit(&mut self, octets: &[u8], ttl: u16, tag: u32)
         requires extent { IsExtent (msap_of octets.now) ttl octets.now }
         requires tag { tag ≡ tag_of (msap_of octets.now) }
@@ -162,8 +162,8 @@ impl<A: Allocator> Table<A> {
         self.used < self.limit
     }
 
-    /// Removes the neighbor of this name. Returns whether it was held, that is, whether the name
-    /// was live.
+    /// Removes the neighbor with this MSAP identifier. Returns whether it was held, that is,
+    /// whether it was live.
     pub fn forget(&mut self, msap: &Msap<'_>) -> bool
         ensures answer { result ≡ holds_name self.old.shown (msap_view msap.now) }
         ensures after { self.new.shown ≡ after_forget self.old.shown (msap_view msap.now) }
@@ -184,7 +184,7 @@ impl<A: Allocator> Table<A> {
         }
     }
 
-    /// Removes all neighbors, and ends the too-many condition.
+    /// Removes all neighbors and ends the too-many timer.
     pub fn purge(&mut self)
         ensures after { self.new.shown ≡ after_purge self.old.shown }
         ensures stands { ForEachCalls self.old.shown (λ opened calls.
@@ -195,17 +195,17 @@ impl<A: Allocator> Table<A> {
         self.too_many = 0;
     }
 
-    /// Takes a tick: a second has passed, and one tick less is left of each neighbor and of the
-    /// too-many timer. Returns how many neighbors aged out: names that were live before and are not
-    /// after. It gets and sets stored times at most twice for each of them, and twice more. It is
-    /// inlined into the caller's loop with what it calls, since most ticks look at the first
-    /// neighbor only.
+    /// Processes a tick: a second has passed, so each neighbor and the too-many timer have one tick
+    /// less. Returns how many neighbors aged out, that is, were live before and no longer are.
+    /// Reads and writes stored times at most twice for each of them, plus twice. This is inlined
+    /// into the caller's loop with all that it calls, since most ticks look only at the first
+    /// neighbor.
     #[inline(always)]
     pub fn tick(&mut self) -> u8
         ensures answer { result + length self.new.shown.neighbors ≡ length self.old.shown.neighbors }
         ensures after { self.new.shown ≡ after_tick self.old.shown }
-        // The count of gets and sets of stored times rises by at most twice the number that aged
-        // out, and 2.
+        // The count of reads and writes of stored times rises by at most 2, plus 2 for each
+        // neighbor that aged out.
         ensures accesses { self.new.accesses ≤ self.old.accesses + 2 * result + 2 }
         ensures answers { ForEachCalls self.old.shown (λ opened calls.
             result ≡ aged_out (events_of opened calls)) }
@@ -219,8 +219,8 @@ impl<A: Allocator> Table<A> {
         gone
     }
 
-    /// Sets the limit in force: 1 to that of opening, and no less than the number of neighbors
-    /// held, so it removes no neighbor.
+    /// Sets the limit in force, from 1 to the limit of opening. It must be at least the number of
+    /// neighbors held, so no neighbor is removed.
     pub fn set_limit(&mut self, limit: u8)
         requires least { 0 < limit }
         requires most { limit ≤ self.old.shown.capacity }
@@ -232,7 +232,7 @@ impl<A: Allocator> Table<A> {
         self.limit = limit;
     }
 
-    /// Returns how many neighbors are held: no more than the limit in force, and each name once.
+    /// Returns how many neighbors are held: at most the limit. Their MSAP identifiers all differ.
     pub fn len(&self) -> u8
         ensures value { result ≡ length self.now.shown.neighbors }
         ensures sound { IsSound self.now.shown }
@@ -256,7 +256,7 @@ impl<A: Allocator> Table<A> {
         self.slots.capacity() as u8
     }
 
-    /// Returns how many octets are stored, for all neighbors together: at most 1,500 for each.
+    /// Returns how many octets are stored for all neighbors together: at most 1,500 for each.
     pub fn octets(&self) -> u32
         ensures sum { result ≡ sum_by (λ neighbor. length neighbor.octets) self.now.shown.neighbors }
         ensures most { result ≤ 1500 * length self.now.shown.neighbors }
@@ -264,15 +264,15 @@ impl<A: Allocator> Table<A> {
         octets_of(self.slots.as_slice(), &self.order[..self.used as usize])
     }
 
-    /// Returns whether the time to live of some frame that was dropped for lack of room still runs.
+    /// Returns whether the TTL of some frame that was dropped for lack of room is still running.
     pub fn too_many(&self) -> bool
         ensures { IsTrue result ↔ (0 < self.now.shown.too_many_left) }
     {
         self.too_many > 0
     }
 
-    /// Returns the neighbors in the order in which they were last new, each with its ticks left,
-    /// one a second. It goes over all of them once.
+    /// Returns the neighbors in the order in which they were last new, each with its ticks
+    /// (seconds) left. Takes time linear in the number of neighbors.
     pub fn entries(&self) -> Entries<'_>
         ensures value { result ≡ self.now.shown.neighbors }
         ensures sound { IsSound self.now.shown }
@@ -284,8 +284,8 @@ impl<A: Allocator> Table<A> {
         }
     }
 
-    /// Returns the neighbor at place `i` of the order, from 0. It goes over all neighbors; to read
-    /// each of them, call `entries`.
+    /// Returns the neighbor at place `i` of the order, from 0. Takes time linear in the number of
+    /// neighbors; to read all of them, call `entries`.
     pub fn entry(&self, i: u8) -> Entry<'_>
         requires { i < length self.now.shown.neighbors }
         ensures value { slice_get self.now.shown.neighbors i ≡ Some result }

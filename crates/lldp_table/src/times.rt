@@ -1,5 +1,5 @@
-//! The stored times. A time is reached by a get or a set, which are counted, or by a look at all of
-//! them for a show, which is not counted since the reference is shared. The sum of all differences,
+//! The stored times. `get` reads a time and `set` writes one, and both count the access. `lefts_in`
+//! reads all times through a shared reference, so it cannot count. The sum of all differences,
 //! which the queue keeps, is not a stored time.
 ghost use Rattle.std.specs.Prelude.{◌≡◌, ℕ, ◌+◌, ◌<◌, length, slice_index, slice_set};
 ghost use Rattle.std.specs.List.{AllByRecursion};
@@ -9,7 +9,7 @@ use crate::count::Count;
 use crate::limits::MOST_NEIGHBORS;
 use std::marker::Model;
 
-/// The stored time of each slot, and how many gets and sets of them were made.
+/// The stored time of each slot, and the number of calls of `get` and `set`.
 #[derive(Drop)]
 pub(crate) struct Times {
     each: [u16; MOST_NEIGHBORS],
@@ -38,7 +38,7 @@ impl Times {
         }
     }
 
-    /// Gets the time of a slot.
+    /// Returns the time of a slot, and counts the access.
     pub(crate) fn get(&mut self, slot: u8) -> u16
         requires { slot < MOST_NEIGHBORS }
         ensures value { result ≡ slice_index self.old.shown slot }
@@ -49,7 +49,7 @@ impl Times {
         self.each[slot as usize]
     }
 
-    /// Sets the time of a slot.
+    /// Sets the time of a slot, and counts the access.
     pub(crate) fn set(&mut self, slot: u8, time: u16)
         requires { slot < MOST_NEIGHBORS }
         ensures value { self.new.shown ≡ slice_set self.old.shown slot time }
@@ -59,7 +59,7 @@ impl Times {
         self.each[slot as usize] = time;
     }
 
-    /// Looks at the time of a slot, uncounted.
+    /// Returns the time of a slot without counting the access.
     fn look(&self, slot: u8) -> u16
         requires { slot < MOST_NEIGHBORS }
         ensures { result ≡ slice_index self.now.shown slot }
@@ -68,7 +68,7 @@ impl Times {
     }
 }
 
-/// Returns the ticks left of each slot, for shows. Only this looks at times uncounted.
+/// Returns the ticks left of each of these slots. Only this function reads times uncounted.
 pub(crate) fn lefts_in(slots: &[u8], times: &Times) -> [u16; MOST_NEIGHBORS]
     requires { IsQueue times.now.shown slots.now }
     ensures { AllByRecursion (λ i. slice_index result i

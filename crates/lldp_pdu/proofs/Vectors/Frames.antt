@@ -1,4 +1,4 @@
--- Frames by their octets: which are LLDP frames, and what LLDPDU they have.
+-- Literal frames: which are LLDP frames, and which LLDPDU they have.
 use Rattle.std.proofs.Common.{ℕ, List, [], ◌∷◌, ◌++◌, take, Some, None, refl}
 use Rattle.std.specs.Prelude.{replicate}
 use Rattle.lldp_pdu.specs.Frame.{is_lldp_frame, lldpdu_of}
@@ -8,7 +8,7 @@ use Rattle.lldp_pdu.proofs.Vectors.Parts.{Gives}
 abbrev pdu : List ℕ
 pdu = 0x02 ∷ 0x07 ∷ 0x04 ∷ 0x00 ∷ 0x11 ∷ 0x22 ∷ 0x33 ∷ 0x44 ∷ 0x55 ∷ 0x04 ∷ 0x05 ∷ 0x05 ∷ 0x65 ∷ 0x74 ∷ 0x68 ∷ 0x30 ∷ 0x06 ∷ 0x02 ∷ 0x00 ∷ 0x78 ∷ 0x00 ∷ 0x00 ∷ []
 
--- the address nearest bridge, a source, LLDP's EtherType
+-- the nearest bridge address, a source address and LLDP's EtherType
 abbrev header : List ℕ
 header = 0x01 ∷ 0x80 ∷ 0xc2 ∷ 0x00 ∷ 0x00 ∷ 0x0e ∷ 0x00 ∷ 0x11 ∷ 0x22 ∷ 0x33 ∷ 0x44 ∷ 0x55 ∷ 0x88 ∷ 0xcc ∷ []
 

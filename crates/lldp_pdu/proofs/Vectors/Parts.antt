@@ -1,4 +1,4 @@
--- What vectors say of octets.
+-- Properties of octets that the test vectors state.
 use Rattle.std.proofs.Common.{◌≡◌, ℕ, List, [], ◌∷◌, map, take, Option, Some, None}
 use Rattle.lldp_pdu.specs.declared.fault.BuildFault.{BuildFault}
 use Rattle.lldp_pdu.specs.Tlv.{TlvUnit}
@@ -12,16 +12,15 @@ use Rattle.lldp_pdu.specs.Draft.{Draft, with_tlv, put_fault}
 abbrev pub tlv : ℕ → List ℕ → TlvUnit
 tlv kind body = record { kind = kind; body = body }
 
--- what stands first in each row gives what stands after it
+-- `f` maps the first part of each row to the second part
 abbrev pub Gives : {A B : Type 0} → (A → B) → List (A × B) → Type 0
 Gives f rows = map (λ row. f row.0) rows ≡ map (λ row. row.1) rows
 
--- it is sound, and the neighbor is gone
+-- the LLDPDU is sound, with a TTL of 0 and this MSAP identifier
 abbrev pub ShutsDown : List ℕ → MsapId → Type 0
 ShutsDown octets msap = (fault_of octets ≡ None) × (ttl_of octets ≡ 0) × (msap_of octets ≡ msap)
 
--- it is sound, and tells this: the name and the TTL, how many octets the extent has, the kept TLVs, and how many are
--- discarded and unrecognized
+-- the LLDPDU is sound and has these contents; `extent` is the number of octets in its extent
 abbrev pub Tells : List ℕ → MsapId → ℕ → ℕ → List TlvUnit → ℕ → ℕ → Type 0
 Tells octets msap ttl extent kept discarded unrecognized =
     (fault_of octets ≡ None)
@@ -35,26 +34,26 @@ Tells octets msap ttl extent kept discarded unrecognized =
       unrecognized = unrecognized;
     })
 
--- a builder that was begun
+-- a draft that was just begun
 abbrev pub begun : MsapId → ℕ → Draft
 begun msap ttl = record { msap = msap; ttl = ttl; tlvs = [] }
 
--- the number of a fault, or 0
+-- the number of a fault, or 0 for none
 abbrev pub answer : Option BuildFault → ℕ
 answer None = 0
 answer (Some fault) = build_fault_number fault
 
--- the builder after a TLV with this answer
+-- the draft after a TLV was put with this answer
 abbrev pub behind : Draft → TlvUnit → Option BuildFault → Draft
 behind draft u None = with_tlv draft u
 behind draft u (Some fault) = draft
 
--- what is answered to TLVs that are put one after another
+-- the answers if these TLVs are put one after another
 abbrev pub answers : Draft → List TlvUnit → List ℕ
 answers draft [] = []
 answers draft (u ∷ us) = answer (put_fault draft u) ∷ answers (behind draft u (put_fault draft u)) us
 
--- the builder after them
+-- the draft after these TLVs were put
 abbrev pub given : Draft → List TlvUnit → Draft
 given draft [] = draft
 given draft (u ∷ us) = given (behind draft u (put_fault draft u)) us

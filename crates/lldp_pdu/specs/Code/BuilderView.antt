@@ -1,4 +1,4 @@
--- What a contract sees of a `Builder`, and what its fields keep.
+-- The value of a `Builder` in contracts, and the invariant of its fields.
 use Rattle.std.specs.Prelude.{◌≡◌, ℕ, ◌+◌, ◌<◌, ◌≤◌, ◌^◌, Bool, true, List, [], ◌∷◌, length, drop, nat_lt}
 use Rattle.std.specs.List.{AllByRecursion}
 use Rattle.lldp_pdu.specs.declared.builder.Builder.TheInside.{Inside}
@@ -17,7 +17,7 @@ draft_of octets = record { msap = msap_of octets; ttl = ttl_of octets; tlvs = dr
 abbrev pub draft_view : Inside → Draft
 draft_view b = draft_of b.octets.items
 
--- each TLV is kept after those before it
+-- each TLV is kept, given the TLVs before it
 abbrev pub AllKept : List TlvUnit → List TlvUnit → Type 0
 AllKept earlier [] = Unit {0}
 AllKept earlier (u ∷ us) = (is_kept earlier u ≡ true) × AllKept (u ∷ earlier) us
@@ -29,8 +29,8 @@ pub record IsDraft (d : Draft) : Type 0 where
   pub tlvs : AllByRecursion IsKeptTlv d.tlvs
   pub kept : AllKept [] d.tlvs
 
--- the octets spell a draft that leaves room for the End Of LLDPDU, and the flags and the bit tell its types and whether
--- it lives
+-- The octets spell a draft and leave room for the End Of LLDPDU. `met` has the flags of the types
+-- that were put, and `lives` is set if the TTL is above 0.
 pub record Builds (octets : List ℕ) (met : List Bool) (lives : Bool) : Type 0 where
   pub spelled : octets ≡ spellings (all_tlvs (draft_of octets))
   pub draft : IsDraft (draft_of octets)

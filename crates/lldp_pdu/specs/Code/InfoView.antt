@@ -1,4 +1,4 @@
--- What a contract sees of an `Info`.
+-- The value of an `Info` in contracts.
 use Rattle.lldp_pdu.specs.declared.info.Info.TheInside.{Inside}
 use Rattle.lldp_pdu.specs.Cut.{cut}
 use Rattle.lldp_pdu.specs.Info.{LldpInfo}

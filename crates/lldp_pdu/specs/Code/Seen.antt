@@ -1,5 +1,5 @@
--- The flags by which the code remembers which single TLVs it has met: one for each type from Port Description to System
--- Capabilities.
+-- The flags for the types that count once, from Port Description to System Capabilities. A flag is
+-- set once a well-formed TLV of its type has occurred.
 use Rattle.std.specs.Prelude.{◌≡◌, ℕ, ◌-◌, ◌≤◌, Bool, true, false, not, ◌&&◌, List, [], ◌∷◌, length, slice_index_or, slice_set, if◌then◌else◌}
 use Rattle.lldp_pdu.specs.Tlv.{TlvUnit}
 use Rattle.lldp_pdu.specs.TlvType.{port_description_type, system_capabilities_type}
@@ -9,29 +9,29 @@ use Rattle.lldp_pdu.specs.Kept.{is_single}
 abbrev pub none_seen : List Bool
 none_seen = false ∷ false ∷ false ∷ false ∷ []
 
--- the types that are met, of those with a flag, are the ones whose flag is set
+-- there are four flags, and a type's flag is set exactly if the type is met
 pub record Flags (seen : List Bool) (is_met : ℕ → Bool) : Type 0 where
   pub four : length seen ≡ 4
   pub set : (kind : ℕ) → port_description_type ≤ kind → kind ≤ system_capabilities_type →
       slice_index_or seen (kind - port_description_type) false ≡ is_met kind
 
--- the type has a flag, and it is set
+-- the type has a flag, and the flag is set
 unfoldable pub has_flag : List Bool → ℕ → Bool
 has_flag seen kind = is_single kind && slice_index_or seen (kind - port_description_type) false
 
--- the flags with that of the type set
+-- the flags, with that of this type set
 unfoldable pub with_flag : List Bool → ℕ → List Bool
 with_flag seen kind = if is_single kind then slice_set seen (kind - port_description_type) true else seen
 
--- whether the next TLV is kept
+-- true if the next TLV is kept
 abbrev pub is_kept_seen : List Bool → TlvUnit → Bool
 is_kept_seen seen u = is_well_formed u && not (has_flag seen u.kind)
 
--- the flags after it
+-- the flags after the next TLV
 abbrev pub seen_after : List Bool → TlvUnit → List Bool
 seen_after seen u = if is_well_formed u then with_flag seen u.kind else seen
 
--- the TLVs that are kept from here on
+-- the TLVs of this list that are kept, starting with these flags
 abbrev pub kept_seen : List Bool → List TlvUnit → List TlvUnit
 kept_seen seen [] = []
 kept_seen seen (u ∷ us) =

@@ -1,4 +1,4 @@
--- The two parts in which the code examines an LLDPDU.
+-- The two steps in which the code examines an LLDPDU: the mandatory TLVs, and those after them.
 use Rattle.std.specs.Prelude.{◌≡◌, ℕ, ◌+◌, ◌&&◌, List, [], ◌∷◌, drop, Some, None, nat_lt, if◌then◌else◌, Bool}
 use Rattle.std.specs.List.{list_any}
 use Rattle.lldp_pdu.specs.declared.fault.PduFault.TheVariants.{Repeated}
@@ -11,7 +11,8 @@ use Rattle.lldp_pdu.specs.Kept.{count_unrecognized}
 use Rattle.lldp_pdu.specs.Fault.{is_mandatory, fault_of}
 use Rattle.lldp_pdu.specs.Code.Seen.{none_seen, is_kept_seen, seen_after, kept_seen}
 
--- the mandatory TLVs are sound, and these octets follow them
+-- The octets begin with mandatory TLVs that are sound and have this MSAP identifier and this TTL,
+-- and `after` follows these TLVs.
 pub record OpensWith (octets : List ℕ) (msap : MsapId) (ttl : ℕ) (after : List ℕ) : Type 0 where
   pub body : List ℕ
   pub seconds_are : seconds body ≡ ttl
@@ -27,12 +28,12 @@ pub record OpensWith (octets : List ℕ) (msap : MsapId) (ttl : ℕ) (after : Li
   pub fault : fault_of octets
       ≡ (if nat_lt 0 ttl && list_any is_mandatory (later_tlvs octets) then Some Repeated else None)
 
--- how many of the TLVs are not kept from here on
+-- the number of these TLVs that are not kept, starting with these flags
 abbrev pub count_lost : List Bool → List TlvUnit → ℕ
 count_lost seen [] = 0
 count_lost seen (u ∷ us) = (if is_kept_seen seen u then 0 else 1) + count_lost (seen_after seen u) us
 
--- what is found in the octets after the mandatory TLVs
+-- the TLVs found in the octets after the mandatory ones, and how many are discarded or unrecognized
 pub record IsSurveyOf (after found : List ℕ) (lost unknown : ℕ) : Type 0 where
   pub octets : found ≡ spellings (before_end (cut after).tlvs)
   pub discarded : lost ≡ count_lost none_seen (before_end (cut after).tlvs) + (if ended_incomplete after then 1 else 0)

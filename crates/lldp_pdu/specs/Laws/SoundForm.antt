@@ -11,12 +11,12 @@ use Rattle.lldp_pdu.specs.Fault.{fault_of}
 abbrev pub of_kind : ℕ → List ℕ → TlvUnit
 of_kind kind body = record { kind = kind; body = body }
 
--- none of these is a second Chassis ID, Port ID or Time To Live, those after the End Of LLDPDU left out
+-- no TLV before the End Of LLDPDU is a Chassis ID, a Port ID or a Time To Live
 abbrev pub AreOther : List TlvUnit → Type 0
 AreOther others = AllByRecursion (λ (u : TlvUnit). 4 ≤ u.kind) (before_end others)
 
--- First a Chassis ID and a Port ID, of 2 to 256 octets each, then a Time To Live, of 2 or more. Unless the TTL is 0, no
--- other TLV before the End Of LLDPDU is of these three types.
+-- The octets begin with a Chassis ID and a Port ID of 2 to 256 octets each and a Time To Live of 2
+-- or more. Unless the TTL is 0, no other TLV before the End Of LLDPDU has one of these types.
 pub record IsSound (octets : List ℕ) : Type 0 where
   pub chassis : List ℕ
   pub port : List ℕ
@@ -28,13 +28,13 @@ pub record IsSound (octets : List ℕ) : Type 0 where
   pub ttl_length : 2 ≤ length ttl
   pub no_other : (seconds ttl ≡ 0) ⊎ AreOther others
 
--- The Chassis ID and the Port ID are of their lengths.
+-- The Chassis ID and the Port ID have 2 to 256 octets each.
 pub record AreNamed (chassis port : List ℕ) : Type 0 where
   pub chassis_fits : IsIdentifier chassis
   pub port_fits : IsIdentifier port
 
--- The faults, by the TLVs that the octets begin with: each of the three must be there, of its type and of its length,
--- and the first that is not decides.
+-- The fault for each defect of the first three TLVs: missing, of another type, or of a wrong
+-- length. The first defect decides. If there is none, a repeated mandatory TLV is the fault.
 pub record HasFaults (octets chassis port ttl : List ℕ) (u : TlvUnit) (us : List TlvUnit) : Type 0 where
   pub nothing : (cut octets).tlvs ≡ [] → fault_of octets ≡ Some Truncated
   pub no_chassis : (cut octets).tlvs ≡ u ∷ us → ¬ (u.kind ≡ 1) → fault_of octets ≡ Some NoChassis

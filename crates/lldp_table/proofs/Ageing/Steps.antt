@@ -1,4 +1,4 @@
--- Each step of the queue changes the ticks left of the slots as it is meant to.
+-- Each operation on the queue changes the ticks left of its slots as intended.
 use Rattle.std.proofs.Common.{◌≡◌, ℕ, ◌+◌, ◌-◌, ◌<◌, ◌≤◌, true, false, ◌||◌, cond, nat_eq, nat_le, List, [], ◌∷◌, ◌++◌, refl, inl, inr, ap, ◌∙◌, sym, arith, max, subst}
 use Rattle.std.proofs.lemmas.List.Sums.{sum_by-cons}
 use Rattle.std.proofs.lemmas.Bool.{cases_Bool, le-leb, leb-true, leb-false, or_parts, cond-true, cond-false, eqb-true, eqb-false, eq-eqb, ne_eqb}
@@ -9,7 +9,7 @@ use Rattle.std.proofs.lemmas.List.Sorted.{IsPermutation-refl, IsPermutation-cons
 
 -- ## The ticks left of one slot, by whether it is the first
 
--- the first's ticks left, or the difference and those of the others
+-- the first slot has its difference left; any other slot has the differences up to its own
 pub at_first : (e : Due) (queue : List Due) (slot : ℕ) → nat_eq e.slot slot ≡ true → ticks_left (e ∷ queue) slot ≡ e.gap
 at_first e queue slot t = cond-true (nat_eq e.slot slot) e.gap (e.gap + ticks_left queue slot) t
 
@@ -21,7 +21,7 @@ holds_behind e queue slot f h = ap (λ b. b || holds slot queue) (sym f) ∙ h
 
 -- ## Entering
 
--- a slot that enters has the ticks left that it came with
+-- a slot that enters has the ticks left that were given
 pub left-enter_same : (slot left : ℕ) (queue : List Due) → holds slot queue ≡ false → ticks_left (enter slot left queue) slot ≡ left
 left-enter_same slot left [] h = at_first (due slot left) [] slot (eq-eqb slot slot refl)
 left-enter_same slot left (e ∷ queue) h =
@@ -37,11 +37,11 @@ left-enter_same slot left (e ∷ queue) h =
 same_front : (e : Due) (queue before : List Due) (slot : ℕ) → (nat_eq e.slot slot ≡ false → ticks_left queue slot ≡ ticks_left before slot) → ticks_left (e ∷ queue) slot ≡ ticks_left (e ∷ before) slot
 same_front e queue before slot h = grind (arith, common_steps, cases_Bool, at_first, behind)
 
--- a difference that is cut in two
+-- splitting a difference in two leaves the ticks left of the other slots as they were
 cut : (slot left other : ℕ) (e : Due) (queue : List Due) → left ≤ e.gap → nat_eq slot other ≡ false → ticks_left ((due slot left) ∷ (due e.slot (e.gap - left)) ∷ queue) other ≡ ticks_left (e ∷ queue) other
 cut slot left other e queue l d = grind (arith, common_steps, cases_Bool, at_first, behind)
 
--- and the others keep theirs
+-- if a slot enters, the others keep their ticks left
 pub left-enter_other : (slot left other : ℕ) (queue : List Due) → nat_eq slot other ≡ false → holds other queue ≡ true → ticks_left (enter slot left queue) other ≡ ticks_left queue other
 left-enter_other slot left other [] d h = cc
 left-enter_other slot left other (e ∷ queue) d h =
@@ -59,7 +59,7 @@ left-enter_other slot left other (e ∷ queue) d h =
 left-add_first : (n slot : ℕ) (queue : List Due) → holds slot queue ≡ true → ticks_left (add_first n queue) slot ≡ n + ticks_left queue slot
 left-add_first n slot queue h = grind (arith, common_steps, cases_Bool, at_first, behind)
 
--- if a slot leaves, the others keep theirs
+-- if a slot leaves, the others keep their ticks left
 pub left-leave : (slot other : ℕ) (queue : List Due) → nat_eq slot other ≡ false → holds other queue ≡ true → ticks_left (leave slot queue) other ≡ ticks_left queue other
 left-leave slot other [] d h = cc
 left-leave slot other (e ∷ queue) d h =
@@ -77,15 +77,15 @@ left-leave slot other (e ∷ queue) d h =
 pub running_first : (e : Due) (queue : List Due) → IsRunning (e ∷ queue) → 0 < e.gap
 running_first e queue r = let n = eqb-false e.gap 0 r in omega (arith, n)
 
--- it takes one from each
+-- a tick subtracts one from the ticks left of each slot
 pub left-pass : (slot : ℕ) (queue : List Due) → IsRunning queue → holds slot queue ≡ true → ticks_left (less_first 1 queue) slot ≡ ticks_left queue slot - 1
 left-pass slot queue r h = grind (arith, common_steps, cases_Bool, at_first, behind, running_first)
 
--- each has some left if the first has
+-- every slot has ticks left if the first has
 pub left-positive : (slot : ℕ) (queue : List Due) → IsRunning queue → holds slot queue ≡ true → 0 < ticks_left queue slot
 left-positive slot queue r h = grind (arith, common_steps, running_first, cases_Bool, at_first, behind)
 
--- a slot with nothing left at the front, and the others without it
+-- a first slot with none left, and the others, which do not change without it
 pub left-front_same : (slot : ℕ) (queue : List Due) → ticks_left ((due slot 0) ∷ queue) slot ≡ 0
 left-front_same slot queue = at_first (due slot 0) queue slot (eq-eqb slot slot refl)
 
@@ -112,15 +112,15 @@ pub total-append : (queue others : List Due) → total (queue ++ others) ≡ tot
 total-append [] others = omega arith
 total-append (e ∷ queue) others = omega (arith, total-cons e (queue ++ others), total-cons e queue, total-append queue others)
 
--- if there is a first, it takes what is added
+-- adding to the first difference adds as much to the sum
 pub total-added : (n : ℕ) (e : Due) (queue : List Due) → total (add_first n (e ∷ queue)) ≡ n + total (e ∷ queue)
 total-added n e queue = omega (arith, total-cons e queue, total-cons (due e.slot (n + e.gap)) queue)
 
--- a tick takes one from the last too
+-- a tick subtracts one from the sum
 pub total-pass : (e : Due) (queue : List Due) → IsRunning (e ∷ queue) → total (less_first 1 (e ∷ queue)) + 1 ≡ total (e ∷ queue)
 total-pass e queue r = omega (arith, running_first e queue r, total-cons e queue, total-cons (due e.slot (e.gap - 1)) queue)
 
--- a slot that expires no earlier than the last
+-- a slot that expires no earlier than the last enters at the end
 pub enter-last : (slot left : ℕ) (queue : List Due) (gap : ℕ) → left ≡ total queue + gap → enter slot left queue ≡ queue ++ due slot gap ∷ []
 enter-last slot left [] gap e = ap (λ n. due slot n ∷ []) (omega arith)
 enter-last slot left (d ∷ queue) gap e =
@@ -128,16 +128,16 @@ enter-last slot left (d ∷ queue) gap e =
     let t : nat_le d.gap left ≡ true = le-leb d.gap left (omega arith) in
     rw t (ap (λ q. d ∷ q) (enter-last slot (left - d.gap) queue gap (omega arith)))
 
--- ## Which slots a queue has, and that its first keeps some ticks left
+-- ## The slots of a queue, and that its first slot has ticks left
 
--- two that change places
+-- the first two elements, swapped
 first_two : (a b : ℕ) (rest : List ℕ) → IsPermutation (a ∷ b ∷ rest) (b ∷ a ∷ rest)
 first_two a b rest = IsPermutation-append_left rest (a ∷ b ∷ []) (b ∷ a ∷ []) (IsPermutation-append_comm (a ∷ []) (b ∷ []))
 
 pub slots-less_first : (n : ℕ) (queue : List Due) → slots_of (less_first n queue) ≡ slots_of queue
 slots-less_first n queue = grind (arith, common_steps)
 
--- a slot that enters is one more
+-- entering adds one slot
 pub slots-enter : (slot left : ℕ) (queue : List Due) → IsPermutation (slot ∷ slots_of queue) (slots_of (enter slot left queue))
 slots-enter slot left [] = IsPermutation-refl (slot ∷ [])
 slots-enter slot left (e ∷ queue) =
@@ -150,7 +150,7 @@ slots-enter slot left (e ∷ queue) =
 slots-add_first : (n : ℕ) (queue : List Due) → slots_of (add_first n queue) ≡ slots_of queue
 slots-add_first n queue = grind (arith, common_steps)
 
--- and one that leaves is one less
+-- leaving removes one slot
 pub slots-leave : (slot : ℕ) (queue : List Due) → holds slot queue ≡ true → IsPermutation (slots_of queue) (slot ∷ slots_of (leave slot queue))
 slots-leave slot [] h = cc
 slots-leave slot (e ∷ queue) h =

@@ -1,4 +1,4 @@
--- What each call changes among the live neighbors, seen neighbor by neighbor.
+-- What each call changes among the live neighbors, neighbor by neighbor.
 use Rattle.std.proofs.Common.{◌≡◌, ℕ, ◌-◌, ◌<◌, ◌↔◌, max, true, false, cond, ◌⊎◌, List, [], ◌∷◌, ◌++◌, Some, None, refl, inl, inr, ap, ◌∙◌, sym, arith}
 use Rattle.std.specs.List.{Contains, AllByRecursion}
 use Rattle.std.specs.Option.{option_and_then}
@@ -17,7 +17,7 @@ use Rattle.lldp_table.proofs.Live.Events.{live-other, live-ticked, live-stored, 
 use Rattle.lldp_table.proofs.Live.LastStored.{last_from_live, live_from_last, last_stored_from_held, held_from_last_stored}
 use Rattle.std.proofs.lemmas.Grind.{common_steps}
 
--- a neighbor is held if it is what is live of its name
+-- a neighbor is held exactly if it is the live neighbor with its MSAP identifier
 module _ (opened : ℕ) (calls : List Call) (x : Neighbor) where
   pub live_from_held : Contains (neighbors (events_of opened calls)) x → live x.msap (events_of opened calls) ≡ Some x
   live_from_held c = live_from_last (events_of opened calls) x (last_stored_from_held opened calls x c)
@@ -25,7 +25,7 @@ module _ (opened : ℕ) (calls : List Call) (x : Neighbor) where
   pub held_from_live : live x.msap (events_of opened calls) ≡ Some x → Contains (neighbors (events_of opened calls)) x
   held_from_live e = held_from_last_stored opened calls x (last_from_live (events_of opened calls) x e)
 
--- ## A name that takes leave
+-- ## An MSAP identifier that is forgotten
 
 not_same : (name : MsapId) (x : Neighbor) → ¬ (x.msap ≡ name) → same_msap name x.msap ≡ false
 not_same name x n = elim (cases_Bool (same_msap name x.msap)) [ inl t ↦ absurd (n (sym (same_msap-true name x.msap t))) | inr d ↦ d ]

@@ -1,4 +1,4 @@
--- What one more event makes of the live neighbors.
+-- The effect of one more event on the live neighbors.
 use Rattle.std.proofs.Common.{◌≡◌, ℕ, suc, ◌-◌, ◌<◌, Bool, true, false, not, ◌&&◌, ◌||◌, cond, ◌⊎◌, List, [], ◌∷◌, ◌++◌, Option, Some, None, refl, inl, inr, ap, ◌∙◌, sym, arith, map, is_some, max}
 use Rattle.std.specs.List.{find, filter, filter_map, cons_option, list_any}
 use Rattle.std.specs.Option.{option_and_then, option_map}
@@ -18,12 +18,12 @@ use Rattle.lldp_table.specs.declared.learned.Learned.{Learned}
 use Rattle.lldp_table.specs.declared.learned.Learned.TheVariants.{New, Refreshed, Dropped}
 use Rattle.std.proofs.lemmas.Grind.{common_steps}
 
--- ## One name
+-- ## One MSAP identifier
 
 after-more : (n : ℕ) (last : Option TableEvent) → option_and_then (live_after (suc n)) last ≡ option_and_then aged (option_and_then (live_after n) last)
 after-more n last = grind (arith, common_steps, nat_tests)
 
--- a tick ages what is live of a name
+-- a tick ages the live neighbor with an MSAP identifier
 pub live-ticked : (name : MsapId) (past : List TableEvent) → live name (ticked ∷ past) ≡ option_and_then aged (live name past)
 unfolding live
 live-ticked name past = after-more (ticks (since (decides_on name) past)) (find (decides_on name) past)
@@ -31,7 +31,7 @@ live-ticked name past = after-more (ticks (since (decides_on name) past)) (find 
 settled : (b : Bool) (event : TableEvent) (rest : List TableEvent) (last : Option TableEvent) → is_tick event ≡ false → option_and_then (live_after (ticks (cond b [] (event ∷ rest)))) (cond b (Some event) last) ≡ cond b (live_after 0 event) (option_and_then (live_after (ticks rest)) last)
 settled b event rest last h = grind (arith, common_steps)
 
--- another event decides on a name, or leaves it as it was
+-- any other event decides on the MSAP identifier, or changes nothing for it
 pub live-other : (name : MsapId) (event : TableEvent) (past : List TableEvent) → is_tick event ≡ false → live name (event ∷ past) ≡ cond (decides_on name event) (live_after 0 event) (live name past)
 unfolding live
 live-other name event past h = settled (decides_on name event) event (since (decides_on name) past) (find (decides_on name) past) h
@@ -40,12 +40,12 @@ find_passes : (test : TableEvent → Bool) (events : List TableEvent) (event : T
 find_passes test [] event h = cc
 find_passes test (e ∷ past) event h = elim (cases_Bool (test e)) [ inl t ↦ grind arith | inr f ↦ find_passes test past event (grind arith) ]
 
--- what is live of a name has that name
+-- the live neighbor with an MSAP identifier has that identifier
 pub live-named : (name : MsapId) (past : List TableEvent) (x : Neighbor) → live name past ≡ Some x → x.msap ≡ name
 unfolding live
 live-named name past x h = grind (arith, common_steps, option_and_then_some, cond_some, same_msap-true, find_passes)
 
--- ## Lists of names
+-- ## Lists of MSAP identifiers
 
 cons_and_then : (g : Neighbor → Option Neighbor) (o : Option Neighbor) (rest before : List Neighbor) → rest ≡ filter_map g before → cons_option (option_and_then g o) rest ≡ filter_map g (cons_option o before)
 cons_and_then g o rest before h = grind (arith, common_steps)
@@ -66,7 +66,7 @@ module _ (f : MsapId → Option Neighbor) where
   filter_map-map g [] = refl
   filter_map-map g (name ∷ names) = cons_map g (f name) _ _ (filter_map-map g names)
 
--- what is kept of one neighbor
+-- the neighbor, if it passes the test
 abbrev pub keep : (Neighbor → Bool) → Neighbor → Option Neighbor
 keep p x = cond (p x) (Some x) None
 
@@ -77,7 +77,7 @@ pub filter_map-keep : (p : Neighbor → Bool) (xs : List Neighbor) → filter_ma
 filter_map-keep p [] = refl
 filter_map-keep p (x ∷ xs) = ap (cons_option (keep p x)) (filter_map-keep p xs) ∙ cons_cond (p x) x (filter p xs)
 
--- ## All names
+-- ## All MSAP identifiers
 
 pub neighbors-ticked : (past : List TableEvent) → neighbors (ticked ∷ past) ≡ filter_map aged (neighbors past)
 unfolding neighbors
@@ -129,7 +129,7 @@ neighbors-refreshed name ttl octets past t held =
     ∙ refreshes name other ttl octets (live other past) (λ e. ap (λ n. is_some (live n past)) (sym (same_msap-true name other e)) ∙ held) (live-named other past)) (arrivals past)
     ∙ filter_map-map (λ other. live other past) (refreshed name ttl octets) (arrivals past)
 
--- the others, if a name is new
+-- the other neighbors, if an MSAP identifier is new
 others : (name : MsapId) (new : Neighbor) (f : MsapId → Option Neighbor) → f name ≡ None → (names : List MsapId)
     → filter_map (λ other. cond (same_msap name other) (Some new) (f other)) (filter (λ other. not (same_msap name other)) names) ≡ filter_map f names
 others name new f h [] = refl
@@ -149,9 +149,9 @@ neighbors-new name ttl octets past t gone =
     ∙ ap (λ xs. xs ++ filter_map after (name ∷ [])) (others name (fresh name ttl octets) (λ other. live other past) gone (arrivals past))
     ∙ ap (λ b. neighbors past ++ cons_option (cond b (Some (fresh name ttl octets)) (live name past)) []) (same_msap-refl name)
 
--- ## Each live name has arrived
+-- ## Each live MSAP identifier has arrived
 
--- the names that are live are among the arrivals
+-- every MSAP identifier that is live is among the arrivals
 abbrev pub Arrived : List TableEvent → Type 0
 Arrived past = (name : MsapId) → is_some (live name past) ≡ true → list_any (same_msap name) (arrivals past) ≡ true
 
@@ -190,7 +190,7 @@ Arrived-refreshed name ttl octets past held h other s =
 pub Arrived-new : (name : MsapId) (ttl : ℕ) (octets : List ℕ) (past : List TableEvent) → Arrived past → Arrived (learned name ttl octets New ∷ past)
 Arrived-new name ttl octets past h other s = grind (arith, common_steps, some_of_two, live-other, list_any-append, or_right, or_left, same_msap-sym, still_there)
 
--- a table has a neighbor of a name if the name has arrived and is live
+-- a neighbor with this MSAP identifier is in the list if the identifier arrived and is live
 there : (name : MsapId) (o : Option Neighbor) (xs : List Neighbor) (r : Bool) → ((x : Neighbor) → o ≡ Some x → is_named name x ≡ true) → list_any (is_named name) xs ≡ (r && is_some o) → list_any (is_named name) (cons_option o xs) ≡ is_some o
 there name o xs r h e = grind (arith, common_steps, and_right)
 
@@ -214,7 +214,7 @@ has_named name f h (other ∷ names) =
 and_known : (a b : Bool) → (b ≡ true → a ≡ true) → (a && b) ≡ b
 and_known a b h = grind (arith, common_steps, and_right)
 
--- a table that has the live neighbors has a name exactly if it is live
+-- a neighbor with an MSAP identifier is held exactly if the identifier is live
 pub has-live : (past : List TableEvent) → Arrived past → (name : MsapId) → list_any (is_named name) (neighbors past) ≡ is_some (live name past)
 unfolding neighbors
 has-live past h name = has_named name (λ other. live other past) (λ other. live-named other past) (arrivals past) ∙ and_known (list_any (same_msap name) (arrivals past)) (is_some (live name past)) (h name)
@@ -235,9 +235,9 @@ pub too_many-dropped : (name : MsapId) (ttl : ℕ) (octets : List ℕ) (past : L
 unfolding too_many_left
 too_many-dropped name ttl octets past = omega arith
 
--- ## What is answered
+-- ## Answers
 
--- the answer by the two tests
+-- the answer, given whether the neighbor is held and whether there is room
 abbrev pub answer_by : Bool → Bool → Learned
 answer_by held room = cond held Refreshed (cond room New Dropped)
 

@@ -1,4 +1,4 @@
--- The live neighbors are the last stored frames that haven't expired.
+-- The live neighbors are the last stored frames that have not expired.
 use Rattle.std.proofs.Common.{◌+◌, ◌≡◌, ℕ, suc, ◌-◌, ◌<◌, Bool, true, false, ◌||◌, cond, nat_lt, List, [], ◌∷◌, ◌++◌, Option, Some, None, refl, inl, inr, ap, ◌∙◌, sym, subst, arith, is_none, length, count_by}
 use Rattle.std.specs.List.{find, filter_map, cons_option, list_any, AllByRecursion, Contains}
 use Rattle.std.specs.Option.{option_and_then}
@@ -20,7 +20,7 @@ use Rattle.std.proofs.lemmas.Grind.{common_steps}
 
 -- ## The last event that passes a test
 
--- the list is what came since, that event, and what came before it
+-- the list is split at the last event that passes the test
 record Parted (test : TableEvent → Bool) (events : List TableEvent) (event : TableEvent) : Type 0 where
   earlier : List TableEvent
   split : events ≡ since test events ++ event ∷ earlier
@@ -50,7 +50,7 @@ parted test (e ∷ past) event h =
           }
     ]
 
--- the same from the front: events that don't pass, and one that does
+-- the converse: a list that is split at a passing event, with no passing event in front of it
 since-parted : (test : TableEvent → Bool) (later earlier : List TableEvent) (event : TableEvent) → AllByRecursion (λ e. test e ≡ false) later → test event ≡ true → since test (later ++ event ∷ earlier) ≡ later
 since-parted test [] earlier event a t = ap (λ b. cond b [] (event ∷ since test earlier)) t
 since-parted test (e ∷ later) earlier event a t = ap (λ b. cond b [] (e ∷ since test (later ++ event ∷ earlier))) a.0 ∙ ap (λ xs. e ∷ xs) (since-parted test later earlier event a.1 t)
@@ -59,7 +59,7 @@ find-parted : (test : TableEvent → Bool) (later earlier : List TableEvent) (ev
 find-parted test [] earlier event a t = ap (λ b. cond b (Some event) (find test earlier)) t
 find-parted test (e ∷ later) earlier event a t = ap (λ b. cond b (Some e) (find test (later ++ event ∷ earlier))) a.0 ∙ find-parted test later earlier event a.1 t
 
--- ## A live neighbor is its name's last stored frame
+-- ## A live neighbor has the last stored frame of its MSAP identifier
 
 module _ (events : List TableEvent) (x : Neighbor) where
   last_is : (event : TableEvent) → find (decides_on x.msap) events ≡ Some event → live_after (ticks (since (decides_on x.msap) events)) event ≡ Some x → IsLastStored events x
@@ -128,7 +128,7 @@ held_from_last_stored opened calls x h = grind (arith, common_steps, live_from_l
 abbrev one_if : Bool → ℕ
 one_if b = cond b 1 0
 
--- what ages out and what lives on make up the neighbors
+-- the neighbors that age out and those that live on are all neighbors
 aged_and_left : (gone : Neighbor → Bool) (xs : List Neighbor) → AllByRecursion (λ x. gone x ≡ is_none (aged x)) xs → count_by gone xs + length (filter_map aged xs) ≡ length xs
 aged_and_left gone [] a = refl
 aged_and_left gone (x ∷ xs) a = grind (arith, common_steps, sum_by-cons, aged_and_left gone xs a.1)

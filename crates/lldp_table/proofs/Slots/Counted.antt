@@ -1,4 +1,4 @@
--- What is shown, out of it with a count.
+-- If two counted values are equal, their `shown` parts are equal.
 use Rattle.std.proofs.Common.{◌≡◌, ap}
 use Rattle.lldp_table.specs.Counted.{Counted}
 

@@ -1,4 +1,4 @@
--- What a write to one slot, and a move of one index, make of the neighbors.
+-- The effects on the neighbors of writing one slot and of moving one index.
 use Rattle.std.proofs.Common.{◌≡◌, ℕ, suc, ◌+◌, ◌-◌, ◌<◌, ◌≤◌, ◌||◌, true, false, nat_eq, List, [], ◌∷◌, ◌++◌, length, take, set, get_or, Option, Some, None, option_map, MatchOption, refl, ap, ◌∙◌, sym, subst, arith, map, length-set, length-append, length-take-le}
 use Rattle.std.specs.List.{list_any, remove, slice_get, AllByRecursion}
 use Rattle.std.proofs.lemmas.Bool.{cases_Bool, eqb-true, eqb-false}
@@ -19,12 +19,12 @@ use Rattle.std.proofs.lemmas.Grind.{common_steps}
 
 -- ## Slots
 
--- Behind a write the slot of this index has this neighbor, and the ticks left of the others in use are as they were.
+-- After a write, slot s has the neighbor x, and the other slots in use keep their ticks left.
 pub record IsStored (used : List ℕ) (left : ℕ → ℕ) (s : ℕ) (slot : Stored) (left' : ℕ → ℕ) (x : Neighbor) : Type 0 where
   pub here : neighbor_of slot (left' s) ≡ x
   pub others : AllByRecursion (λ i. nat_eq s i ≡ false → left' i ≡ left i) used
 
--- a frame in a slot is that of the neighbor who has just come
+-- a slot with a new frame has the neighbor that just arrived
 pub fresh_in : (slot : Stored) (name : MsapId) (ttl : ℕ) (octets : List ℕ) → slot.octets ≡ octets → slot.ttl ≡ ttl → IsExtent name ttl octets → neighbor_of slot ttl ≡ fresh name ttl octets
 fresh_in slot name ttl octets o t e = grind (arith, common_steps)
 
@@ -35,14 +35,14 @@ module _ (slots : List Stored) {used : List ℕ} {left : ℕ → ℕ} {s : ℕ} 
   stored-same : s < length slots → neighbor_at (set slots s slot) left' s ≡ x
   stored-same l = ap (λ (y : Stored). neighbor_of y (left' s)) (get_or-set_same slots s slot blank l) ∙ w.here
 
--- the names in slots are those of their neighbors
+-- the MSAP identifiers in slots are those of their neighbors
 pub any-msap : (slots : List Stored) (left : ℕ → ℕ) (name : MsapId) (is : List ℕ) → list_any (same_msap name) (map (msap_at slots) is) ≡ list_any (is_named name) (neighbors_at slots left is)
 any-msap slots left name [] = refl
 any-msap slots left name (i ∷ is) = ap (λ b. same_msap name (msap_at slots i) || b) (any-msap slots left name is)
 
 -- ## Tables
 
--- a table whose parts show a sound table is laid out
+-- a table whose parts are in range and whose contents are sound is laid out (`IsLaidOut`)
 pub laid_out : {capacity : ℕ} {slots : List Stored} {left : ℕ → ℕ} {order : List ℕ} {used limit too_many : ℕ} {table : Contents} → IsOrder (length slots) order → length slots ≤ capacity → used ≤ length slots → used ≤ limit → contents_of capacity slots left order used limit too_many ≡ table → IsSound table → IsLaidOut capacity slots left order used limit too_many
 laid_out o w f h e s = record { indices = o; written = w; fits = f; held = h; sound = subst IsSound (sym e) s }
 
@@ -50,7 +50,7 @@ module _ {capacity : ℕ} {slots : List Stored} {left : ℕ → ℕ} {order : Li
   abbrev held : List Neighbor
   held = neighbors_at slots left (take used order)
 
-  -- with other neighbors, and another timer
+  -- the contents with these neighbors
   abbrev with_held : List Neighbor → Contents
   with_held xs = record { capacity = capacity; limit = limit; neighbors = xs; too_many_left = too_many }
 
@@ -85,14 +85,14 @@ module _ {capacity : ℕ} {slots : List Stored} {left : ℕ → ℕ} {order : Li
   at_named : (name : MsapId) (at : ℕ) → at < used → same_msap name (msap_at slots (get_or order at 0)) ≡ true → is_named name (get_or held at (neighbor_of blank 0)) ≡ true
   at_named name at l e = ap (is_named name) (place at (neighbor_of blank 0) l) ∙ e
 
-  -- the neighbor at a place, from what was read of the slots and the order
+  -- the neighbor at a place, from the slot and the order that were read
   pub entry_at : (at : ℕ) (read : List ℕ) (slot : Stored) → read ≡ order → slot ≡ get_or slots (get_or read at 0) slot → at < used → neighbor_of slot (left (get_or read at 0)) ≡ neighbor_at slots left (get_or order at 0)
   entry_at at read slot r e l = grind (arith, common_steps, get_or_default, index_within)
 
   pub get_at : (at : ℕ) → at < used → slice_get held at ≡ Some (neighbor_at slots left (get_or order at 0))
   get_at at l = slice_get-get_or held at (neighbor_of blank 0) (omega (arith, count)) ∙ ap Some (place at (neighbor_of blank 0) l)
 
-  -- ### The place of a name
+  -- ### The place of an MSAP identifier
 
   abbrev msap_there : ℕ → MsapId
   msap_there at = msap_at slots (get_or order at 0)
@@ -108,7 +108,7 @@ module _ {capacity : ℕ} {slots : List Stored} {left : ℕ → ℕ} {order : Li
       let l : at < used = omega (arith, f.0, length-take-le used order fits) in
       ap (λ (t : Contents). slice_get (names_of t.neighbors) at) (sym is) ∙ name_at at l ∙ ap Some (sym (same_msap-true name _ (ap (λ i. same_msap name (msap_at slots i)) (sym (get_or-take used order at 0 l)) ∙ f.1)))
 
-  -- a place at which this name stands
+  -- a place with this MSAP identifier is in use, and its slot has the identifier
   pub named_there : {table : Contents} → shown ≡ table → (name : MsapId) (at : ℕ) → slice_get (names_of table.neighbors) at ≡ Some name → (at < used) × (same_msap name (msap_there at) ≡ true)
   named_there is name at there = grind (arith, common_steps, slice_get_within, length-map, count, name_at, same_msap-refl)
 
@@ -135,7 +135,7 @@ module _ {capacity : ℕ} {slots : List Stored} {left : ℕ → ℕ} {order : Li
           laid_out (subst (λ n. IsOrder n order) (sym same) h.indices)
           (omega (arith, same, h.written)) (omega (arith, same, h.fits)) h.held after_refreshed (sound_refreshed shown name ttl octets t h.sound)
 
-    -- ### `learn` of a new name, to a slot that is free
+    -- ### `learn` of a new MSAP identifier, into a free slot
 
     module _ (none : list_any (is_named name) held ≡ false) (l : used < limit) (free : used < length slots) where
       pub short : used < length order
@@ -195,7 +195,7 @@ module _ {capacity : ℕ} {slots : List Stored} {left : ℕ → ℕ} {order : Li
 
   -- ### One more slot
 
-  -- the order with a free slot in it: if all that were written are in use, one more is written
+  -- the slots and the order with a free slot: if all slots are in use, one more is created
   pub record HasFree (slots' : List Stored) (order' : List ℕ) : Type 0 where
     pub laid : IsLaidOut capacity slots' left order' used limit too_many
     pub same : contents_of capacity slots' left order' used limit too_many ≡ shown

@@ -1,4 +1,4 @@
--- What `learn` and `forget` make of a table: a frame that is written to a slot, which enters or leaves the queue.
+-- The effects of `learn` and `forget` on a table: writing a slot, and changing the queue.
 use Rattle.std.proofs.Common.{◌≡◌, ℕ, ◌+◌, ◌-◌, ◌<◌, ◌≤◌, true, false, nat_eq, List, [], ◌∷◌, ◌++◌, length, take, set, get_or, refl, ap, ◌∙◌, sym, subst, arith, length-take-le}
 use Rattle.std.specs.Prelude.{slice_index}
 use Rattle.std.specs.List.{list_any, remove, IsDistinct}
@@ -51,7 +51,7 @@ module _ {capacity : ℕ} {slots : List Stored} {queue : List Due} {order : List
     pub is_in : holds s queue ≡ true
     is_in = holds_it queue in_use h.timed.queued s apart others parted
 
-    -- it is out of the queue
+    -- after the slot has left, the queue has the others
     left_queued : IsQueued (leave s queue) others
     left_queued = queued_leave queue in_use h.timed.queued s apart others parted
 
@@ -79,7 +79,7 @@ module _ {capacity : ℕ} {slots : List Stored} {queue : List Due} {order : List
         running = running-enter s ttl (leave s queue) t.lives (running-leave s queue h.timed.running);
       }
 
-      -- `read` is the order as it was read, and `left` the TTL
+      -- `read` is the order that was read, and `left` is the TTL
       module _ {read : List ℕ} {left : ℕ} {queue' : List Due} (r : read ≡ order) (k : left ≡ ttl) (q : queue' ≡ enter (get_or read at 0) left (leave (get_or read at 0) queue)) where
         pub refreshed_after : contents_of capacity (set slots (get_or read at 0) slot) (ticks_left queue') order used limit too_many ≡ learned_as Refreshed (contents_of capacity slots (ticks_left queue) order used limit too_many) name ttl octets
         refreshed_after = rw (q, r, k) (after_refreshed h.laid name ttl octets slot _ at l e stored_again)
@@ -87,7 +87,7 @@ module _ {capacity : ℕ} {slots : List Stored} {queue : List Due} {order : List
         pub refreshed_table : IsTable capacity (set slots (get_or read at 0) slot) queue' order used limit too_many
         refreshed_table = rw (q, r, k) (record { laid = laid_refreshed h.laid name ttl octets slot _ at l e stored_again t; timed = timed_again })
 
-    -- ## A name that is forgotten
+    -- ## An MSAP identifier that is forgotten
 
     module _ (name : MsapId) {x : ℕ} (e : same_msap name (msap_at slots s) ≡ true) (i : x ≡ get_or order at x) where
       is_s : x ≡ s
@@ -109,9 +109,9 @@ module _ {capacity : ℕ} {slots : List Stored} {queue : List Due} {order : List
           };
         })
 
-  -- ## A new name
+  -- ## A new MSAP identifier
 
-  -- a slot that is free: `slots'` and `order'` are the slots and the order with one in them
+  -- `slots'` and `order'` are the slots and the order with a free slot
   module _ (l : used < limit) {slots' : List Stored} {order' : List ℕ} (ws : slots' ≡ with_next used blank slots) (wo : order' ≡ with_next used used order) where
     abbrev Free : Type 0
     Free = HasFree h.laid slots' order'
@@ -128,7 +128,7 @@ module _ {capacity : ℕ} {slots : List Stored} {queue : List Due} {order : List
     not_used : list_any (nat_eq next) (take used order) ≡ false
     not_used = grind (arith, common_steps, free, none-with, not_before, in_line)
 
-    -- `read` is the order as it was read
+    -- `read` is the order that was read
     pub next_queued : {read : List ℕ} → read ≡ order' → holds (get_or read used 0) queue ≡ false
     next_queued r = rw r (h.timed.queued.same next ∙ not_used)
 
@@ -157,7 +157,7 @@ module _ {capacity : ℕ} {slots : List Stored} {queue : List Due} {order : List
             let f = free in
             rw (q, r, k) (record { laid = laid_new f.laid name ttl octets slot _ none_there l f.free stored_new t; timed = timed_new })
 
-  -- ## What is shown
+  -- ## Reading the neighbors
 
   -- `times` has the ticks left of each slot in the queue
   module _ (times : List ℕ) (told : (i : ℕ) → holds i queue ≡ true → get_or times i 0 ≡ ticks_left queue i) where

@@ -18,7 +18,7 @@ use Rattle.lldp_table.specs.Code.Layout.{IsOrder}
 use Rattle.lldp_table.proofs.Msap.{same_msap-true, same_msap-refl, same_msap-sym}
 use Rattle.std.proofs.lemmas.Grind.{common_steps}
 
--- ## Facts of each element
+-- ## Properties of every element
 
 pub at_place : {X : Type 0} (P : X → Type 0) (xs : List X) (k : ℕ) (d : X) → k < length xs → AllByRecursion P xs → P (get_or xs k d)
 at_place P xs k d h a = All-get_or P xs k d h (All-from_recursion P xs a)
@@ -38,22 +38,22 @@ pub all-push : {X : Type 0} (P : X → Type 0) (is : List X) (i : X) → AllByRe
 all-push P [] i a p = (p, tt)
 all-push P (j ∷ is) i a p = (a.0, all-push P is i a.1 p)
 
--- nothing that passes the test
+-- if no element passes the test, each element fails it
 pub unheld : {X : Type 0} (test : X → Bool) (xs : List X) → list_any test xs ≡ false → AllByRecursion (λ x. test x ≡ false) xs
 unheld test [] h = tt
 unheld test (x ∷ xs) h = let p = or_parts (test x) (list_any test xs) h in (p.0, unheld test xs p.1)
 
--- ## Neighbors by name
+-- ## Neighbors by MSAP identifier
 
--- of neighbors whose names differ only one has a name
+-- if all MSAP identifiers differ, only one neighbor has this one
 module _ (name : MsapId) where
-  -- a neighbor before the one of this name
+  -- a neighbor before the one with this MSAP identifier has another one
   other_before : (x : Neighbor) (xs : List Neighbor) (k : ℕ) (d : Neighbor) → k < length xs → AllByRecursion (λ n. same_msap x.msap n ≡ false) (names_of xs) → is_named name (get_or xs k d) ≡ true → is_named name x ≡ false
   other_before x (y ∷ xs) zero d h a e = same_msap-sym name x.msap ∙ ap (same_msap x.msap) (same_msap-true name y.msap e) ∙ a.0
   other_before x (y ∷ xs) (suc k) d h a e = other_before x xs k d (omega arith) a.1 e
   other_before x [] k d h a e = absurd (omega arith)
 
-  -- the neighbors after the one of this name
+  -- the neighbors after the one with this MSAP identifier have others
   others_behind : (x : Neighbor) (xs : List Neighbor) → AllByRecursion (λ n. same_msap x.msap n ≡ false) (names_of xs) → is_named name x ≡ true → AllByRecursion (λ y. is_named name y ≡ false) xs
   others_behind x [] a e = tt
   others_behind x (y ∷ xs) a e = (ap (λ n. same_msap n y.msap) (same_msap-true name x.msap e) ∙ a.0, others_behind x xs a.1 e)
@@ -66,17 +66,17 @@ module _ (name : MsapId) where
   refreshed-unnamed ttl octets [] a = refl
   refreshed-unnamed ttl octets (x ∷ xs) a = ap (λ b. cond b (fresh name ttl octets) x ∷ map (refreshed name ttl octets) xs) a.0 ∙ ap (λ ys. x ∷ ys) (refreshed-unnamed ttl octets xs a.1)
 
-  -- a name that stands at some place is held
+  -- an MSAP identifier at some place is held
   pub held_there : (xs : List Neighbor) (at : ℕ) → slice_get (names_of xs) at ≡ Some name → list_any (is_named name) xs ≡ true
   held_there (x ∷ xs) zero e = let same : x.msap ≡ name = cc e in or_left (is_named name x) (list_any (is_named name) xs) (ap (same_msap name) same ∙ same_msap-refl name)
   held_there (x ∷ xs) (suc at) e = or_right (is_named name x) (list_any (is_named name) xs) (held_there xs at e)
   held_there [] at e = cc (e, slice_get_past {X = MsapId} [] at (omega arith))
 
-  -- to forget a name that isn't held changes nothing
+  -- forgetting an MSAP identifier that is not held changes nothing
   pub forgets_none : (xs : List Neighbor) → list_any (is_named name) xs ≡ false → filter (λ x. not (is_named name x)) xs ≡ xs
   forgets_none xs h = filter-unnamed xs (unheld (is_named name) xs h)
 
-  -- to forget a name is to remove its neighbor
+  -- forgetting an MSAP identifier removes its neighbor
   pub forgets_place : (xs : List Neighbor) (k : ℕ) (d : Neighbor) → k < length xs → is_named name (get_or xs k d) ≡ true → IsDistinct same_msap (names_of xs) → filter (λ x. not (is_named name x)) xs ≡ remove xs k
   forgets_place [] k d h e u = absurd (omega arith)
   forgets_place (x ∷ xs) zero d h e u =
@@ -86,7 +86,7 @@ module _ (name : MsapId) where
       ap (λ b. cond (not b) (x ∷ filter (λ x. not (is_named name x)) xs) (filter (λ x. not (is_named name x)) xs)) (other_before x xs k d (omega arith) (IsDistinct-head same_msap x.msap (names_of xs) u) e)
       ∙ ap (λ ys. x ∷ ys) (forgets_place xs k d (omega arith) e (IsDistinct-tail same_msap x.msap (names_of xs) u))
 
-  -- to refresh a name is to write its neighbor
+  -- refreshing an MSAP identifier replaces its neighbor
   pub refreshes_place : (ttl : ℕ) (octets : List ℕ) (xs : List Neighbor) (k : ℕ) (d : Neighbor) → k < length xs → is_named name (get_or xs k d) ≡ true → IsDistinct same_msap (names_of xs) → map (refreshed name ttl octets) xs ≡ set xs k (fresh name ttl octets)
   refreshes_place ttl octets [] k d h e u = absurd (omega arith)
   refreshes_place ttl octets (x ∷ xs) zero d h e u =
@@ -106,7 +106,7 @@ module _ (f g : ℕ → Neighbor) where
   map-agree [] a = refl
   map-agree (i ∷ is) a = ap (λ x. x ∷ map g is) a.0 ∙ ap (λ xs. f i ∷ xs) (map-agree is a.1)
 
-  -- a write at the index that stands at place k
+  -- a change of the neighbor with the index at place k
   pub map-at_place : (s : ℕ) (is : List ℕ) → AllByRecursion (λ i. nat_eq s i ≡ false → g i ≡ f i) is → (k : ℕ) → k < length is → get_or is k 0 ≡ s → IsDistinct nat_eq is → map g is ≡ set (map f is) k (g s)
   map-at_place s [] same k h e u = absurd (omega arith)
   map-at_place s (i ∷ is) same zero h e u =
@@ -116,13 +116,13 @@ module _ (f g : ℕ → Neighbor) where
       ap (λ x. x ∷ map g is) (same.0 (nat_eq_sym s i ∙ ap (nat_eq i) (sym e) ∙ at_place (λ j. nat_eq i j ≡ false) is k 0 (omega arith) (IsDistinct-head nat_eq i is u)))
       ∙ ap (λ xs. f i ∷ xs) (map-at_place s is same.1 k (omega arith) e (IsDistinct-tail nat_eq i is u))
 
--- an index of the order isn't among those before its place
+-- the index at place k is not among those before it
 pub not_before : (is : List ℕ) (k : ℕ) → k < length is → IsDistinct nat_eq is → AllByRecursion (λ i. nat_eq (get_or is k 0) i ≡ false) (take k is)
 not_before [] k h u = absurd (omega arith)
 not_before (i ∷ is) zero h u = tt
 not_before (i ∷ is) (suc k) h u = (nat_eq_sym (get_or is k 0) i ∙ at_place (λ j. nat_eq i j ≡ false) is k 0 (omega arith) (IsDistinct-head nat_eq i is u), not_before is k (omega arith) (IsDistinct-tail nat_eq i is u))
 
--- nor among those after it
+-- the index at place k is not among those after it
 pub not_behind : (is : List ℕ) (k : ℕ) → k < length is → IsDistinct nat_eq is → AllByRecursion (λ i. nat_eq (get_or is k 0) i ≡ false) (drop (suc k) is)
 not_behind [] k h u = absurd (omega arith)
 not_behind (i ∷ is) zero h u = IsDistinct-head nat_eq i is u
@@ -131,7 +131,7 @@ not_behind (i ∷ is) (suc k) h u = not_behind is k (omega arith) (IsDistinct-ta
 pub map-remove : {X Y : Type 0} (f : X → Y) (xs : List X) (k : ℕ) → map f (remove xs k) ≡ remove (map f xs) k
 map-remove f xs k = map-append f (take k xs) (drop (suc k) xs) ∙ ap (λ ys. ys ++ map f (drop (suc k) xs)) (sym (take-map f k xs)) ∙ ap (λ ys. take k (map f xs) ++ ys) (sym (drop-map f (suc k) xs))
 
--- the first places after an index moves to the end
+-- the first places of a list in which an index was moved to the end
 pub take-moved : (is : List ℕ) (x k u : ℕ) → k < suc u → suc u ≤ length is → take u (remove is k ++ x ∷ []) ≡ remove (take (suc u) is) k
 take-moved [] x k u h l = absurd (omega arith)
 take-moved (i ∷ is) x zero u h l = take-append-le u is (x ∷ []) (omega arith)
@@ -160,7 +160,7 @@ pub IsOrder-forgotten : (size : ℕ) (order : List ℕ) (k x : ℕ) → k < leng
 IsOrder-forgotten size order k x h e = IsOrder-moved size order (remove order k ++ x ∷ [])
     (IsPermutation-trans order (x ∷ remove order k) (remove order k ++ x ∷ []) (IsPermutation-remove order k x h e) (IsPermutation-append_comm (x ∷ []) (remove order k)))
 
--- numbers below a bound don't have it among them
+-- a number is not among numbers that are all below it
 below_apart : (n : ℕ) (is : List ℕ) → AllByRecursion (λ i. i < n) is → list_any (nat_eq n) is ≡ false
 below_apart n [] a = refl
 below_apart n (i ∷ is) a = or_from (nat_eq n i) (list_any (nat_eq n) is) (ne_eqb n i (λ e. omega arith)) (below_apart n is a.1)
@@ -172,7 +172,7 @@ pub IsOrder-none : IsOrder 0 []
 unfolding IsDistinct
 IsOrder-none = record { all = refl; within = tt; distinct = tt }
 
--- ## One index taken out
+-- ## One index removed
 
 pub one-out : (is : List ℕ) (k : ℕ) → k < length is → IsPermutation is (get_or is k 0 ∷ remove is k)
 one-out is k h = IsPermutation-remove is k (get_or is k 0) h (get_or_default is k 0 (get_or is k 0) h)
@@ -183,7 +183,7 @@ all-out P is k h a = (recursion_from_All P (get_or is k 0 ∷ remove is k) (All-
 pub others-out : (is : List ℕ) (k : ℕ) → k < length is → IsDistinct nat_eq is → AllByRecursion (λ i. nat_eq (get_or is k 0) i ≡ false) (remove is k)
 others-out is k h u = IsDistinct-head nat_eq (get_or is k 0) (remove is k) (distinct-moved is (get_or is k 0 ∷ remove is k) (one-out is k h) u)
 
--- each index of a list is in it
+-- each element of a list is in it
 pub all-with : (is : List ℕ) → AllByRecursion (λ i. list_any (nat_eq i) is ≡ true) is
 all-with [] = tt
 all-with (i ∷ is) = (or_left (nat_eq i i) (list_any (nat_eq i) is) (eq-eqb i i refl), all-weaker (λ j. list_any (nat_eq j) is ≡ true) (λ j. list_any (nat_eq j) (i ∷ is) ≡ true) (λ j h. or_right (nat_eq j i) (list_any (nat_eq j) is) h) is (all-with is))

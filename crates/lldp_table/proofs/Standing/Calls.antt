@@ -1,4 +1,4 @@
--- Each call carries standing from every list of calls to the list with the call.
+-- After each call, a table that stood for a list of calls stands for the list with that call.
 use Rattle.std.proofs.Common.{◌≡◌, ℕ, ◌<◌, ◌≤◌, List, [], ◌∷◌, refl, ap, sym, subst, is_some, arith}
 use Rattle.std.specs.List.{list_any}
 use Rattle.lldp_pdu.specs.Msap.{MsapId}
@@ -11,9 +11,7 @@ use Rattle.lldp_table.specs.declared.learned.Learned.TheVariants.{New, Refreshed
 use Rattle.lldp_table.proofs.Live.Events.{Arrived, Arrived-new, Arrived-refreshed, Arrived-dropped, Arrived-forgot, Arrived-purged, Arrived-ticked, Arrived-limit_set, neighbors-limit_set, has-live, answer_by, by_refreshed, by_new, neighbors-new, neighbors-refreshed, neighbors-dropped, neighbors-forgot, neighbors-purged, neighbors-ticked, too_many-dropped, too_many-ticked}
 use Rattle.std.proofs.lemmas.Grind.{common_steps}
 
--- ## What an answer tells
-
--- ## Each live name has arrived
+-- ## Each live MSAP identifier has arrived
 
 Arrived-learnt : (opened : ℕ) (name : MsapId) (ttl : ℕ) (octets : List ℕ) (past : List TableEvent) (a : Learned) → answer opened name past ≡ a → Arrived past → Arrived (learned name ttl octets a ∷ past)
 Arrived-learnt opened name ttl octets past New e h = Arrived-new name ttl octets past h
@@ -36,21 +34,21 @@ pub events-more : (opened : ℕ) (call : Call) (calls : List Call) → events_of
 unfolding events_of
 events-more opened call calls = refl
 
--- what a table that stands for a list of calls has
+-- the limit and the neighbors of a table that stands for a list of calls
 pub stands_limit : (table : Contents) (opened : ℕ) (calls : List Call) → Stands opened calls table → table.limit ≡ limit_after opened (events_of opened calls)
 stands_limit table opened calls h = ap (λ (t : Contents). t.limit) h.is
 
 pub stands_neighbors : (table : Contents) (opened : ℕ) (calls : List Call) → Stands opened calls table → table.neighbors ≡ neighbors (events_of opened calls)
 stands_neighbors table opened calls h = ap (λ (t : Contents). t.neighbors) h.is
 
--- what a table stands for decides what `learn` answers
+-- the list of calls that a table stands for decides what `learn` answers
 answered : (opened : ℕ) (calls : List Call) (name : MsapId) → learn_answer (table_of opened calls) name ≡ answer opened name (events_of opened calls)
 answered opened calls name = grind (arith, common_steps, answer_by, has-live, arrived)
 
 pub learn_answers : (table : Contents) (opened : ℕ) (calls : List Call) (name : MsapId) → Stands opened calls table → learn_answer table name ≡ answer opened name (events_of opened calls)
 learn_answers table opened calls name h = rw h.is (answered opened calls name)
 
--- a name is held if it is live
+-- an MSAP identifier is held exactly if it is live
 pub held_is_live : (table : Contents) (opened : ℕ) (calls : List Call) (name : MsapId) → Stands opened calls table → list_any (is_named name) table.neighbors ≡ is_some (live name (events_of opened calls))
 held_is_live table opened calls name h = rw h.is (has-live (events_of opened calls) (arrived opened calls) name)
 
@@ -60,7 +58,7 @@ held_is_live table opened calls name h = rw h.is (has-live (events_of opened cal
 abbrev table_by : ℕ → List TableEvent → Contents
 table_by opened past = record { capacity = opened; limit = limit_after opened past; neighbors = neighbors past; too_many_left = too_many_left past }
 
--- it is the one that the list with the call leaves
+-- the table after a call is the table that the list with the call leaves
 pub leaves : (opened : ℕ) (calls : List Call) (call : Call) → IsPossible (table_of opened calls) call → table_after (table_of opened calls) call ≡ table_of opened (call ∷ calls)
 unfolding events_of too_many_left
 leaves opened calls call t = grind (arith, common_steps, answered, neighbors-new, by_new, neighbors-refreshed, by_refreshed, neighbors-dropped, too_many-dropped, neighbors-forgot, neighbors-purged, neighbors-ticked, too_many-ticked, neighbors-limit_set)
@@ -71,10 +69,10 @@ pub stands_open : (opened : ℕ) → 0 < opened → opened ≤ 128 → Stands op
 unfolding events_of neighbors too_many_left
 stands_open opened l m = record { least = l; most = m; allowed = tt; is = refl }
 
--- a call carries standing from a list of calls to the list with the call
+-- after a call, a table stands for the list with the call
 pub carries : (table : Contents) (opened : ℕ) (calls : List Call) (call : Call) → Stands opened calls table → IsPossible table call → Stands opened (call ∷ calls) (table_after table call)
 carries table opened calls call h t = grind (arith, common_steps, leaves)
 
--- the same of what a call leaves
+-- the same for any table that equals the table after the call
 pub stands_after : (old new : Contents) (opened : ℕ) (calls : List Call) (call : Call) → new ≡ table_after old call → IsPossible old call → Stands opened calls old → Stands opened (call ∷ calls) new
 stands_after old new opened calls call e t h = subst (λ (x : Contents). Stands opened (call ∷ calls) x) (sym e) (carries old opened calls call h t)

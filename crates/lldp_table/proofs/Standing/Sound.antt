@@ -18,7 +18,7 @@ use Rattle.lldp_table.specs.declared.learned.Learned.{Learned}
 use Rattle.lldp_table.specs.declared.learned.Learned.TheVariants.{New, Refreshed}
 use Rattle.std.proofs.lemmas.Grind.{common_steps}
 
--- ## A part of the neighbors, each under its name
+-- ## A part of the neighbors, with their MSAP identifiers unchanged
 
 module _ (g : Neighbor → Option Neighbor) (same : (x y : Neighbor) → g x ≡ Some y → y.msap ≡ x.msap) where
   all-cons : (P : MsapId → Type 0) (x : Neighbor) (o : Option Neighbor) (xs : List Neighbor) → ((y : Neighbor) → o ≡ Some y → y.msap ≡ x.msap) → P x.msap → AllByRecursion P (names_of xs) → AllByRecursion P (names_of (cons_option o xs))
@@ -61,7 +61,7 @@ aged_held x y k e = grind (arith, common_steps, cond_some, ltb-true)
 aged_named : (x y : Neighbor) → aged x ≡ Some y → y.msap ≡ x.msap
 aged_named x y e = sym (ap (λ (n : Neighbor). n.msap) (cond_some (nat_lt 1 x.left) _ y e).1)
 
--- with some of the neighbors, and another timer, a table is sound
+-- a table stays sound with a part of its neighbors and another timer
 sound_part : (g : Neighbor → Option Neighbor) → ((x y : Neighbor) → IsHeld x → g x ≡ Some y → IsHeld y) → ((x y : Neighbor) → g x ≡ Some y → y.msap ≡ x.msap) → (table : Contents) (left : ℕ) → IsSound table → IsSound (record table { neighbors = filter_map g table.neighbors; too_many_left = left })
 sound_part g held named table left h = grind (arith, common_steps, length-part, held-part, distinct-part)
 
@@ -84,12 +84,12 @@ sound_forgotten table name h =
 
 -- ## `learn`
 
--- no neighbor of this name
+-- no neighbor has this MSAP identifier
 names_none : (name : MsapId) (xs : List Neighbor) → list_any (is_named name) xs ≡ false → list_any (same_msap name) (names_of xs) ≡ false
 names_none name [] h = h
 names_none name (x ∷ xs) h = let p = or_parts (same_msap name x.msap) (list_any (is_named name) xs) h in or_from (same_msap name x.msap) (list_any (same_msap name) (names_of xs)) p.0 (names_none name xs p.1)
 
--- a refreshed neighbor keeps its name
+-- a refreshed neighbor keeps its MSAP identifier
 refreshed_name : (name : MsapId) (ttl : ℕ) (octets : List ℕ) (x : Neighbor) → (refreshed name ttl octets x).msap ≡ x.msap
 refreshed_name name ttl octets x = cond_both (is_named name x) (fresh name ttl octets) x (λ y. y.msap ≡ x.msap) (λ e. same_msap-true name x.msap e) (λ e. refl)
 

@@ -1,4 +1,4 @@
--- How the code keeps a table: slots that stay in their places, the list of their indices, and the queue of their times.
+-- How the code stores a table: slots that never move, the order of their indices, and their times.
 use Rattle.std.specs.Prelude.{◌≡◌, ℕ, ◌<◌, ◌≤◌, if◌then◌else◌, ◌==◌, List, [], ◌∷◌, ◌++◌, length, map, take, slice_index_or, nat_eq}
 use Rattle.std.specs.List.{IsDistinct, AllByRecursion}
 use Rattle.lldp_pdu.specs.Msap.{MsapId}
@@ -13,7 +13,7 @@ use Rattle.lldp_table.specs.Code.Queue.{Due, ticks_left, IsTimed}
 abbrev pub blank : Stored
 blank = record { octets = []; ttl = 0 }
 
--- the octets that the slot of this index stores, and the MSAP identifier in them
+-- the octets in the slot with this index, and the MSAP identifier in them
 abbrev pub octets_at : List Stored → ℕ → List ℕ
 octets_at slots i = (slice_index_or slots i blank).octets
 
@@ -24,7 +24,7 @@ msap_at slots i = msap_of (octets_at slots i)
 abbrev pub neighbor_of : Stored → ℕ → Neighbor
 neighbor_of slot left = record { msap = msap_of slot.octets; octets = slot.octets; ttl = slot.ttl; left = left }
 
--- the neighbor in the slot of this index, by the ticks left of each slot
+-- the neighbor in the slot with this index, given the ticks left of each slot
 abbrev pub neighbor_at : List Stored → (ℕ → ℕ) → ℕ → Neighbor
 neighbor_at slots left i = neighbor_of (slice_index_or slots i blank) (left i)
 
@@ -32,23 +32,23 @@ neighbor_at slots left i = neighbor_of (slice_index_or slots i blank) (left i)
 abbrev pub neighbors_at : List Stored → (ℕ → ℕ) → List ℕ → List Neighbor
 neighbors_at slots left indices = map (neighbor_at slots left) indices
 
--- what is true of entries that are still to come: each index has a slot that holds a neighbor, and a time
+-- The entries still to be returned: each index has a slot that holds a neighbor, and a time.
 pub record AreEntries (slots : List Stored) (left : ℕ → ℕ) (indices : List ℕ) : Type 0 where
   pub written : AllByRecursion (λ i. i < length slots) indices
   pub within : AllByRecursion (λ i. i < MOST_NEIGHBORS) indices
   pub held : AllByRecursion IsHeld (neighbors_at slots left indices)
 
--- a list of n, with one more, and any other list as it is
+-- the list with one more item if it has n items, and otherwise unchanged
 abbrev pub with_next : {X : Type 0} → ℕ → X → List X → List X
 with_next n x xs = if length xs == n then xs ++ x ∷ [] else xs
 
--- each slot's index is once in the order
+-- the order has each slot's index exactly once
 pub record IsOrder (size : ℕ) (order : List ℕ) : Type 0 where
   pub all : length order ≡ size
   pub within : AllByRecursion (λ i. i < size) order
   pub distinct : IsDistinct nat_eq order
 
--- what a table shows
+-- the contents of a table, from its parts
 abbrev pub contents_of : ℕ → List Stored → (ℕ → ℕ) → List ℕ → ℕ → ℕ → ℕ → Contents
 contents_of capacity slots left order used limit too_many = record {
   capacity = capacity;
@@ -57,7 +57,7 @@ contents_of capacity slots left order used limit too_many = record {
   too_many_left = too_many;
 }
 
--- what is true of a table's parts, whatever keeps its times
+-- the invariant of a table's parts, however its times are stored
 pub record IsLaidOut (capacity : ℕ) (slots : List Stored) (left : ℕ → ℕ) (order : List ℕ) (used limit too_many : ℕ) :
     Type 0 where
   pub indices : IsOrder (length slots) order
@@ -66,7 +66,7 @@ pub record IsLaidOut (capacity : ℕ) (slots : List Stored) (left : ℕ → ℕ)
   pub held : used ≤ limit
   pub sound : IsSound (contents_of capacity slots left order used limit too_many)
 
--- what is true of a table's parts
+-- the invariant of a table's parts
 pub record IsTable (capacity : ℕ) (slots : List Stored) (queue : List Due) (order : List ℕ) (used limit too_many : ℕ) :
     Type 0 where
   pub laid : IsLaidOut capacity slots (ticks_left queue) order used limit too_many

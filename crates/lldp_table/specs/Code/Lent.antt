@@ -1,11 +1,11 @@
--- An item of a room, or all of them, lent out to be changed.
+-- Mutable references to one item of a room, or to all its items.
 use Rattle.std.specs.Prelude.{ℕ, List}
 use Rattle.std.specs.Borrow.{Fml, RattleType, MutBor, Array, Lends}
 use Rattle.std.specs.declared.alloc.Allocator.{Ghosts}
 use Rattle.lldp_table.specs.Code.Room.{Reserved, with_item, with_items}
 use Rattle.lldp_table.specs.contracts.room.Room.{the_row}
 
--- when the loan ends, the room has what the reference then holds
+-- When the reference ends, the room has what the reference then holds.
 module _ (T A : RattleType) (heap : Ghosts A.Denot) where
   abbrev pub LendsItem : MutBor (Reserved T.Denot) → ℕ → MutBor T.Denot → Fml
   LendsItem room i item = Lends (the_row T A heap) T room item (with_item room.now i)

@@ -1,5 +1,5 @@
--- A queue of differences: the slots in use in the order in which their neighbors expire, each with the difference of
--- its ticks left to those of the slot before it.
+-- A queue of differences: the slots in use in the order in which their neighbors expire. Each slot
+-- has the difference between its ticks left and those of the slot before it.
 use Rattle.std.specs.Prelude.{◌≡◌, ℕ, ◌+◌, ◌-◌, ◌<◌, ◌^◌, Bool, false, if◌then◌else◌, ◌==◌, nat_le, nat_eq, List, [], ◌∷◌, length, map, slice_index}
 use Rattle.std.specs.List.{list_any, sum_by, AllByRecursion, IsDistinct}
 use Rattle.lldp_table.specs.declared.limits.TheConstants.{MOST_NEIGHBORS}
@@ -23,56 +23,56 @@ abbrev pub ticks_left : List Due → ℕ → ℕ
 ticks_left [] slot = 0
 ticks_left (e ∷ queue) slot = if e.slot == slot then e.gap else e.gap + ticks_left queue slot
 
--- less for the first
+-- the queue with n subtracted from the first difference
 abbrev pub less_first : ℕ → List Due → List Due
 less_first n [] = []
 less_first n (e ∷ queue) = due e.slot (e.gap - n) ∷ queue
 
--- more for the first
+-- the queue with n added to the first difference
 abbrev pub add_first : ℕ → List Due → List Due
 add_first n [] = []
 add_first n (e ∷ queue) = due e.slot (n + e.gap) ∷ queue
 
--- a slot before these, whose first gives up so much of its difference
+-- this slot in front of the queue; its ticks left are subtracted from the first difference
 abbrev pub put : ℕ → ℕ → List Due → List Due
 put slot left queue = due slot left ∷ less_first left queue
 
--- the queue with a slot that has this many ticks left, after those that expire no later
+-- the queue with this slot inserted, after those that expire no later
 abbrev pub enter : ℕ → ℕ → List Due → List Due
 enter slot left [] = put slot left []
 enter slot left (e ∷ queue) =
     if nat_le e.gap left then e ∷ enter slot (left - e.gap) queue else put slot left (e ∷ queue)
 
--- the queue without a slot, whose difference goes to the slot after it
+-- the queue without this slot, whose difference is added to that of the next slot
 abbrev pub leave : ℕ → List Due → List Due
 leave slot [] = []
 leave slot (e ∷ queue) = if e.slot == slot then add_first e.gap queue else e ∷ leave slot queue
 
--- the first has nothing left
+-- the first slot has no ticks left
 abbrev pub is_spent : List Due → Bool
 is_spent [] = false
 is_spent (e ∷ queue) = e.gap == 0
 
--- the first has some ticks left, and so have all
+-- the first slot has ticks left, and so have all others
 abbrev pub IsRunning : List Due → Type 0
 IsRunning queue = is_spent queue ≡ false
 
--- the ticks left of the last
+-- the ticks left of the last slot
 abbrev pub total : List Due → ℕ
 total queue = sum_by (λ (e : Due). e.gap) queue
 
--- the slots of these indices, with their differences
+-- the queue of these slots, with the stored differences
 abbrev pub dues : List ℕ → List ℕ → List Due
 dues times slots = map (λ i. due i (slice_index times i)) slots
 
--- what is true of a queue's parts: no slot is in it twice, and the sum of the differences fits in 16 bits
+-- the invariant of a queue: no slot is in it twice, and the sum of the differences fits in 16 bits
 pub record IsQueue (times slots : List ℕ) : Type 0 where
   pub all : length times ≡ MOST_NEIGHBORS
   pub within : AllByRecursion (λ i. i < MOST_NEIGHBORS) slots
   pub distinct : IsDistinct nat_eq slots
   pub fits : total (dues times slots) < 2 ^ 16
 
--- and the ticks left of the last are known
+-- the same, and `last` is the ticks left of the last slot
 pub record IsQueueTo (times slots : List ℕ) (last : ℕ) : Type 0 where
   pub queue : IsQueue times slots
   pub last_is : last ≡ total (dues times slots)
@@ -83,7 +83,7 @@ pub record IsQueued (queue : List Due) (used : List ℕ) : Type 0 where
   pub count : length queue ≡ length used
   pub distinct : IsDistinct nat_eq (slots_of queue)
 
--- the queue of a table: the slots in use, each with some ticks left
+-- the queue of a table has the slots in use, each with ticks left
 pub record IsTimed (queue : List Due) (used : List ℕ) : Type 0 where
   pub queued : IsQueued queue used
   pub running : IsRunning queue

@@ -1,16 +1,16 @@
--- Room for a number of items.
+-- A list with a fixed capacity.
 use Rattle.std.specs.Prelude.{ℕ, List, length, slice_set}
 use Rattle.std.specs.List.{refill}
 
--- the items, and for how many there is room
+-- the items, and how many there is room for
 pub record Reserved (X : Type 0) : Type 0 where
   pub items : List X
   pub capacity : ℕ
 
--- the room with another item at this index
+-- the room with the item at this index replaced
 abbrev pub with_item : {X : Type 0} → Reserved X → ℕ → X → Reserved X
 with_item room i item = record room { items = slice_set room.items i item }
 
--- the room with these items, as many as there were
+-- the room with its items replaced by as many others
 abbrev pub with_items : {X : Type 0} → Reserved X → List X → Reserved X
 with_items room items = record room { items = refill (length room.items) room.items items }

@@ -1,5 +1,5 @@
--- What each call makes of what a table shows, and what it answers. Callers compute with it; `Standing` says what it
--- means.
+-- What each call does to the contents of a table, and what it answers. Callers compute with this,
+-- and `Standing` says what it means.
 use Rattle.std.specs.Prelude.{ℕ, ◌-◌, not, if◌then◌else◌, nat_lt, max, List, [], ◌∷◌, ◌++◌, length, filter, map, filter_map, Option, Some, None}
 use Rattle.lldp_pdu.specs.Msap.{MsapId}
 use Rattle.lldp_table.specs.Events.{Neighbor, Call, learn, forget, purge, tick, set_limit}
@@ -12,16 +12,16 @@ abbrev pub learn_answer : Contents → MsapId → Learned
 learn_answer table name =
     if holds_name table name then Refreshed else (if nat_lt (length table.neighbors) table.limit then New else Dropped)
 
--- a frame that has just come
+-- the neighbor of a frame that has just arrived
 abbrev pub fresh : MsapId → ℕ → List ℕ → Neighbor
 fresh name ttl octets = record { msap = name; octets = octets; ttl = ttl; left = ttl }
 
--- the neighbor of this name has the new frame, each other one is as it was
+-- the neighbor, with the new frame if it has this MSAP identifier
 abbrev pub refreshed : MsapId → ℕ → List ℕ → Neighbor → Neighbor
 refreshed name ttl octets neighbor = if is_named name neighbor then fresh name ttl octets else neighbor
 
--- a new neighbor is put after the others, a known one stays in its place, and for a dropped one the timer runs at
--- least as long as its TTL
+-- A new neighbor is added after the others, and a known one stays in its place. For a dropped
+-- frame, the too-many timer runs at least as long as the frame's TTL.
 abbrev pub learned_as : Learned → Contents → MsapId → ℕ → List ℕ → Contents
 learned_as New table name ttl octets =
     record table { neighbors = table.neighbors ++ fresh name ttl octets ∷ [] }
@@ -36,16 +36,16 @@ after_learn table name ttl octets = learned_as (learn_answer table name) table n
 
 -- ## The other calls
 
--- the neighbor of this name is removed, and the others keep their order
+-- the neighbor with this MSAP identifier is removed, and the others keep their order
 abbrev pub after_forget : Contents → MsapId → Contents
 after_forget table name =
     record table { neighbors = filter (λ neighbor. not (is_named name neighbor)) table.neighbors }
 
--- no neighbor is left, and the timer has ended
+-- no neighbor is left, and the too-many timer has ended
 abbrev pub after_purge : Contents → Contents
 after_purge table = record table { neighbors = []; too_many_left = 0 }
 
--- a neighbor after a tick, if it has any left
+-- the neighbor after a tick, if it has any ticks left then
 abbrev pub aged : Neighbor → Option Neighbor
 aged neighbor =
     if nat_lt 1 neighbor.left then Some (record neighbor { left = neighbor.left - 1 }) else None
@@ -55,7 +55,7 @@ abbrev pub after_tick : Contents → Contents
 after_tick table =
     record table { neighbors = filter_map aged table.neighbors; too_many_left = table.too_many_left - 1 }
 
--- another limit in force
+-- the table with another limit in force
 abbrev pub after_set_limit : Contents → ℕ → Contents
 after_set_limit table limit = record table { limit = limit }
 
@@ -67,6 +67,6 @@ table_after table purge = after_purge table
 table_after table tick = after_tick table
 table_after table (set_limit limit) = after_set_limit table limit
 
--- an empty table
+-- an empty table with this limit
 abbrev pub newly_opened : ℕ → Contents
 newly_opened limit = record { capacity = limit; limit = limit; neighbors = []; too_many_left = 0 }

@@ -1,4 +1,4 @@
--- What a slot stores, and the tag that decides most comparisons of names.
+-- What a slot stores, and the tag that decides most comparisons of MSAP identifiers.
 use Rattle.std.specs.Prelude.{◌≡◌, ℕ, ◌≤◌, ◌+◌, ◌*◌, ◌^◌, ◌%◌, List, [], ◌∷◌, take}
 use Rattle.lldp_pdu.specs.Msap.{MsapId}
 use Rattle.lldp_pdu.specs.Lldpdu.{msap_of}
@@ -14,11 +14,11 @@ abbrev pub mixed : ℕ → List ℕ → ℕ
 mixed tag [] = tag
 mixed tag (octet ∷ octets) = mixed ((tag * 16777619 % 2 ^ 32 + octet) % 2 ^ 32) octets
 
--- all octets of a name, the Chassis ID's first
+-- the tag of an MSAP identifier: a mix of all its octets, the Chassis ID's first
 abbrev pub tag_of : MsapId → ℕ
 tag_of name = mixed (mixed 0 name.chassis) name.port
 
--- what is true of a slot's parts
+-- the invariant of a slot's parts
 pub record IsSlot (room : List ℕ) (size tag : ℕ) : Type 0 where
   pub within : size ≤ MOST_OCTETS
   pub tagged : tag ≡ tag_of (msap_of (take size room))

@@ -34,7 +34,7 @@ none_found : (kind : ℕ) (earlier : List TlvUnit) → AllByRecursion (λ (e : T
 none_found kind [] h = refl
 none_found kind (e ∷ earlier) h = or_from (meets kind e) (has_well_formed kind earlier) (unmet kind e (meets kind e) refl h.0) (none_found kind earlier h.1)
 
--- kept, as a test, is to be a first
+-- `IsFirst` holds if the test for a kept TLV passes
 is_first : (earlier : List TlvUnit) (u : TlvUnit) (w s m : Bool) → is_well_formed u ≡ w → is_single u.kind ≡ s → has_well_formed u.kind earlier ≡ m → (w && not (s && m)) ≡ true → IsFirst earlier u
 is_first earlier u w s m e f g h = grind (arith, common_steps, none_met, true≢false, le-leb)
 
@@ -45,7 +45,7 @@ left_out earlier u false e n = refl
 pub returns-clause-kept : goal.returns-clause-kept
 returns-clause-kept c = grind (arith, common_steps, and_parts, none_found, leb-true, left_out)
 
--- ## Counted
+-- ## Counts
 
 not_end : (n : ℕ) (b : Bool) → eqb n 0 ≡ b → n ≢ 0 → b ≡ false
 not_end n b e h = grind (arith, common_steps, eqb-true)

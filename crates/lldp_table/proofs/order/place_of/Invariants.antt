@@ -1,4 +1,4 @@
--- No slot before this place has the name.
+-- No slot before this place has the MSAP identifier.
 use Rattle.std.proofs.Common.{◌≡◌, false, take, map}
 use Rattle.std.specs.List.{list_any}
 use Rattle.lldp_pdu.specs.View.{msap_view}

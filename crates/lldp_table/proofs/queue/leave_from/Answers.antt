@@ -9,7 +9,7 @@ place_in-at-requires c = rw c.as_slice.ensures.value (sym (holds-dues c.args.tim
 pub raise-requires-clause-fits : goal.raise-requires-clause-fits
 raise-requires-clause-fits c = grind (arith, common_steps, two_fit)
 
--- ## Where another slot is the last
+-- ## If another slot is the last
 
 pub returns-then-at-len-clause-after : goal.returns-then-at-len-clause-after
 returns-then-at-len-clause-after c = grind (arith, common_steps, left_at)
@@ -21,7 +21,7 @@ returns-then-at-len-clause-queue c =
 pub returns-then-at-len-clause-less : goal.returns-then-at-len-clause-less
 returns-then-at-len-clause-less c = grind (arith, common_steps, total_left_behind)
 
--- ## If it was the last itself
+-- ## If the slot was the last
 
 pub returns-clause-after : goal.returns-clause-after
 returns-clause-after c = grind (arith, common_steps, left_at)

@@ -1,4 +1,4 @@
--- The rest has to enter after the places so far.
+-- The slot enters after the places passed so far, with `rest` as its ticks left from there.
 use Rattle.std.proofs.Common.{◌≡◌, ◌≤◌, ℕ, ◌++◌, take, drop}
 use Rattle.lldp_table.specs.Code.Queue.{enter, dues}
 use Rattle.lldp_table.proofs.queue.place_for.Given as goal

@@ -1,4 +1,4 @@
--- The slots before this one have their ticks left, and what is left of the others counts from here.
+-- The slots before this one have their ticks left. For the others, counting goes on from `left`.
 use Rattle.std.proofs.Common.{◌≡◌, ◌+◌, take, drop, length, get_or}
 use Rattle.std.specs.List.{AllByRecursion}
 use Rattle.lldp_table.specs.Code.Queue.{ticks_left, total, dues}

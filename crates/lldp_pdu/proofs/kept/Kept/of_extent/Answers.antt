@@ -11,7 +11,7 @@ use Rattle.lldp_pdu.proofs.Telling.{cut_extent, kept_tlvs_of, tells_itself}
 use Rattle.lldp_pdu.proofs.kept.Kept.of_extent.Goals as goal
 use Rattle.std.proofs.lemmas.Grind.{common_steps}
 
--- after its three mandatory TLVs stand the later ones, since an extent has no End Of LLDPDU
+-- the later TLVs are all those after the first three, since an extent has no End Of LLDPDU
 later : (octets : List ℕ) → AreOctets octets → extent octets ≡ octets → drop 1 (drop 1 (drop 1 (cut octets).tlvs)) ≡ later_tlvs octets
 unfolding later_tlvs
 later octets fits whole = grind (arith, common_steps, drop-drop, cut_extent, fits)

@@ -1,4 +1,4 @@
--- An empty body. The borrow is opened, and closed at one more.
+-- The body is empty. The borrow is opened, and closed with a number that is one higher.
 use Rattle.std.proofs.Common.{◌+◌, [], ◌∷◌, refl}
 use Rattle.std.proofs.raw_atomic.Walks.{proved}
 use base.Logic.{id⊢}

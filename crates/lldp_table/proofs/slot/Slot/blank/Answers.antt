@@ -4,7 +4,7 @@ use Rattle.lldp_pdu.specs.Lldpdu.{msap_of}
 use Rattle.lldp_table.specs.Code.Stored.{tag_of}
 use Rattle.lldp_table.proofs.slot.Slot.blank.Goals as goal
 
--- no octets have no name
+-- the tag of no octets is 0
 blank_tag : 0 ≡ tag_of (msap_of [])
 unfolding cut cut_within msap_of
 blank_tag = refl
