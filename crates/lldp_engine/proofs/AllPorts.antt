@@ -1,3 +1,3 @@
--- All ports: an event that comes to one or to each of them, and what stays true of them.
+-- All ports: an event for one port or for each port, and what stays true of them.
 pub mod EachPort
 pub mod Sound

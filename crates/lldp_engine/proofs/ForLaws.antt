@@ -1,4 +1,4 @@
--- What the laws rest on; no call does.
+-- Lemmas for the laws. No proof of a call uses them.
 pub mod LastSet
 pub mod PortAt
 pub mod Marks

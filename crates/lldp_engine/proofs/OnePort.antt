@@ -1,4 +1,4 @@
--- One port: what it hears, counts, is allowed and may send.
+-- One port: what it hears and counts, which events are allowed, and when it may send.
 pub mod Heard
 pub mod Counters
 pub mod Allowed

@@ -6,17 +6,17 @@ use Rattle.lldp_engine.specs.Event.{Setting, setting_of}
 use Rattle.lldp_engine.specs.Event as event
 use Rattle.lldp_engine.specs.AgentState.{AgentState, Allows}
 
--- lines are to be shown, or something is to be changed
+-- A command shows lines or changes something.
 pub data Command : Type 0 where
   show : Show → Command
   set : Setting → Command
 
--- a command of the program as plain data
+-- Returns a command of the program as plain data.
 abbrev pub command_of : CodeCommand → Command
 command_of (code.Show what) = show what
 command_of (code.Set setting) = set (setting_of setting)
 
--- the agent accepts what is asked for
+-- Holds if the agent accepts the command. It accepts every show.
 abbrev pub AllowsCommand : AgentState → Command → Type 0
 AllowsCommand agent (show what) = Unit {0}
 AllowsCommand agent (set setting) = Allows agent (event.set setting)

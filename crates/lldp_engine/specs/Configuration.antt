@@ -1,11 +1,11 @@
--- How an agent is configured, and what an event makes of that.
+-- The configuration of an agent, and how an event changes it.
 use Rattle.std.specs.Prelude.{ℕ, ◌+◌, ◌*◌, min, List, Option, codes}
 use Rattle.lldp_engine.specs.declared.agent.options.Role.{Role}
 use Rattle.lldp_engine.specs.Options.{Options}
 use Rattle.lldp_engine.specs.Event.{Event, set, Setting, hostname, description, interval, hold, limit, status, update}
 
--- what the options gave for good; then what commands change: the hostname, the description, the tx-interval
--- (msgTxInterval) in seconds, the tx-hold (msgTxHold) and the limit of neighbors
+-- The values up to `capacity` are fixed by the options; commands change the others: the two texts,
+-- tx-interval (msgTxInterval) in seconds, tx-hold (msgTxHold) and the limit of neighbors.
 pub record Configuration : Type 0 where
   pub mac : List ℕ
   pub role : Role
@@ -20,7 +20,7 @@ pub record Configuration : Type 0 where
   pub hold : ℕ
   pub limit : ℕ
 
--- at opening the tx-interval is 30, the tx-hold is 4, and the description is `lldpa`
+-- At opening the tx-interval is 30, the tx-hold is 4, and the description is `lldpa`.
 abbrev pub configuration_at_opening : Options → Configuration
 configuration_at_opening o =
     record {
@@ -38,7 +38,7 @@ configuration_at_opening o =
       limit = o.max_neighbors;
     }
 
--- a command sets only what it names
+-- A command sets only what it names.
 abbrev pub with_setting : Setting → Configuration → Configuration
 with_setting (hostname text) c = record c { hostname = text }
 with_setting (description text) c = record c { description = text }
@@ -48,11 +48,11 @@ with_setting (limit neighbors) c = record c { limit = neighbors }
 with_setting (status port given) c = c
 with_setting update c = c
 
--- only a command changes how an agent is configured
+-- Only commands change the configuration.
 abbrev pub configured : Event → Configuration → Configuration
 configured (set setting) c = with_setting setting c
 configured event c = c
 
--- the time to live that is sent (txTTL): one second more than the tx-interval times the tx-hold, at most 65,535
+-- The TTL of an ordinary frame (txTTL) is tx-interval times tx-hold, plus 1, at most 65,535.
 abbrev pub sent_ttl : Configuration → ℕ
 sent_ttl c = min 65535 (c.interval * c.hold + 1)

@@ -6,18 +6,18 @@ use Rattle.lldp_engine.specs.Configuration.{sent_ttl}
 use Rattle.lldp_engine.specs.AgentState.{AgentState, PortState}
 use Rattle.lldp_engine.specs.Keys.{front_of, number_lines}
 
--- the word of a status
+-- Returns the word of a status.
 abbrev pub status_text : Status → List ℕ
 status_text RxAndTx = codes "rx-and-tx"
 status_text RxOnly = codes "rx-only"
 status_text TxOnly = codes "tx-only"
 status_text Disabled = codes "disabled"
 
--- the line of a port's status
+-- Returns the line of a port's status.
 abbrev pub status_line : PortState → List ℕ
 status_line port = front_of (codes "configuration.") port.name ++ (codes "status=" ++ status_text port.status)
 
--- each number after its key: `ttl` is the TTL of an ordinary frame, and `max-neighbors` the limit in force
+-- Each number has its key: `ttl` is that of ordinary frames, `max-neighbors` the limit in force.
 abbrev pub numbers_shown : AgentState → List (List ℕ × ℕ)
 numbers_shown agent =
     let c = agent.configuration in
@@ -30,7 +30,7 @@ numbers_shown agent =
     ∷ (codes "max-neighbors=", c.limit)
     ∷ (codes "ports=", length agent.ports) ∷ []
 
--- The numbers, then the status of each port in the order of opening.
+-- The lines: the numbers, then the status of each port in the order of opening.
 abbrev pub configuration_lines : AgentState → List (List ℕ)
 configuration_lines agent =
     number_lines (codes "configuration.") (numbers_shown agent) ++ map status_line agent.ports

@@ -9,60 +9,60 @@ use Rattle.lldp_transmit.specs.declared.event.Mark.TheVariants.{Ordinary, Shutdo
 use Rattle.lldp_engine.specs.declared.port.counters.Counters.{Counters}
 use Rattle.lldp_engine.specs.Heard.{Heard, refused, leaves, tells}
 
--- what a counter shows of a number
+-- A counter shows a number modulo 2^32.
 abbrev pub wrapped : ℕ → ℕ
 wrapped n = n % 2 ^ 32
 
--- ## Of one LLDPDU
+-- ## One LLDPDU
 
--- it was refused, as it is not sound
+-- True if the LLDPDU was refused because it has a fault.
 abbrev pub is_refused : Heard → Bool
 is_refused refused = true
 is_refused heard = false
 
--- how many of its TLVs were discarded, if it is about a neighbor that lives
+-- Returns how many TLVs were discarded, if the LLDPDU has no fault and a TTL above 0.
 abbrev pub discarded_tlvs : Heard → ℕ
 discarded_tlvs (tells pdu) = discarded_of pdu
 discarded_tlvs heard = 0
 
--- how many of its kept TLVs are unrecognized
+-- Returns how many kept TLVs are unrecognized, if the LLDPDU has no fault and a TTL above 0.
 abbrev pub unrecognized_tlvs : Heard → ℕ
 unrecognized_tlvs (tells pdu) = count_unrecognized (kept_of pdu)
 unrecognized_tlvs heard = 0
 
--- it was refused, or at least one of its TLVs was discarded
+-- True if the LLDPDU was refused or at least one of its TLVs was discarded.
 abbrev pub is_error : Heard → Bool
 is_error refused = true
 is_error (leaves msap) = false
 is_error (tells pdu) = nat_lt 0 (discarded_of pdu)
 
--- ## Of one table event
+-- ## One table event
 
--- a frame that was dropped for lack of room
+-- True if a frame was dropped for lack of room.
 abbrev pub is_dropped : TableEvent → Bool
 is_dropped (learned msap ttl octets Dropped) = true
 is_dropped event = false
 
--- at each tick, how many neighbors were live before it and are not after it
+-- Counts the neighbors that were live before a tick and not after it, for all ticks.
 abbrev pub all_aged_out : List TableEvent → ℕ
 all_aged_out [] = 0
 all_aged_out (event ∷ past) = (if is_tick event then aged_out past else 0) + all_aged_out past
 
--- ## Of what is sent at one event
+-- ## What is sent at one event
 
--- an ordinary frame was sent
+-- True if an ordinary frame was sent.
 abbrev pub is_ordinary : Mark → Bool
 is_ordinary Ordinary = true
 is_ordinary mark = false
 
--- a shutdown frame was sent
+-- True if a shutdown frame was sent.
 abbrev pub is_shutdown : Mark → Bool
 is_shutdown Shutdown = true
 is_shutdown mark = false
 
--- ## Of a port
+-- ## One port
 
--- the counters of a port that heard these LLDPDUs, whose table has these events behind it, and that sent this
+-- Returns the counters of a port that heard these LLDPDUs, had these table events, and sent this.
 unfoldable pub counters_of : List Heard → List TableEvent → List Mark → Counters
 counters_of heard events marks =
     record {

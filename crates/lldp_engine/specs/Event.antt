@@ -1,4 +1,4 @@
--- What happens to an agent, as plain data, and what an event of the program is there.
+-- The events of an agent as plain data, and how those of the program become plain data.
 use Rattle.std.specs.Prelude.{◌≡◌, ℕ, ◌≤◌, Bool, true, List}
 use Rattle.lldp_text.specs.Text.{is_text}
 use Rattle.lldp_pdu.specs.Tlv.{AreOctets}
@@ -8,7 +8,7 @@ use Rattle.lldp_engine.specs.declared.agent.event.Setting.{Setting as CodeSettin
 use Rattle.lldp_engine.specs.declared.agent.event.Setting.TheVariants as variant
 use Rattle.lldp_engine.specs.declared.port.status.Status.{Status}
 
--- what a command changes
+-- The changes that a command can make.
 pub data Setting : Type 0 where
   hostname : (text : List ℕ) → Setting
   description : (text : List ℕ) → Setting
@@ -18,7 +18,7 @@ pub data Setting : Type 0 where
   status : (port : ℕ) (given : Status) → Setting
   update : Setting
 
--- its number is in the range, its text is one; what a limit and a status may be depends on the agent
+-- Holds if a number is in its range and a text is valid; limits and statuses depend on the agent.
 abbrev pub IsInRange : Setting → Type 0
 IsInRange (hostname text) = is_text text ≡ true
 IsInRange (description text) = is_text text ≡ true
@@ -26,20 +26,20 @@ IsInRange (interval seconds) = (1 ≤ seconds) × (seconds ≤ 3600)
 IsInRange (hold times) = (1 ≤ times) × (times ≤ 100)
 IsInRange setting = Unit {0}
 
--- a second has passed; this port received these octets; the link of this port came up or went down; a command was
--- accepted
+-- A second has passed; a port received octets; the link of a port came up or went down; a command
+-- was accepted.
 pub data Event : Type 0 where
   tick : Event
   frame : (port : ℕ) (octets : List ℕ) → Event
   link : (port : ℕ) (up : Bool) → Event
   set : (setting : Setting) → Event
 
--- what came are octets, as in every event of the program
+-- Holds if received octets are octets, as in every event of the program.
 abbrev pub HasOctets : Event → Type 0
 HasOctets (frame port octets) = AreOctets octets
 HasOctets event = Unit {0}
 
--- what a command sets, its text as octets
+-- Returns a setting of the program as plain data.
 abbrev pub setting_of : CodeSetting → Setting
 setting_of (variant.Hostname text) = hostname text.now
 setting_of (variant.Description text) = description text.now
@@ -49,7 +49,7 @@ setting_of (variant.Limit neighbors) = limit neighbors
 setting_of (variant.Status port given) = status port given
 setting_of variant.Update = update
 
--- an event, its octets as a list
+-- Returns an event of the program as plain data.
 abbrev pub event_of : CodeEvent → Event
 event_of Tick = tick
 event_of (Frame port octets) = frame port octets.now

@@ -13,8 +13,8 @@ use Rattle.lldp_engine.specs.Event.{hostname, description, interval, hold, limit
 use Rattle.lldp_text.specs.Answer.{or_fault, on_ok}
 use Rattle.lldp_engine.specs.Command.{Command, show, set}
 
--- What a command may still say: nothing more; a fixed word and what follows it; or an argument, which the rest may
--- depend on.
+-- The words that may still follow in a command: none; a fixed word and those after it; or an
+-- argument, on which the rest may depend.
 pub data Form : Type 0 where
   complete : Command → Form
   word : List ℕ → Form → Form
@@ -23,7 +23,7 @@ pub data Form : Type 0 where
   text : (List ℕ → Form) → Form
   status : (Status → Form) → Form
 
--- THE FORMS, for a limit of opening.
+-- THE FORMS of all commands; `capacity` is the limit of neighbors at opening.
 abbrev pub forms : ℕ → List Form
 forms capacity =
     word (codes "show") (word (codes "neighbors") (complete (show Neighbors)))
@@ -46,7 +46,7 @@ forms capacity =
     ∷ word (codes "update") (complete (set update))
     ∷ []
 
--- The word of each status.
+-- Returns the status that a word names, if there is one.
 abbrev pub status_of : List ℕ → Option Status
 status_of w =
     if bytes_eq w (codes "rx-and-tx") then Some RxAndTx
@@ -55,7 +55,7 @@ status_of w =
     else if bytes_eq w (codes "disabled") then Some Disabled
     else None
 
--- What is left of a form after a word, or what is wrong with the word for this form. The names of the ports are given.
+-- A word of the form leaves the rest of the form, any other word has a fault.
 abbrev pub after_word : List (List ℕ) → Form → List ℕ → Result Form CommandFault
 after_word names (complete command) w = Err Extra
 after_word names (word expected next) w = if bytes_eq w expected then Ok next else Err Unknown
@@ -64,43 +64,43 @@ after_word names (number least greatest next) w = on_ok next (number_of w least 
 after_word names (text next) w = if is_text w then Ok (next w) else Err Text
 after_word names (status next) w = on_ok next (or_fault (status_of w) Unknown)
 
--- what is left of one form more, if it goes on
+-- Adds what is left of one more form, if the word fits it.
 abbrev pub and_left : Result Form CommandFault → List Form → List Form
 and_left (Ok next) others = next ∷ others
 and_left (Err fault) others = others
 
--- the fault of one form more, if it counts before the others'
+-- The fault of one more form, or that of the others if the word fits the form or gives it Extra.
 abbrev pub fault_or : Result Form CommandFault → CommandFault → CommandFault
 fault_or (Ok next) others = others
 fault_or (Err Extra) others = others
 fault_or (Err fault) others = fault
 
--- forms, or this fault if there is none
+-- Returns the forms, or this fault if there are none.
 abbrev pub if_any : List Form → CommandFault → Result (List Form) CommandFault
 if_any [] fault = Err fault
 if_any (form ∷ others) fault = Ok (form ∷ others)
 
--- what is left of the forms that go on with a word
+-- Returns what is left of the forms that a word fits.
 abbrev pub forms_left : List (List ℕ) → List Form → List ℕ → List Form
 forms_left names [] w = []
 forms_left names (form ∷ others) w = and_left (after_word names form w) (forms_left names others w)
 
--- The fault of a word that no form goes on with: that of the first form, but Extra yields to every other.
+-- Returns the fault of a word that fits no form: the first one that is not Extra, or else Extra.
 abbrev pub first_fault : List (List ℕ) → List Form → List ℕ → CommandFault
 first_fault names [] w = Extra
 first_fault names (form ∷ others) w = fault_or (after_word names form w) (first_fault names others w)
 
--- The forms go on with a word if one of them does.
+-- Returns what is left of the forms that a word fits, or its fault if it fits none.
 abbrev pub going_on : List (List ℕ) → List Form → List ℕ → Result (List Form) CommandFault
 going_on names left w = if_any (forms_left names left w) (first_fault names left w)
 
--- What is said if no word is left.
+-- With no word left, a complete form gives its command. Without such a form the fault is Unknown.
 abbrev pub completed : List Form → Result Command CommandFault
 completed [] = Err Unknown
 completed (complete command ∷ others) = Ok command
 completed (form ∷ others) = completed others
 
--- The words are compared with the forms from left to right; the first that no form goes on with gives the fault.
+-- The words are read from left to right. The first that fits none of the forms decides the fault.
 abbrev pub read_forms : List (List ℕ) → Result (List Form) CommandFault → List (List ℕ) → Result Command CommandFault
 read_forms names (Err fault) words = Err fault
 read_forms names (Ok left) [] = completed left

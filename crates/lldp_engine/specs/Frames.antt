@@ -13,53 +13,54 @@ use Rattle.lldp_engine.specs.declared.agent.options.Role.{Role}
 use Rattle.lldp_engine.specs.declared.agent.options.Role.TheVariants.{Station, Bridge, Router}
 use Rattle.lldp_engine.specs.Configuration.{Configuration, sent_ttl}
 
--- a TLV of this type and body
+-- Returns a TLV of this type and body.
 abbrev pub unit : ℕ → List ℕ → TlvUnit
 unit kind body = record { kind = kind; body = body }
 
--- the chassis by its MAC address (subtype 4), the port by its interface's name (subtype 5)
+-- The chassis ID is the MAC address (subtype 4), and the port ID the port's name (subtype 5).
 abbrev pub sent_msap : Configuration → List ℕ → MsapId
 sent_msap c name = record { chassis = 4 ∷ c.mac; port = 5 ∷ name }
 
--- an IPv4 management address: interface number 0, of unknown numbering (subtype 1), and no OID
+-- The body of an IPv4 address: interface numbering unknown (1), interface number 0, and no OID.
 abbrev pub management_body : List ℕ → List ℕ
 management_body address = (5 ∷ 1 ∷ address) ++ (1 ∷ 0 ∷ 0 ∷ 0 ∷ 0 ∷ 0 ∷ [])
 
--- the Management Address TLV (8.5.9), if there is an address
+-- Returns the Management Address TLV (8.5.9), if there is an address.
 abbrev pub management_tlvs : Option (List ℕ) → List TlvUnit
 management_tlvs None = []
 management_tlvs (Some address) = unit 8 (management_body address) ∷ []
 
--- the capabilities of a role, available and enabled alike: station only, bridge, router
+-- Each role has one capability, both available and enabled: station only, bridge, or router.
 abbrev pub capabilities_of : Role → List ℕ
 capabilities_of Station = 0x00 ∷ 0x80 ∷ 0x00 ∷ 0x80 ∷ []
 capabilities_of Bridge = 0x00 ∷ 0x04 ∷ 0x00 ∷ 0x04 ∷ []
 capabilities_of Router = 0x00 ∷ 0x10 ∷ 0x00 ∷ 0x10 ∷ []
 
--- the Port Description, System Name, System Description, System Capabilities, and the Management Address if there is one
+-- The TLVs are Port Description, System Name, System Description, System Capabilities and, if there
+-- is an address, Management Address.
 abbrev pub sent_tlvs : Configuration → List ℕ → List TlvUnit
 sent_tlvs c name =
     unit 4 name ∷ unit 5 c.hostname ∷ unit 6 c.description ∷ unit 7 (capabilities_of c.role)
     ∷ management_tlvs c.management
 
--- What a frame of a port says: an ordinary one the configuration, a shutdown one that the port leaves. At Quiet no
--- frame is sent; the value is the same as at Shutdown.
+-- The content of a frame: an ordinary one has the TTL and TLVs of the configuration, a shutdown one
+-- a TTL of 0 and no more. At Quiet no frame is sent; the value is the same as at Shutdown.
 abbrev pub draft_of : Configuration → List ℕ → Mark → Draft
 draft_of c name Ordinary = record { msap = sent_msap c name; ttl = sent_ttl c; tlvs = sent_tlvs c name }
 draft_of c name Shutdown = record { msap = sent_msap c name; ttl = 0; tlvs = [] }
 draft_of c name Quiet = record { msap = sent_msap c name; ttl = 0; tlvs = [] }
 
--- The frame of a port: to the nearest bridge, from the agent's MAC address, LLDP's EtherType, the LLDPDU.
+-- A frame is the nearest bridge address, the agent's MAC address, LLDP's EtherType and the LLDPDU.
 unfoldable pub frame_of : Configuration → List ℕ → Mark → List ℕ
 frame_of c name mark = nearest_bridge ++ c.mac ++ lldp_ethertype ++ lldpdu_octets (draft_of c name mark)
 
--- a frame is sent
+-- Holds if a frame is sent.
 abbrev pub IsSent : Mark → Type 0
 IsSent Quiet = ⊥
 IsSent Ordinary = Unit {0}
 IsSent Shutdown = Unit {0}
 
--- These octets are an LLDP frame, and examining its LLDPDU returns what was to be said.
+-- These octets are an LLDP frame, and examining its LLDPDU returns the content of the draft.
 pub record SaysBack (draft : Draft) (octets : List ℕ) : Type 0 where
   pub lldpdu : List ℕ
   pub has : lldpdu_of octets ≡ Some lldpdu

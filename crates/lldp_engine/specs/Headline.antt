@@ -8,14 +8,14 @@ use Rattle.lldp_engine.specs.AgentState.{AgentState, PortState}
 use Rattle.lldp_engine.specs.Past.{Past, Sending, with_event, happened, past_of, marks_of}
 use Rattle.lldp_engine.specs.Port.Headline.{HoldsLastStored, HasSentExactly, DueAndOpen, Stops}
 
--- Each port's table holds the last stored frames, and each port has sent exactly what was due while the window was
--- open.
+-- Each port's table holds the last stored frames, and each port has sent exactly what was due while
+-- its credit window was open.
 pub record Promised (past : Past) (agent : AgentState) : Type 0 where
   pub tables : (i : ℕ) (port : PortState) → slice_get agent.ports i ≡ Some port →
       HoldsLastStored past.options (past_of past i) port.table
   pub sending : (i : ℕ) → i < length past.options.names → HasSentExactly past.options (past_of past i)
 
--- the port of the first comes before that of the second
+-- Holds if the port of the first has a smaller number than that of the second.
 abbrev pub IsEarlierPort : Sending → Sending → Type 0
 IsEarlierPort a b = a.0 < b.0
 
@@ -28,9 +28,9 @@ DueAndOpenNow past event i =
 abbrev pub StopsNow : Past → Event → ℕ → Type 0
 StopsNow past event i = Stops past.options (happened past.options i event past.events) (past_of past i)
 
--- The answer at an event is what the definitions say is sent: it has port i with an ordinary frame exactly if one is
--- due and its credit window is open, and with a shutdown frame exactly if it stops. It has nothing else, and its ports
--- ascend.
+-- The answer at an event is what the definitions give. It has port i with an ordinary frame exactly
+-- if one is due and its credit window is open, and with a shutdown frame exactly if the port stops.
+-- It has nothing else, and its ports ascend.
 pub record AnswersExactly (past : Past) (event : Event) (marks : List Sending) : Type 0 where
   pub are : marks ≡ marks_of (with_event past event)
   pub ordinary : (i : ℕ) → i < length past.options.names → Contains marks (i, Ordinary) ↔ DueAndOpenNow past event i
@@ -38,8 +38,8 @@ pub record AnswersExactly (past : Past) (event : Event) (marks : List Sending) :
   pub only : AllByRecursion (λ mark. (mark.0 < length past.options.names) × IsSent mark.1) marks
   pub rising : AllPairs IsEarlierPort marks
 
--- What is promised of a step, for each past that the agent stood for before it: what it answers, and the agent that it
--- leaves.
+-- What is promised of a step, for each past that the agent stood for before it: the answer is
+-- exact, and the promise holds of the agent after it.
 pub record PromisedStep (past : Past) (event : Event) (marks : List Sending) (agent : AgentState) : Type 0 where
   pub answered : AnswersExactly past event marks
   pub promised : Promised (with_event past event) agent

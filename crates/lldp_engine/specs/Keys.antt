@@ -1,22 +1,22 @@
--- What shown lines begin with, and lines of numbers.
+-- The starts of shown lines, and lines of numbers.
 use Rattle.std.specs.Prelude.{ℕ, List, ◌++◌, map, codes, decimal}
 
--- a word, the name of a port, and a `.`
+-- Returns a word, the name of a port and a `.`, joined.
 abbrev pub front_of : List ℕ → List ℕ → List ℕ
 front_of word name = word ++ name ++ codes "."
 
--- `lldp.PORT.`
+-- Returns `lldp.PORT.`
 abbrev pub port_key : List ℕ → List ℕ
 port_key name = front_of (codes "lldp.") name
 
--- `lldp.PORT.N.`
+-- Returns `lldp.PORT.N.`
 abbrev pub neighbor_key : List ℕ → ℕ → List ℕ
 neighbor_key name number = port_key name ++ decimal number ++ codes "."
 
--- a number in decimal, after what its line begins with and its key
+-- The line of a number has its start, its key, and the number in decimal.
 abbrev pub number_line : List ℕ → List ℕ × ℕ → List ℕ
 number_line front number = front ++ (number.0 ++ decimal number.1)
 
--- a line for each number
+-- Returns a line for each number.
 abbrev pub number_lines : List ℕ → List (List ℕ × ℕ) → List (List ℕ)
 number_lines front numbers = map (number_line front) numbers

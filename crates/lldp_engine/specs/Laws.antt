@@ -1,4 +1,4 @@
--- What only laws say: the definitions of the calls in other words, by positions, by octets and by counts.
+-- What only laws use: the definitions of the calls in other words, by positions, octets and counts.
 pub mod CauseOf
 pub mod Deaf
 pub mod FirstFault

@@ -1,10 +1,10 @@
--- The room that a sink of lines lends.
+-- The writer that a sink of lines lends.
 use Rattle.std.specs.Prelude.{◌≡◌, ℕ, ◌+◌, ◌≤◌, List, ◌++◌, length, Option, Some, None}
 use Rattle.std.specs.Borrow.{Fml, RattleType, MutBor, LendsSo}
 use Rattle.lldp_text.specs.contracts.writing.Writer.{the_row as writer_row}
 use Rattle.lldp_text.specs.Text.{ended}
 
--- From a lent writer a sink takes the line that is appended to what it held, with its LF at most 2,049 octets.
+-- The sink takes what is appended to the lent writer: a line of at most 2,049 octets with its LF.
 abbrev pub TakesWritten : {S : Type 0} → (S → S → List ℕ → Type 0) → S → Option (MutBor (List ℕ)) → S → List ℕ → Type 0
 TakesWritten takes old lent new text =
     (writer : MutBor (List ℕ)) (line : List ℕ) → lent ≡ Some writer → text ≡ writer.now ++ ended line
@@ -14,7 +14,7 @@ TakesWritten takes old lent new text =
 abbrev pub TakesAny : {S : Type 0} → (S → S → List ℕ → Type 0) → S → Option (MutBor (List ℕ)) → S → Type 0
 TakesAny takes old lent new = (line : List ℕ) → lent ≡ None → takes old new line
 
--- A sink lends a writer and takes what is written there, or lends none.
+-- A sink lends a writer and takes what is written there, or lends none and takes any line.
 abbrev pub LendsRoom : (Sink : RattleType) → (Sink.Denot → Sink.Denot → List ℕ → Type 0) → MutBor Sink.Denot →
     Option (MutBor (List ℕ)) → Fml
 LendsRoom Sink takes sink lent =

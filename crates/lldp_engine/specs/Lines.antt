@@ -9,13 +9,13 @@ use Rattle.lldp_engine.specs.ConfigurationLines.{configuration_lines}
 use Rattle.lldp_engine.specs.declared.command.Show.{Show}
 use Rattle.lldp_engine.specs.declared.command.Show.TheVariants.{Neighbors, Statistics, Chassis, Configuration}
 
--- The lines of a show of an agent.
+-- Returns the lines of a show of an agent.
 abbrev pub lines_of : Show → AgentState → List (List ℕ)
 lines_of Neighbors agent = neighbors_lines agent.ports
 lines_of Statistics agent = statistics_lines agent.ports
 lines_of Chassis agent = chassis_lines agent.configuration
 lines_of Configuration agent = configuration_lines agent
 
--- the octets of a line
+-- Returns the octets of a line.
 abbrev pub octets_of : ArrayVec ℕ → List ℕ
 octets_of line = line.items

@@ -9,11 +9,11 @@ use Rattle.lldp_engine.specs.Keys.{port_key, neighbor_key}
 use Rattle.lldp_text.specs.Identifier.{chassis_text, port_text}
 use Rattle.lldp_text.specs.KeptTlv.{tlv_text}
 
--- the line of a kept TLV, after this key
+-- Returns the line of a kept TLV, which begins with this key.
 abbrev pub kept_line : List ℕ → TlvUnit → List ℕ
 kept_line key tlv = key ++ tlv_text tlv
 
--- The lines of a neighbor: its identifiers, the time to live that it sent, what is left of that, and each kept TLV.
+-- The lines of a neighbor: chassis ID, port ID, the TTL it sent, the ticks left, and each kept TLV.
 abbrev pub neighbor_lines : List ℕ → ℕ → Neighbor → List (List ℕ)
 neighbor_lines name number neighbor =
     let key = neighbor_key name number in
@@ -23,22 +23,22 @@ neighbor_lines name number neighbor =
     ∷ (key ++ (codes "expires=" ++ decimal neighbor.left))
     ∷ map (kept_line key) (kept_of neighbor.octets)
 
--- the lines of these neighbors, the first of which has this number
+-- Returns the lines of these neighbors, numbered from this number.
 abbrev pub numbered_lines : List ℕ → ℕ → List Neighbor → List (List ℕ)
 numbered_lines name number [] = []
 numbered_lines name number (neighbor ∷ others) =
     neighbor_lines name number neighbor ++ numbered_lines name (number + 1) others
 
--- a yes or a no, as shown
+-- A condition is shown as `yes` or `no`.
 abbrev pub yes_or_no : Bool → List ℕ
 yes_or_no condition = if condition then codes "yes" else codes "no"
 
--- whether a port has too many neighbors
+-- Returns the line that shows whether a port has too many neighbors.
 abbrev pub too_many_line : List ℕ → Bool → List ℕ
 too_many_line name too_many = port_key name ++ (codes "too-many=" ++ yes_or_no too_many)
 
--- The first three lines of a port: how many neighbors it holds, the sum of their stored octets, and whether there are
--- too many, which is while the timer of that condition is not 0.
+-- The first three lines of a port: how many neighbors it holds, the sum of their stored octets, and
+-- whether there are too many, that is, whether the timer of that condition is not 0.
 abbrev pub count_lines : PortState → List (List ℕ)
 count_lines port =
     (port_key port.name ++ (codes "neighbors=" ++ decimal (length port.table.neighbors)))
@@ -46,10 +46,10 @@ count_lines port =
     ++ (codes "octets=" ++ decimal (sum_by (λ neighbor. length neighbor.octets) port.table.neighbors)))
     ∷ too_many_line port.name (nat_lt 0 port.table.too_many_left) ∷ []
 
--- The lines of a port: the first three, and those of its neighbors in the order of the table, numbered from 1.
+-- The lines of a port: the first three, then those of each neighbor, numbered in table order.
 abbrev pub port_lines : PortState → List (List ℕ)
 port_lines port = count_lines port ++ numbered_lines port.name 1 port.table.neighbors
 
--- Those of each port, in the order of opening.
+-- Returns the lines of each port, in the order of opening.
 abbrev pub neighbors_lines : List PortState → List (List ℕ)
 neighbors_lines ports = flat_map port_lines ports

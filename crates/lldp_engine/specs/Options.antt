@@ -9,8 +9,9 @@ use Rattle.lldp_engine.specs.declared.agent.options.Role.{Role}
 use Rattle.lldp_engine.specs.declared.agent.open_fault.OpenFault.{OpenFault}
 use Rattle.lldp_engine.specs.declared.agent.open_fault.OpenFault.TheVariants.{Memory, NoPorts, TooManyPorts, PortName, SamePort, Text}
 
--- what an agent is opened with: the names of its ports in order, its identity, its role, the four numbers, and whether
--- its ports only receive at first
+-- The options of an agent: the names of its ports in order, its identity, its role, four numbers
+-- (limit of neighbors, txCreditMax, txFastInit, reinitDelay), and whether its ports begin as
+-- RxOnly.
 pub record Options : Type 0 where
   pub names : List (List ℕ)
   pub mac : List ℕ
@@ -23,7 +24,7 @@ pub record Options : Type 0 where
   pub reinit : ℕ
   pub receive_only : Bool
 
--- options of the program as plain data
+-- Returns options of the program as plain data.
 abbrev pub options_of : CodeOptions → Options
 options_of o =
     record {
@@ -39,29 +40,29 @@ options_of o =
       receive_only = o.receive_only;
     }
 
--- the four numbers are in their ranges
+-- The four numbers are in their ranges.
 pub record InRange (o : Options) : Type 0 where
   pub neighbors : (1 ≤ o.max_neighbors) × (o.max_neighbors ≤ 128)
   pub credit : (1 ≤ o.credit_max) × (o.credit_max ≤ 10)
   pub fast : (1 ≤ o.fast_init) × (o.fast_init ≤ 8)
   pub wait : (1 ≤ o.reinit) × (o.reinit ≤ 10)
 
--- a letter, a digit, `-`, `_`, `/` or `:`
+-- True for a letter, a digit, `-`, `_`, `/` and `:`.
 abbrev pub is_name_octet : ℕ → Bool
 is_name_octet c =
     (nat_le 97 c && nat_le c 122) || (nat_le 65 c && nat_le c 90) || (nat_le 47 c && nat_le c 58)
     || c == 45 || c == 95
 
--- a port's name has 1 to 15 of these octets
+-- True if the name has 1 to 15 octets, all of them allowed in names.
 abbrev pub is_port_name : List ℕ → Bool
 is_port_name name = nat_lt 0 (length name) && (nat_le (length name) 15 && list_all is_name_octet name)
 
--- some name stands twice
+-- True if some name occurs twice.
 abbrev pub has_same : List (List ℕ) → Bool
 has_same [] = false
 has_same (name ∷ names) = list_any (λ other. bytes_eq other name) names || has_same names
 
--- the checks in their order, each over the whole list of ports
+-- The checks are in this order, each over the whole list of ports.
 abbrev pub checks : Options → List (Check OpenFault)
 checks o =
     record { fails = length o.names == 0; fault = NoPorts }
@@ -71,11 +72,11 @@ checks o =
     ∷ record { fails = not (is_text o.hostname); fault = Text }
     ∷ []
 
--- The fault is that of the first check that fails; options with none open an agent if there is memory.
+-- The fault is that of the first check that fails. If none fails, only memory can be lacking.
 abbrev pub fault_of : Options → Option OpenFault
 fault_of o = first_fault (checks o)
 
--- An opening is refused for the first check that fails, and for lack of memory only if none does.
+-- Opening fails with the fault of the first check that fails, and with Memory only if none does.
 abbrev pub IsRefusal : Options → OpenFault → Type 0
 IsRefusal o Memory = fault_of o ≡ None
 IsRefusal o NoPorts = fault_of o ≡ Some NoPorts

@@ -1,5 +1,5 @@
--- One port: what happens to it, and what that makes of it. A port has no number here, except in Event and EventView,
--- which say what an event of the agent is for one port.
+-- One port: its events, and what they do to it. A port has no number here, except in Event and
+-- EventView, which define what an event of the agent is for one port.
 pub mod Event
 pub mod EventView
 pub mod Effects

@@ -4,14 +4,14 @@ use Rattle.std.specs.List.{AllByRecursion}
 use Rattle.lldp_table.specs.Contents.{IsSound}
 use Rattle.lldp_engine.specs.AgentState.{PortState}
 
--- a port has a name of 1 to 15 octets, and a sound table with this room
+-- A port has a name of 1 to 15 octets, and a sound table with this room.
 pub record IsSoundPort (capacity : ℕ) (port : PortState) : Type 0 where
   pub table : IsSound port.table
   pub room : port.table.capacity ≡ capacity
   pub some : 0 < length port.name
   pub short : length port.name ≤ 15
 
--- there are at most 64, and each is sound
+-- There are at most 64 ports, and each is sound.
 pub record AreSound (capacity : ℕ) (ports : List PortState) : Type 0 where
   pub few : length ports ≤ 64
   pub sound : AllByRecursion (λ port. IsSoundPort capacity port) ports

@@ -5,7 +5,7 @@ use Rattle.lldp_engine.specs.declared.port.counters.Counters.{Counters}
 use Rattle.lldp_engine.specs.AgentState.{PortState}
 use Rattle.lldp_engine.specs.Keys.{port_key, number_lines}
 
--- each counter of a port, after its key
+-- Each counter has its key.
 abbrev pub counters_shown : Counters → List (List ℕ × ℕ)
 counters_shown counters =
     (codes "sent=", counters.sent)
@@ -22,6 +22,6 @@ counters_shown counters =
 abbrev pub counter_lines : PortState → List (List ℕ)
 counter_lines port = number_lines (port_key port.name) (counters_shown port.counters)
 
--- Those of each port, in the order of opening.
+-- Returns the lines of each port, in the order of opening.
 abbrev pub statistics_lines : List PortState → List (List ℕ)
 statistics_lines ports = flat_map counter_lines ports

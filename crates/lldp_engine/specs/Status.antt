@@ -4,18 +4,18 @@ use Rattle.lldp_engine.specs.declared.port.status.Status.{Status}
 use Rattle.lldp_engine.specs.declared.port.status.Status.TheVariants.{RxAndTx, RxOnly, TxOnly}
 use Rattle.lldp_engine.specs.Options.{Options}
 
--- a port of this status receives
+-- True if a port with this status receives.
 abbrev pub receives : Status → Bool
 receives RxAndTx = true
 receives RxOnly = true
 receives status = false
 
--- a port of this status may transmit
+-- True if a port with this status may transmit.
 abbrev pub transmits : Status → Bool
 transmits RxAndTx = true
 transmits TxOnly = true
 transmits status = false
 
--- each port begins by receiving and sending, or by receiving alone if that was asked for
+-- Each port begins as RxAndTx, or as RxOnly if the options ask for that.
 abbrev pub status_at_opening : Options → Status
 status_at_opening o = if o.receive_only then RxOnly else RxAndTx

@@ -1,7 +1,7 @@
 -- What a sink of lines took.
 use Rattle.std.specs.Prelude.{◌≡◌, ℕ, List, [], ◌∷◌}
 
--- the lines were taken, one after another
+-- The sink took these lines, one after another.
 unfoldable pub Takes : {S : Type 0} → (S → S → List ℕ → Type 0) → S → S → List (List ℕ) → Type 0
 Takes takes old new [] = old ≡ new
 Takes takes old new (line ∷ lines) = (next : _) × takes old next line × Takes takes next new lines

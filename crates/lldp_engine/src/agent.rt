@@ -1,4 +1,4 @@
-//! The agent.
+//! The LLDP agent: its configuration and its ports.
 ghost use Rattle.std.specs.Prelude.{◌≡◌, ℕ, ◌<◌, ◌≤◌, length, map, None, Some, IfOk, IfErr, IfSome, IsTrue, ◌↔◌, slice_get};
 ghost use Rattle.std.specs.List.{AllByRecursion};
 ghost use Rattle.std.specs.Option.{option_map};
@@ -38,7 +38,8 @@ use lldp_transmit::Transmit;
 use std::alloc::{Allocator, Global};
 use std::marker::Model;
 
-/// An agent of 1 to 64 ports. Only `open` takes memory.
+/// An LLDP agent with 1 to 64 ports. Only `open` allocates memory. The agent *stands for* a past,
+/// its options and all events since, if the definitions give this agent for that past (`Stands`).
 #[derive(Drop)]
 pub struct Agent<A: Allocator = Global> {
     configuration: Configuration,
@@ -58,14 +59,13 @@ impl<A: Allocator> Model for Agent<A> {
 }
 
 impl<A: Allocator> Agent<A> {
-    /// Opens an agent, which stands for the options and no events. The four numbers must be in
-    /// their ranges (`Options::in_range`).
+    /// Opens an agent, whose past is these options and no events. The four numbers must be in their
+    /// ranges (`Options::in_range`).
     ///
-    ///
-    /// The options are checked first, each check over the whole list of ports: NoPorts,
-    /// TooManyPorts, PortName, SamePort or Text says exactly that this check is the first that
-    /// fails. Then memory is taken for every neighbor, and none after that. The fault is Memory
-    /// only if no check failed.
+    /// The options are checked first, each check over the whole list of ports. NoPorts,
+    /// TooManyPorts, PortName, SamePort or Text names the first check that fails, in this order.
+    /// Then memory for all neighbors is allocated, and none after that. Memory is the fault only if
+    /// no check failed.
     pub fn open(alloc: A, options: &Options<'_>) -> Result<Self, OpenFault>
     where
         A: Clone,
@@ -84,7 +84,7 @@ impl<A: Allocator> Agent<A> {
         })
     }
 
-    /// Returns its configuration: each part by the last command that set it, else as it was opened.
+    /// Returns the configuration: each part as last set by a command, or else as at opening.
     pub fn configuration(&self) -> &Configuration
         ensures value { result.now ≡ self.now.configuration }
         ensures past { (past : Past) → Stands past self.now →
@@ -93,7 +93,6 @@ impl<A: Allocator> Agent<A> {
         &self.configuration
     }
 
-    /// Returns its ports.
     pub(crate) fn all_ports(&self) -> &[Port<A>]
         ensures value { result.now ≡ self.now.ports }
         ensures sound { AreSound self.now.configuration.capacity self.now.ports }
@@ -101,7 +100,6 @@ impl<A: Allocator> Agent<A> {
         self.ports.as_slice()
     }
 
-    /// Returns the port of this number.
     fn port(&self, port: u8) -> &Port<A>
         requires { IsPort self.now port }
         ensures value { slice_get self.now.ports port ≡ Some result.now }
@@ -114,7 +112,7 @@ impl<A: Allocator> Agent<A> {
         self.ports.at(port as usize)
     }
 
-    /// Returns how many ports it has, at most 64: as many as the options named.
+    /// Returns the number of ports that the options named, at most 64.
     pub fn ports(&self) -> u8
         ensures value { result ≡ length self.now.ports }
         ensures few { result ≤ 64 }
@@ -136,7 +134,7 @@ impl<A: Allocator> Agent<A> {
         self.port(port).name()
     }
 
-    /// Returns the place of the port of that name, from 0, or None if no port has it.
+    /// Returns the number of the port with this name, from 0, or None if no port has it.
     pub fn find_port(&self, name: &[u8]) -> Option<u8>
         ensures place { result ≡ place_of (names_of self.now) name.now }
         ensures exists { IfSome result (λ port. IsPort self.now port) }
@@ -146,7 +144,7 @@ impl<A: Allocator> Agent<A> {
         find_place(self.ports.as_slice(), name)
     }
 
-    /// Returns the status of a port: that of its last status command, or else that of opening.
+    /// Returns the status of a port: as last set by a status command, or else as at opening.
     pub fn status(&self, port: u8) -> Status
         requires { IsPort self.now port }
         ensures value { option_map (λ p. p.status) (slice_get self.now.ports port) ≡ Some result }
@@ -156,7 +154,7 @@ impl<A: Allocator> Agent<A> {
         self.port(port).status()
     }
 
-    /// Returns whether the link of a port is up: as its last link event says, or else true.
+    /// Returns whether the link of a port is up, by its last link event; true if there was none.
     pub fn is_up(&self, port: u8) -> bool
         requires { IsPort self.now port }
         ensures value { option_map (λ p. p.machine.up) (slice_get self.now.ports port)
@@ -167,7 +165,7 @@ impl<A: Allocator> Agent<A> {
         self.port(port).is_up()
     }
 
-    /// Returns the neighbors of a port: a table that stands for the calls that the past makes.
+    /// Returns the neighbor table of a port, as the events so far have left it.
     pub fn table(&self, port: u8) -> &Table<A>
         requires { IsPort self.now port }
         ensures value { option_map (λ p. p.table) (slice_get self.now.ports port)
@@ -179,7 +177,7 @@ impl<A: Allocator> Agent<A> {
         self.port(port).table()
     }
 
-    /// Returns the transmit machine of a port: the one that the past's events leave.
+    /// Returns the transmit machine of a port, as the events so far have left it.
     pub fn machine(&self, port: u8) -> &Transmit
         requires { IsPort self.now port }
         ensures value { option_map (λ p. p.machine) (slice_get self.now.ports port)
@@ -191,7 +189,7 @@ impl<A: Allocator> Agent<A> {
         self.port(port).machine()
     }
 
-    /// Returns the counters of a port: the definitions' numbers over its past, modulo 2^32.
+    /// Returns the counters of a port over all its events so far, modulo 2^32.
     pub fn counters(&self, port: u8) -> &Counters
         requires { IsPort self.now port }
         ensures value { option_map (λ p. p.counters) (slice_get self.now.ports port)
@@ -202,8 +200,9 @@ impl<A: Allocator> Agent<A> {
         self.port(port).counters()
     }
 
-    /// Returns whether it accepts an event: the port exists, the value is in its range, the text
-    /// has at most 255 printable octets, and no port holds more neighbors than a limit that is set.
+    /// Returns whether the agent accepts the event: the port exists, the number is in range, the
+    /// text is at most 255 octets, all printable, and no port holds more neighbors than a new
+    /// limit.
     pub fn allows(&self, event: &Event<'_>) -> bool
         ensures { IsTrue result ↔ Allows self.now (event_of event.now) }
     {
@@ -232,28 +231,27 @@ impl<A: Allocator> Agent<A> {
             && all_fit(self.ports.as_slice(), neighbors)
     }
 
-    /// Takes an event that it allows, and returns which ports send, in ascending order, each with
-    /// what it sends. It never refuses and takes no memory.
+    /// Applies an event that `allows` accepts. Returns the ports that send, in ascending order,
+    /// each with what it sends. It cannot fail and allocates no memory.
     ///
-    ///
-    /// For every past that it stood for it then stands for that past with the event. The ports
-    /// returned are exactly those that send by the definitions, and the headline holds of it
-    /// (`PromisedStep`).
+    /// If the agent stood for a past, it now stands for that past with this event added. The ports
+    /// returned are exactly those that send by the definitions, and the headline of docs/CLAIMS.md
+    /// holds (`PromisedStep`).
     pub fn step(&mut self, event: Event<'_>) -> Marks
         requires { Allows self.old (event_of event) }
-        // What the agent is after the event, and which ports send, computed from what it was.
+        // The agent after the event, and the ports that send, computed from the agent before it.
         ensures after { self.new ≡ agent_after (event_of event.entry) self.old }
         ensures marks { result.items ≡ agent_marks (event_of event.entry) self.old }
         ensures sent { AllByRecursion (λ mark. IsPort self.new mark.0
             × IsSent mark.1) result.items }
-        // Whatever past the agent stood for, it now stands for that past with the event.
+        // If the agent stood for a past, it now stands for that past with this event added.
         ensures stands { (past : Past) → Stands past self.old →
             Stands (with_event past (event_of event.entry)) self.new }
         ensures marks_past { (past : Past) → Stands past self.old →
             result.items ≡ marks_of (with_event past (event_of event.entry)) }
-        // Each table holds the last stored frames that have not expired, and each port sends, as is
-        // answered, exactly what is due while its credit window is open, and no other choice
-        // has sent more up to any event.
+        // Each table holds the last stored frames that have not expired. A port sends an ordinary
+        // frame exactly if one is due and its credit window is open, and no other choice of frames
+        // within these windows has sent more up to any event.
         ensures headline { (past : Past) → Stands past self.old →
             PromisedStep past (event_of event.entry) result.items self.new }
     {

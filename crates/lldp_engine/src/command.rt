@@ -1,4 +1,4 @@
-//! The commands, and how a line gives one.
+//! The commands, and how they are read from a line.
 ghost use Rattle.std.specs.Prelude.{◌≡◌, ◌∷◌, Ok, IfOk, codes};
 ghost use Rattle.lldp_engine.specs.AgentState.{AgentState};
 ghost use Rattle.lldp_text.specs.Answer.{on_ok};
@@ -35,9 +35,9 @@ pub enum Show {
 /// A command that was read.
 #[derive(Clone, Copy, Debug, PartialEq, Eq)]
 pub enum Command<'l> {
-    /// It changes something.
+    /// A command that changes something.
     Set(Setting<'l>),
-    /// It shows lines.
+    /// A command that shows lines.
     Show(Show),
 }
 
@@ -60,7 +60,7 @@ fn read_show(words: &mut Words<'_>) -> Result<Show, CommandFault>
     }
 }
 
-/// Reads a command of this first word and those after it, and does not look for further words.
+/// Reads a command from its first word and those after it. Words may be left over.
 fn read_form<'l, A: Allocator>(
     agent: &Agent<A>,
     first: &[u8],
@@ -80,7 +80,7 @@ fn read_form<'l, A: Allocator>(
     }
 }
 
-/// Returns the command that these words say.
+/// Reads a command from its first word and those after it. No word may be left over.
 fn read_whole<'l, A: Allocator>(
     agent: &Agent<A>,
     first: &[u8],
@@ -94,7 +94,7 @@ fn read_whole<'l, A: Allocator>(
     Ok(command)
 }
 
-/// Returns the command, unless it sets a limit below what a port holds.
+/// Returns the command, or `InUse` if it sets a limit below what some port holds.
 fn refuse_in_use<'l, A: Allocator>(
     agent: &Agent<A>,
     command: Command<'l>,
@@ -113,9 +113,9 @@ fn refuse_in_use<'l, A: Allocator>(
 }
 
 impl<A: Allocator> Agent<A> {
-    /// Returns the command that words give, the first and those after it, or the first fault: the
-    /// words from left to right, then a word too many, then a limit below what a port holds. The
-    /// agent allows the command.
+    /// Reads a command from its first word and those after it. Returns it, or the first fault: the
+    /// words are checked from left to right, then whether a word is left over, then whether a limit
+    /// is below what a port holds. The agent allows a returned command.
     pub fn read_words<'l>(
         &self,
         first: &[u8],
@@ -129,8 +129,8 @@ impl<A: Allocator> Agent<A> {
         refuse_in_use(self, command)
     }
 
-    /// Returns the command that a line gives, or the first fault: a bad quote anywhere, then those
-    /// of `read_words`. A line without words is `Unknown`. The agent allows the command.
+    /// Reads a command from a line. Returns it, or the first fault: a bad quote anywhere, then
+    /// those of `read_words`. A line without words is `Unknown`. The agent allows what is returned.
     pub fn read_command<'l>(&self, line: &'l [u8]) -> Result<Command<'l>, CommandFault>
         ensures read { on_ok command_of result ≡ command_given self.now line.now }
         ensures allowed { IfOk result (λ command. AllowsCommand self.now (command_of command)) }

@@ -1,4 +1,4 @@
-//! Laws of agents, for every past.
+//! Laws that hold for every agent and every past.
 ghost use Rattle.std.specs.Prelude.{◌≡◌, ◌↔◌, ℕ, Bool, List};
 ghost use Rattle.lldp_engine.specs.declared.port.status.Status.{Status};
 ghost use Rattle.lldp_engine.specs.Options.{Options};
@@ -25,8 +25,8 @@ pub mod shows;
 pub mod tables;
 pub mod whose;
 
-/// An allowed event carries standing from each past to that past with the event, and its marks are
-/// those of that past.
+/// If an agent stands for a past and allows an event, then after the event it stands for that past
+/// with the event added, and the ports that send are those that the definitions give.
 #[tactic(auto, using(crate::proofs::Standing::Carrying::steps_carry_standing))]
 pub fn steps_carry_standing()
     ensures marks { (past : Past) (event : Event) (agent : AgentState) → Stands past agent →
@@ -37,24 +37,23 @@ pub fn steps_carry_standing()
         Stands (with_event past event) (agent_after event agent) }
 {}
 
-/// Each port's table holds the last stored frames that have not expired, and nothing else. Each
-/// port has sent exactly what was due while its credit window was open, by the right of its status,
-/// and no other choice has sent more up to any event.
+/// Each port's table holds exactly the last stored frames that have not expired. Each port has sent
+/// exactly what was due while its credit window was open and its status let it send. No other
+/// choice of frames within these windows has sent more up to any event.
 #[tactic(auto, using(crate::proofs::Headline::Promise::promised))]
 pub fn standing_agents_are_promised()
     ensures { (past : Past) (agent : AgentState) → Stands past agent → Promised past agent }
 {}
 
-/// Whatever a port has seen, its transmit machine has the right to transmit exactly if the port's
-/// status gives it, so a status that gives the right again is enough. The link is up exactly if the
-/// last link event says so.
+/// Whatever has happened, a port's transmit machine may transmit exactly if the port's status lets
+/// it, so the right returns with the status. The link is up exactly if the last link event says so,
+/// or if there was none.
 pub fn rights_follow_statuses()
     ensures { (options : Options) (past : List Happened) → FollowsStatus options past }
 {}
 
-/// The status and the link of a port and the configuration, in terms of positions: each is what the
-/// last event that set it set, and no later event sets it. If no event set it, it is as it was
-/// opened.
+/// A port's status and link, and the configuration, are each as the last event for them left them:
+/// one event set the value, and no later event sets it. If no event set it, it is as at opening.
 pub fn last_events_decide()
     ensures status { (options : Options) (port : ℕ) (events : List Event) (status : Status) →
         (status ≡ status_after options (port_past options port events))

@@ -1,5 +1,4 @@
-//! The agent of the Link Layer Discovery Protocol: its ports, what they receive, its commands and
-//! its shows (IEEE 802.1AB-2009, clause 9).
+//! The LLDP agent: its ports, received frames, commands and shows (IEEE 802.1AB-2009, clause 9).
 #![tactic(auto)]
 
 mod agent;

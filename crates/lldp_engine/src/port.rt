@@ -23,7 +23,6 @@ use lldp_transmit::{Cause, Mark, Transmit};
 use std::alloc::{AllocError, Allocator};
 use std::marker::Model;
 
-/// A port.
 #[derive(Drop)]
 pub(crate) struct Port<A: Allocator> {
     name: ArrayVec<u8, 15>,
@@ -57,7 +56,7 @@ fn name_of(octets: &[u8]) -> ArrayVec<u8, 15>
 }
 
 impl<A: Allocator> Port<A> {
-    /// Opens a port that has seen nothing. Takes the memory of its table.
+    /// Opens a port without any events so far, and allocates its table.
     pub(crate) fn open(alloc: A, name: &[u8], options: &Options<'_>) -> Result<Port<A>, AllocError>
         requires name { length name.now ≤ 15 }
         requires range { InRange (options_of options.now) }
@@ -116,7 +115,7 @@ impl<A: Allocator> Port<A> {
         &self.counters
     }
 
-    /// Takes an event, with the tx-interval in force after it. Returns what the port sends.
+    /// Applies an event, with the tx-interval in force after it. Returns what the port sends.
     #[inline(always)]
     pub(crate) fn take(&mut self, event: &PortEvent<'_>, interval: u16) -> Mark
         requires { FitsLimit (port_event_of event.now) self.old.table }
@@ -129,7 +128,7 @@ impl<A: Allocator> Port<A> {
         mark
     }
 
-    /// Ages its neighbors by a second.
+    /// Ages the neighbors by a second, and counts those that age out.
     #[inline(always)]
     fn age(&mut self)
         ensures { self.new ≡ port_after_event tick self.old }
@@ -162,7 +161,7 @@ impl<A: Allocator> Port<A> {
         }
     }
 
-    /// Sets the status. If the new one does not receive, the table is emptied.
+    /// Sets the status, and empties the table if the port no longer receives. Returns the cause.
     fn set_status(&mut self, given: Status) -> Cause
         ensures after { self.new ≡ port_after_event (status given) self.old }
         ensures cause { result ≡ port_cause (status given) self.old }

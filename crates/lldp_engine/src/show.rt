@@ -1,4 +1,4 @@
-//! The lines of shows.
+//! The lines of show commands.
 
 pub(crate) mod chassis_lines;
 pub(crate) mod configuration_lines;

@@ -52,7 +52,7 @@ with_call_sound : (table : Contents) (call : Option Call) → IsSound table → 
 with_call_sound table None s t = s
 with_call_sound table (Some call) s t = sound_after table call s t
 
--- no call changes the room
+-- No call changes the room of a table.
 learned-room : (a : Learned) (table : Contents) (msap : MsapId) (ttl : ℕ) (octets : List ℕ) → (learned_as a table msap ttl octets).capacity ≡ table.capacity
 learned-room New table msap ttl octets = refl
 learned-room Refreshed table msap ttl octets = refl
@@ -91,7 +91,7 @@ pub stay_sound : (capacity : ℕ) (event : Whose) (n : ℕ) (ports new : List Po
     → AreSound capacity ports → AreSound capacity new
 stay_sound capacity event n ports new e h f s = grind (arith, common_steps, ports_number, ports_sound, each_fits)
 
--- ## What an agent allows fits its ports
+-- ## A limit that an agent allows fits its ports
 
 limit_for_all : (capacity n : ℕ) (ports : List PortState) → 1 ≤ n → n ≤ capacity → fits ports n ≡ true → AllSound capacity ports → AllByRecursion (λ port. IsNewLimit port.table n) ports
 limit_for_all capacity n [] least most f s = tt

@@ -22,7 +22,7 @@ use Rattle.lldp_engine.proofs.ForLaws.LastSet.{last_is_status, last_is_link}
 use Rattle.lldp_engine.proofs.ForLaws.PortAt.{answers}
 use Rattle.lldp_engine.proofs.ForLaws.Whose.{nothing_leaves}
 
--- ## The own event of a port
+-- ## An event of the port itself
 
 pub of_own : (event : PortEvent) (i : ℕ) → for_port i (one_port i event) ≡ event
 of_own event i = let yes : (i == i) ≡ true = grind (arith, nat_tests) in rw yes refl
@@ -33,7 +33,7 @@ own_happened event i n = ap (λ (e : PortEvent). let h : Happened = record { eve
 
 -- ## Deaf ports
 
--- what port i hears of octets after a past
+-- what port i hears from received octets, after this past
 abbrev pub heard_now : Past → ℕ → List ℕ → Option Heard
 heard_now past i octets = heard_by (status_after past.options (past_of past i)) (up_after (past_of past i)) octets
 
@@ -79,7 +79,7 @@ given_is past i (inr h) = inr (sym (last_is_status past.options i past.events Rx
 hears_of : (given : Status) (up : Bool) (octets : List ℕ) → receives given ≡ true → up ≡ true → heard_by given up octets ≡ option_map heard_of (lldpdu_of octets)
 hears_of given up octets r u = rw (r, u) refl
 
--- a port that hears hears what the LLDPDU says
+-- If port i hears, it hears the LLDPDU of the octets.
 pub hears_it : (past : Past) (i : ℕ) (octets pdu : List ℕ) → Hears past i → lldpdu_of octets ≡ Some pdu → heard_now past i octets ≡ Some (heard_of pdu)
 hears_it past i octets pdu h e =
     hears_of (status_after past.options (past_of past i)) (up_after (past_of past i)) octets (receives_now (status_after past.options (past_of past i)) (given_is past i h.status)) (sym (last_is_link past.options i past.events true h.link))

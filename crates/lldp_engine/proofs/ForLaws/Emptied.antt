@@ -1,4 +1,4 @@
--- What takes neighbors away: LLDPDUs of their own name, and statuses that take receiving away.
+-- What removes neighbors: LLDPDUs with their MSAP identifier, and statuses that end receiving.
 use Rattle.std.proofs.Common.{◌≡◌, ℕ, Bool, true, false, List, [], ◌∷◌, Option, Some, None, refl, ap, sym, ◌∙◌, subst}
 use Rattle.std.specs.Prelude.{◌==◌, ◌&&◌, not, if◌then◌else◌, slice_get, IfSome, option_and_then}
 use Rattle.std.specs.List.{cons_option}
@@ -34,13 +34,13 @@ use Rattle.lldp_engine.proofs.ForLaws.Deaf.{deaf, of_own, own_happened, heard_no
 use Rattle.lldp_engine.proofs.OnePort.Heard.{heard_leaves, heard_refused}
 use Rattle.lldp_engine.proofs.ForLaws.Held.{held_after, by_heard, others_stay, after_leaves}
 
--- ## A frame of its own port
+-- ## A frame that the port received
 
 map_same : {X : Type 0} (o : Option X) → option_map (λ x. x) o ≡ o
 map_same None = refl
 map_same (Some x) = refl
 
--- something of the neighbors after a frame, by what is heard
+-- If f of the neighbors after what is heard equals g of those before, so it is for the frame.
 by_frame : {X : Type 0} (f g : List Neighbor → X) (past : Past) (i : ℕ) (octets : List ℕ)
     → f (held_after past.options.max_neighbors (calls_after past.options (past_of past i)) (heard_now past i octets)) ≡ g (neighbors (events_of past.options.max_neighbors (calls_after past.options (past_of past i))))
     → option_map f (neighbors_at (with_event past (agent.frame i octets)) i) ≡ option_map g (neighbors_at past i)
@@ -76,7 +76,7 @@ own_leaves past i octets pdu h is sound zero =
     sym (map_same (neighbors_at (with_event past (agent.frame i octets)) i))
     ∙ by_frame (λ held. held) (others_than (msap_of pdu)) past i octets (ap (held_after opened calls) heard ∙ after_leaves opened calls (msap_of pdu))
 
--- an LLDPDU with a fault tells the table nothing
+-- An LLDPDU with a fault does not change the table.
 pub refused_leaves : (past : Past) (i : ℕ) (octets pdu : List ℕ) (fault : PduFault) → lldpdu_of octets ≡ Some pdu → fault_of pdu ≡ Some fault → table_at (with_event past (agent.frame i octets)) i ≡ table_at past i
 refused_leaves past i octets pdu fault is f =
     let given = status_after past.options (past_of past i) in
@@ -95,7 +95,7 @@ module _ (given : Status) (receiving : receives given ≡ true) where
       let up = up_after (past_of past i) in
       table_same past (agent.set (agent.status port given)) i (own_or_nothing (λ (e : PortEvent). call_at e before up ≡ None) (port == i) (status given) (rw (receiving, and_right (receives before) false refl) refl) refl)
 
--- ## A port that cannot receive holds none
+-- ## A port that cannot receive holds no neighbors
 
 module _ (o : Options) where
   abbrev held : List Happened → List Neighbor

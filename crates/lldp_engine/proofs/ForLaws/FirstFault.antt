@@ -1,4 +1,4 @@
--- Which fault is told of a word that no form has in its place.
+-- The fault of a word that no form has in its place.
 use Rattle.std.proofs.Common.{◌≡◌, ℕ, ◌<◌, Bool, true, false, ◌&&◌, List, [], ◌∷◌, ◌++◌, length, Option, Some, None, Result, Ok, Err, refl, sym, ap, ◌∙◌, subst, true≢false, arith}
 use Rattle.std.specs.Prelude.{if◌then◌else◌, codes}
 use Rattle.std.specs.Bool.{Decides}
@@ -25,14 +25,14 @@ use Rattle.lldp_engine.specs.Laws.OnlyForms.{AreWordsOf, word_of}
 use Rattle.lldp_engine.specs.Laws.FirstFault.{choices, choices_behind, WantsMore, TakesOnly, TellsFirstFault}
 use Rattle.lldp_engine.proofs.ForLaws.OnlyForms.{one_left, status_form, own_word_read, read_by_word}
 
--- each of the forms takes a fixed word, which is one of these
+-- True if each of these forms begins with a fixed word from this list.
 abbrev take_only : List (List ℕ) → List Form → Bool
 take_only xs [] = true
 take_only xs (word expected next ∷ others) = list_any (bytes_eq expected) xs && take_only xs others
 take_only xs (form ∷ others) = false
 
 module _ (names : List (List ℕ)) (w : List ℕ) (behind : List (List ℕ)) where
-  -- ## A word that no form takes
+  -- ## A word that no form accepts
 
   no_word : (b : Bool) (next : Form) (P : Type 0) → Decides b P → ¬ P → (if b then Ok next else Err Unknown) ≡ Err Unknown
   no_word true next P d h = absurd (h (d.0 refl))
@@ -70,7 +70,7 @@ module _ (names : List (List ℕ)) (w : List ℕ) (behind : List (List ℕ)) whe
   no_status (Some TxOnly) read h = absurd (h (2, omega arith, sym (read TxOnly refl)))
   no_status (Some Disabled) read h = absurd (h (3, omega arith, sym (read Disabled refl)))
 
-  -- ## A word that the one form left doesn't take
+  -- ## A word that the only form left does not accept
 
   one_fault : (fault : CommandFault) → read_forms names (one_left (Err fault)) behind ≡ Err fault
   one_fault Extra = refl
@@ -96,12 +96,12 @@ module _ (agent : AgentState) (w : List ℕ) (behind : List (List ℕ)) where
   abbrev names : List (List ℕ)
   names = names_of agent
 
-  -- the forms left after words of all of them
+  -- the forms left after these words, which are given last word first
   abbrev left_behind : List (List ℕ) → List Form
   left_behind [] = forms agent.configuration.capacity
   left_behind (last ∷ before) = forms_left names (left_behind before) last
 
-  -- what is said if a port's name was read
+  -- the command or the fault of the words after a port's name, given the number of the port
   abbrev with_port : Option ℕ → List (List ℕ) → Result Command CommandFault
   with_port place words = read_forms names (one_left (on_ok status_form (or_fault place NoSuchPort))) words
 

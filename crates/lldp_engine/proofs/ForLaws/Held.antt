@@ -1,4 +1,4 @@
--- What a port holds after a frame, by what it hears.
+-- The neighbors that a port holds after a frame, by what it hears.
 use Rattle.std.proofs.Common.{◌≡◌, ℕ, ◌+◌, ◌<◌, ◌≤◌, Bool, true, false, ◌⊎◌, inl, inr, List, [], ◌∷◌, ◌++◌, length, map, Option, Some, None, refl, ap, ◌∙◌, arith}
 use Rattle.std.specs.Prelude.{◌&&◌, not, if◌then◌else◌, ◌==◌, filter, is_some, option_and_then}
 use Rattle.std.specs.List.{cons_option}
@@ -49,7 +49,7 @@ heard_or_none P false pdu n s = n
 pub by_heard : (P : Option Heard → Type 0) (given : Status) (up : Bool) (octets : List ℕ) → P None → ((pdu : List ℕ) → lldpdu_of octets ≡ Some pdu → P (Some (heard_of pdu))) → P (heard_by given up octets)
 by_heard P given up octets n s = heard_or_none P (receives given && up) (lldpdu_of octets) n s
 
--- ## The neighbors of other names
+-- ## Neighbors with other MSAP identifiers
 
 filter_twice : (p : Neighbor → Bool) (xs : List Neighbor) → filter p (filter p xs) ≡ filter p xs
 filter_twice p [] = refl
@@ -83,11 +83,11 @@ module _ (opened : ℕ) (calls : List Call) where
   abbrev past : List TableEvent
   past = events_of opened calls
 
-  -- the neighbors after something heard
+  -- the neighbors after something was heard, or nothing
   abbrev pub held_after : Option Heard → List Neighbor
   held_after h = neighbors (events_of opened (cons_option (option_and_then call_of h) calls))
 
-  -- what a frame that tells makes of them, by the answer
+  -- the neighbors after an LLDPDU with a TTL above 0, by the table's answer
   abbrev told_as : Learned → MsapId → ℕ → List ℕ → List Neighbor → List Neighbor
   told_as New name ttl octets xs = xs ++ fresh name ttl octets ∷ []
   told_as Refreshed name ttl octets xs = map (refreshed name ttl octets) xs
@@ -109,7 +109,7 @@ module _ (opened : ℕ) (calls : List Call) where
   others_told Refreshed name ttl octets xs = others_refreshed name ttl octets xs
   others_told Dropped name ttl octets xs = refl
 
-  -- those of other names stay
+  -- Neighbors with other MSAP identifiers stay.
   pub others_stay : (pdu : List ℕ) → others_than (msap_of pdu) (held_after (Some (heard_of pdu))) ≡ others_than (msap_of pdu) (neighbors past)
   others_stay pdu =
       heard_cases (λ h. others_than (msap_of pdu) (held_after (Some h)) ≡ others_than (msap_of pdu) (neighbors past)) pdu (λ fault f. refl)
@@ -121,7 +121,7 @@ module _ (opened : ℕ) (calls : List Call) where
   abbrev answers : MsapId → Learned
   answers name = answer opened name past
 
-  -- one neighbor more is a new one, and everything else is nothing
+  -- Either one more neighbor is held and the cause is Neighbor, or no more and it is Nothing.
   abbrev pub IsGain : Cause → List Neighbor → Type 0
   IsGain cause held = ((length held ≡ 1 + length (neighbors past)) × (cause ≡ NeighborCause)) ⊎ ((length held ≤ length (neighbors past)) × (cause ≡ Nothing))
 

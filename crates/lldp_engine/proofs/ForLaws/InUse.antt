@@ -1,4 +1,4 @@
--- A limit is in use if a port holds more, and nothing else is told so.
+-- A limit is in use if a port holds more neighbors, and nothing else is reported as InUse.
 use Rattle.std.proofs.Common.{◌≡◌, ℕ, suc, ◌<◌, ◌≤◌, ◌&&◌, Bool, true, false, List, [], ◌∷◌, length, Option, Some, None, Result, Ok, Err, refl, ap, ◌∙◌, subst, arith}
 use Rattle.std.specs.Prelude.{nat_le, if◌then◌else◌}
 use Rattle.std.specs.Bool.{Decides}
@@ -21,9 +21,9 @@ use Rattle.lldp_engine.specs.Given.{said_by, unless_in_use, command_said, comman
 use Rattle.lldp_text.specs.Words.{words_of}
 use Rattle.lldp_engine.specs.Laws.InUse.{HoldsMore, HoldAtMost, WouldLimitBelow}
 
--- ## The forms never tell it
+-- ## The forms never report InUse
 
--- it is not told
+-- True if the result is not InUse.
 abbrev is_other : {A : Type 0} → Result A CommandFault → Bool
 is_other (Err InUse) = false
 is_other r = true

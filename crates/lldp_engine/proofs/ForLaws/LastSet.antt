@@ -1,4 +1,4 @@
--- What is computed event by event is what the last event that set it set.
+-- A value that is computed event by event is the one that the last event for it set.
 use Rattle.std.proofs.Common.{◌≡◌, ℕ, ◌⊎◌, inl, inr, Bool, true, false, List, [], ◌∷◌, ◌++◌, refl, ap, sym, ◌∙◌}
 use Rattle.std.specs.Prelude.{◌==◌}
 use Rattle.std.proofs.lemmas.Bool.Decides.{eqb_tells}
@@ -13,7 +13,7 @@ use Rattle.lldp_engine.specs.Port.Past.{status_after, up_after}
 use Rattle.lldp_engine.specs.Laws.LastSet.{NoneSets, IsLastSet, IsLastStatus, IsLastLink, without_commands, IsLastConfiguration}
 use Rattle.lldp_engine.proofs.AllPorts.EachPort.{own_or_nothing}
 
--- An event either sets the value, whatever came before it, or leaves what was before it.
+-- An event either sets the value, whatever came before it, or leaves the value unchanged.
 abbrev SetsOrLeaves : {X : Type 0} → (X → Event) → (List Event → X) → Event → Type 0
 SetsOrLeaves make value_after event =
     ((x : _) × (event ≡ make x) × ((events : List Event) → value_after (event ∷ events) ≡ x))

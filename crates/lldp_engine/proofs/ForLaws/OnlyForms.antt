@@ -1,4 +1,4 @@
--- Only the words of a form say its command.
+-- Only the words of its form give a command.
 use Rattle.std.proofs.Common.{◌≡◌, ℕ, Bool, true, false, ◌⊎◌, inl, inr, List, [], ◌∷◌, Option, Some, None, Result, Ok, Err, refl, ap, ◌∙◌, subst}
 use Rattle.std.specs.Prelude.{if◌then◌else◌, codes}
 use Rattle.std.specs.Bool.{Decides}
@@ -22,9 +22,9 @@ use Rattle.lldp_text.specs.Words.{words_of}
 use Rattle.lldp_engine.specs.Laws.OnlyForms.{AreWordsOf, IsNotInUse, IsLineOf, word_of}
 use Rattle.lldp_engine.proofs.ForLaws.InUse.{held_decided}
 
--- ## What is said if one form is left
+-- ## One form left
 
--- the one form that takes the word, or its fault
+-- what is left of the only form if it accepts the word, or its fault
 abbrev pub one_left : Result Form CommandFault → Result (List Form) CommandFault
 one_left one = if_any (and_left one []) (fault_or one Extra)
 
@@ -34,7 +34,7 @@ text_said names b command e = ap (λ (c : Bool). read_forms names (one_left (if 
 made_said : {A : Type 0} (names : List (List ℕ)) (r : Result A CommandFault) (command : A → Command) (a : A) → r ≡ Ok a → read_forms names (one_left (on_ok (λ a. complete (command a)) r)) [] ≡ Ok (command a)
 made_said names r command a e = ap (λ s. read_forms names (one_left (on_ok (λ a. complete (command a)) s)) []) e
 
--- the form after a port's name
+-- what is left of the form after a port's name
 abbrev pub status_form : ℕ → Form
 status_form p = word (codes "lldp") (word (codes "status") (status (λ given. complete (set (set_status p given)))))
 
@@ -62,10 +62,10 @@ own_word_read given = refl
 pub word_is_read : (w : List ℕ) (given : Status) → w ≡ word_of given → status_of w ≡ Some given
 word_is_read w given e = ap status_of e ∙ own_word_read given
 
--- ## What a form says of words
+-- ## Words that match a form
 
 module _ (names : List (List ℕ)) (command : Command) where
-  -- the words are those of the form, and say the command
+  -- The words are those of the form, and the form gives the command.
   abbrev Matches : Form → List (List ℕ) → Type 0
   Matches (complete c) words = (words ≡ []) × (c ≡ command)
   Matches (word expected next) words = (rest : List (List ℕ)) × (words ≡ expected ∷ rest) × Matches next rest
@@ -78,7 +78,7 @@ module _ (names : List (List ℕ)) (command : Command) where
   Matches (status next) words =
       (w : List ℕ) × (rest : List (List ℕ)) × (s : Status) × (words ≡ w ∷ rest) × (status_of w ≡ Some s) × Matches (next s) rest
 
-  -- one of the forms does
+  -- The words match one of the forms.
   abbrev AnyMatches : List Form → List (List ℕ) → Type 0
   AnyMatches [] words = ⊥
   AnyMatches (form ∷ others) words = Matches form words ⊎ AnyMatches others words
@@ -175,7 +175,7 @@ module _ (agent : AgentState) (command : Command) (words : List (List ℕ)) wher
   pub only_its_words : said_by agent words ≡ Ok command → AreWordsOf agent command words
   only_its_words e = form_words (said_matches (names_of agent) command words (forms agent.configuration.capacity) e)
 
--- ## Its words say it
+-- ## The words of a form give its command
 
 module _ (agent : AgentState) where
   abbrev names : List (List ℕ)

@@ -10,7 +10,7 @@ use Rattle.lldp_engine.specs.Laws.Places.{IsFirstPlace}
 pub same_inside : {X : Type 0} (x y : X) → Some x ≡ Some y → x ≡ y
 same_inside x y h = cc
 
--- counted from s, the place is s and this many more
+-- Counted from s, the place of the word is s plus its place in the list.
 abbrev IsPlaceFrom : ℕ → List (List ℕ) → List ℕ → ℕ → Type 0
 IsPlaceFrom s names word i = (k : ℕ) × (i ≡ s + k) × IsFirstPlace names word k
 
@@ -23,7 +23,7 @@ not_before name names word k other h (suc j) lt = h.first j (omega arith)
 one_before : (name : List ℕ) (names : List (List ℕ)) (word : List ℕ) (k : ℕ) → IsFirstPlace (name ∷ names) word (suc k) → IsFirstPlace names word k
 one_before name names word k h = record { here = h.here; first = λ j lt. h.first (suc j) (omega arith) }
 
--- ## Each way
+-- ## Both directions
 
 found_by : (b : Bool) (s i : ℕ) (name : List ℕ) (names : List (List ℕ)) (word : List ℕ) (others : Option ℕ) → Decides b (name ≡ word) → (others ≡ Some i → IsPlaceFrom (s + 1) names word i)
     → (if b then Some s else others) ≡ Some i → IsPlaceFrom s (name ∷ names) word i

@@ -20,7 +20,7 @@ use Rattle.lldp_engine.specs.Lines.{lines_of}
 use Rattle.lldp_engine.specs.Laws.OnlyForms.{word_of}
 use Rattle.lldp_engine.specs.Laws.Shows.{line_of, lines_of_counts, first_lines, lines_of_neighbor, lines_of_port, lines_of_management, line_of_status, whole_of}
 
--- ## The own lines
+-- ## The lines of the agent itself
 
 management_alike : (address : Option (List ℕ)) → management_lines address ≡ lines_of_management address
 management_alike None = refl

@@ -24,7 +24,7 @@ use Rattle.lldp_engine.proofs.OnePort.Rights.{follows_status}
 use Rattle.lldp_engine.proofs.ForLaws.Marks.{sent_is}
 use Rattle.std.proofs.lemmas.Grind.{common_steps}
 
--- ## Of one history
+-- ## One history
 
 -- an active port may transmit
 allowed_if_active : (s : Settings) (h : History) → is_active (moments s h) ≡ true → is_allowed s (moments s h) ≡ true
@@ -32,12 +32,12 @@ unfolding moment
 allowed_if_active s [] a = cc
 allowed_if_active s (e ∷ h) a = grind (arith, common_steps, is_active-cons)
 
--- an ordinary frame goes from an active port alone
+-- Only an active port sends an ordinary frame.
 active_if_sent : (s : Settings) (past : List Moment) (e : Caused) → (moment s past e).sent ≡ true → is_active (moment s past e ∷ past) ≡ true
 unfolding moment
 active_if_sent s past e sent = grind (arith, common_steps, is_active-cons, and_parts)
 
--- a port stops that was active, if it may no longer transmit
+-- A port that stops was active and may no longer transmit.
 stop_parts : (s : Settings) (past : List Moment) (e : Caused) → (moment s past e).stop ≡ true → (is_active past ≡ true) × (is_allowed s (moment s past e ∷ past) ≡ false)
 unfolding moment
 stop_parts s past e stop = grind (arith, common_steps, and_parts, not-true)
@@ -65,7 +65,7 @@ module _ (o : Options) where
       let stop = stop_parts s (moments s h) c ((exact s (moments s h) c (mark_after o (now ∷ past)) refl).1.0 e) in
       (sym (right past) ∙ allowed_if_active s h stop.0, sym (right (now ∷ past)) ∙ stop.1)
 
--- which statuses they are
+-- the statuses that may transmit, and those that may not
 pub may_transmit : (given : Status) → transmits given ≡ true → (given ≡ RxAndTx) ⊎ (given ≡ TxOnly)
 may_transmit RxAndTx e = inl refl
 may_transmit TxOnly e = inr refl
@@ -86,7 +86,7 @@ pub shutdown_leaves : (o : Options) (past : List Happened) → mark_after o past
 shutdown_leaves o [] e = cc
 shutdown_leaves o (now ∷ past) e = (shutdown_stops o now past e).1
 
--- ## Opened to receive only
+-- ## Ports opened as RxOnly
 
 opened_right : (o : Options) (i : ℕ) (events : List Event) → IsTrue o.receive_only → NoneSets (λ given. set (status i given)) events → transmits (status_after o (port_past o i events)) ≡ false
 opened_right o i events only none =

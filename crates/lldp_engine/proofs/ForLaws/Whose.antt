@@ -1,4 +1,4 @@
--- Whose an event is.
+-- Which ports an event concerns.
 use Rattle.std.proofs.Common.{◌≡◌, ◌≢◌, ℕ, ◌+◌, Bool, true, false, List, [], ◌∷◌, Option, Some, None, refl, ap, sym, ◌∙◌, arith}
 use Rattle.std.specs.Prelude.{◌==◌, ◌&&◌, not, if◌then◌else◌, All, option_and_then, slice_get}
 use Rattle.std.specs.List.{AllByRecursion, cons_option, filter_map}
@@ -35,11 +35,11 @@ nothing_leaves past event i r n = record {
 }
 
 module _ (o : Options) (past : List Happened) (r : InRange o) where
-  -- another port's event is nothing for it
+  -- An event of another port is nothing for this port.
   pub of_another : (event : PortEvent) (port i n : ℕ) → i ≢ port → IsNothing o past (record { event = for_port i (one_port port event); interval = n }) r
   of_another event port i n other = let no : (port == i) ≡ false = grind (arith, nat_tests) in rw no (record { status = refl; heard = refl; call = refl; cause = refl })
 
--- ## A tick comes to each
+-- ## A tick comes to each port
 
 older_one : (x : Neighbor) (xs : List Neighbor) → cons_option (aged x) (one_tick_older xs) ≡ one_tick_older (x ∷ xs)
 older_one x xs = grind (arith, nat_tests)
@@ -62,13 +62,13 @@ link_leaves_one past port i up = own_or_nothing (λ (e : PortEvent). call_at e (
 pub link_leaves_tables : (past : Past) (port : ℕ) (up : Bool) → LeavesTables past (link port up)
 link_leaves_tables past port up = λ i. table_same past (link port up) i (link_leaves_one past port i up)
 
--- every setting but a status and a limit
+-- Every setting except a status or a limit leaves all tables as they were.
 pub setting_leaves_tables : (past : Past) (setting : Setting) → ((port : ℕ) (given : Status) → setting ≢ status port given) → ((n : ℕ) → setting ≢ limit n) → LeavesTables past (set setting)
 setting_leaves_tables past (status port given) no_status no_limit = absurd (no_status port given refl)
 setting_leaves_tables past (limit n) no_status no_limit = absurd (no_limit n refl)
 setting_leaves_tables past setting no_status no_limit = λ i. table_same past (set setting) i refl
 
--- a limit takes no neighbor away
+-- A limit removes no neighbor.
 pub limit_leaves_neighbors : (past : Past) (i n : ℕ) → neighbors_at (with_event past (set (limit n))) i ≡ neighbors_at past i
 limit_leaves_neighbors past i n =
     let opened = past.options.max_neighbors in
@@ -90,7 +90,7 @@ limit-more opened None calls = refl
 limit-more opened (Some (set_limit n)) calls = refl
 limit-more opened (Some call) calls = refl
 
--- what is heard sets no limit
+-- What is heard sets no limit.
 heard_sets_none : (h : Option Heard) (before : ℕ) → limit_by (option_and_then call_of h) before ≡ before
 heard_sets_none None before = refl
 heard_sets_none (Some refused) before = refl
@@ -100,7 +100,7 @@ purge_sets_none : (b : Bool) (before : ℕ) → limit_by (if b then Some purge e
 purge_sets_none true before = refl
 purge_sets_none false before = refl
 
--- the limit of a table and the one that is configured change at once
+-- The limit of a table and the configured limit change at the same events.
 limits_move : (i : ℕ) (event : Event) (given : Status) (up : Bool) (c : Configuration) → limit_by (call_at (for_port i (whose event)) given up) c.limit ≡ (configured event c).limit
 limits_move i tick given up c = refl
 limits_move i (frame port octets) given up c = own_or_nothing (λ (e : PortEvent). limit_by (call_at e given up) c.limit ≡ c.limit) (port == i) (own.frame octets) (heard_sets_none (heard_by given up octets) c.limit) refl

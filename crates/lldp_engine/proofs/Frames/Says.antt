@@ -1,4 +1,4 @@
--- A frame is examined back to what was to be said.
+-- Examining a frame returns the content that it was built from.
 use Rattle.std.proofs.Common.{◌≡◌, ℕ, List, ◌++◌, length, refl, ap, ◌∙◌, append_assoc}
 use Rattle.lldp_pdu.specs.Frame.{nearest_bridge, lldp_ethertype, lldpdu_of}
 use Rattle.lldp_pdu.specs.Info.{LldpInfo}
@@ -8,7 +8,7 @@ use Rattle.lldp_pdu.proofs.Framing.{has_lldpdu}
 use Rattle.lldp_pdu.proofs.Drafts.{built, built_short, finished}
 use Rattle.lldp_engine.specs.Frames.{SaysBack}
 
--- head, TLVs and end, one after the other
+-- A frame is its header, its TLVs and its end, one after the other.
 pub framed : (draft : Draft) (source head tlvs octets : List ℕ) → head ≡ nearest_bridge ++ source ++ lldp_ethertype → tlvs ≡ head ++ spellings (all_tlvs draft) → octets ≡ tlvs ++ spelling end_of_lldpdu
     → octets ≡ nearest_bridge ++ source ++ lldp_ethertype ++ lldpdu_octets draft
 framed draft source head tlvs octets h t e =

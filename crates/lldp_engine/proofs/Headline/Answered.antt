@@ -1,4 +1,4 @@
--- What a step answers is what the definitions say is sent, port by port.
+-- The answer of a step is what the definitions give, port by port.
 use Rattle.std.proofs.Common.{◌≡◌, ℕ, zero, suc, ◌+◌, ◌<◌, ◌≤◌, List, [], ◌∷◌, length, refl, ap, sym, ◌∙◌, subst, arith}
 use Rattle.std.specs.List.{AllPairs, AllByRecursion, Contains}
 use Rattle.std.proofs.lemmas.List.Elements.{All-from_recursion, All-contains}
@@ -24,9 +24,9 @@ contains_first x xs = (0, omega arith, refl)
 contains_more : (x y : Sending) (xs : List Sending) → Contains xs y → Contains (x ∷ xs) y
 contains_more x y xs h = (suc h.0, omega (arith, h.1), h.2)
 
--- ## Each mark is one of the definitions
+-- ## Each mark in the answer is given by the definitions
 
--- the port is not before this place, exists, and sends this
+-- The port exists, its number is at least s, and it sends this.
 abbrev pub IsOf : Options → List Event → ℕ → Sending → Type 0
 IsOf o events s x = (s ≤ x.0) × (x.0 < length o.names) × IsSent x.1 × (mark_after o (port_past o x.0 events) ≡ x.1)
 
@@ -44,7 +44,7 @@ pub all_are : (o : Options) (events : List Event) (s : ℕ) (names : List (List 
 all_are o events s [] l = tt
 all_are o events s (name ∷ names) l = grind (arith, common_steps, one_is, later_are, all_are o events (s + 1) names (omega arith))
 
--- ## Each mark of the definitions is among them
+-- ## Each mark given by the definitions is in the answer
 
 first_is_there : (s : ℕ) (mark : Mark) (others : List Sending) → IsSent mark → Contains (sending s mark others) (s, mark)
 first_is_there s Quiet others sent = absurd sent
@@ -69,7 +69,7 @@ is_there o events s (suc d) (name ∷ names) mark lt sent e =
     other_is_there s (mark_after o (port_past o s events)) (sent_from o events (s + 1) names) (s + suc d, mark)
     (subst (λ k. Contains (sent_from o events (s + 1) names) (k, mark)) (sym there) (is_there o events (s + 1) d names mark (omega arith) sent is))
 
--- ## They rise
+-- ## The ports ascend
 
 before_all : (o : Options) (events : List Event) (s : ℕ) (mark : Mark) (xs : List Sending) → AllByRecursion (IsOf o events (s + 1)) xs → AllByRecursion (IsEarlierPort (s, mark)) xs
 before_all o events s mark [] h = tt

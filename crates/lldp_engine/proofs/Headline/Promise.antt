@@ -1,4 +1,4 @@
--- What stands keeps the promise.
+-- An agent that stands for a past keeps its promise.
 use Rattle.std.proofs.Common.{◌≡◌, ℕ, ◌<◌, ◌≤◌, List, [], ◌∷◌, length, get_or, Some, ap, sym, ◌∙◌, refl, subst, arith, zero, suc}
 use Rattle.std.specs.Prelude.{slice_get}
 use Rattle.std.specs.List.{Contains, AllPairs, AllByRecursion}

@@ -1,4 +1,4 @@
--- What was allowed, for one port.
+-- Allowed events, for one port.
 use Rattle.std.proofs.Common.{◌≡◌, ℕ, zero, suc, ◌+◌, ◌<◌, ◌≤◌, true, List, [], ◌∷◌, length, Option, Some, None, refl, ◌∙◌, subst, arith, add-zero}
 use Rattle.std.specs.Prelude.{◌==◌, IfSome, nat_le}
 use Rattle.std.specs.List.{cons_option}
@@ -33,7 +33,7 @@ capacity_stays : (o : Options) (events : List Event) → (configuration_after o 
 capacity_stays o [] = refl
 capacity_stays o (event ∷ events) = configured-capacity event (configuration_after o events) ∙ capacity_stays o events
 
--- ## A limit that no port is over
+-- ## A limit that no port exceeds
 
 -- the table of a port with this past
 abbrev pub port_table : Options → List Happened → Contents
@@ -62,7 +62,7 @@ limit_fits o i events n lt a = record {
       subst (λ (k : ℕ). length (port_table o (port_past o k events)).neighbors ≤ n) place (fits_at o events n 0 i o.names lt a.held);
 }
 
--- a limit that is allowed is one for each table
+-- A limit that the agent allows is allowed for the table of each port.
 fits_limit : (o : Options) (i : ℕ) (events : List Event) (event : Event) → i < length o.names → Allows (agent_of (record { options = o; events = events })) event
     → FitsLimit (for_port i (whose event)) (port_table o (port_past o i events))
 fits_limit o i events (agent.frame port octets) lt a = own_or_nothing (λ e. FitsLimit e (port_table o (port_past o i events))) (port == i) (frame octets) tt tt
@@ -71,13 +71,13 @@ fits_limit o i events (agent.set (agent.status port given)) lt a = own_or_nothin
 fits_limit o i events (agent.set (agent.limit n)) lt a = limit_fits o i events n lt a
 fits_limit o i events event lt a = tt
 
--- ## What a past tells a table
+-- ## The calls on the table of a port
 
--- an event that was allowed can be told to the table of a port with this past
+-- The call of the event, if it makes one, is possible on the table of a port with this past.
 abbrev pub IsTaken : Options → PortEvent → List Happened → Type 0
 IsTaken o event past = IfSome (call_at event (status_after o past) (up_after past)) (IsPossible (port_table o past))
 
--- and so could each event before it
+-- The same holds for each event of the past.
 abbrev pub AreTaken : Options → List Happened → Type 0
 AreTaken o [] = Unit {0}
 AreTaken o (now ∷ past) = IsTaken o now.event past × AreTaken o past

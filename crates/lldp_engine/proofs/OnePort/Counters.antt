@@ -1,4 +1,4 @@
--- The counters of a list are those of the list before, counted on.
+-- One more LLDPDU, table event or mark changes the counters as the code counts it.
 use Rattle.std.proofs.Common.{◌≡◌, ℕ, ◌+◌, Bool, true, false, List, [], ◌∷◌, length, filter, refl, arith, suc}
 use Rattle.std.specs.Prelude.{if◌then◌else◌}
 use Rattle.std.specs.Int.{from_bool}
@@ -16,19 +16,19 @@ use Rattle.lldp_engine.specs.Counters.{wrapped, is_dropped, all_aged_out, is_ord
 use Rattle.lldp_engine.specs.Code.Counting.{none_counted, with_received, with_refused, with_tlvs, with_answer, with_aged_out, with_mark}
 use Rattle.std.proofs.lemmas.Grind.{common_steps}
 
--- the counter counts on by n
+-- A counter rises by n.
 counts : (all n : ℕ) → wrapped (wrapped all + n) ≡ wrapped (n + all)
 counts all n = omega arith
 
--- one more
+-- A counter rises by one.
 counts_one : (all : ℕ) → wrapped (wrapped all + 1) ≡ wrapped (suc all)
 counts_one all = omega arith
 
--- none more
+-- A counter keeps its value.
 counts_none : (all : ℕ) → wrapped all ≡ wrapped (0 + all)
 counts_none all = omega arith
 
--- one more if the test holds
+-- A counter rises by one if the test holds.
 counts_if : (b : Bool) (x : Heard) (xs : List Heard) → wrapped (wrapped (length xs) + from_bool b) ≡ wrapped (length (if b then x ∷ xs else xs))
 counts_if true x xs = omega arith
 counts_if false x xs = omega arith
@@ -46,13 +46,13 @@ module _ (heard : List Heard) (events : List TableEvent) (marks : List Mark) whe
   unfolding counters_of
   counted_leaves msap = grind (arith, common_steps, sum_by-cons, counts_one, counts_none)
 
-  -- one that was stored
+  -- an LLDPDU that was stored
   counted_stored : (pdu : List ℕ) (answer : Learned) → is_dropped (learned (msap_of pdu) (ttl_of pdu) (extent pdu) answer) ≡ false
       → with_tlvs (with_received (counters_of heard events marks)) (discarded_of pdu) (count_unrecognized (kept_of pdu)) ≡ counters_of (tells pdu ∷ heard) (learned (msap_of pdu) (ttl_of pdu) (extent pdu) answer ∷ events) marks
   unfolding counters_of
   counted_stored pdu answer d = grind (arith, common_steps, sum_by-cons, counts_one, counts_if, filter, counts, counts_none)
 
-  -- one that was dropped
+  -- an LLDPDU that was dropped
   counted_dropped : (pdu : List ℕ)
       → with_answer (with_tlvs (with_received (counters_of heard events marks)) (discarded_of pdu) (count_unrecognized (kept_of pdu))) Dropped ≡ counters_of (tells pdu ∷ heard) (learned (msap_of pdu) (ttl_of pdu) (extent pdu) Dropped ∷ events) marks
   unfolding counters_of

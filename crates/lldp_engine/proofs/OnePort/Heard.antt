@@ -1,4 +1,4 @@
--- What a port hears is what its table can be told.
+-- What a port hears leads only to calls that are possible on its table.
 use Rattle.std.proofs.Common.{◌≡◌, ℕ, ◌<◌, ◌≤◌, Bool, true, false, List, length, take, drop, Option, Some, None, refl, sym, subst, arith}
 use Rattle.std.proofs.lemmas.List.{take-append-drop, length-drop}
 use Rattle.std.specs.Prelude.{◌==◌, ◌&&◌, not, if◌then◌else◌, is_some, option_and_then, IfSome}
@@ -25,7 +25,7 @@ use Rattle.lldp_engine.specs.Code.Taking.{FitsLimit}
 use Rattle.lldp_table.specs.Events.{purge}
 use Rattle.lldp_engine.proofs.AllPorts.EachPort.{own_or_nothing}
 
--- a frame's LLDPDU is no longer than 1,500 octets
+-- The LLDPDU of a frame has at most 1,500 octets.
 short_lldpdu : (octets : List ℕ) → is_lldp_frame octets ≡ true → length (drop 14 octets) ≤ 1500
 unfolding is_lldp_frame
 short_lldpdu octets h = grind (arith, nat_tests, h, length-drop 14 octets)
@@ -54,26 +54,26 @@ purge_told : (table : Contents) (b : Bool) → IfSome (if b then Some purge else
 purge_told table true = tt
 purge_told table false = tt
 
--- octets of a frame that comes
+-- Received octets are octets.
 abbrev pub HasOctets : PortEvent → Type 0
 HasOctets (frame octets) = AreOctets octets
 HasOctets event = Unit {0}
 
--- what an allowed event tells a table can be told to it
+-- The call of an allowed event is possible on the table.
 pub event_told : (table : Contents) (event : PortEvent) (given : Status) (up : Bool) → HasOctets event → FitsLimit event table → IfSome (call_at event given up) (IsPossible table)
 event_told table (frame octets) given up h f = heard_told_as table octets (receives given && up) h
 event_told table (limit neighbors) given up h f = f
 event_told table (status next) given up h f = purge_told table (receives given && not (receives next))
 event_told table event given up h f = tt
 
--- octets that come to the agent come to the port
+-- What the agent received as octets, the port receives as octets.
 pub octets_for : (i : ℕ) (event : Event) → agent.HasOctets event → HasOctets (for_port i (whose event))
 octets_for i (agent.frame port octets) h = own_or_nothing HasOctets (port == i) (frame octets) h tt
 octets_for i (agent.link port up) h = own_or_nothing HasOctets (port == i) (link up) tt tt
 octets_for i (agent.set (agent.status port given)) h = own_or_nothing HasOctets (port == i) (status given) tt tt
 octets_for i event h = tt
 
--- ## What the examination of an LLDPDU says of it
+-- ## How an LLDPDU is heard, by its examination
 
 pub heard_refused : (pdu : List ℕ) (fault : PduFault) → Some fault ≡ fault_of pdu → heard_of pdu ≡ refused
 unfolding heard_of

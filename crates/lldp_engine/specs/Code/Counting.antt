@@ -1,4 +1,4 @@
--- The counters of a port, counted on.
+-- How the counters of a port change.
 use Rattle.std.specs.Prelude.{ℕ, ◌+◌, ◌-◌, Bool, nat_lt, length, Option, Some, None}
 use Rattle.std.specs.Int.{from_bool}
 use Rattle.lldp_pdu.specs.Msap.{MsapId}
@@ -17,7 +17,7 @@ use Rattle.lldp_engine.specs.Counters.{wrapped}
 use Rattle.lldp_engine.specs.Port.Event.{PortEvent, tick}
 use Rattle.lldp_engine.specs.Port.Effects.{heard_at}
 
--- nothing was counted
+-- All counters are 0.
 abbrev pub none_counted : Counters
 none_counted = record {
   sent = 0;
@@ -31,15 +31,15 @@ none_counted = record {
   drops = 0;
 }
 
--- an LLDP frame came
+-- An LLDP frame was received.
 abbrev pub with_received : Counters → Counters
 with_received c = record c { received = wrapped (c.received + 1) }
 
--- its LLDPDU was refused
+-- An LLDPDU was refused, which is also an error.
 abbrev pub with_refused : Counters → Counters
 with_refused c = record c { discarded = wrapped (c.discarded + 1); errors = wrapped (c.errors + 1) }
 
--- this many of its TLVs were discarded, and this many of those kept are unrecognized
+-- This many TLVs of an LLDPDU were discarded, and this many kept ones are unrecognized.
 abbrev pub with_tlvs : Counters → ℕ → ℕ → Counters
 with_tlvs c discarded unrecognized =
     record c {
@@ -48,22 +48,22 @@ with_tlvs c discarded unrecognized =
       unrecognized = wrapped (c.unrecognized + unrecognized);
     }
 
--- the table answered this to it
+-- An LLDPDU was dropped if the table answered so.
 abbrev pub with_answer : Counters → Learned → Counters
 with_answer c Dropped = record c { drops = wrapped (c.drops + 1) }
 with_answer c answer = c
 
--- this many neighbors aged out
+-- This many neighbors aged out.
 abbrev pub with_aged_out : Counters → ℕ → Counters
 with_aged_out c n = record c { ageouts = wrapped (c.ageouts + n) }
 
--- this was sent
+-- This was sent.
 abbrev pub with_mark : Counters → Mark → Counters
 with_mark c Quiet = c
 with_mark c Ordinary = record c { sent = wrapped (c.sent + 1) }
 with_mark c Shutdown = record c { shutdowns = wrapped (c.shutdowns + 1) }
 
--- what was heard is counted; answer: what the table answers to a name
+-- Counts what was heard, if anything; `answer` is the table's answer to an MSAP identifier.
 abbrev pub with_heard : (MsapId → Learned) → Counters → Option Heard → Counters
 with_heard answer c None = c
 with_heard answer c (Some refused) = with_refused (with_received c)
@@ -71,7 +71,7 @@ with_heard answer c (Some (leaves msap)) = with_received c
 with_heard answer c (Some (tells pdu)) =
     with_answer (with_tlvs (with_received c) (discarded_of pdu) (count_unrecognized (kept_of pdu))) (answer (msap_of pdu))
 
--- a second, or what was heard by another event, is counted
+-- A tick counts the neighbors that age out, any other event what is heard.
 abbrev pub with_event_counted : PortEvent → Status → Bool → Contents → Counters → Counters
 with_event_counted tick status up table c =
     with_aged_out c (length table.neighbors - length (after_tick table).neighbors)

@@ -3,17 +3,17 @@ use Rattle.std.specs.Prelude.{◌≡◌, ℕ, suc, zero, ◌-◌, ◌≤◌, Lis
 use Rattle.lldp_engine.specs.declared.show.one_line.OneLine.{OneLine}
 use Rattle.lldp_text.specs.Text.{ended}
 
--- what it holds after a line came, by how many came before the one that is wanted, and whether that one had come
+-- The sink skips `before` lines, keeps the next one, and does not change after that.
 abbrev pub after_line : ℕ → Bool → List ℕ → List ℕ → OneLine
 after_line before true kept line = record { before = before; came = true; line = kept }
 after_line zero false kept line = record { before = 0; came = true; line = ended line }
 after_line (suc before) false kept line = record { before = before; came = false; line = kept }
 
--- a line came, and what is held is no longer than a line with its LF
+-- The sink took a line, and holds at most a line with its line feed.
 abbrev pub KeepsOne : OneLine → OneLine → List ℕ → Type 0
 KeepsOne old new line =
     (new ≡ after_line old.before old.came old.line line) × (length old.line ≤ 2049 → length new.line ≤ 2049)
 
--- the line that is wanted, without its LF, if it came
+-- Returns the wanted line without its line feed, if it came.
 abbrev pub line_kept : OneLine → Option (List ℕ)
 line_kept sink = if sink.came then Some (take (length sink.line - 1) sink.line) else None

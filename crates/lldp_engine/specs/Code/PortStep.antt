@@ -1,4 +1,4 @@
--- One event, on a port's present data.
+-- One event, applied to the present data of a port.
 use Rattle.std.specs.Prelude.{ℕ, List, Option, Some, None, option_and_then}
 use Rattle.lldp_table.specs.Events.{Call}
 use Rattle.lldp_table.specs.Contents.{Contents}
@@ -15,7 +15,7 @@ use Rattle.lldp_engine.specs.Port.Effects.{status_then, call_of, call_at, cause_
 use Rattle.lldp_engine.specs.Port.Past.{settings_of}
 use Rattle.lldp_engine.specs.Code.Counting.{none_counted, with_heard, with_event_counted, with_mark}
 
--- a port as it is opened
+-- Returns a port just after opening.
 abbrev pub opened_port : Options → List ℕ → PortState
 opened_port o name =
     record {
@@ -26,12 +26,12 @@ opened_port o name =
       counters = none_counted;
     }
 
--- a table after this call, if any
+-- Returns the table after this call, if there is one.
 abbrev pub with_call : Contents → Option Call → Contents
 with_call table None = table
 with_call table (Some call) = table_after table call
 
--- a port after what it heard
+-- Returns the port after it heard this, if it heard anything.
 abbrev pub hears_if : PortState → Option Heard → PortState
 hears_if p heard =
     record p {
@@ -39,11 +39,11 @@ hears_if p heard =
       counters = with_heard (learn_answer p.table) p.counters heard;
     }
 
--- what an event means to its transmit machine
+-- Returns what an event means to the port's transmit machine.
 abbrev pub port_cause : PortEvent → PortState → Cause
 port_cause event p = cause_at event p.status p.machine.up (learn_answer p.table)
 
--- a port after an event, before its transmit machine takes it
+-- Returns the port after an event, before its transmit machine handles the event.
 abbrev pub port_after_event : PortEvent → PortState → PortState
 port_after_event event p =
     record p {
@@ -52,7 +52,7 @@ port_after_event event p =
       counters = with_event_counted event p.status p.machine.up p.table p.counters;
     }
 
--- a port after a cause; n is the tx-interval in force after the event
+-- The port's transmit machine handles a cause; n is the tx-interval in force after the event.
 abbrev pub transmitted : Cause → ℕ → PortState → PortState
 transmitted cause n p =
     record p {
@@ -60,10 +60,10 @@ transmitted cause n p =
       counters = with_mark p.counters (stepped p.machine cause n).1;
     }
 
--- what it sends at an event
+-- Returns what the port sends at an event.
 abbrev pub port_mark : PortEvent → ℕ → PortState → Mark
 port_mark event n p = (stepped p.machine (port_cause event p) n).1
 
--- a port after an event
+-- Returns the port after an event.
 abbrev pub port_step : PortEvent → ℕ → PortState → PortState
 port_step event n p = transmitted (port_cause event p) n (port_after_event event p)

@@ -12,7 +12,7 @@ use Rattle.lldp_text.specs.Identifier.{chassis_text, port_text}
 use Rattle.lldp_text.specs.KeptTlv.{tlv_text}
 use Rattle.lldp_text.specs.Text.{escaped}
 
--- how it is written
+-- Returns the text of a value.
 abbrev pub value_text : Value → List ℕ
 value_text (value.Number n) = decimal n
 value_text (value.Word text) = text.now
@@ -23,7 +23,7 @@ value_text (value.Chassis id) = chassis_text id.now
 value_text (value.Port id) = port_text id.now
 value_text (value.Kept tlv) = tlv_text (tlv_view tlv)
 
--- it fits in a line
+-- Holds if the value fits in a line.
 abbrev pub FitsLine : Value → Type 0
 FitsLine (value.Word text) = length text.now ≤ 255
 FitsLine (value.Text text) = length text.now ≤ 255
@@ -32,6 +32,6 @@ FitsLine (value.Port id) = IsIdentifier id.now
 FitsLine (value.Kept tlv) = IsKeptTlv (tlv_view tlv)
 FitsLine _ = Unit {0}
 
--- a key and a number, as plain data
+-- Returns a key and its number as plain data.
 abbrev pub plain_number : Bor (List ℕ) × ℕ → List ℕ × ℕ
 plain_number number = (number.0.now, number.1)

@@ -1,4 +1,4 @@
--- One event, on an agent's present data.
+-- One event, applied to the present data of an agent.
 use Rattle.std.specs.Prelude.{ℕ, ◌+◌, List, [], ◌∷◌}
 use Rattle.lldp_engine.specs.Event.{Event}
 use Rattle.lldp_engine.specs.Configuration.{configured}
@@ -7,22 +7,22 @@ use Rattle.lldp_engine.specs.Past.{Sending, sending}
 use Rattle.lldp_engine.specs.Port.Event.{Whose, whose, for_port}
 use Rattle.lldp_engine.specs.Code.PortStep.{port_mark, port_step}
 
--- the ports after an event of these, counted from i; n is the tx-interval in force after it
+-- Returns the ports after an event, numbered from i; n is the tx-interval in force after it.
 abbrev pub ports_step : Whose → ℕ → ℕ → List PortState → List PortState
 ports_step event n i [] = []
 ports_step event n i (p ∷ ps) = port_step (for_port i event) n p ∷ ports_step event n (i + 1) ps
 
--- which of the ports send, counted from i
+-- Returns the ports that send at an event, numbered from i, each with what it sends.
 abbrev pub marks_step : Whose → ℕ → ℕ → List PortState → List Sending
 marks_step event n i [] = []
 marks_step event n i (p ∷ ps) = sending i (port_mark (for_port i event) n p) (marks_step event n (i + 1) ps)
 
--- an agent after an event: configured first, then each port with the tx-interval in force
+-- The configuration changes first, then each port, with the tx-interval in force after that.
 abbrev pub agent_after : Event → AgentState → AgentState
 agent_after event agent =
     let c = configured event agent.configuration in
     record { configuration = c; ports = ports_step (whose event) c.interval 0 agent.ports }
 
--- which ports send at the event, in ascending order, each with what it sends
+-- Returns the ports that send at the event, in ascending order, each with what it sends.
 abbrev pub agent_marks : Event → AgentState → List Sending
 agent_marks event agent = marks_step (whose event) (configured event agent.configuration).interval 0 agent.ports

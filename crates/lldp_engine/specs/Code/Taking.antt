@@ -1,4 +1,4 @@
--- What the code asks of ports that take an event.
+-- What the code requires of the ports before an event.
 use Rattle.std.specs.Prelude.{◌<◌, List, length}
 use Rattle.std.specs.List.{AllByRecursion}
 use Rattle.lldp_table.specs.Standing.{IsNewLimit}
@@ -6,16 +6,16 @@ use Rattle.lldp_table.specs.Contents.{Contents}
 use Rattle.lldp_engine.specs.AgentState.{PortState}
 use Rattle.lldp_engine.specs.Port.Event.{PortEvent, limit, Whose, one_port, each_port}
 
--- a limit that the event sets is one for the port's table
+-- Holds if the event sets no limit, or one that this table may have.
 abbrev pub FitsLimit : PortEvent → Contents → Type 0
 FitsLimit (limit neighbors) table = IsNewLimit table neighbors
 FitsLimit event table = Unit {0}
 
--- such a limit is one for each port's table
+-- Holds if the event sets no limit, or one that the table of each port may have.
 abbrev pub AllFit : PortEvent → List PortState → Type 0
 AllFit event ports = AllByRecursion (λ port. FitsLimit event port.table) ports
 
--- the port whose event it is exists, and a limit is one for each port
+-- Holds if the port of a one-port event exists, and each table may have a limit that it sets.
 abbrev pub CanTake : Whose → List PortState → Type 0
 CanTake (one_port port event) ports = (port < length ports) × AllFit event ports
 CanTake (each_port event) ports = AllFit event ports

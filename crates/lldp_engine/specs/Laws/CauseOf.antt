@@ -7,12 +7,12 @@ use Rattle.lldp_engine.specs.Laws.LastSet.{IsLastSet}
 use Rattle.lldp_engine.specs.Past.{Past, with_event, past_of}
 use Rattle.lldp_engine.specs.Port.Past.{causes_after}
 
--- what each event so far meant to the transmit machine of port i
+-- Returns what each event so far meant to the transmit machine of port i.
 abbrev pub causes_at : Past → ℕ → History
 causes_at past i = causes_after past.options (past_of past i)
 
--- This is what the event means to the transmit machine of port i, with a tx-interval of this many seconds: those of the
--- last command that set them, the event's own included, or else 30.
+-- The event means this to the transmit machine of port i, with a tx-interval of this many seconds:
+-- the one that the last command set, this event included, or else 30.
 pub record IsFor (past : Past) (event : Event) (i : ℕ) (cause : Cause) : Type 0 where
   pub seconds : ℕ
   pub is : causes_at (with_event past event) i ≡ caused cause seconds ∷ causes_at past i

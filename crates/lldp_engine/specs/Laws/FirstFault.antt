@@ -1,4 +1,4 @@
--- The fault of words that say no command: that of the first word that no command has in its place.
+-- The fault of words that give no command: that of the first word that no command has in its place.
 use Rattle.std.specs.Prelude.{◌≡◌, ℕ, false, List, [], ◌∷◌, ◌++◌, codes, Some, None, Err}
 use Rattle.std.specs.List.{AllByRecursion, Contains}
 use Rattle.lldp_text.specs.declared.fault.CommandFault.{CommandFault}
@@ -12,11 +12,11 @@ use Rattle.lldp_engine.specs.Command.{Command}
 use Rattle.lldp_engine.specs.Given.{said_by}
 use Rattle.lldp_engine.specs.Laws.OnlyForms.{AreWordsOf, word_of}
 
--- some first words of commands, and the fixed words one of which follows them
+-- The first words of commands, and the fixed words that may follow them.
 abbrev pub Choice : Type 0
 Choice = List (List ℕ) × List (List ℕ)
 
--- A fixed word follows these.
+-- A fixed word must follow these first words.
 abbrev pub choices : List Choice
 choices =
     ([], codes "show" ∷ codes "configure" ∷ codes "update" ∷ [])
@@ -32,7 +32,7 @@ choices_behind name =
     ∷ (codes "configure" ∷ codes "ports" ∷ name ∷ codes "lldp" ∷ [], codes "status" ∷ [])
     ∷ (codes "configure" ∷ codes "ports" ∷ name ∷ codes "lldp" ∷ codes "status" ∷ [], word_of RxAndTx ∷ word_of RxOnly ∷ word_of TxOnly ∷ word_of Disabled ∷ []) ∷ []
 
--- A text, a number or the name of a port follows these.
+-- A text, a number or the name of a port must follow these first words.
 abbrev pub before_arguments : List (List (List ℕ))
 before_arguments =
     (codes "configure" ∷ codes "system" ∷ codes "hostname" ∷ [])
@@ -42,18 +42,18 @@ before_arguments =
     ∷ (codes "configure" ∷ codes "lldp" ∷ codes "max-neighbors" ∷ [])
     ∷ (codes "configure" ∷ codes "ports" ∷ []) ∷ []
 
--- The fault of the first words is Unknown if no word follows them.
+-- If no word follows these first words, the fault is Unknown.
 abbrev pub WantsMore : AgentState → List (List ℕ) → Type 0
 WantsMore agent front = said_by agent front ≡ Err Unknown
 
--- The fault of a word after the first ones that is not one of the choice is Unknown, whatever follows it.
+-- If a word outside the choice follows the first words, the fault is Unknown, whatever follows it.
 abbrev pub TakesOnly : AgentState → List ℕ → List (List ℕ) → Choice → Type 0
 TakesOnly agent word behind choice =
     ¬ (Contains choice.1 word) → said_by agent (choice.0 ++ word ∷ behind) ≡ Err Unknown
 
--- The fault of a word that no command has in its place, whatever follows it: Unknown in the place of a fixed word;
--- Text, the fault of the number, or NoSuchPort in the place of an argument; Extra after the words of a command. For a
--- missing word it is Unknown.
+-- The fault of a word that no command has in its place, whatever follows it: Unknown for a fixed
+-- word; Text, the fault of the number, or NoSuchPort for an argument; Extra after a whole command.
+-- The fault of a missing word is Unknown.
 pub record TellsFirstFault (agent : AgentState) (word : List ℕ) (behind : List (List ℕ)) : Type 0 where
   pub fixed : AllByRecursion (TakesOnly agent word behind) choices
   pub fixed_behind : (name : List ℕ) (port : ℕ) → place_of (names_of agent) name ≡ Some port →

@@ -4,8 +4,8 @@ use Rattle.lldp_engine.specs.declared.agent.options.Role.{Role}
 use Rattle.lldp_engine.specs.declared.agent.options.Role.TheVariants.{Station, Bridge, Router}
 use Rattle.lldp_engine.specs.Configuration.{Configuration}
 
--- As in every agent: a MAC address of 6 octets, a management address of 4, texts of at most 255 octets, and a port's
--- name of at most 15.
+-- As in every agent: a MAC address of 6 octets, a management address of 4, texts of at most 255
+-- octets, and a port's name of at most 15.
 pub record HasLengths (c : Configuration) (name : List ℕ) : Type 0 where
   pub mac : length c.mac ≡ 6
   pub management : IfSome c.management (λ address. length address ≡ 4)
@@ -17,40 +17,40 @@ pub record HasLengths (c : Configuration) (name : List ℕ) : Type 0 where
 abbrev pub tlv_octets : ℕ → List ℕ → List ℕ
 tlv_octets twice body = twice ∷ length body ∷ body
 
--- To 01:80:c2:00:00:0e from the MAC address, EtherType 88-cc; Chassis ID (type 1) of subtype 4, the MAC address; Port ID
--- (type 2) of subtype 5, the whole name of the port.
+-- The Ethernet header: to 01:80:c2:00:00:0e, from the MAC address, EtherType 88-cc; Chassis ID
+-- (type 1), subtype 4, the MAC address; Port ID (type 2), subtype 5, the port's whole name.
 abbrev pub front_octets : Configuration → List ℕ → List ℕ
 front_octets c name =
     (0x01 ∷ 0x80 ∷ 0xc2 ∷ 0x00 ∷ 0x00 ∷ 0x0e ∷ []) ++ c.mac ++ (0x88 ∷ 0xcc ∷ [])
     ++ tlv_octets 0x02 (0x04 ∷ c.mac) ++ tlv_octets 0x04 (0x05 ∷ name)
 
--- Time To Live (type 3): one more than the tx-interval times the tx-hold, at most 65,535, most significant octet first.
+-- Time To Live (type 3): tx-interval times tx-hold, plus 1, at most 65,535, high octet first.
 abbrev pub ttl_octets : Configuration → List ℕ
 ttl_octets c =
     let ttl = min 65535 (c.interval * c.hold + 1) in
     tlv_octets 0x06 (ttl / 256 ∷ ttl % 256 ∷ [])
 
--- System Capabilities (type 7), available and enabled alike: station only, bridge, or router.
+-- System Capabilities (type 7), both available and enabled: station only, bridge, or router.
 abbrev pub capability_octets : Role → List ℕ
 capability_octets Station = tlv_octets 0x0e (0x00 ∷ 0x80 ∷ 0x00 ∷ 0x80 ∷ [])
 capability_octets Bridge = tlv_octets 0x0e (0x00 ∷ 0x04 ∷ 0x00 ∷ 0x04 ∷ [])
 capability_octets Router = tlv_octets 0x0e (0x00 ∷ 0x10 ∷ 0x00 ∷ 0x10 ∷ [])
 
--- Management Address (type 8), if there is one: its length with the subtype, IPv4 (1), the address; an interface of
--- unknown numbering (1) with number 0; no OID.
+-- Management Address (type 8), if there is one: the length of subtype and address, IPv4 (1), the
+-- address; interface numbering unknown (1), interface number 0; no OID.
 abbrev pub management_octets : Option (List ℕ) → List ℕ
 management_octets None = []
 management_octets (Some address) =
     tlv_octets 0x10 ((0x05 ∷ 0x01 ∷ address) ++ (0x01 ∷ 0x00 ∷ 0x00 ∷ 0x00 ∷ 0x00 ∷ 0x00 ∷ []))
 
--- An ordinary frame: the front, the TTL, Port Description (type 4, the name), System Name (type 5), System Description
--- (type 6), the capabilities, the management address, and the End Of LLDPDU.
+-- An ordinary frame: the front, the TTL, Port Description (type 4, the name), System Name (type 5),
+-- System Description (type 6), the capabilities, any management address, End Of LLDPDU.
 abbrev pub ordinary_octets : Configuration → List ℕ → List ℕ
 ordinary_octets c name =
     front_octets c name ++ ttl_octets c ++ tlv_octets 0x08 name ++ tlv_octets 0x0a c.hostname
     ++ tlv_octets 0x0c c.description ++ capability_octets c.role ++ management_octets c.management
     ++ (0x00 ∷ 0x00 ∷ [])
 
--- A shutdown frame: the front, a TTL of 0, and the End Of LLDPDU.
+-- A shutdown frame: the front, a TTL of 0, and End Of LLDPDU.
 abbrev pub shutdown_octets : Configuration → List ℕ → List ℕ
 shutdown_octets c name = front_octets c name ++ (0x06 ∷ 0x02 ∷ 0x00 ∷ 0x00 ∷ []) ++ (0x00 ∷ 0x00 ∷ [])

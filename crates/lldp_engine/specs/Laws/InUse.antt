@@ -1,4 +1,4 @@
--- When a limit is in use, in terms of every port.
+-- When a limit is in use, stated for every port.
 use Rattle.std.specs.Prelude.{◌≡◌, ℕ, ◌<◌, ◌≤◌, List, length, Some, Ok}
 use Rattle.std.specs.List.{All, Any}
 use Rattle.lldp_engine.specs.AgentState.{AgentState}

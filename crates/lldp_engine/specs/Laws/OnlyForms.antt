@@ -1,4 +1,4 @@
--- Which words say which command: those of its form, and no others.
+-- Which words give which command: those of its form, and no others.
 use Rattle.std.specs.Prelude.{◌≡◌, ℕ, true, List, [], ◌∷◌, codes, Some, Ok}
 use Rattle.lldp_engine.specs.declared.command.Show.TheVariants.{Neighbors, Statistics, Chassis, Configuration}
 use Rattle.lldp_engine.specs.declared.port.status.Status.{Status}
@@ -12,15 +12,15 @@ use Rattle.lldp_engine.specs.Command.{Command, show, set}
 use Rattle.lldp_engine.specs.Laws.InUse.{HoldAtMost}
 use Rattle.lldp_text.specs.Words.{words_of}
 
--- The word of a status.
+-- Returns the word of a status.
 abbrev pub word_of : Status → List ℕ
 word_of RxAndTx = codes "rx-and-tx"
 word_of RxOnly = codes "rx-only"
 word_of TxOnly = codes "tx-only"
 word_of Disabled = codes "disabled"
 
--- The words of a command. If its form takes a word it is the text, one that reads as the number within the range, the
--- name of the port, or the word of the status.
+-- The words of a command. An argument is a text, a word that reads as the number and is in the
+-- range, the name of the port, or the word of the status.
 abbrev pub AreWordsOf : AgentState → Command → List (List ℕ) → Type 0
 AreWordsOf agent (show Neighbors) words = words ≡ codes "show" ∷ codes "neighbors" ∷ []
 AreWordsOf agent (show Statistics) words = words ≡ codes "show" ∷ codes "statistics" ∷ []
@@ -42,7 +42,7 @@ AreWordsOf agent (set (status port given)) words =
     × (words ≡ codes "configure" ∷ codes "ports" ∷ name ∷ codes "lldp" ∷ codes "status" ∷ word_of given ∷ [])
 AreWordsOf agent (set update) words = words ≡ codes "update" ∷ []
 
--- A limit that a command sets is not in use: every port holds at most this many.
+-- If the command sets a limit, every port holds at most this many neighbors.
 abbrev pub IsNotInUse : AgentState → Command → Type 0
 IsNotInUse agent (set (limit n)) = HoldAtMost agent n
 IsNotInUse agent command = Unit {0}

@@ -1,4 +1,4 @@
--- When an agent opens, in terms of each check by itself and of every name, and as what it opens.
+-- When options open an agent, check by check, and what the opened agent is.
 use Rattle.std.specs.Prelude.{◌≡◌, ◌≢◌, ℕ, ◌<◌, ◌≤◌, true, false, List, length, codes}
 use Rattle.std.specs.List.{All, AllByRecursion, AllPass, AllPairs}
 use Rattle.lldp_engine.specs.declared.agent.open_fault.OpenFault.{OpenFault}
@@ -9,19 +9,19 @@ use Rattle.lldp_engine.specs.Configuration.{Configuration}
 use Rattle.lldp_engine.specs.AgentState.{AgentState, PortState, names_of}
 use Rattle.lldp_engine.specs.FixedNumbers.{number_of_refusal}
 
--- A port's name: 1 to 15 octets, each one that names may have.
+-- A port's name: 1 to 15 octets, each of them allowed in names.
 pub record IsName (name : List ℕ) : Type 0 where
   pub some : 1 ≤ length name
   pub short : length name ≤ 15
   pub octets : AllPass is_name_octet name
 
--- A text: at most 255 octets, none below the space and none above the tilde.
+-- A text: at most 255 octets, each from the space (32) to the tilde (126).
 pub record IsText (text : List ℕ) : Type 0 where
   pub short : length text ≤ 255
   pub octets : All (λ octet. (32 ≤ octet) × (octet ≤ 126)) text
 
--- The options pass the check of this fault: at least one port, at most 64, each with a name, no two with the same, and
--- a hostname that is a text. Lack of memory is not a check.
+-- The options pass the check of this fault: at least one port; at most 64; each has a valid name;
+-- no two names are equal; the hostname is a text. Lack of memory is not a check.
 abbrev pub Passes : Options → OpenFault → Type 0
 Passes o Memory = Unit {0}
 Passes o NoPorts = 1 ≤ length o.names
@@ -30,13 +30,13 @@ Passes o PortName = All IsName o.names
 Passes o SamePort = AllPairs (λ name other. name ≢ other) o.names
 Passes o Text = IsText o.hostname
 
--- The options fail this check, and pass each check of a smaller number.
+-- The options fail this check, and pass each check with a smaller number.
 pub record IsFirstFault (o : Options) (fault : OpenFault) : Type 0 where
   pub fails : Passes o fault → ⊥
   pub first : (other : OpenFault) → number_of_refusal other < number_of_refusal fault → Passes o other
 
--- Each part of the configuration is that of its option. No option gives the last four: `lldpa`, a tx-interval of 30, a
--- tx-hold of 4, and the limit, which is the room.
+-- Each part of the configuration is that of its option. The last four have no option of their own:
+-- `lldpa`, a tx-interval of 30, a tx-hold of 4, and the limit, which is the greatest allowed.
 pub record IsConfiguredBy (o : Options) (c : Configuration) : Type 0 where
   pub mac : c.mac ≡ o.mac
   pub role : c.role ≡ o.role
@@ -51,7 +51,7 @@ pub record IsConfiguredBy (o : Options) (c : Configuration) : Type 0 where
   pub hold : c.hold ≡ 4
   pub limit : c.limit ≡ o.max_neighbors
 
--- A port receives and sends, unless the options ask that it only receives; its machine has their three numbers.
+-- A port is RxAndTx, or RxOnly if the options ask for that; its machine has their three numbers.
 pub record IsPortOf (o : Options) (port : PortState) : Type 0 where
   pub both : o.receive_only ≡ false → port.status ≡ RxAndTx
   pub receives : o.receive_only ≡ true → port.status ≡ RxOnly
@@ -59,7 +59,7 @@ pub record IsPortOf (o : Options) (port : PortState) : Type 0 where
   pub fast_init : port.machine.fast_init ≡ o.fast_init
   pub reinit : port.machine.reinit ≡ o.reinit
 
--- The agent is that of these options: its configuration, the names of its ports, and each port.
+-- The agent's configuration, port names and ports are those that the options give.
 pub record OpensWith (o : Options) (agent : AgentState) : Type 0 where
   pub configuration : IsConfiguredBy o agent.configuration
   pub names : names_of agent ≡ o.names

@@ -1,4 +1,4 @@
--- A port of the agent that the definitions give of a past, by its number, and what an event leaves as it was.
+-- The ports of the agent that has a past, by number, and what an event leaves unchanged.
 use Rattle.std.specs.Prelude.{◌≡◌, ℕ, List, Option, slice_get}
 use Rattle.std.specs.List.{Contains}
 use Rattle.std.specs.Option.{option_map}
@@ -9,15 +9,15 @@ use Rattle.lldp_engine.specs.AgentState.{PortState}
 use Rattle.lldp_engine.specs.Event.{Event}
 use Rattle.lldp_engine.specs.Past.{Past, with_event, agent_of, marks_of}
 
--- port i, if there is one
+-- Returns port i, if there is one.
 abbrev pub port_at : Past → ℕ → Option PortState
 port_at past i = slice_get (agent_of past).ports i
 
--- its table
+-- Returns the table of port i.
 abbrev pub table_at : Past → ℕ → Option Contents
 table_at past i = option_map (λ port. port.table) (port_at past i)
 
--- its neighbors
+-- Returns the neighbors of port i.
 abbrev pub neighbors_at : Past → ℕ → Option (List Neighbor)
 neighbors_at past i = option_map (λ port. port.table.neighbors) (port_at past i)
 
@@ -25,7 +25,7 @@ neighbors_at past i = option_map (λ port. port.table.neighbors) (port_at past i
 abbrev pub Sends : Past → ℕ → Mark → Type 0
 Sends past i mark = Contains (marks_of past) (i, mark)
 
--- The event leaves port i as it was, its status, its table, its transmitting and its counters, and it sends nothing.
+-- Port i keeps its status, table, transmit machine and counters at the event, and sends nothing.
 pub record LeavesPort (past : Past) (event : Event) (i : ℕ) : Type 0 where
   pub as_it_was : port_at (with_event past event) i ≡ port_at past i
   pub silent : (mark : Mark) → ¬ (Sends (with_event past event) i mark)

@@ -18,14 +18,14 @@ use Rattle.lldp_engine.specs.Laws.OnlyForms.{word_of}
 abbrev pub line_of : List ℕ → List ℕ → List ℕ
 line_of name rest = codes "lldp." ++ (name ++ codes ".") ++ rest
 
--- The lines before the neighbors of a port.
+-- Returns the lines of a port that come before those of its neighbors.
 abbrev pub lines_of_counts : PortState → List (List ℕ)
 lines_of_counts port =
     line_of port.name (codes "neighbors=" ++ decimal (length port.table.neighbors))
     ∷ line_of port.name (codes "octets=" ++ decimal (sum_by (λ neighbor. length neighbor.octets) port.table.neighbors))
     ∷ line_of port.name (codes "too-many=" ++ (if nat_lt 0 port.table.too_many_left then codes "yes" else codes "no")) ∷ []
 
--- The first four lines of a neighbor with its number.
+-- Returns the first four lines of a neighbor with this number.
 abbrev pub first_lines : List ℕ → ℕ → Neighbor → List (List ℕ)
 first_lines name number neighbor =
     line_of name (decimal number ++ codes ".chassis." ++ chassis_text neighbor.msap.chassis)
@@ -33,14 +33,14 @@ first_lines name number neighbor =
     ∷ line_of name (decimal number ++ codes ".ttl=" ++ decimal neighbor.ttl)
     ∷ line_of name (decimal number ++ codes ".expires=" ++ decimal neighbor.left) ∷ []
 
--- Those of its kept TLVs, in their order.
+-- Returns the lines of its kept TLVs, in their order.
 abbrev pub lines_of_kept : List ℕ → ℕ → Neighbor → List (List ℕ)
 lines_of_kept name number neighbor = map (λ tlv. line_of name (decimal number ++ codes "." ++ tlv_text tlv)) (kept_of neighbor.octets)
 
 abbrev pub lines_of_neighbor : List ℕ → ℕ × Neighbor → List (List ℕ)
 lines_of_neighbor name numbered = first_lines name numbered.0 numbered.1 ++ lines_of_kept name numbered.0 numbered.1
 
--- The lines of a port: the counts, then those of each neighbor, numbered from 1 in the order of the table.
+-- The lines of a port: the counts, then those of each neighbor, numbered from 1 in table order.
 abbrev pub lines_of_port : PortState → List (List ℕ)
 lines_of_port port = lines_of_counts port ++ flat_map (lines_of_neighbor port.name) (enumerate_from 1 port.table.neighbors)
 
@@ -71,7 +71,7 @@ lines_of_configuration agent =
     ∷ (codes "configuration.ports=" ++ decimal (length agent.ports))
     ∷ map line_of_status agent.ports
 
--- THE SHOWS: the neighbors and the counters of each port, all ports one after another; the own identity; how the agent is configured.
+-- THE SHOWS: neighbors of each port, counters of each port, own identity, and configuration.
 abbrev pub whole_of : Show → AgentState → List (List ℕ)
 whole_of Neighbors agent = flat_map lines_of_port agent.ports
 whole_of Statistics agent = flat_map counter_lines agent.ports

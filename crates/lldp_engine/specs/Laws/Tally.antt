@@ -13,17 +13,17 @@ use Rattle.lldp_engine.specs.Past.{Past, with_event}
 use Rattle.lldp_engine.specs.Laws.PortAt.{port_at, Sends}
 use Rattle.lldp_engine.specs.Laws.Deaf.{Hears}
 
--- This many of these events pass, each with those before it.
+-- P holds for this many of these events, each taken with the events before it.
 pub data AreMany (P : List Event → Type 0) : List Event → ℕ → Type 0 where
   none : AreMany P [] 0
   one_more : {event : Event} {events : List Event} {n : ℕ} → P (event ∷ events) → AreMany P events n → AreMany P (event ∷ events) (suc n)
   no_more : {event : Event} {events : List Event} {n : ℕ} → ¬ (P (event ∷ events)) → AreMany P events n → AreMany P (event ∷ events) n
 
--- At this many events port i has sent this.
+-- Port i sent this at this many events so far.
 abbrev pub HasSent : Past → ℕ → Mark → ℕ → Type 0
 HasSent past i mark n = AreMany (λ events. Sends (record { options = past.options; events = events }) i mark) past.events n
 
--- Modulo 2^32 `received` has risen by one, and the counters of faults, errors and TLVs by these.
+-- `received` has risen by one and the other counters by these numbers, modulo 2^32.
 pub record HaveRisen (before after : Counters) (faults faulty left_out unknown : ℕ) : Type 0 where
   pub received : after.received ≡ (before.received + 1) % 2 ^ 32
   pub discarded : after.discarded ≡ (before.discarded + faults) % 2 ^ 32
@@ -31,40 +31,40 @@ pub record HaveRisen (before after : Counters) (faults faulty left_out unknown :
   pub tlvs_discarded : after.tlvs_discarded ≡ (before.tlvs_discarded + left_out) % 2 ^ 32
   pub unrecognized : after.unrecognized ≡ (before.unrecognized + unknown) % 2 ^ 32
 
--- These octets, if they come on port i, add this many faults, errors, discarded and unrecognized TLVs to its counters.
+-- If port i receives these octets, its counters of faults, errors and TLVs rise by these numbers.
 abbrev pub Adds : Past → ℕ → List ℕ → ℕ → ℕ → ℕ → ℕ → Type 0
 Adds past i octets faults errors discarded unrecognized =
     (before after : PortState) → port_at past i ≡ Some before → port_at (with_event past (frame i octets)) i ≡ Some after →
     HaveRisen before.counters after.counters faults errors discarded unrecognized
 
--- how many kept TLVs of an LLDPDU are of types 9 to 127
+-- Counts the kept TLVs of types 9 to 127 in an LLDPDU.
 abbrev pub unknown_tlvs : List ℕ → ℕ
 unknown_tlvs pdu = length (filter (λ tlv. nat_le 9 tlv.kind) (kept_of pdu))
 
--- The event makes this of port i, in terms of the port before and after it.
+-- P relates port i before the event to port i after it.
 abbrev pub Makes : Past → Event → ℕ → (PortState → PortState → Type 0) → Type 0
 Makes past event i P =
     (before after : PortState) → port_at past i ≡ Some before → port_at (with_event past event) i ≡ Some after → P before after
 
--- Modulo 2^32 `ageouts` has risen by the neighbors fewer.
+-- `ageouts` has risen by the number of neighbors that are gone, modulo 2^32.
 abbrev pub CountsAgedOut : PortState → PortState → Type 0
 CountsAgedOut before after =
     after.counters.ageouts
     ≡ (before.counters.ageouts + (length before.table.neighbors - length after.table.neighbors)) % 2 ^ 32
 
--- `ageouts` stays
+-- `ageouts` has not changed.
 abbrev pub KeepsAgeouts : PortState → PortState → Type 0
 KeepsAgeouts before after = after.counters.ageouts ≡ before.counters.ageouts
 
--- Modulo 2^32 `drops` has risen by one.
+-- `drops` has risen by one, modulo 2^32.
 abbrev pub CountsDrop : PortState → PortState → Type 0
 CountsDrop before after = after.counters.drops ≡ (before.counters.drops + 1) % 2 ^ 32
 
--- `drops` stays
+-- `drops` has not changed.
 abbrev pub KeepsDrops : PortState → PortState → Type 0
 KeepsDrops before after = after.counters.drops ≡ before.counters.drops
 
--- Each counter of received frames stays, `drops` among them.
+-- No counter of received frames has changed, and `drops` has not.
 pub record KeepsReceived (before after : PortState) : Type 0 where
   pub received : after.counters.received ≡ before.counters.received
   pub discarded : after.counters.discarded ≡ before.counters.discarded
@@ -73,8 +73,8 @@ pub record KeepsReceived (before after : PortState) : Type 0 where
   pub unrecognized : after.counters.unrecognized ≡ before.counters.unrecognized
   pub drops : after.counters.drops ≡ before.counters.drops
 
--- These octets find no room on port i: it hears them, their LLDPDU is sound and its TTL not 0, no neighbor of that name
--- is held, and no fewer are held than the limit.
+-- There is no room for these octets on port i: it hears them, their LLDPDU is sound with a TTL
+-- above 0, no neighbor has its MSAP identifier, and the table has reached its limit.
 pub record HasNoRoom (past : Past) (i : ℕ) (octets : List ℕ) : Type 0 where
   pub hears : Hears past i
   pub lldpdu : List ℕ

@@ -1,5 +1,5 @@
--- What an event is for a port: for its status and its link, for its table, and for its transmitting. The state before
--- the event is given.
+-- What an event does to a port: to its status and its link, to its table, and to its transmit
+-- machine. The state before the event is given.
 use Rattle.std.specs.Prelude.{◌&&◌, not, Bool, true, false, if◌then◌else◌, Option, Some, None, option_and_then}
 use Rattle.lldp_pdu.specs.Msap.{MsapId}
 use Rattle.lldp_pdu.specs.Lldpdu.{extent, ttl_of, msap_of}
@@ -15,30 +15,30 @@ use Rattle.lldp_engine.specs.Port.Event.{PortEvent, tick, frame, link, status, l
 
 -- ## Its status, its link, and what it hears
 
--- the status that was given last
+-- A status event sets the status; other events leave it as it was.
 abbrev pub status_then : PortEvent → Status → Status
 status_then (status given) before = given
 status_then event before = before
 
--- whether its link is up, as its last link event says
+-- A link event sets whether the link is up; other events leave it as it was.
 abbrev pub up_then : PortEvent → Bool → Bool
 up_then (link up) before = up
 up_then event before = before
 
--- only octets that come are heard
+-- A port hears only received octets.
 abbrev pub heard_at : PortEvent → Status → Bool → Option Heard
 heard_at (frame octets) before up = heard_by before up octets
 heard_at event before up = None
 
 -- ## Its table
 
--- to forget the neighbor that leaves, to learn the one that lives
+-- At a TTL of 0 the table forgets the neighbor; at a TTL above 0 it learns the neighbor.
 abbrev pub call_of : Heard → Option Call
 call_of refused = None
 call_of (leaves msap) = Some (forget msap)
 call_of (tells pdu) = Some (learn (msap_of pdu) (ttl_of pdu) (extent pdu))
 
--- The call on its table. A status that takes receiving away purges it, whether the link is up or down.
+-- Returns the call on the table. A status that ends receiving purges it, even with the link down.
 abbrev pub call_at : PortEvent → Status → Bool → Option Call
 call_at tick before up = Some tick_call
 call_at (frame octets) before up = option_and_then call_of (heard_by before up octets)
@@ -46,33 +46,33 @@ call_at (status given) before up = if receives before && not (receives given) th
 call_at (limit neighbors) before up = Some (set_limit neighbors)
 call_at event before up = None
 
--- ## Its transmitting
+-- ## Its transmit machine
 
--- a neighbor that is stored as new
+-- A neighbor that was stored as new is a cause; any other answer of the table means nothing.
 abbrev pub cause_of_answer : Learned → Cause
 cause_of_answer New = Neighbor
 cause_of_answer answer = Nothing
 
--- what was heard: a new neighbor, by what the table answers to its name, or nothing
+-- A heard LLDPDU means a new neighbor if the table answers so to its MSAP identifier.
 abbrev pub cause_of_heard : (MsapId → Learned) → Option Heard → Cause
 cause_of_heard answer (Some (tells pdu)) = cause_of_answer (answer (msap_of pdu))
 cause_of_heard answer heard = Nothing
 
--- the right to transmit, before and after
+-- Losing the right to transmit means Stop, gaining it means Allow.
 abbrev pub cause_of_right : Bool → Bool → Cause
 cause_of_right true false = Stop
 cause_of_right false true = Allow
 cause_of_right true true = Nothing
 cause_of_right false false = Nothing
 
--- the link, before and after
+-- A link that goes down means Down, a link that comes up means Up.
 abbrev pub cause_of_link : Bool → Bool → Cause
 cause_of_link true false = Down
 cause_of_link false true = Up
 cause_of_link true true = Nothing
 cause_of_link false false = Nothing
 
--- what an event means to its transmit machine; answer: what its table answers to a name
+-- Returns the cause that an event is; `answer` is the answer of the table to an MSAP identifier.
 abbrev pub cause_at : PortEvent → Status → Bool → (MsapId → Learned) → Cause
 cause_at tick before up answer = Tick
 cause_at (frame octets) before up answer = cause_of_heard answer (heard_by before up octets)

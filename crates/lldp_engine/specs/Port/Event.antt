@@ -1,10 +1,11 @@
--- What happens to one port, and which ports an agent's event concerns.
+-- The events of one port, and which ports an event of the agent concerns.
 use Rattle.std.specs.Prelude.{ℕ, ◌==◌, Bool, if◌then◌else◌, List}
 use Rattle.lldp_engine.specs.declared.port.status.Status.{Status}
 use Rattle.lldp_engine.specs.Event as agent
 
--- a second has passed; it received these octets; its link came up or went down; it was given a status; the limit of its
--- neighbors was set; a local change (localChange), of what is sent or by update; nothing, as at another port's event
+-- A second has passed; octets came; the link came up or went down; the status or the limit of
+-- neighbors was set; a command made a local change (localChange); nothing, as at another port's
+-- event.
 pub data PortEvent : Type 0 where
   tick : PortEvent
   frame : (octets : List ℕ) → PortEvent
@@ -14,25 +15,25 @@ pub data PortEvent : Type 0 where
   change : PortEvent
   nothing : PortEvent
 
--- the ports that an event concerns, one by its number or each, and what it is for them
+-- Which ports an event concerns, one by its number or each, and which port event it is for them.
 pub data Whose : Type 0 where
   one_port : (port : ℕ) (event : PortEvent) → Whose
   each_port : (event : PortEvent) → Whose
 
--- Every command except a status command concerns each port, and is a local change, even if it sets the same value.
+-- Every command except a status is a local change for each port, even if the value is the same.
 abbrev pub whose_setting : agent.Setting → Whose
 whose_setting (agent.status port given) = one_port port (status given)
 whose_setting (agent.limit neighbors) = each_port (limit neighbors)
 whose_setting setting = each_port change
 
--- a tick concerns each port, octets and a link event one port
+-- A tick concerns each port; octets and link events concern one port.
 abbrev pub whose : agent.Event → Whose
 whose agent.tick = each_port tick
 whose (agent.frame port octets) = one_port port (frame octets)
 whose (agent.link port up) = one_port port (link up)
 whose (agent.set setting) = whose_setting setting
 
--- what it is for port i
+-- Returns which port event it is for port i.
 abbrev pub for_port : ℕ → Whose → PortEvent
 for_port i (one_port port event) = if port == i then event else nothing
 for_port i (each_port event) = event

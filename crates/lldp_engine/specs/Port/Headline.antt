@@ -1,4 +1,4 @@
--- What is promised of every port, for each past that it has.
+-- What is promised of every port, for each past of the port.
 use Rattle.std.specs.Prelude.{◌≡◌, ◌≤◌, ◌↔◌, List, ◌∷◌, ◌++◌, length}
 use Rattle.std.specs.List.{Contains, AllPairs, AllByRecursion, IsDistinct}
 use Rattle.lldp_table.specs.Msap.{same_msap}
@@ -13,9 +13,9 @@ use Rattle.lldp_engine.specs.Options.{Options}
 use Rattle.lldp_engine.specs.Status.{transmits}
 use Rattle.lldp_engine.specs.Port.Past.{Happened, status_after, up_after, table_events_after, settings_of, caused_at, causes_after, mark_after}
 
--- The table of a port holds, for each name, its last stored frame that has not expired, and nothing else; each name
--- once, in the order in which the names were last new; no more neighbors than the limit in force, and no more than
--- 1,500 octets for each.
+-- For each MSAP identifier the table holds the last stored frame, if it has not expired, and
+-- nothing else. Each identifier occurs once, in the order in which they were last new. At most as
+-- many neighbors are held as the limit in force, each with at most 1,500 octets.
 pub record HoldsLastStored (o : Options) (past : List Happened) (table : Contents) : Type 0 where
   pub exactly : (neighbor : Neighbor) → Contains table.neighbors neighbor ↔ IsLastStored (table_events_after o past) neighbor
   pub once : IsDistinct same_msap (names_of table.neighbors)
@@ -24,32 +24,32 @@ pub record HoldsLastStored (o : Options) (past : List Happened) (table : Content
   pub few : length table.neighbors ≤ table.limit
   pub short : AllByRecursion (λ neighbor. length neighbor.octets ≤ 1500) table.neighbors
 
--- at this event, after earlier ones, an ordinary frame is due and the credit window is open
+-- At event `now`, after earlier ones, an ordinary frame is due and the credit window is open.
 abbrev pub DueAndOpen : Options → Happened → List Happened → Type 0
 DueAndOpen o now earlier = IsDueAndOpen (settings_of o) (causes_after o earlier) (caused_at o now earlier)
 
--- at this event, after earlier ones, the port stops
+-- At event `now`, after earlier ones, the port stops.
 abbrev pub Stops : Options → Happened → List Happened → Type 0
 Stops o now earlier = StopsAt (settings_of o) (causes_after o earlier) (caused_at o now earlier)
 
--- At an event after earlier ones a port sends an ordinary frame exactly if one is due and the credit window is open:
--- no run of events that ends there would hold more than txCreditMax and the ticks after its first event. It sends a
--- shutdown frame exactly if it was active and may no longer transmit.
+-- A port sends an ordinary frame exactly if one is due and the credit window is open: with this
+-- frame no run of events that ends now holds more than txCreditMax plus the ticks after its first
+-- event. It sends a shutdown frame exactly if it was active and may no longer transmit.
 pub record SendsExactly (o : Options) (now : Happened) (earlier : List Happened) : Type 0 where
   pub ordinary : (mark_after o (now ∷ earlier) ≡ Ordinary) ↔ DueAndOpen o now earlier
   pub shutdown : (mark_after o (now ∷ earlier) ≡ Shutdown) ↔ Stops o now earlier
 
--- After this past, by what its events were for its transmitting, a port has the right to transmit exactly if its
--- status gives it, and its link is up exactly if its last link event says so.
+-- After this past, as its transmit machine saw it, a port has the right to transmit exactly if its
+-- status gives it, and its link is up exactly if the last link event, if there is one, says so.
 pub record FollowsStatus (o : Options) (past : List Happened) : Type 0 where
   pub right : is_allowed (settings_of o) (moments (settings_of o) (causes_after o past))
       ≡ transmits (status_after o past)
   pub link : is_up (moments (settings_of o) (causes_after o past)) ≡ up_after past
 
--- A port did so at each event so far, and its right to transmit has been that of its status. No run of events holds
--- more ordinary frames than txCreditMax and the ticks after its first event, nor more stops than one and one for each
--- reinitDelay ticks in it; and up to no event has another choice of due positions that keeps these windows had more
--- frames.
+-- The port sent exactly this at each event so far, and its right to transmit followed its status.
+-- No run of events holds more ordinary frames than txCreditMax plus the ticks after its first
+-- event, nor more stops than one plus one for each reinitDelay ticks in it. No other choice of due
+-- positions that keeps these windows has had more frames up to any event.
 pub record HasSentExactly (o : Options) (past : List Happened) : Type 0 where
   pub exactly : (later earlier : List Happened) (now : Happened) → past ≡ later ++ now ∷ earlier →
       SendsExactly o now earlier

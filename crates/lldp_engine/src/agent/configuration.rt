@@ -1,4 +1,4 @@
-//! How an agent is configured.
+//! The configuration of an agent.
 ghost use Rattle.std.specs.Prelude.{◌≡◌, ◌<◌, ◌≤◌, length};
 ghost use Rattle.lldp_engine.specs.Options.{options_of};
 ghost use Rattle.lldp_engine.specs.Event.{event_of};
@@ -19,7 +19,7 @@ const HOLD: u8 = 4;
 /// A text of at most 255 octets.
 pub type Text = ArrayVec<u8, 255>;
 
-/// The configuration of an agent: what it was opened with for good, and what commands change.
+/// The configuration of an agent. Commands change only the fields after `capacity`.
 #[derive(Drop)]
 pub struct Configuration {
     pub mac: [u8; 6],
@@ -28,13 +28,13 @@ pub struct Configuration {
     pub credit_max: u8,
     pub fast_init: u8,
     pub reinit: u8,
-    /// The limit of neighbors at opening.
+    /// The limit of neighbors per port at opening, which later limits may not exceed.
     pub capacity: u8,
     pub hostname: Text,
     pub description: Text,
     pub interval: u16,
     pub hold: u8,
-    /// The limit of neighbors in force.
+    /// The limit of neighbors per port that is in force now.
     pub limit: u8,
 }
 
@@ -69,7 +69,7 @@ fn text_of(octets: &[u8]) -> Text
 }
 
 impl Configuration {
-    /// Returns that of an agent with these options, whose hostname has at most 255 octets.
+    /// Returns the configuration at opening. The hostname must have at most 255 octets.
     pub(crate) fn open(options: &Options<'_>) -> Configuration
         requires { length options.now.hostname.now ≤ 255 }
         ensures { result ≡ configuration_at_opening (options_of options.now) }
@@ -90,7 +90,7 @@ impl Configuration {
         }
     }
 
-    /// Changes it as an event asks.
+    /// Applies an event to the configuration. Only commands change it.
     pub(crate) fn take(&mut self, event: &Event<'_>)
         requires { HasShortText (event_of event.now) }
         ensures { self.new ≡ configured (event_of event.now) self.old }
@@ -129,7 +129,7 @@ impl Configuration {
         self.capacity
     }
 
-    /// Returns the TTL of an ordinary frame.
+    /// Returns the TTL of an ordinary frame: tx-interval * tx-hold + 1 seconds, at most 65,535.
     pub fn ttl(&self) -> u16
         ensures value { result ≡ sent_ttl self.now }
         ensures lives { 0 < result }

@@ -1,4 +1,4 @@
-//! What happens to an agent.
+//! The events of an agent.
 ghost use Rattle.std.specs.Prelude.{◌≡◌, ◌↔◌, IsTrue};
 ghost use Rattle.lldp_engine.specs.Event.{HasOctets, IsInRange, setting_of, event_of};
 ghost use Rattle.lldp_engine.specs.Port.Event.{whose_setting, whose};
@@ -14,12 +14,12 @@ pub const MOST_INTERVAL: u16 = 3600;
 /// The greatest tx-hold.
 pub const MOST_HOLD: u8 = 100;
 
-/// What a command changes.
+/// A change that a command makes.
 #[derive(Clone, Copy, Debug, PartialEq, Eq)]
 pub enum Setting<'a> {
-    /// The system name, a text.
+    /// The system name: at most 255 printable octets.
     Hostname(&'a [u8]),
-    /// The system description, a text.
+    /// The system description: at most 255 printable octets.
     Description(&'a [u8]),
     /// The tx-interval in seconds, 1 to 3600.
     Interval(u16),
@@ -27,28 +27,28 @@ pub enum Setting<'a> {
     Hold(u8),
     /// How many neighbors each port may hold, 1 to the number given at opening.
     Limit(u8),
-    /// The status of the port of this number.
+    /// The status of the port with this number.
     Status { port: u8, status: Status },
-    /// Nothing. It still is a local change.
+    /// Changes no value, but is still a local change.
     Update,
 }
 
-/// What happens to an agent.
+/// Something that happens to an agent.
 #[derive(Clone, Copy, Debug, PartialEq, Eq)]
 pub enum Event<'a> {
     /// A second has passed.
     Tick,
-    /// The port of this number received these octets.
+    /// The port with this number received these octets.
     Frame { port: u8, octets: &'a [u8] },
-    /// The link of the port of this number came up, or went down.
+    /// The link of the port with this number came up or went down.
     Link { port: u8, up: bool },
     /// A command was accepted.
     Set(Setting<'a>),
 }
 
 impl<'a> Setting<'a> {
-    /// Returns whether every agent that has the port and the room accepts it: its number is in the
-    /// range, its text has at most 255 printable octets.
+    /// Returns whether the number is in its range and the text has at most 255 octets, all
+    /// printable. Limits and port numbers depend on the agent and are not checked here.
     pub(crate) fn in_range(&self) -> bool
         ensures { IsTrue result ↔ IsInRange (setting_of self.now) }
     {
@@ -60,7 +60,7 @@ impl<'a> Setting<'a> {
         }
     }
 
-    /// Returns which ports it concerns, and what it is for each of them.
+    /// Returns which ports the setting concerns, and which port event it is for them.
     fn whose(&self) -> Whose<'a>
         ensures { whose_of result ≡ whose_setting (setting_of self.now) }
     {
@@ -77,7 +77,7 @@ impl<'a> Setting<'a> {
 }
 
 impl<'a> Event<'a> {
-    /// Returns which ports it concerns, and what it is for each of them.
+    /// Returns which ports the event concerns, and which port event it is for them.
     pub(crate) fn whose(&self) -> Whose<'a>
         ensures value { whose_of result ≡ whose (event_of self.now) }
         ensures octets { HasOctets (event_of self.now) }

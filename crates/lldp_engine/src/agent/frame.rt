@@ -25,7 +25,7 @@ use std::alloc::Allocator;
 /// A frame to send, at most 1,514 octets.
 pub type Frame = ArrayVec<u8, 1514>;
 
-/// Returns the body of the Chassis ID: a MAC address.
+/// Returns the body of the Chassis ID TLV: subtype 4 and the MAC address.
 fn chassis_id(configuration: &Configuration) -> ArrayVec<u8, 7>
     ensures value { result.items ≡ 4 ∷ configuration.now.mac }
     ensures len { length result.items ≡ 7 }
@@ -36,7 +36,7 @@ fn chassis_id(configuration: &Configuration) -> ArrayVec<u8, 7>
     body
 }
 
-/// Returns the body of the Port ID: the name of the port.
+/// Returns the body of the Port ID TLV: subtype 5 and the name of the port.
 fn port_id(name: &[u8]) -> ArrayVec<u8, 16>
     requires { length name.now ≤ 15 }
     ensures value { result.items ≡ 5 ∷ name.now }
@@ -48,7 +48,7 @@ fn port_id(name: &[u8]) -> ArrayVec<u8, 16>
     body
 }
 
-/// Returns the body of the System Capabilities of a role.
+/// Returns the body of the System Capabilities TLV for a role.
 fn capabilities(role: Role) -> &'static [u8]
     ensures value { result.now ≡ capabilities_of role }
     ensures short { length result.now ≡ 4 }
@@ -60,7 +60,7 @@ fn capabilities(role: Role) -> &'static [u8]
     }
 }
 
-/// Returns the body of the Management Address TLV of an IPv4 address.
+/// Returns the body of the Management Address TLV for an IPv4 address.
 fn management(address: &[u8; 4]) -> ArrayVec<u8, 12>
     ensures value { result.items ≡ management_body address.now }
     ensures short { length result.items ≡ 12 }
@@ -72,7 +72,7 @@ fn management(address: &[u8; 4]) -> ArrayVec<u8, 12>
     body
 }
 
-/// Writes what precedes the LLDPDU: the nearest bridge, the agent's MAC, LLDP's EtherType.
+/// Writes the Ethernet header: nearest bridge, the agent's MAC address, LLDP's EtherType.
 fn write_head(frame: &mut Frame, configuration: &Configuration)
     ensures value { frame.new.items ≡ nearest_bridge ++ configuration.now.mac ++ lldp_ethertype }
     ensures len { array_vec_len frame.new ≡ 14 }
@@ -143,7 +143,7 @@ fn write_tlvs(frame: &mut Frame, configuration: &Configuration, name: &[u8], mar
     }
 }
 
-/// Writes the frame of a port over what the room held.
+/// Writes the frame of a port, replacing what `frame` held.
 fn write_frame(frame: &mut Frame, configuration: &Configuration, name: &[u8], mark: Mark)
     requires some { 0 < length name.now }
     requires short { length name.now ≤ 15 }
@@ -156,9 +156,9 @@ fn write_frame(frame: &mut Frame, configuration: &Configuration, name: &[u8], ma
 }
 
 impl<A: Allocator> Agent<A> {
-    /// Writes the frame that a port sends with the present configuration, over what the room held.
-    /// `examine` reads back what was meant: from an ordinary frame the name, the TTL and the TLVs
-    /// of the configuration, from a shutdown frame the name and a TTL of 0.
+    /// Writes the frame that a port sends with the present configuration, replacing what `frame`
+    /// held. `examine` reads back the port's name and, from an ordinary frame, the TTL and the TLVs
+    /// of the configuration; from a shutdown frame, a TTL of 0.
     pub fn write_frame(&self, port: u8, mark: Mark, frame: &mut Frame)
         requires port { IsPort self.now port }
         requires sent { IsSent mark }
@@ -173,8 +173,8 @@ impl<A: Allocator> Agent<A> {
         write_frame(frame, self.configuration(), self.port_name(port), mark);
     }
 
-    /// Returns the frame that a port sends, as `write_frame` writes it. To send many, have each
-    /// written into one room.
+    /// Returns the frame that `write_frame` writes. To send many frames, use `write_frame` and
+    /// reuse one buffer.
     pub fn frame(&self, port: u8, mark: Mark) -> Frame
         requires port { IsPort self.now port }
         requires sent { IsSent mark }

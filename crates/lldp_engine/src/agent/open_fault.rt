@@ -7,7 +7,7 @@ use std::alloc::AllocError;
 /// Why an agent was not opened.
 #[derive(Clone, Copy, Debug, PartialEq, Eq)]
 pub enum OpenFault {
-    /// There was no memory for it.
+    /// There was not enough memory.
     Memory = 1,
     /// No port was named.
     NoPorts = 2,
@@ -17,7 +17,7 @@ pub enum OpenFault {
     PortName = 4,
     /// Two ports have the same name.
     SamePort = 5,
-    /// The hostname has more than 255 octets, or one that is not printable.
+    /// The hostname has more than 255 octets, or an octet that is not printable.
     Text = 6,
 }
 

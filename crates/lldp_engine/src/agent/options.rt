@@ -1,4 +1,4 @@
-//! What an agent is opened with.
+//! The options with which an agent is opened.
 ghost use Rattle.std.specs.Prelude.{◌≡◌, ◌≤◌, ◌↔◌, IsTrue, IfNone, map, length};
 ghost use Rattle.std.specs.List.{list_all};
 ghost use Rattle.lldp_engine.specs.Options.{InRange, options_of, is_port_name, fault_of};
@@ -8,10 +8,10 @@ use crate::agent::port_names::{all_port_names, names_repeat};
 use lldp_text::is_printable_text;
 pub use lldp_transmit::{MOST_CREDIT, MOST_FAST, MOST_REINIT};
 
-/// The most neighbors that a port may be opened for.
+/// The greatest limit of neighbors per port at opening.
 pub const MOST_NEIGHBORS: u8 = lldp_table::MOST_NEIGHBORS as u8;
 
-/// The role of a host: the one capability that its frames report.
+/// The role of a host: the one system capability that its frames report.
 #[derive(Clone, Copy, Debug, PartialEq, Eq)]
 pub enum Role {
     Station,
@@ -19,12 +19,12 @@ pub enum Role {
     Router,
 }
 
-/// What an agent is opened with.
+/// The options with which an agent is opened.
 #[derive(Clone, Copy)]
 pub struct Options<'a> {
     /// The names of the ports, in order.
     pub ports: &'a [&'a str],
-    /// The source address of every frame.
+    /// The source address of every frame, and the chassis ID.
     pub mac: [u8; 6],
     pub hostname: &'a str,
     /// The IPv4 address under which the agent can be managed.
@@ -38,12 +38,13 @@ pub struct Options<'a> {
     pub fast_init: u8,
     /// reinitDelay in seconds, 1 to 10.
     pub reinit: u8,
-    /// Whether each port begins as `RxOnly`, and not as `RxAndTx`.
+    /// Whether each port begins as `RxOnly` instead of `RxAndTx`.
     pub receive_only: bool,
 }
 
 impl<'a> Options<'a> {
-    /// Returns whether the four numbers are in their ranges, as `Agent::open` requires.
+    /// Returns whether the limit of neighbors, txCreditMax, txFastInit and reinitDelay are in their
+    /// ranges, as `Agent::open` requires.
     pub fn in_range(&self) -> bool
         ensures { IsTrue result ↔ InRange (options_of self.now) }
     {

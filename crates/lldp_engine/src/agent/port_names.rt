@@ -1,4 +1,4 @@
-//! Names of ports.
+//! Checks of the names of ports.
 ghost use Rattle.std.specs.Prelude.{◌≡◌, map};
 ghost use Rattle.std.specs.List.{list_any, list_all};
 ghost use Rattle.std.specs.Str.{bytes_eq};
@@ -30,7 +30,7 @@ fn can_name_port(name: &str) -> bool
     all_name_octets(name.as_bytes())
 }
 
-/// Returns whether each is the name of a port.
+/// Returns whether every name is valid for a port.
 pub(crate) fn all_port_names(names: &[&str]) -> bool
     ensures { result ≡ list_all is_port_name (map (λ n. n.now) names.now) }
 {

@@ -22,7 +22,7 @@ use std::alloc::{AllocError, Allocator};
 /// The ports that send, in ascending order, each with what it sends.
 pub type Marks = ArrayVec<(u8, Mark), 64>;
 
-/// Opens the ports of the options. Takes the memory of their tables.
+/// Opens the ports that the options name, and allocates their tables.
 pub(crate) fn open_ports<A: Allocator + Clone>(
     alloc: A,
     options: &Options<'_>,
@@ -39,7 +39,7 @@ pub(crate) fn open_ports<A: Allocator + Clone>(
     Ok(ports)
 }
 
-/// Notes what a port sends, if anything.
+/// Adds a port and what it sends to the list, if it sends anything.
 fn note(marks: &mut Marks, port: u8, mark: Mark)
     requires { length marks.old.items < 64 }
     ensures noted { marks.new.items ≡ marks.old.items ++ sending port mark [] }
@@ -50,8 +50,8 @@ fn note(marks: &mut Marks, port: u8, mark: Mark)
     }
 }
 
-/// Gives an event to the ports that it concerns, one or all, with the tx-interval in force after
-/// it. Returns which ports send, and what.
+/// Applies an event to the port or ports that it concerns. `interval` is the tx-interval in force
+/// after the event. Returns which ports send, and what.
 pub(crate) fn take_event<A: Allocator>(
     ports: &mut [Port<A>],
     event: &Whose<'_>,
@@ -69,13 +69,13 @@ pub(crate) fn take_event<A: Allocator>(
             note(&mut marks, *port, mark);
             marks
         }
-        // Most events are ticks: their loop is compiled apart, so no port checks which event it is.
+        // Most events are ticks. They have their own loop, which need not check the kind of event.
         Whose::EachPort(PortEvent::Tick) => each_takes(ports, &PortEvent::Tick, interval),
         Whose::EachPort(each) => each_takes(ports, each, interval),
     }
 }
 
-/// Gives an event to each port.
+/// Applies an event to each port. Returns which ports send, and what.
 #[inline(always)]
 fn each_takes<A: Allocator>(ports: &mut [Port<A>], event: &PortEvent<'_>, interval: u16) -> Marks
     requires few { length ports.old ≤ 64 }
@@ -93,7 +93,7 @@ fn each_takes<A: Allocator>(ports: &mut [Port<A>], event: &PortEvent<'_>, interv
     marks
 }
 
-/// Returns whether no port holds more neighbors than this.
+/// Returns whether every port holds at most this many neighbors.
 pub(crate) fn all_fit<A: Allocator>(ports: &[Port<A>], most: u8) -> bool
     ensures { result ≡ fits ports.now most }
 {
@@ -105,7 +105,7 @@ pub(crate) fn all_fit<A: Allocator>(ports: &[Port<A>], most: u8) -> bool
     true
 }
 
-/// Returns the place of the port of that name, from 0.
+/// Returns the number of the port with this name, from 0.
 pub(crate) fn find_place<A: Allocator>(ports: &[Port<A>], name: &[u8]) -> Option<u8>
     requires { length ports.now ≤ 64 }
     ensures { result ≡ place_from 0 (map (λ p. p.name) ports.now) name.now }

@@ -1,4 +1,4 @@
-//! The words of a command, one after another, as the forms have them.
+//! Functions that read the words of a command, one after another.
 ghost use Rattle.std.specs.Prelude.{◌≡◌, ◌≢◌, ℕ, ◌≤◌, List, [], ◌∷◌, true, IfOk, MatchResult};
 ghost use Rattle.std.specs.Str.{bytes_eq};
 ghost use Rattle.lldp_text.specs.Text.{is_text};
@@ -19,7 +19,7 @@ pub(crate) fn is_word(word: &[u8], expected: &str) -> bool
     word == expected.as_bytes()
 }
 
-/// Takes the next word. If there is none, the fault is `Unknown`.
+/// Returns the next word, or the fault `Unknown` if there is none.
 pub fn next_word<'l>(words: &mut Words<'l>) -> Result<&'l [u8], CommandFault>
     ensures said { on_ok (λ word. (word.now, words.new)) result ≡ word_said words.old }
     ensures next { MatchResult result
@@ -42,7 +42,7 @@ pub fn end_words(mut words: Words<'_>) -> Result<(), CommandFault>
     }
 }
 
-/// Takes the next word, which must be this one.
+/// Reads the next word, which must be `expected`.
 pub(crate) fn expect_word(words: &mut Words<'_>, expected: &str) -> Result<(), CommandFault>
     ensures { (names : List (List ℕ)) (next : Form) →
         Reads names (word expected.now next ∷ []) words.old result (λ _. next ∷ []) words.new }
@@ -54,7 +54,7 @@ pub(crate) fn expect_word(words: &mut Words<'_>, expected: &str) -> Result<(), C
     }
 }
 
-/// Takes the next word, which must be a text.
+/// Reads the next word, which must be a text: at most 255 printable octets.
 pub(crate) fn next_text<'l>(words: &mut Words<'l>) -> Result<&'l [u8], CommandFault>
     ensures reads { (names : List (List ℕ)) (next : List ℕ → Form) →
         Reads names (text next ∷ []) words.old result (λ t. next t.now ∷ []) words.new }
@@ -67,7 +67,7 @@ pub(crate) fn next_text<'l>(words: &mut Words<'l>) -> Result<&'l [u8], CommandFa
     Ok(word)
 }
 
-/// Takes the next word, which must be a number in this range.
+/// Reads the next word, which must be a number from `least` to `greatest`.
 pub(crate) fn next_number(
     words: &mut Words<'_>,
     least: u16,
@@ -82,8 +82,8 @@ pub(crate) fn next_number(
     lldp_text::number(word, least, greatest)
 }
 
-/// Takes the next word and returns the number of the port that it names. If there is no word, the
-/// fault is `Unknown`; if it names no port, `NoSuchPort`.
+/// Reads the next word and returns the number of the port that it names. The fault is `Unknown` if
+/// there is no word, and `NoSuchPort` if no port has that name.
 pub fn next_port<A: Allocator>(agent: &Agent<A>, words: &mut Words<'_>) -> Result<u8, CommandFault>
     ensures said { on_ok (λ p. (p, words.new)) result
         ≡ port_said (names_of agent.now) words.old }
@@ -110,7 +110,7 @@ fn read_status(word: &[u8]) -> Option<Status>
     }
 }
 
-/// Takes the next word, which must be a status.
+/// Reads the next word, which must be a status.
 pub(crate) fn next_status(words: &mut Words<'_>) -> Result<Status, CommandFault>
     ensures { (names : List (List ℕ)) (next : Status → Form) →
         Reads names (status next ∷ []) words.old result (λ s. next s ∷ []) words.new }

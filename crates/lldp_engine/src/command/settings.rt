@@ -1,4 +1,4 @@
-//! The commands that set something, and how words give them.
+//! The commands that change something, and how they are read from words.
 ghost use Rattle.std.specs.Prelude.{◌∷◌, codes, IfOk};
 ghost use Rattle.lldp_engine.specs.Event.{setting_of};
 ghost use Rattle.lldp_engine.specs.Command.{set};

@@ -1,4 +1,4 @@
-//! Laws of what is counted.
+//! Laws of the counters.
 ghost use Rattle.std.specs.Prelude.{◌≡◌, ◌≢◌, ℕ, ◌<◌, ◌%◌, ◌^◌, List, Some, None};
 ghost use Rattle.lldp_pdu.specs.declared.fault.PduFault.{PduFault};
 ghost use Rattle.lldp_pdu.specs.Frame.{lldpdu_of};
@@ -13,8 +13,8 @@ ghost use Rattle.lldp_engine.specs.Laws.PortAt.{port_at};
 ghost use Rattle.lldp_engine.specs.Laws.Deaf.{Hears};
 ghost use Rattle.lldp_engine.specs.Laws.Tally.{HasSent, Adds, unknown_tlvs, Makes, CountsAgedOut, KeepsAgeouts, CountsDrop, KeepsDrops, KeepsReceived, HasNoRoom};
 
-/// `sent` is the number of events at which a port sent an ordinary frame, and `shutdowns` that of
-/// those at which it sent a shutdown frame, modulo 2^32.
+/// `sent` is the number of events at which a port sent an ordinary frame, and `shutdowns` the
+/// number of events at which it sent a shutdown frame, both modulo 2^32.
 #[tactic(auto, using(crate::proofs::ForLaws::Tally::ports_count_what_they_sent))]
 pub fn ports_count_what_they_sent()
     ensures sent { (past : Past) (i : ℕ) (port : PortState) → port_at past i ≡ Some port →
@@ -23,9 +23,9 @@ pub fn ports_count_what_they_sent()
         (n : ℕ) × HasSent past i Shutdown n × (port.counters.shutdowns ≡ n % 2 ^ 32) }
 {}
 
-/// An LLDPDU that a port hears is counted once. With a fault it is discarded and an error; with
-/// discarded TLVs it is an error. If it has no fault and a TTL above 0, its discarded TLVs and its
-/// unrecognized kept TLVs are added.
+/// Each LLDPDU that a port hears is counted once. With a fault it counts as discarded and as an
+/// error. If it has no fault and a TTL above 0, its discarded TLVs and its unrecognized kept TLVs
+/// are added, and it is an error if any TLV is discarded.
 pub fn ports_count_each_lldpdu_once()
     ensures refused { (past : Past) (i : ℕ) (octets pdu : List ℕ) (fault : PduFault) →
         Hears past i → lldpdu_of octets ≡ Some pdu → fault_of pdu ≡ Some fault →
@@ -41,9 +41,9 @@ pub fn ports_count_each_lldpdu_once()
         0 < discarded_of pdu → Adds past i octets 0 1 (discarded_of pdu) (unknown_tlvs pdu) }
 {}
 
-/// A tick adds to `ageouts` of each port the neighbors that it takes away, and nothing else changes
-/// `ageouts`. A frame adds one to `drops` of its port exactly if it finds no room there. The
-/// counters of received frames are changed by frames of that port only.
+/// A tick adds to `ageouts` of each port the neighbors that it removes; no other event changes
+/// `ageouts`. A frame adds one to `drops` of its port exactly if there is no room for it. Only
+/// frames that a port received change its counters of received frames.
 #[tactic(auto, using(crate::proofs::ForLaws::Losses::ports_count_what_they_lose))]
 pub fn ports_count_what_they_lose()
     ensures aged_out { (past : Past) (i : ℕ) → Makes past tick i CountsAgedOut }

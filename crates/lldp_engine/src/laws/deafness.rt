@@ -1,4 +1,4 @@
-//! Laws of which ports can hear.
+//! Laws of ports that cannot receive.
 ghost use Rattle.std.specs.Prelude.{◌≡◌, ℕ, List, None, false};
 ghost use Rattle.lldp_pdu.specs.Frame.{lldpdu_of};
 ghost use Rattle.lldp_engine.specs.declared.port.status.Status.TheVariants.{TxOnly, Disabled};
@@ -9,9 +9,9 @@ ghost use Rattle.lldp_engine.specs.Past.{Past};
 ghost use Rattle.lldp_engine.specs.Laws.PortAt.{LeavesPort};
 ghost use Rattle.lldp_engine.specs.Laws.Deaf.{HasStatus};
 
-/// If the four numbers of the options are in their ranges, as in every agent: a port whose last
-/// status is TxOnly or Disabled, or whose last link event says down, is deaf. No frame changes a
-/// deaf port, and octets that are not an LLDP frame change no port.
+/// No frame changes a port, or makes it send, if its last status is TxOnly or Disabled or if its
+/// last link event says down. Octets that are not an LLDP frame change no port. The four numbers of
+/// the options must be in their ranges, as in every agent.
 pub fn deaf_ports_stay_as_they_were()
     ensures tx_only { (past : Past) (i : ℕ) (octets : List ℕ) → InRange past.options →
         HasStatus past i TxOnly → LeavesPort past (frame i octets) i }

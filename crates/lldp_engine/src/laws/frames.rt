@@ -1,12 +1,12 @@
-//! Which octets the sent frames have.
+//! The octets of the frames that are sent.
 ghost use Rattle.std.specs.Prelude.{◌≡◌, ℕ, List};
 ghost use Rattle.lldp_transmit.specs.declared.event.Mark.TheVariants.{Ordinary, Shutdown};
 ghost use Rattle.lldp_engine.specs.Configuration.{Configuration};
 ghost use Rattle.lldp_engine.specs.Frames.{frame_of};
 ghost use Rattle.lldp_engine.specs.Laws.FrameOctets.{HasLengths, ordinary_octets, shutdown_octets};
 
-/// A frame has these octets and no others, for every configuration and every name of a port with
-/// lengths that an agent allows.
+/// Frames have exactly these octets, for every configuration and port's name with lengths that an
+/// agent allows.
 #[tactic(auto, using(crate::proofs::ForLaws::FrameOctets::frames_have_these_octets))]
 pub fn frames_have_these_octets()
     ensures ordinary { (configuration : Configuration) (name : List ℕ) →

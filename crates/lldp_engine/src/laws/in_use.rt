@@ -1,4 +1,4 @@
-//! When a limit is in use.
+//! When a limit is refused because it is in use.
 ghost use Rattle.std.specs.Prelude.{◌≡◌, ◌↔◌, ◌≤◌, ℕ, List, Err};
 ghost use Rattle.lldp_text.specs.declared.fault.CommandFault.TheVariants.{InUse};
 ghost use Rattle.lldp_engine.specs.AgentState.{AgentState, AllowsSetting};
@@ -6,8 +6,8 @@ ghost use Rattle.lldp_engine.specs.Event.{limit};
 ghost use Rattle.lldp_engine.specs.Given.{command_given};
 ghost use Rattle.lldp_engine.specs.Laws.InUse.{WouldLimitBelow, HoldAtMost};
 
-/// The fault of a line is that a limit is in use exactly if its words would set one and some port
-/// holds more neighbors. A limit may be set exactly if it is between 1 and that of opening and no
+/// A line has the fault InUse exactly if its words would set a limit and some port holds more
+/// neighbors than that. A limit may be set exactly if it is from 1 to the limit at opening and no
 /// port holds more neighbors.
 #[tactic(auto, using(crate::proofs::ForLaws::InUse::limits_below_what_ports_hold_are_in_use))]
 pub fn limits_below_what_ports_hold_are_in_use()

@@ -8,8 +8,8 @@ ghost use Rattle.lldp_engine.specs.Past.{Past, with_event};
 ghost use Rattle.lldp_engine.specs.Laws.PortAt.{neighbors_at};
 ghost use Rattle.lldp_engine.specs.Laws.CauseOf.{IsFor};
 
-/// A tick is one for each port, and each command except a status command is a local change for
-/// each.
+/// A tick means a tick to the transmit machine of each port. Each command except a status command
+/// means a local change to it.
 #[tactic(auto, using(crate::proofs::ForLaws::Causes::is_for))]
 pub fn settings_are_local_changes()
     ensures tick { (past : Past) (i : ℕ) → IsFor past tick i Tick }
@@ -24,7 +24,7 @@ pub fn settings_are_local_changes()
     ensures update { (past : Past) (i : ℕ) → IsFor past (set update) i Change }
 {}
 
-/// No status, no link event and no frame is a local change.
+/// Status commands, link events and frames are not local changes.
 #[tactic(auto, using(crate::proofs::ForLaws::Causes::statuses_links_and_frames_are_no_changes))]
 pub fn statuses_links_and_frames_are_no_changes()
     ensures status { (past : Past) (i port : ℕ) (given : Status) →
@@ -35,7 +35,7 @@ pub fn statuses_links_and_frames_are_no_changes()
         ¬ (IsFor past (frame port octets) i Change) }
 {}
 
-/// A frame is a new neighbor exactly if its port holds one neighbor more after it. Every other
+/// A frame means a new neighbor exactly if its port then holds one neighbor more. Every other
 /// frame, such as a refresh or one that is dropped, means nothing to the transmit machine.
 #[tactic(auto, using(crate::proofs::ForLaws::Causes::new_neighbors_are_one_more))]
 pub fn new_neighbors_are_one_more()

@@ -1,4 +1,4 @@
-//! Which options open an agent, and as what it opens.
+//! Laws of which options open an agent, and of the agent that they open.
 ghost use Rattle.std.specs.Prelude.{◌≡◌, ◌↔◌, codes, Some, None};
 ghost use Rattle.std.specs.List.{filter, range_with_len};
 ghost use Rattle.lldp_engine.specs.declared.agent.open_fault.OpenFault.{OpenFault};
@@ -6,9 +6,9 @@ ghost use Rattle.lldp_engine.specs.Options.{Options, fault_of, is_name_octet};
 ghost use Rattle.lldp_engine.specs.Past.{opened, agent_of};
 ghost use Rattle.lldp_engine.specs.Laws.Opening.{Passes, IsFirstFault, OpensWith};
 
-/// Options have a fault exactly if they fail its check and pass each check of a smaller number,
-/// each over all the ports. They have no fault exactly if they pass each check. Of the 256 octets
-/// these may occur in names of ports.
+/// Options have a fault exactly if they fail its check and pass each check with a smaller number.
+/// They have no fault exactly if they pass every check. Each check is over all the ports. Exactly
+/// the listed octets may occur in names of ports.
 #[tactic(auto, using(crate::proofs::ForLaws::Opening::openings_tell_first_faults))]
 pub fn openings_tell_first_faults()
     ensures fault { (options : Options) (fault : OpenFault) →
@@ -19,8 +19,7 @@ pub fn openings_tell_first_faults()
         ≡ codes "-/0123456789:ABCDEFGHIJKLMNOPQRSTUVWXYZ_abcdefghijklmnopqrstuvwxyz" }
 {}
 
-/// Each value of an agent that was just opened is that of its option, or the one that no option
-/// gives.
+/// Each value of a newly opened agent is that of its option, or a fixed value if it has no option.
 pub fn agents_open_as_their_options_say()
     ensures { (options : Options) → OpensWith options (agent_of (opened options)) }
 {}

@@ -1,4 +1,4 @@
-//! What commands say.
+//! Laws of the words of commands.
 ghost use Rattle.std.specs.Prelude.{◌≡◌, ◌↔◌, ℕ, List, Some, None, Ok, Err};
 ghost use Rattle.lldp_text.specs.declared.fault.CommandFault.{CommandFault};
 ghost use Rattle.lldp_text.specs.declared.fault.CommandFault.TheVariants.{Quote};
@@ -13,9 +13,9 @@ ghost use Rattle.lldp_engine.specs.Laws.FirstFault.{TellsFirstFault};
 ghost use Rattle.lldp_engine.specs.Laws.OnlyForms.{AreWordsOf, IsNotInUse, IsLineOf, word_of};
 ghost use Rattle.lldp_engine.specs.Laws.Places.{IsFirstPlace};
 
-/// A command is said by the words of its form and by no others. It is given by a line that has
-/// these words, and by no other, unless a limit that it sets is in use. A word is read as a status
-/// exactly if it is that status's own.
+/// A command is read from the words of its form, and from no others. A line gives it exactly if the
+/// line has these words and a limit that the command sets is not in use. A word is read as a status
+/// exactly if it is the word of that status.
 pub fn only_forms_say_commands()
     ensures said { (agent : AgentState) (words : List (List ℕ)) (command : Command) →
         (said_by agent words ≡ Ok command) ↔ AreWordsOf agent command words }
@@ -28,9 +28,9 @@ pub fn only_forms_say_commands()
         (status_of word ≡ Some given) ↔ (word ≡ word_of given) }
 {}
 
-/// A word that no command has in its place decides the fault, whatever follows it. The fault of a
-/// line with bad quotes is Quote. With `only_forms_say_commands` each list of words has its command
-/// or its fault.
+/// The first word that no command has in its place decides the fault, whatever follows it. A line
+/// with a bad quote has the fault Quote. With `only_forms_say_commands` this determines the command
+/// or the fault of every list of words.
 pub fn first_faults_are_told()
     ensures words { (agent : AgentState) (word : List ℕ) (behind : List (List ℕ)) →
         TellsFirstFault agent word behind }

@@ -18,7 +18,7 @@ pub fn ports_send_by_their_status()
         HasStatus past i RxOnly ⊎ HasStatus past i Disabled }
 {}
 
-/// Ports opened to receive only send nothing until a status command.
+/// A port that was opened as RxOnly sends nothing until its first status command.
 pub fn ports_opened_to_receive_only_are_silent()
     ensures { (past : Past) (i : ℕ) (mark : Mark) → IsTrue past.options.receive_only →
         NoneSets (λ given. set (status i given)) past.events → ¬ (Sends past i mark) }

@@ -1,4 +1,4 @@
-//! Laws of what takes a neighbor away.
+//! Laws of what removes a neighbor.
 ghost use Rattle.std.specs.Prelude.{◌≡◌, ℕ, List, [], Some, None, IfSome};
 ghost use Rattle.std.specs.Option.{option_map};
 ghost use Rattle.lldp_pdu.specs.declared.fault.PduFault.{PduFault};
@@ -12,9 +12,9 @@ ghost use Rattle.lldp_engine.specs.Laws.PortAt.{table_at, neighbors_at, LeavesTa
 ghost use Rattle.lldp_engine.specs.Laws.Deaf.{HasStatus, Hears};
 ghost use Rattle.lldp_engine.specs.Laws.Neighbors.{others_than};
 
-/// An LLDPDU concerns the neighbor of its own name only: all others of its port stay, in their
-/// order. If the port hears, the TTL is 0 and there is no fault, that neighbor leaves. If there is
-/// a fault, the table does not change.
+/// An LLDPDU concerns only the neighbor with its own MSAP identifier: all others of its port stay,
+/// in their order. If the port hears it, its TTL is 0 and it has no fault, that neighbor is
+/// removed. If it has a fault, the table does not change.
 #[tactic(auto, using(crate::proofs::ForLaws::Emptied::lldpdus_speak_of_one_neighbor))]
 pub fn lldpdus_speak_of_one_neighbor()
     ensures others { (past : Past) (i : ℕ) (octets pdu : List ℕ) → lldpdu_of octets ≡ Some pdu →
@@ -29,8 +29,8 @@ pub fn lldpdus_speak_of_one_neighbor()
         table_at (with_event past (frame i octets)) i ≡ table_at past i }
 {}
 
-/// A status that receives, RxAndTx or RxOnly, changes no table. A port whose status is TxOnly or
-/// Disabled holds no neighbor.
+/// Setting the status RxAndTx or RxOnly changes no table. A port whose status is TxOnly or Disabled
+/// holds no neighbors.
 #[tactic(auto, using(crate::proofs::ForLaws::Emptied::receiving_leaves_tables))]
 pub fn ports_that_cannot_receive_hold_none()
     ensures rx_and_tx { (past : Past) (port : ℕ) → LeavesTables past (set (status port RxAndTx)) }

@@ -8,8 +8,8 @@ ghost use Rattle.lldp_engine.specs.Past.{Past, with_event, agent_of};
 ghost use Rattle.lldp_engine.specs.Laws.PortAt.{neighbors_at, LeavesPort, LeavesTables};
 ghost use Rattle.lldp_engine.specs.Laws.Neighbors.{one_tick_older};
 
-/// If the four numbers of the options are in their ranges, as in every agent: a frame, a link event
-/// and a status command concern one port. Every other port stays as it was and sends nothing.
+/// A frame, a link event or a status command concerns one port: every other port stays as it was
+/// and sends nothing. The four numbers of the options must be in their ranges, as in every agent.
 pub fn events_of_one_port_leave_the_others()
     ensures frame { (past : Past) (port other : ℕ) (octets : List ℕ) → InRange past.options →
         other ≢ port → LeavesPort past (frame port octets) other }
@@ -19,8 +19,8 @@ pub fn events_of_one_port_leave_the_others()
         other ≢ port → LeavesPort past (set (status port given)) other }
 {}
 
-/// A tick concerns each port: each of its neighbors has one tick less left, and those that had one
-/// left are removed.
+/// A tick concerns each port: each neighbor has one tick less left, and those with none left are
+/// removed.
 #[tactic(auto, using(crate::proofs::ForLaws::Whose::tick_ages))]
 pub fn ticks_come_to_each_port()
     ensures { (past : Past) (i : ℕ) →
@@ -39,8 +39,8 @@ pub fn links_and_updates_leave_tables()
         neighbors_at (with_event past (set (limit neighbors))) i ≡ neighbors_at past i }
 {}
 
-/// The limit of each port's table is the configured one, whatever came before, and its room is the
-/// number of neighbors that the options gave.
+/// Whatever came before, each port's table has the configured limit, and room for as many neighbors
+/// as the options gave.
 #[tactic(auto, using(crate::proofs::ForLaws::Whose::ports_have_the_configured_limit))]
 pub fn ports_have_the_configured_limit()
     ensures limit { (past : Past) →

@@ -4,7 +4,7 @@ ghost use Rattle.lldp_engine.specs.Port.Effects.{cause_of_link, cause_of_right};
 
 use lldp_transmit::Cause;
 
-/// Returns what a link event means to the transmit machine.
+/// Returns what a link event means to the transmit machine, by the link before and after it.
 pub(crate) fn cause_of_link_event(before: bool, up: bool) -> Cause
     ensures { result ≡ cause_of_link before up }
 {
@@ -15,7 +15,7 @@ pub(crate) fn cause_of_link_event(before: bool, up: bool) -> Cause
     }
 }
 
-/// Returns what a status command means to it, by the right to transmit before and after.
+/// Returns what gaining or losing the right to transmit means to the transmit machine.
 pub(crate) fn cause_of_status(before: bool, after: bool) -> Cause
     ensures { result ≡ cause_of_right before after }
 {

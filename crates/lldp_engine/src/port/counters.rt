@@ -20,7 +20,7 @@ pub struct Counters {
     pub errors: u32,
     /// TLVs that were discarded.
     pub tlvs_discarded: u32,
-    /// Kept TLVs of reserved types and organizationally specific ones.
+    /// Kept TLVs that are unrecognized: of a reserved type, or organizationally specific.
     pub unrecognized: u32,
     /// Neighbors that aged out.
     pub ageouts: u32,
@@ -29,7 +29,7 @@ pub struct Counters {
 }
 
 impl Counters {
-    /// The counters of a port that has seen nothing.
+    /// The counters of a newly opened port.
     pub(crate) const ZERO: Counters = Counters {
         sent: 0,
         shutdowns: 0,
@@ -49,7 +49,7 @@ impl Counters {
         self.received = self.received.wrapping_add(1);
     }
 
-    /// Counts that its LLDPDU was refused.
+    /// Counts a refused LLDPDU.
     pub(crate) fn count_refused(&mut self)
         ensures { self.new ≡ with_refused self.old }
     {
@@ -57,7 +57,7 @@ impl Counters {
         self.errors = self.errors.wrapping_add(1);
     }
 
-    /// Counts its TLVs that were discarded, and those kept that are unrecognized.
+    /// Counts discarded and unrecognized TLVs of an LLDPDU, and an error if any was discarded.
     pub(crate) fn count_tlvs(&mut self, discarded: u32, unrecognized: u32)
         ensures { self.new ≡ with_tlvs self.old discarded unrecognized }
     {
@@ -66,7 +66,7 @@ impl Counters {
         self.unrecognized = self.unrecognized.wrapping_add(unrecognized);
     }
 
-    /// Counts what the table answered to it.
+    /// Counts an LLDPDU that the table dropped for lack of room.
     pub(crate) fn count_answer(&mut self, answer: Learned)
         ensures { self.new ≡ with_answer self.old answer }
     {
@@ -76,7 +76,7 @@ impl Counters {
         }
     }
 
-    /// Counts neighbors that aged out.
+    /// Counts this many neighbors that aged out.
     pub(crate) fn count_aged_out(&mut self, n: u8)
         ensures { self.new ≡ with_aged_out self.old n }
     {
@@ -86,7 +86,7 @@ impl Counters {
         }
     }
 
-    /// Counts what was sent.
+    /// Counts a frame that was sent, if any.
     pub(crate) fn count_mark(&mut self, mark: Mark)
         ensures { self.new ≡ with_mark self.old mark }
     {

@@ -1,4 +1,4 @@
-//! What happens to one port, and which ports an agent's event concerns.
+//! Events of one port, and which ports an event of the agent concerns.
 ghost use Rattle.std.specs.Prelude.{◌≡◌};
 ghost use Rattle.lldp_pdu.specs.Tlv.{AreOctets};
 ghost use Rattle.lldp_engine.specs.Port.Event.{frame};
@@ -6,25 +6,25 @@ ghost use Rattle.lldp_engine.specs.Port.EventView.{port_event_of};
 
 use crate::port::status::Status;
 
-/// What happens to a port.
+/// Something that happens to a port.
 #[derive(Clone, Copy)]
 pub(crate) enum PortEvent<'a> {
     /// A second has passed.
     Tick,
-    /// It received these octets.
+    /// The port received these octets.
     Frame(&'a [u8]),
-    /// Its link came up, or went down.
+    /// Its link came up (true) or went down (false).
     Link(bool),
-    /// It was given this status.
+    /// Its status was set to this one.
     Status(Status),
-    /// It may hold at most this many neighbors.
+    /// The limit of its neighbors was set to this number.
     Limit(u8),
-    /// A local change.
+    /// A command made a local change.
     Change,
 }
 
 impl<'a> PortEvent<'a> {
-    /// Returns the event that the port received these octets.
+    /// Returns the event of receiving these octets.
     pub(crate) fn came(octets: &'a [u8]) -> PortEvent<'a>
         ensures value { port_event_of result ≡ frame octets.now }
         ensures octets { AreOctets octets.now }
@@ -33,7 +33,7 @@ impl<'a> PortEvent<'a> {
     }
 }
 
-/// The ports that an event concerns, one by its number or each, and what it is for them.
+/// Which ports an event concerns, one by its number or each, and which port event it is for them.
 #[derive(Clone, Copy)]
 pub(crate) enum Whose<'a> {
     OnePort(u8, PortEvent<'a>),

@@ -13,7 +13,7 @@ use lldp_transmit::Cause;
 use std::alloc::Allocator;
 
 impl<A: Allocator> Port<A> {
-    /// Takes octets that were received. Returns what they mean to the transmit machine.
+    /// Handles received octets. Returns what they mean to the transmit machine.
     pub(crate) fn receive(&mut self, octets: &[u8]) -> Cause
         ensures after { self.new
             ≡ hears_if self.old (heard_by self.old.status self.old.machine.up octets.now) }
@@ -33,7 +33,7 @@ impl<A: Allocator> Port<A> {
         }
     }
 
-    /// Takes the LLDPDU of an LLDP frame.
+    /// Handles the LLDPDU of an LLDP frame. Returns what it means to the transmit machine.
     fn hear(&mut self, pdu: &[u8]) -> Cause
         requires { length pdu.now ≤ 1500 }
         ensures after { self.new ≡ hears_if self.old (Some (heard_of pdu.now)) }
@@ -54,7 +54,7 @@ impl<A: Allocator> Port<A> {
         }
     }
 
-    /// Takes what an LLDPDU says of a neighbor that lives.
+    /// Stores an LLDPDU that has no fault and a TTL above 0, if there is room, and counts it.
     fn learn(&mut self, info: &Info<'_>) -> Cause
         requires { length info.now.octets ≤ 1500 }
         ensures after { self.new ≡ record {

@@ -1,4 +1,4 @@
-//! What a port may do.
+//! The statuses of a port.
 ghost use Rattle.std.specs.Prelude.{◌≡◌};
 ghost use Rattle.lldp_engine.specs.Status.{receives, transmits, status_at_opening};
 ghost use Rattle.lldp_engine.specs.Options.{options_of};

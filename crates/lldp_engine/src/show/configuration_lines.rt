@@ -34,7 +34,7 @@ fn put_status<A: Allocator, S: LineSink>(sink: &mut S, port: &Port<A>)
     put_line(sink, front.as_slice(), b"status=", Value::Word(status));
 }
 
-/// Writes the line of each port's status.
+/// Writes a line for the status of each port.
 fn put_statuses<A: Allocator, S: LineSink>(sink: &mut S, ports: &[Port<A>])
     ensures { Takes S.takes sink.old sink.new (map status_line ports.now) }
 {
@@ -46,7 +46,7 @@ fn put_statuses<A: Allocator, S: LineSink>(sink: &mut S, ports: &[Port<A>])
     }
 }
 
-/// Returns the numbers in the order in which they are shown.
+/// Returns the numbers of the configuration, in the order in which they are shown.
 fn in_order<A: Allocator>(c: &Configuration, ports: &[Port<A>]) -> [Number; 8]
     requires { length ports.now ≤ 64 }
     ensures shown { map plain_number result
@@ -65,7 +65,7 @@ fn in_order<A: Allocator>(c: &Configuration, ports: &[Port<A>]) -> [Number; 8]
     ]
 }
 
-/// Writes the lines of `show configuration`, of at most 64 ports.
+/// Writes the lines of `show configuration` for at most 64 ports.
 pub(crate) fn put_configuration<A: Allocator, S: LineSink>(
     sink: &mut S,
     c: &Configuration,

@@ -1,4 +1,4 @@
-//! A line of a show: what takes it, how it begins, its value, and lines of numbers.
+//! Writes a line of a show: its start, its key and its value, to a sink of lines.
 ghost use Rattle.std.specs.Prelude.{◌≡◌, ℕ, ◌+◌, ◌≤◌, ◌++◌, List, length, map, true, IfSome};
 ghost use Rattle.std.specs.Borrow.{sem, Bor};
 ghost use Rattle.std.specs.List.{AllByRecursion};
@@ -12,21 +12,21 @@ use arrayvec::ArrayVec;
 use lldp_pdu::Tlv;
 use lldp_text::{Writer, write_chassis, write_ipv4, write_kept_tlv, write_mac, write_port};
 
-/// What takes the lines of a show, one after another: it lends the room of a line and takes what is
-/// written there. A sink that can fail may keep its fault, and be done from then on.
+/// A receiver of the lines of a show, one after another: it lends a writer for each line and takes
+/// what is written to it. A sink that can fail may store its error and report that it is done.
 pub trait LineSink {
-    /// How it is after it took a line.
+    /// Relates the sink before a line to the sink after it took that line.
     ghost takes: { Self → Self → List ℕ → Type 0 };
 
-    /// Lends the writer for the next line, which is appended to what the writer holds; None if the
-    /// sink takes that line whatever it is, as one that is not wanted, which nobody then writes.
-    /// What is written is taken as a line: at most 2,048 octets, and a line feed.
+    /// Lends a writer for the next line. The line is what is then appended to the writer: at most
+    /// 2,048 octets and a line feed. Returns None if the sink takes any line here without keeping
+    /// it, so that the line need not be written.
     fn begin_line(&mut self) -> Option<&mut Writer>
         ensures* takes_line { sem 𝓛 (LendsRoom Self.row takes self.entry result) }
         ensures room { IfSome result (λ writer. length writer.now + 2049 ≤ 8192) };
 
-    /// Returns whether no further line changes it, so that the others need not come. Shows check
-    /// this before each port and before each neighbor, though no clause says so.
+    /// Returns whether no further line changes the sink, so that the other lines can be left out.
+    /// Shows check this before each port and before each neighbor, though no clause says so.
     fn is_done(&self) -> bool
         ensures { result ≡ true → (line : List ℕ) → takes self.now self.now line };
 }
@@ -36,7 +36,7 @@ pub trait LineSink {
 pub(crate) enum Value<'a> {
     /// A number, in decimal.
     Number(u32),
-    /// A text as it is.
+    /// A text, written as it is.
     Word(&'a [u8]),
     /// A text, escaped.
     Text(&'a [u8]),
@@ -52,7 +52,6 @@ pub(crate) enum Value<'a> {
     Kept(Tlv<'a>),
 }
 
-/// Writes a value.
 pub(crate) fn write_value(line: &mut Writer, value: Value<'_>)
     requires room { length line.old + VALUE_ROOM ≤ ROOM }
     requires fits { FitsLine value }
@@ -64,7 +63,7 @@ pub(crate) fn write_value(line: &mut Writer, value: Value<'_>)
         Value::Word(text) => line.text(text),
         Value::Text(text) => line.escaped(text),
         Value::Mac(octets) => write_mac(line, octets),
-        // Interface number 0 of unknown numbering, and no OID.
+        // The interface numbering is unknown (1), the interface number is 0, and there is no OID.
         Value::OwnAddress(octets) => {
             write_ipv4(line, octets);
             line.text(b",1,0,");
@@ -75,10 +74,9 @@ pub(crate) fn write_value(line: &mut Writer, value: Value<'_>)
     }
 }
 
-/// What a line begins with: the same for all lines of a port, or of a neighbor.
+/// The start of a line, which is the same for all lines of a port or of a neighbor.
 pub(crate) type Front = ArrayVec<u8, 32>;
 
-/// Appends octets.
 fn extend(front: &mut Front, octets: &[u8])
     requires { length front.old.items + length octets.now ≤ 32 }
     ensures { front.new.items ≡ front.old.items ++ octets.now }
@@ -86,7 +84,7 @@ fn extend(front: &mut Front, octets: &[u8])
     let _ = front.try_extend_from_slice(octets);
 }
 
-/// Returns a word, the name of a port, and a `.`.
+/// Returns a word, the name of a port and a `.`, joined.
 pub(crate) fn front(word: &[u8], name: &[u8]) -> Front
     requires word { length word.now ≤ 14 }
     requires name { length name.now ≤ 15 }
@@ -121,7 +119,7 @@ pub(crate) fn neighbor_front(name: &[u8], number: u8) -> Front
     front
 }
 
-/// Writes a line: what it begins with, its key, and its value.
+/// Writes a line: its start, its key and its value.
 pub(crate) fn put_line<S: LineSink>(sink: &mut S, front: &[u8], key: &[u8], value: Value<'_>)
     requires front { length front.now ≤ 32 }
     requires key { length key.now ≤ 32 }
@@ -137,7 +135,7 @@ pub(crate) fn put_line<S: LineSink>(sink: &mut S, front: &[u8], key: &[u8], valu
     line.end_line();
 }
 
-/// A number with the key before it.
+/// A key, and the number after it.
 pub(crate) type Number = (&'static [u8], u32);
 
 /// Writes a line for each number.

@@ -29,7 +29,7 @@ fn put_kept<S: LineSink>(sink: &mut S, front: &[u8], kept: Kept<'_>)
     }
 }
 
-/// Writes the lines of a neighbor, by its number, from 1, in the table of the port of this name.
+/// Writes the lines of neighbor `number`, from 1, of the port with this name.
 fn put_neighbor<S: LineSink>(sink: &mut S, name: &[u8], number: u8, neighbor: Entry<'_>)
     requires { length name.now ≤ 15 }
     ensures { Takes S.takes sink.old sink.new (neighbor_lines name.now number neighbor.entry) }
@@ -54,7 +54,7 @@ fn put_neighbor<S: LineSink>(sink: &mut S, name: &[u8], number: u8, neighbor: En
     put_kept(sink, front, neighbor.kept());
 }
 
-/// Writes the lines that precede those of a port's neighbors.
+/// Writes the three lines of a port that come before those of its neighbors.
 fn put_counts<A: Allocator, S: LineSink>(sink: &mut S, port: &Port<A>)
     ensures { Takes S.takes sink.old sink.new (count_lines port.now) }
 {
@@ -76,7 +76,7 @@ fn put_counts<A: Allocator, S: LineSink>(sink: &mut S, port: &Port<A>)
     );
 }
 
-/// Writes the lines of a port.
+/// Writes the lines of a port and of its neighbors.
 fn put_port<A: Allocator, S: LineSink>(sink: &mut S, port: &Port<A>)
     ensures { Takes S.takes sink.old sink.new (port_lines port.now) }
 {

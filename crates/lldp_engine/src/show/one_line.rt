@@ -6,8 +6,8 @@ ghost use Rattle.lldp_engine.specs.Code.OneLineState.{KeepsOne, line_kept};
 use crate::show::line::LineSink;
 use lldp_text::Writer;
 
-/// How many lines come before the wanted one, whether that one came, and what it is, with its line
-/// feed.
+/// A sink that keeps one line: how many lines come before the wanted one, whether that one came,
+/// and its text with its line feed.
 #[derive(Drop)]
 pub(crate) struct OneLine {
     before: u32,
@@ -16,7 +16,7 @@ pub(crate) struct OneLine {
 }
 
 impl OneLine {
-    /// Returns one that keeps nothing.
+    /// Returns a sink that has kept no line yet.
     pub(crate) fn new() -> OneLine {
         OneLine {
             before: 0,
@@ -25,7 +25,7 @@ impl OneLine {
         }
     }
 
-    /// Empties it, with this many lines before the wanted one.
+    /// Empties the sink. It will keep the line that comes after this many others.
     pub(crate) fn want(&mut self, before: u32)
         ensures { self.new ≡ record { before = before; came = false; line = [] } }
     {

@@ -28,7 +28,7 @@ fn in_order(counters: &Counters) -> [Number; 9]
     ]
 }
 
-/// Writes the lines of a port.
+/// Writes the lines of a port's counters.
 fn put_counters<A: Allocator, S: LineSink>(sink: &mut S, port: &Port<A>)
     ensures { Takes S.takes sink.old sink.new (counter_lines port.now) }
 {

@@ -4,7 +4,7 @@ use Rattle.lldp_engine.specs.Options.{options_of, is_port_name}
 use Rattle.lldp_engine.specs.Code.PortStep.{opened_port}
 use Rattle.lldp_engine.proofs.agent.ports.open_ports.Given as goal
 
--- there is room for all ports, those of the names before this one are opened, and the other names are names of ports
+-- There is room for all ports; those before this one are open; the names from here on are valid.
 abbrev pub invariant-loop-name : goal.invariant-loop-name
 invariant-loop-name g l = record {
   ports : l.ports.items ≡ map (opened_port (options_of l.options)) (map (λ n. n.now) (take l.name-index l.options.ports.now));

@@ -5,7 +5,7 @@ use Rattle.lldp_engine.specs.NeighborLines.{kept_line}
 use Rattle.lldp_engine.proofs.Lines.Taken.{TakesTo}
 use Rattle.lldp_engine.proofs.show.neighbor_lines.put_kept.Given as goal
 
--- the lines of the TLVs that are left are left
+-- The sink has taken all lines except those of the remaining TLVs.
 abbrev pub invariant-loop-tlv : goal.invariant-loop-tlv
 invariant-loop-tlv g l = record {
   taken : TakesTo g.S.LineSink.takes l.fn.sink l.sink (map (kept_line l.fn.front) l.tlv-iterator) (map (kept_line l.fn.front) l.fn.kept);
