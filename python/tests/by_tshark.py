@@ -1,10 +1,10 @@
-"""For tests: what tshark must show of what is read here of organizationally specific TLVs."""
+"""For tests: what tshark must show for organizationally specific TLVs as they are read here."""
 
 from typing import Any, Callable, Dict, List, Tuple
 
 from lldpa.organizational import LinkAggregation, Tlv
 
-# what tshark shows and is not compared, by the reason: keys, or parts of keys
+# what tshark shows but is not compared, by reason: keys or parts of keys
 LEFT_OUT = {
     "which TLV it is, and its length": (
         "lldp.tlv.", "lldp.orgtlv.oui", "lldp.ieee.802_1.subtype", "lldp.ieee.802_3.subtype",
@@ -25,17 +25,17 @@ Pairs = List[Tuple[str, str]]
 
 
 def compared(pairs: List[Any]) -> Pairs:
-    """Returns what tshark shows of a TLV and must be compared."""
+    """Returns the pairs that tshark shows for a TLV and that are compared."""
     return [(key, value) for key, value in pairs if not is_left_out(key)]
 
 
 def is_left_out(key: str) -> bool:
-    """Returns whether a key is not compared."""
+    """True if a key is not compared."""
     return key in EXACT or any(part in key for part in KEYS - EXACT)
 
 
 def expected(front: str, values: Dict[str, Any]) -> Pairs:
-    """Returns keys after a front, and values as tshark writes them."""
+    """Returns pairs of a prefixed key and a value as tshark writes it."""
     return [(front + key, as_shown(value)) for key, value in values.items()]
 
 
@@ -45,14 +45,14 @@ def as_shown(value: Any) -> str:
     return value if isinstance(value, str) else str(int(value))
 
 
-# By class, what tshark shows: the front of its keys, and the rest of each with the field that it
-# shows; or a function that returns it. tlvs.py fills both.
+# For each class, what tshark shows: the prefix of its keys, and the rest of each key with the field
+# that it shows, or a function that returns the pairs. tlvs.py fills both.
 FIELDS: Dict[type, Tuple[str, Dict[str, str]]] = {}
 SHOWN: Dict[type, Callable[[Any], Pairs]] = {}
 
 
 def by_fields(tlv: Any) -> Pairs:
-    """Returns what tshark shows of the fields of a TLV or a part of one."""
+    """Returns what tshark shows for the fields of a TLV or of a part of a TLV."""
     front, keys = FIELDS[type(tlv)]
     return expected(front, {key: getattr(tlv, field) for key, field in keys.items()})
 
@@ -62,7 +62,7 @@ def enumerated(values: Tuple[int, ...]) -> Dict[str, int]:
 
 
 def wanted(kind: Tuple[str, int], tlv: Tlv) -> Pairs:
-    """Returns what tshark must show of a TLV of a kind."""
+    """Returns what tshark must show for a TLV of this kind."""
     pairs = SHOWN.get(type(tlv), by_fields)(tlv)
     if isinstance(tlv, LinkAggregation):
         front = "lldp.ieee.802_1." if kind[0] == "0080c2" else "lldp.ieee.802_3."
@@ -71,5 +71,5 @@ def wanted(kind: Tuple[str, int], tlv: Tlv) -> Pairs:
 
 
 def unknown_octets(pairs: List[Any]) -> Any:
-    """Returns the octets that tshark shows of a TLV that it does not know either."""
+    """Returns the octets that tshark shows for a TLV that it does not know."""
     return dict(map(tuple, pairs)).get("lldp.unknown_subtype.content")

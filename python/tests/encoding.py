@@ -1,4 +1,4 @@
-"""For tests: samples of TLVs of organizations, and the octets of TLVs by what they say."""
+"""For tests: samples of organizationally specific TLVs, and the encoding of TLVs."""
 
 from typing import Any, Callable, Dict, List, NamedTuple, Tuple
 
@@ -6,8 +6,8 @@ from lldpa.organizational import Tlv
 
 
 class Sample(NamedTuple):
-    """A TLV and what it says. If one of its octets is changed, it still has its form in so many
-    cases; so have its fronts of these lengths. `ignored` are bits that mean nothing."""
+    """The octets of a TLV, and what is read from them. `changed` says how many changes of one octet
+    can still be read, `fronts` which lengths of its beginning. `ignored` bits have no meaning."""
     kind: Tuple[str, int]
     octets: str
     tlv: Tlv
@@ -16,18 +16,18 @@ class Sample(NamedTuple):
     ignored: str = ""
 
 
-# both are filled by tlvs.py; a class that has no encoder has the octets of its layout
+# tlvs.py fills both; a class without an encoder is encoded by its layout
 SAMPLES: List[Sample] = []
 ENCODERS: Dict[type, Callable[[Any], bytes]] = {}
 
 
 def encoded(tlv: Any) -> bytes:
-    """Returns the octets after the subtype; reserved bits are 0."""
+    """Returns the octets after the subtype, with reserved bits 0."""
     return ENCODERS.get(type(tlv), by_layout)(tlv)
 
 
 def by_layout(tlv: Any, layout: str = "") -> bytes:
-    """Returns the fields of a layout. The samples and tshark show whether the layout is right."""
+    """Encodes the fields of a layout. The samples and tshark show whether the layout is right."""
     fields = [field.rstrip("sv").split(":") for field in (layout or tlv.layout).split()]
     text = "".join(format(getattr(tlv, name, 0) & (1 << int(width)) - 1, f"0{width}b")
                    for name, width in fields)
@@ -35,5 +35,5 @@ def by_layout(tlv: Any, layout: str = "") -> bytes:
 
 
 def counted(octets: bytes) -> bytes:
-    """Returns octets after their number."""
+    """Returns octets with their number in front."""
     return bytes([len(octets)]) + octets

@@ -1,4 +1,4 @@
-"""For tests: receives what a service reports to systemd, at a socket of the test's own."""
+"""For tests: receives what a service reports to systemd, on a socket of the test."""
 
 import os
 import select
@@ -10,7 +10,7 @@ from patience import SECONDS
 
 
 class Heard:
-    """A datagram socket as NOTIFY_SOCKET names one, and what it has received."""
+    """A datagram socket for NOTIFY_SOCKET, and the datagrams that it has received."""
 
     def __init__(self, folder: Path) -> None:
         self.path = str(folder / "notify")
@@ -20,19 +20,19 @@ class Heard:
         self.datagrams: list[list[str]] = []
 
     def environment(self, seconds: float = 0) -> dict[str, str]:
-        """Returns the environment of a service that gives a sign of life within so many seconds."""
+        """Returns the environment of a service. With `seconds`, it sets a watchdog of this time."""
         watched = {"WATCHDOG_USEC": str(int(1e6 * seconds))} if seconds else {}
         return {**os.environ, "NOTIFY_SOCKET": self.path, **watched}
 
     def next(self, seconds: float = SECONDS) -> list[str]:
-        """Returns the lines of the next datagram, or none if none comes within that time."""
+        """Returns the lines of the next datagram, or an empty list if none comes in time."""
         if not select.select([self.socket], [], [], seconds)[0]:
             return []
         self.datagrams.append(self.socket.recv(65536).decode().split("\n"))
         return self.datagrams[-1]
 
     def hears(self, line: str, seconds: float = SECONDS) -> bool:
-        """Returns whether a datagram with that line comes within some seconds."""
+        """True if a datagram with this line comes within this many seconds."""
         last = time.monotonic() + seconds
         while (left := last - time.monotonic()) > 0:
             if line in self.next(left):
@@ -40,7 +40,7 @@ class Heard:
         return False
 
     def forget(self) -> None:
-        """Skips what has come in."""
+        """Skips the datagrams that have arrived."""
         while self.next(0):
             pass
 

@@ -1,4 +1,4 @@
-"""For tests: what lldpcli and tshark show of a frame, and what is read of it here."""
+"""For tests: compares what lldpcli and tshark show for a frame with what is read here."""
 
 from typing import Any, Iterable, Iterator, List, NamedTuple, Tuple
 
@@ -9,13 +9,13 @@ from lldpa.lldpcli_forms.shows import Depth, Told, neighbors
 from lldpa.lldpcli_forms.writing import whole
 from lldpa.organizational import read_tlv
 from served import PROGRAM
-import tlvs  # noqa: F401  which fills what `wanted` reads
+import tlvs  # noqa: F401  it fills what `wanted` reads
 
 Pair = Tuple[str, Any]
-# the keys of lldpcli that are about TLVs of organizations
+# keys of lldpcli about organizationally specific TLVs
 PARTS = ("port.mfs", "port.aggregation", "port.auto-negotiation", "port.power", "vlan", "ppvid",
          "pi", "lldp-med", "unknown-tlvs")
-# lldpcli's names that differ from the standard's, with the reason
+# lldpcli's values that differ from the standard's, with the reason
 SLIPS = {
     "port.power.source.value": "of a PSE it names the sources of a PD, and of a PD those of a PSE",
     "port.power.power-type-ext.value": "it names other numbers than the standard, and tshark does",
@@ -23,7 +23,7 @@ SLIPS = {
 
 
 class Judged(NamedTuple):
-    """A frame, and what both show of it: keys and values, of tshark those of each TLV."""
+    """A frame, and what lldpcli and tshark show: keys and values, tshark's for each TLV."""
     name: str
     frame: str
     lldpcli: List[Pair]
@@ -31,7 +31,7 @@ class Judged(NamedTuple):
 
 
 def flat(told: Any, path: str = "") -> Iterator[Pair]:
-    """Returns the keys and values of an object as JSON has it, each key after those around it."""
+    """Yields the keys and values of an object from JSON, with the path of each key."""
     if isinstance(told, dict):
         for key, value in told.items():
             yield from flat(value, f"{path}.{key}".lstrip("."))
@@ -43,7 +43,7 @@ def flat(told: Any, path: str = "") -> Iterator[Pair]:
 
 
 def leaves(pairs: List[Pair]) -> Iterator[Pair]:
-    """Returns the keys and values of pairs, and of those in them."""
+    """Yields the keys and values of pairs, and of the pairs inside them."""
     for key, value in pairs:
         if isinstance(value, list):
             yield from leaves(value)
@@ -52,7 +52,7 @@ def leaves(pairs: List[Pair]) -> Iterator[Pair]:
 
 
 def sender_of_frame(octets: bytes) -> bytes:
-    """Returns the shutdown frame of a frame's sender."""
+    """Returns the shutdown frame for the sender of a frame."""
     rest, kept = octets[14:], octets[:14]
     for _ in range(2):
         length = 2 + int.from_bytes(rest[:2], "big") % 512
@@ -61,7 +61,7 @@ def sender_of_frame(octets: bytes) -> bytes:
 
 
 def compare(judged: Iterable[Judged]) -> Tuple[int, List[str]]:
-    """Returns how many values are equal, and which are not."""
+    """Returns how many values are equal, and texts about those that are not."""
     equal, differences = 0, []
     with Agent.start(["eth0"], PROGRAM, receive_only=True) as agent:
         for one in judged:
@@ -79,7 +79,7 @@ def compare(judged: Iterable[Judged]) -> Tuple[int, List[str]]:
 
 
 def of_frame(one: Judged, neighbor: Neighbor) -> Iterator[Tuple[Any, Any, str]]:
-    """Returns what both show of a frame, and what they should by what is read of it."""
+    """Yields what lldpcli and tshark show for a frame, what they should show, and where."""
     tree = neighbors(Told(Show((Port("eth0", 1, 0, False, (neighbor,)),)), {}, {}, 0), None,
                      Depth.DETAILS)
     yield of_tlvs(one.lldpcli), of_tlvs(flat(whole(tree.nodes[0]))), "lldpcli"
@@ -96,5 +96,5 @@ def of_frame(one: Judged, neighbor: Neighbor) -> Iterator[Tuple[Any, Any, str]]:
 
 
 def of_tlvs(pairs: Iterable[Pair]) -> List[Pair]:
-    """Returns what lldpcli shows of TLVs of organizations and is compared, in its order."""
+    """Returns the pairs of lldpcli about organizationally specific TLVs that are compared."""
     return [(key, value) for key, value in pairs if key.startswith(PARTS) and key not in SLIPS]

@@ -1,8 +1,8 @@
-"""For tests: frames that a real lldpd heard, and its output of each form in the folder lldpd.
+"""For tests: frames that a real lldpd received, and lldpcli's output of them in the folder lldpd.
 
-`clean.*` are of CLEAN, heard at swp1, the first of them at swp2 as well; `odd.*` are of ODD, heard
-at swp1; `none.*` are of no frame. lldpcli 1.0.16 wrote them with `show neighbors details`; it
-writes no XML if a name is not UTF-8.
+`clean.*` show CLEAN, received at swp1, and its first frame also at swp2. `odd.*` show ODD, received
+at swp1. `none.*` show no neighbor. `show neighbors details` of lldpcli 1.0.16 wrote them; it writes
+no XML if a name is not UTF-8.
 """
 
 from pathlib import Path
@@ -16,7 +16,7 @@ DOCUMENTED = bytes.fromhex("20010db8") + bytes(11) + b"\1"
 
 
 def mac(number: int) -> bytes:
-    """Returns a chassis ID that is a MAC address."""
+    """Returns the body of a Chassis ID that is a MAC address."""
     return b"\x04\x02\0\0\0\0" + bytes([number])
 
 
@@ -29,7 +29,7 @@ def org(oui: str, subtype: int, content: bytes) -> bytes:
 
 
 def management(address: bytes) -> bytes:
-    """Returns a management address, which begins with its subtype."""
+    """Returns the TLV of a management address, which is given with its subtype in front."""
     return tlv(8, bytes([len(address)]) + address + b"\x02\0\0\0\1\0")
 
 
@@ -65,5 +65,5 @@ ODD: list[bytes] = [
 
 
 def sample(named: str, form: str) -> bytes:
-    """Returns what lldpcli wrote in a form."""
+    """Returns the output of lldpcli in this form."""
     return (FOLDER / f"{named}.{form}").read_bytes()

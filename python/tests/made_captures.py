@@ -1,4 +1,4 @@
-"""For tests: captures that are made of frames, in nine forms, and frames to put into them."""
+"""For tests: makes captures in nine forms, and frames for them."""
 
 import struct
 from typing import Callable, Dict, List, Optional, Sequence, Tuple
@@ -14,7 +14,7 @@ Frame = Tuple[int, bytes, int]
 
 
 def lldp_frame(chassis: bytes, port: bytes, ttl: int = 120) -> bytes:
-    """Returns a frame of a neighbor with that MAC address and that interface name."""
+    """Returns a frame of the neighbor with this MAC address and this interface name."""
     pdu = tlv(1, b"\4" + chassis) + tlv(2, b"\5" + port) + tlv(3, ttl.to_bytes(2, "big")) + b"\0\0"
     return GROUP_ADDRESS + chassis + b"\x88\xcc" + pdu
 
@@ -66,14 +66,14 @@ def interface(order: str = "<", name: str = "", resolution: Optional[int] = None
 
 
 def units_of(resolution: Optional[int]) -> int:
-    """Returns the units of a second that an interface's option says."""
+    """Returns how many units a second has by an interface's option."""
     if resolution is None:
         return 10**6
     return 2**(resolution & 127) if resolution & 128 else 10**resolution
 
 
 def packet(frame: Frame, order: str = "<", place: int = 0, units: int = 10**6) -> bytes:
-    """Returns the block of a packet of the interface at that place."""
+    """Returns the block of a frame that the interface at this place captured."""
     time, octets, length = frame
     stamp = -(-time * units // SECOND)
     fields = (place, stamp >> 32, stamp & 0xFFFFFFFF, len(octets), length)
@@ -82,7 +82,7 @@ def packet(frame: Frame, order: str = "<", place: int = 0, units: int = 10**6) -
 
 def pcapng(frames: Sequence[Frame], order: str = "<", resolution: Optional[int] = None,
            link_type: int = ETHERNET, name: str = "") -> bytes:
-    """Returns a section of pcapng with one interface, and with a block that readers skip."""
+    """Returns a pcapng section with one interface and a block that readers skip."""
     head = section(order) + interface(order, name, resolution, link_type)
     units = units_of(resolution)
     packets = (packet(frame, order, 0, units) for frame in frames)

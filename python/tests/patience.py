@@ -1,4 +1,4 @@
-"""For tests: patience with a machine that is busy, or is kept from running for some time."""
+"""For tests: copes with a machine that is busy, or that stands still for some time."""
 
 from __future__ import annotations
 
@@ -9,14 +9,14 @@ import time
 from pathlib import Path
 from typing import Any, Callable, Sequence
 
-SECONDS = 30.0  # to wait for what comes true by itself: they pass only if it does not
+SECONDS = 30.0  # the longest wait for a condition; they pass only if it stays false
 TRIES = 3
-NOTICEABLE = 0.05  # seconds of a standstill from which a test by the clock may be run again
+NOTICEABLE = 0.05  # seconds of a standstill after which a failed test is repeated
 NAP = 0.01
 
 
 def eventually(holds: Callable[[], Any], seconds: float = SECONDS) -> Any:
-    """Returns what the condition gives as soon as it holds, or after so many seconds."""
+    """Returns the condition's value as soon as it is true, or after this many seconds."""
     last = time.monotonic() + seconds
     while not (found := holds()) and time.monotonic() < last:
         time.sleep(0.02)
@@ -24,20 +24,20 @@ def eventually(holds: Callable[[], Any], seconds: float = SECONDS) -> Any:
 
 
 def mostly(seconds: Sequence[float]) -> float:
-    """Returns the time that at most half of some times exceed: a standstill or two change it
-    little, and what is late each time is seen."""
+    """Returns the time that at most half of these times exceed. A standstill or two change it
+    little; a delay that always occurs shows."""
     return sorted(seconds)[(len(seconds) - 1) // 2]
 
 
 def stolen() -> float:
-    """Returns the seconds for which this machine's processors were kept from their work."""
+    """Returns how many seconds of the processors a hypervisor gave to others."""
     ticks = Path("/proc/stat").read_text().split("\n", 1)[0].split()[8]
     return int(ticks) / os.sysconf("SC_CLK_TCK")
 
 
 class Standstill:
-    """Measures how long the machine stands still: what is stolen of its processors, and by how much
-    a thread that naps all the time oversleeps. A nap of twice its length is usual."""
+    """Measures how long the machine stands still: the stolen processor time, and how much a napping
+    thread oversleeps. A nap that takes up to twice its length is normal."""
 
     def __enter__(self) -> Standstill:
         self.is_over = threading.Event()
@@ -55,7 +55,7 @@ class Standstill:
             self.overslept += longer if longer > NAP else 0.0
 
     def seconds(self) -> float:
-        """Returns how long it has stood still so far."""
+        """Returns for how long it has stood still so far."""
         return self.overslept + stolen() - self.stolen_before
 
     def __exit__(self, *_: object) -> None:
@@ -64,8 +64,8 @@ class Standstill:
 
 
 def by_the_clock(test: Callable[[Any], None]) -> Callable[[Any], None]:
-    """Lets a test whose bounds are times be run again if it fails while the machine stands still. A
-    fault of the program comes again each time, and then the test fails all the same."""
+    """Repeats a test with time limits if it fails while the machine stands still. A fault of the
+    program occurs each time, so the test still fails."""
     @functools.wraps(test)
     def tried(case: Any) -> None:
         for left in reversed(range(TRIES)):

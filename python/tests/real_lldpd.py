@@ -1,4 +1,4 @@
-"""For tests and scripts: a real lldpd beside this repository's programs."""
+"""For tests and scripts: runs a real lldpd beside this repository's programs."""
 
 import json
 import os
@@ -15,7 +15,7 @@ beside_lldpd = unittest.skipUnless(shutil.which("lldpd"), "it needs Debian's pac
 
 
 class Lldpd:
-    """A running lldpd, in a namespace, with its socket in a folder."""
+    """A running lldpd in a namespace. Its socket is in a folder."""
 
     def __init__(self, namespace: str, folder: Path, *words: str) -> None:
         os.makedirs("/run/lldpd", exist_ok=True)
@@ -32,16 +32,16 @@ class Lldpd:
         return subprocess.run(command, capture_output=True, check=False).stdout
 
     def tell(self, command: str) -> None:
-        """Sends it a command, in which quotes hold a word together."""
+        """Sends a command. Quotes keep words together."""
         self.ask(*(word.strip('"') for word in re.findall(r'"[^"]*"|\S+', command)))
 
     def neighbors(self) -> list[Any]:
-        """Returns the interfaces with neighbors that it shows."""
+        """Returns the interfaces that it shows, each with a neighbor."""
         shown = json.loads(self.ask("-f", "json0", "show", "neighbors", "details") or "{}")
         return [one for part in shown.get("lldp", []) for one in part.get("interface", [])]
 
     def values(self, key: str) -> set[str]:
-        """Returns the values that its neighbors have for a key, such as `peer0.chassis.mac`."""
+        """Returns the values of a key of its neighbors, such as `peer0.chassis.mac`."""
         shown = self.ask("-f", "keyvalue", "show", "neighbors").decode()
         return set(re.findall(rf"^lldp\.{re.escape(key)}=(.*)$", shown, re.M))
 

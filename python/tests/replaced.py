@@ -1,4 +1,4 @@
-"""For tests: an lldpa-live with neighbors, whose table must stay while another agent follows."""
+"""For tests: an lldpa-live with neighbors that must stay while another agent takes over."""
 
 import socket
 import subprocess
@@ -23,7 +23,7 @@ def address_in(octets: bytes) -> Optional[str]:
 
 
 class Replaced(OnLinks):
-    """With a port that has neighbors, whose table stays."""
+    """Tests on two links with neighbors that must stay."""
 
     links = 2
 
@@ -33,12 +33,12 @@ class Replaced(OnLinks):
         self.peers = [self.peer("peer0"), self.peer("peer1")]
 
     def can_make(self, name: str, *words: str) -> bool:
-        """Makes an interface, and returns whether this kernel has its kind."""
+        """Makes an interface. Returns false if this kernel does not have its kind."""
         command = ["ip", "-n", self.wires.here, "link", "add", "name", name, *words]
         return subprocess.run(command, check=False, capture_output=True).returncode == 0
 
     def begun(self, *words: str) -> Live:
-        """Starts an lldpa-live with a log and three neighbors, which came in different seconds."""
+        """Starts an lldpa-live with a log and three neighbors that came in different seconds."""
         live = self.live("--log", str(self.log), "--events", *words, "eth0", "eth1")
         for number in (3, 1, 2):
             self.peers[0].send(numbered(number, LONG + number, tlv(5, b"sw%d" % number)))
@@ -51,11 +51,11 @@ class Replaced(OnLinks):
         return live
 
     def neighbors(self, live: Live) -> list[Neighbor]:
-        """Returns the neighbors without their seconds left, which come last."""
+        """Returns the neighbors that `show neighbors` prints."""
         return read_show(live.ask("show neighbors")).neighbors
 
     def stays(self, before: list[Neighbor], began: float, live: Live) -> None:
-        """Checks that all neighbors are there as before, and that their seconds left went on."""
+        """Checks that all neighbors are still present, and that their time left has gone on."""
         after, went = self.neighbors(live), time.monotonic() - began
         self.assertEqual([(one.port, one.place, one.id, one.said) for one in after],
                          [(one.port, one.place, one.id, one.said) for one in before])
@@ -63,7 +63,7 @@ class Replaced(OnLinks):
             self.assertAlmostEqual(old.expires - new.expires, went, delta=2)
 
     def hears_address(self, address: Optional[str], peer: int = 0, seconds: float = 8) -> bool:
-        """Returns whether a peer comes to hear frames with that address, and no shutdown before."""
+        """True if a peer receives this address in time, and no shutdown frame before that."""
         last = time.monotonic() + seconds
         while (left := last - time.monotonic()) > 0:
             octets = self.peers[peer].hears(left)

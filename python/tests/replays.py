@@ -1,4 +1,4 @@
-"""For tests: whether a log, replayed, gives the tables of some moments, and the frames sent."""
+"""For tests: checks that replayed logs give the tables of some moments, and the sent frames."""
 
 import re
 import shlex
@@ -13,8 +13,8 @@ CLOCK = re.compile("^# [0-9]{4}-", re.M)  # the first one ends the head of a fil
 
 
 class Moments:
-    """Asks an lldpa-live for its tables, with a command in words of their own, so that the log has
-    a line by which the moment is found. (What is shown is not in the log.)"""
+    """Asks an lldpa-live for its tables at some moments, and marks each moment in the log by a
+    command of unique form. (Shows are not in the log.)"""
 
     def __init__(self, live: Live) -> None:
         self.live = live
@@ -22,7 +22,7 @@ class Moments:
         self.count = 0
 
     def take(self) -> None:
-        """Takes the present tables: those that are the same before the command and after it."""
+        """Notes the tables, once they are the same before and after the command."""
         self.count += 1
         line = f"update{' ' * self.count}"
         before = self.live.ask("show neighbors")
@@ -34,7 +34,7 @@ class Moments:
 
 
 def answers(log: Path, text: str) -> list[str]:
-    """Returns what the agent of a log's file answers to a text."""
+    """Runs an agent with the words of a log's first line, and returns what it answers to a text."""
     first = log.read_text().partition("\n")[0]
     run = subprocess.run([PROGRAM, *shlex.split(first[len("# lldpa "):])], input=text,
                          capture_output=True, text=True, check=True)
@@ -42,8 +42,8 @@ def answers(log: Path, text: str) -> list[str]:
 
 
 def replayed(log: Path, line: str) -> Optional[list[str]]:
-    """Returns the tables at that line of a log, as a replay of this file alone gives them, or None
-    if the line is not in it."""
+    """Returns the tables at a line of a log, by a replay of this file alone. None if the log does
+    not have the line."""
     lines = log.read_text().split("\n")
     if line not in lines:
         return None
@@ -52,8 +52,8 @@ def replayed(log: Path, line: str) -> Optional[list[str]]:
 
 
 def sent(folder: Path, port: str, source: bytes) -> list[bytes]:
-    """Returns the frames that a port sends in a replay of each file of a folder, in their order,
-    without those that it sends during the head of a file, from the address of its interface."""
+    """Returns the frames that a port sends in replays of each file of a folder, with the source
+    address of its interface. Frames from the head of a file are left out."""
     frames: list[str] = []
     for log in sorted(folder.iterdir(), key=lambda path: path.stat().st_mtime_ns):
         text = log.read_text()
@@ -65,8 +65,8 @@ def sent(folder: Path, port: str, source: bytes) -> list[bytes]:
 
 
 def differing(folder: Path, moments: Moments) -> list[str]:
-    """Returns what is wrong with the logs of a folder: moments that none has, or whose tables
-    differ."""
+    """Returns what is wrong with the logs of a folder: moments that are not in one file, or whose
+    tables differ."""
     wrong = []
     for line, answer in moments.answers.items():
         found = {log.name: tables for log in sorted(folder.iterdir())

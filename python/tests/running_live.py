@@ -1,4 +1,4 @@
-"""For tests on real links: running lldpa-lives, and what is ended after a test."""
+"""For tests on real links: runs lldpa-live, and ends everything after a test."""
 
 import contextlib
 import os
@@ -23,13 +23,13 @@ is_built = unittest.skipUnless(os.access(LIVE, os.X_OK),
 
 NO_ADDRESS = "there is no IPv4 address to announce\n"
 
-# what runs in the background of a shell, or by nohup, ignores these, and so would lldpa-live
+# if tests run by nohup or in the background, they ignore these, and lldpa-live would inherit that
 signal.signal(signal.SIGINT, signal.default_int_handler)
 signal.signal(signal.SIGHUP, lambda *_: None)
 
 
 def run_live(*words: str) -> subprocess.CompletedProcess[str]:
-    """Runs an lldpa-live that ends by itself, without input."""
+    """Runs an lldpa-live that ends by itself."""
     return subprocess.run([LIVE, *words], stdin=subprocess.DEVNULL, capture_output=True, text=True,
                           timeout=SECONDS, check=False)
 
@@ -48,17 +48,17 @@ class Live:
             raise AssertionError(f"no lldpa-live: {self.errors()}")
 
     def answers(self) -> bool:
-        """Returns whether its agent runs, or it has ended."""
+        """True if its agent runs, or it has ended."""
         return self.process.poll() is not None or self.ask_quietly()
 
     def has(self, line: str, what: str = "live") -> bool:
-        """Returns whether it answers a question, and the answer has that line."""
+        """True if it answers a question, and the answer has this line."""
         with contextlib.suppress(OSError):
             return line in self.ask(what)
         return False
 
     def ask_quietly(self) -> bool:
-        """Returns whether its control socket answers, and there is an agent."""
+        """True if its control socket answers, and there is an agent."""
         return self.has("live.agent=running")
 
     def ask(self, line: str) -> list[str]:
@@ -66,7 +66,7 @@ class Live:
             return client.ask(line)
 
     def ask_refused(self, line: str) -> str:
-        """Returns why it refuses a line at its control socket, or an empty text if it does not."""
+        """Returns why it refuses a line, or an empty text if it does not."""
         try:
             self.ask(line)
         except Refused as refused:
@@ -77,7 +77,7 @@ class Live:
         return ctl(self.control, *words).stdout
 
     def told(self, what: str, key: str) -> str:
-        """Returns the value that it gives a key in its answer."""
+        """Returns the value of a key in the answer to a question."""
         return dict(line.split("=", 1) for line in self.ask(what))[key]
 
     def neighbors(self, port: str = "eth0") -> int:
@@ -87,38 +87,38 @@ class Live:
         return int(self.told("live", f"live.{key}"))
 
     def spend(self, seconds: int) -> None:
-        """Waits until its agent was given so many more seconds."""
+        """Waits until its agent was given this many more seconds."""
         last = self.number("seconds") + seconds
         if not eventually(lambda: self.number("seconds") >= last):
             raise AssertionError(f"no {seconds} seconds pass: {self.errors()}")
 
     def comes_to(self, line: str, what: str = "live") -> None:
-        """Waits until it answers a question, and the answer has that line."""
+        """Waits until the answer to a question has this line."""
         if not eventually(lambda: self.has(line, what)):
             raise AssertionError(f"{what} has no {line}: {self.ask(what)}")
 
     def used(self) -> float:
-        """Returns its processor time in seconds, whatever else the machine does."""
+        """Returns how many seconds of processor time it has used."""
         return int(Path(f"/proc/{self.process.pid}/schedstat").read_text().split()[0]) / 1e9
 
     def errors(self) -> str:
-        """Returns what it has said on standard error, but that this host has no address."""
+        """Returns what it wrote to standard error, except that this host has no address."""
         return "".join(line for line in self.said().splitlines(True) if NO_ADDRESS not in line)
 
     def said(self) -> str:
         return self.errors_path.read_text()
 
     def says(self, text: str, seconds: float = SECONDS) -> bool:
-        """Returns whether it comes to say that on standard error."""
+        """True if it writes this text to standard error in time."""
         return bool(eventually(lambda: text in self.errors(), seconds))
 
     def resident(self, kind: str = "VmRSS") -> int:
-        """Returns its resident set, or with VmHWM the greatest it had, in KiB."""
+        """Returns the size of its resident set in KiB; with VmHWM, the greatest so far."""
         status = Path(f"/proc/{self.process.pid}/status").read_text()
         return int(status.split(f"{kind}:")[1].split()[0])
 
     def ended(self, number: int = signal.SIGTERM) -> Optional[int]:
-        """Ends it by a signal, and returns its status."""
+        """Ends it with a signal, and returns its status."""
         self.signal(number)
         return self.ends()
 
@@ -138,7 +138,7 @@ class Live:
         return None
 
     def close(self) -> None:
-        """Ends it, whatever state it is in."""
+        """Ends it, whatever its state."""
         if self.process.poll() is None:
             self.signal(signal.SIGCONT)
             if self.ended() is None:
@@ -150,9 +150,9 @@ class Live:
 
 
 @unittest.skipUnless(os.geteuid() == 0 and shutil.which("ip") and os.access(LIVE, os.X_OK),
-                     "links want root, ip, and lldpa-live, which tools/release/live.sh builds")
+                     "links need root, ip, and lldpa-live, which tools/release/live.sh builds")
 class OnLinks(unittest.TestCase):
-    """A test with links that are removed after it, and what runs on them ended."""
+    """A test with links. After it the links are removed, and its programs are ended."""
 
     links = 1
 
@@ -163,7 +163,7 @@ class OnLinks(unittest.TestCase):
         self.log = self.folder / "log"
 
     def live(self, *words: str, **options: Any) -> Live:
-        """Starts an lldpa-live that is ended after the test."""
+        """Starts an lldpa-live that ends after the test."""
         live = Live(self.wires, *words, **options)
         self.addCleanup(live.close)
         return live
@@ -175,7 +175,7 @@ class OnLinks(unittest.TestCase):
         return peer
 
     def receiving(self, *words: str) -> tuple[Live, Peer]:
-        """Starts an lldpa-live of eth0 that only receives, and opens a sender at the other end."""
+        """Starts an lldpa-live that only receives at eth0, and opens a sender at the other end."""
         return self.live(*words, "eth0", "--", "--receive-only"), self.peer()
 
     def becomes_neighbor(self, live: Live, octets: bytes = numbered(1),
@@ -185,7 +185,7 @@ class OnLinks(unittest.TestCase):
         self.assertTrue(eventually(live.neighbors))
 
     def refuses(self, text: str, *words: str, status: int = 1, **options: Any) -> None:
-        """Checks that an lldpa-live of these words does not start, and why."""
+        """Checks that lldpa-live does not start with these words, and says why."""
         live = self.live(*words, **options)
         self.assertEqual(live.ends(), status, words)
         self.assertIn(text, live.errors())

@@ -1,4 +1,4 @@
-"""For tests: a control socket with a real agent behind it, as lldpa-live has one."""
+"""For tests: a control socket with a real agent, as lldpa-live has."""
 
 from __future__ import annotations
 
@@ -18,7 +18,7 @@ from lldpa.client import Client
 
 REPOSITORY = Path(__file__).resolve().parents[2]
 PROGRAM = os.environ.get("LLDPA") or str(REPOSITORY / "crates" / "lldpa" / "out" / "lldpa")
-# lldpa-ctl reads its help
+# lldpa-ctl finds and runs `lldpa --help`
 os.environ["PATH"] = os.path.dirname(PROGRAM) + os.pathsep + os.environ.get("PATH", os.defpath)
 CTL = str(REPOSITORY / "bin" / "lldpa-ctl")
 GROUP_ADDRESS = bytes.fromhex("0180c200000e")
@@ -48,27 +48,27 @@ def tlv(kind: int, body: bytes) -> bytes:
 
 
 def frame(chassis: bytes, port: bytes, ttl: int, *further: bytes) -> bytes:
-    """Returns a frame of a neighbor; the identifiers begin with their subtypes."""
+    """Returns a frame of a neighbor. The identifiers begin with their subtypes."""
     head = GROUP_ADDRESS + bytes.fromhex("02000000000a") + bytes.fromhex("88cc")
     pdu = tlv(1, chassis) + tlv(2, port) + tlv(3, ttl.to_bytes(2, "big")) + b"".join(further)
     return head + pdu + tlv(0, b"")
 
 
 def numbered(number: int, ttl: int = 120, *further: bytes) -> bytes:
-    """Returns a frame of one of many neighbors."""
+    """Returns a frame of the neighbor with this number."""
     return frame(b"\x04\x02\0\0\0\0" + bytes([number]), b"\x05p%d" % number, ttl, *further)
 
 
 class Served:
-    """A control socket at `path`, with a real agent behind it."""
+    """A control socket at `path`, with a real agent that answers."""
 
     def __init__(self, ports: Sequence[str] = ("eth0", "eth1"), **options: Any) -> None:
         self.folder = tempfile.mkdtemp()
         os.chmod(self.folder, 0o755)
         self.path = os.path.join(self.folder, "control")
-        self.waits = False  # whether the agent waits for an interface from its first question on
+        self.waits = False  # whether the agent waits for an interface
         self.asked: list[bytes] = []
-        self.hidden: set[bytes] = set()  # questions that are answered with nothing
+        self.hidden: set[bytes] = set()  # questions whose answers are empty
         self.live_lines = LIVE_LINES
         self.agent = Agent.start(ports, PROGRAM, receive_only=True, **options)
         self.asking = threading.Lock()
@@ -89,19 +89,19 @@ class Served:
                 threading.Thread(target=self.serve, args=[client], daemon=True).start()
 
     def serve(self, client: socket.socket) -> None:
-        """Answers what a client asks."""
+        """Answers the lines of a client."""
         with suppress(OSError), client, client.makefile("rb") as lines:
             for line in lines:
                 answer = self.answer(line.rstrip(b"\n"))
                 client.sendall(b"".join(one + b"\n" for one in [b"=%d" % len(answer), *answer]))
 
     def answer(self, line: bytes) -> list[bytes]:
-        """Does what an lldpa-live does with a question."""
+        """Answers a line as lldpa-live does."""
         self.asked.append(line)
         if line in self.hidden:
             return []
         if line.split(b" ")[0] in (b"tick", b"rx", b"up", b"down"):
-            return [b"error: for lldpa-live alone"]
+            return [b"error: reserved for lldpa-live"]
         if self.waits and line.startswith(b"show"):
             self.live_lines = [*LIVE_LINES, b"live.agent=waiting"]
             return [b"error: waiting for an interface: eth0"]
@@ -128,7 +128,7 @@ class Served:
         return Client(self.path)
 
     def stop(self) -> None:
-        """Ends every conversation, and answers nobody any more."""
+        """Ends all connections, and answers nobody any more."""
         with suppress(OSError):
             self.listener.shutdown(socket.SHUT_RDWR)
         self.listener.close()
@@ -151,14 +151,14 @@ class Served:
 
 
 class Program(unittest.TestCase):
-    """lldpa-ctl as a program, with a control socket for it."""
+    """Tests of lldpa-ctl as a program, with a control socket."""
 
     def setUp(self) -> None:
         self.served = Served()
         self.addCleanup(self.served.close)
 
     def run_ctl(self, *words: str, status: int = 0, said: str = "", **options: Any) -> str:
-        """Returns what lldpa-ctl prints; checks its status and its message."""
+        """Returns the output of lldpa-ctl, and checks its status and its message."""
         told = ctl(self.served.path, *words, **options)
         self.assertEqual((told.stderr, told.returncode), (said and f"lldpa-ctl: {said}\n", status))
         return told.stdout

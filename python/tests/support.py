@@ -1,4 +1,4 @@
-"""For tests: lldpa-capture, and files and services that tests make."""
+"""For tests: runs lldpa-capture, and makes files and services."""
 
 import os
 import socket
@@ -18,7 +18,7 @@ CAPTURE = str(REPOSITORY / "bin" / "lldpa-capture")
 
 
 class FilesCase(unittest.TestCase):
-    """A test with a folder for files of its own."""
+    """A test with its own folder for files."""
 
     def setUp(self) -> None:
         folder = tempfile.TemporaryDirectory()
@@ -32,16 +32,16 @@ class FilesCase(unittest.TestCase):
         return str(path)
 
     def ran(self, *words: str, octets: Optional[bytes] = None) -> Tuple[str, str, int]:
-        """Runs lldpa-capture in the folder, and returns what it writes, says and answers."""
+        """Runs lldpa-capture in the folder. Returns its output, its messages and its status."""
         done = run_capture(list(words), octets, self.folder)
         return done.stdout, done.stderr, done.returncode
 
 
 class AnsweringCase(FilesCase):
-    """A test with services that answer as it likes."""
+    """A test with services that send whatever it wants."""
 
     def answers(self, *octets: bytes, pause: float = 0) -> str:
-        """Returns the path of a socket at which each client is sent these octets."""
+        """Returns the path of a socket that sends these octets to its first client."""
         path = str(self.folder / f"control-{len(os.listdir(self.folder))}")
         listening = socket.socket(socket.AF_UNIX, socket.SOCK_STREAM)
         self.addCleanup(listening.close)
@@ -61,7 +61,7 @@ class AnsweringCase(FilesCase):
 
 def run_capture(words: list[str], octets: Optional[bytes] = None,
                 folder: Optional[Path] = None) -> subprocess.CompletedProcess[str]:
-    """Runs lldpa-capture on these words, with these octets at standard input."""
+    """Runs lldpa-capture with these words, and these octets as standard input."""
     done = subprocess.run([sys.executable, CAPTURE, *words], input=octets, capture_output=True,
                           cwd=folder, check=False)
     return subprocess.CompletedProcess(done.args, done.returncode, done.stdout.decode(),

@@ -1,4 +1,4 @@
-"""The management address of this host is followed: an agent that announces it takes over."""
+"""Tests that lldpa-live announces a new management address of this host, by a new agent."""
 
 import os
 import shutil
@@ -26,7 +26,7 @@ STEPS = ((["add 192.0.2.7/24"], "192.0.2.7"),
 @beside_lldpd
 @unittest.skipUnless(shutil.which("tshark"), "it needs Debian's package tshark")
 class AtPeers(Replaced):
-    """What real peers have: lldpd at both links, tshark at the second one."""
+    """Tests what real peers receive: lldpd on both links, tshark on the second."""
 
     def setUp(self) -> None:
         super().setUp()
@@ -39,7 +39,7 @@ class AtPeers(Replaced):
         self.assertTrue(eventually(lambda: "Capturing" in self.captured.read_text()))
 
     def output(self, *words: str) -> Path:
-        """Starts a program at the peer's side, and returns the file that it writes to."""
+        """Starts a program on the peers' side, and returns the file with its output."""
         path = self.folder / words[0]
         with inside(self.wires.there), path.open("wb") as file:
             program = subprocess.Popen(words, stdin=subprocess.DEVNULL, stdout=file, stderr=file,
@@ -49,7 +49,7 @@ class AtPeers(Replaced):
         return path
 
     def is_there(self, address: Optional[str]) -> bool:
-        """Returns whether both peers have that address of this host, or none, by its last frame."""
+        """True if both peers have this address (or none) from the last frame of this host."""
         wanted = set() if address is None else {address}
         last = self.captured.read_text().splitlines()[-1]
         return (last == f"121\t{address or ''}"
@@ -57,7 +57,7 @@ class AtPeers(Replaced):
                         for peer in ("peer0", "peer1")))
 
     def is_followed_at(self, interface: str) -> None:
-        """Adds, changes and removes an address of an interface."""
+        """Adds, changes and removes an address, and checks that it is followed."""
         live = self.begun()
         self.assertTrue(eventually(lambda: self.is_there(None)))
         before, began, since = self.neighbors(live), time.monotonic(), since_of(live.ask("live"))
@@ -88,7 +88,7 @@ class AtPeers(Replaced):
         self.is_followed_at("eth0")
 
     def is_followed_above(self, kind: str) -> None:
-        """Puts an interface of that kind above the first port, and follows its addresses."""
+        """Puts an interface of this kind above the first port, and tests its addresses."""
         if not self.can_make("above0", "type", kind):
             self.skipTest(f"it needs a kernel with {kind}s")
         for words in ("eth0 down", "eth0 master above0", "eth0 up", "above0 up"):
@@ -111,7 +111,7 @@ class AtPeers(Replaced):
 
 class Addresses(Replaced):
     def add(self, address: str, interface: str = "eth0", word: str = "add") -> None:
-        """Gives this host an address, or removes it."""
+        """Adds an address to this host, or removes it."""
         ip("-n", self.wires.here, "address", word, f"{address}/24", "dev", interface)
 
     def test_an_address_of_a_bridge_is_left_when_the_port_leaves_the_bridge(self) -> None:

@@ -1,4 +1,4 @@
-"""Agents that run and that listen, asked plainly."""
+"""Tests agents of the package: as a child process, and over a connection."""
 
 import doctest
 import os
@@ -21,14 +21,14 @@ from patience import eventually
 from served import PROGRAM
 from support import FilesCase
 
-# what a port eth0 sends if no option is given
+# what port eth0 sends without options
 DEFAULT_FRAME = bytes.fromhex(
     "0180c200000e02000000000188cc02070402000000000104050565746830060200790804657468300a096c6f63"
     "616c686f73740c056c6c6470610e04008000800000")
 
 
 def started(*ports: str, **options: lldpa.agent.synchronous.Option) -> Agent:
-    """Starts an agent with these ports, or with eth0 if there are none."""
+    """Starts an agent with these ports, by default eth0."""
     return Agent.start(ports or ["eth0"], PROGRAM, **options)
 
 
@@ -112,7 +112,7 @@ class Asked(unittest.TestCase):
 
 
 class EndedAgents(FilesCase):
-    """Agents that have ended, or do not exist."""
+    """Tests agents that have ended or do not exist."""
 
     def test_bad_words(self) -> None:
         for words, text in ((["a.b"], "lldpa: bad port name"), ([], "lldpa: no ports")):
@@ -189,7 +189,7 @@ class EndedAgents(FilesCase):
 
 
 class Listening(unittest.TestCase):
-    """An agent that serves connections."""
+    """Tests an agent that serves connections."""
 
     def setUp(self) -> None:
         with socket.create_server(("127.0.0.1", 0)) as free:
@@ -202,7 +202,7 @@ class Listening(unittest.TestCase):
         self.addCleanup(self.first.close)
 
     def connected(self) -> Optional[Agent]:
-        """Returns an agent, if it listens."""
+        """Returns an agent if it listens already."""
         try:
             return Agent.connect(self.number)
         except ConnectionRefusedError:

@@ -1,4 +1,4 @@
-"""A host without Python: lldpa-live asks another lldpa-live that runs there."""
+"""Tests `lldpa-live --ask`, for hosts without Python."""
 
 import socket
 import subprocess
@@ -11,7 +11,7 @@ from support import AnsweringCase
 
 
 def asked(path: str, line: str) -> "subprocess.CompletedProcess[str]":
-    """Returns what it prints and says of a question."""
+    """Asks a question, and returns the output and the status."""
     return run_live("--control", path, "--ask", line)
 
 
@@ -41,12 +41,12 @@ class Asked(OnLinks):
             began = time.monotonic()
             self.assertEqual(asked(live.control, "show neighbors").returncode, 0)
             times.append(time.monotonic() - began)
-        self.assertLess(mostly(times), 0.02)  # with what this test itself takes
+        self.assertLess(mostly(times), 0.02)  # including the test's own time
 
 
 @is_built
 class Unanswered(AnsweringCase):
-    """Where nobody answers, or a stranger does."""
+    """Tests questions that nobody answers, or a stranger."""
 
     def test_nobody_is_there(self) -> None:
         path = str(self.folder / "none")

@@ -1,4 +1,4 @@
-"""Captures that are made, and the packets that are read from them."""
+"""Tests how packets are read from captures."""
 
 import gzip
 import io
@@ -15,7 +15,7 @@ FRAMES: list[Frame] = [whole(OTHER), whole(LLDP, START + 1000), (START + SECOND,
 
 
 class Dripping(io.RawIOBase):
-    """A file whose reads each return few octets, as a pipe's do."""
+    """A file that returns a few octets for each read, as a pipe does."""
 
     def __init__(self, octets: bytes, most: int) -> None:
         super().__init__()
@@ -33,7 +33,7 @@ def packets(octets: bytes) -> list[Packet]:
 
 
 def fault_of(octets: bytes) -> str:
-    """Returns why a capture cannot be read further, or nothing if it can."""
+    """Returns the fault of a capture, or an empty text if all of it can be read."""
     try:
         packets(octets)
     except BadCapture as fault:
@@ -42,7 +42,7 @@ def fault_of(octets: bytes) -> str:
 
 
 class Read(unittest.TestCase):
-    """Packets come back as they were put in."""
+    """Tests that packets are read as they were put in."""
 
     def test_each_form(self) -> None:
         for name, form in FORMS.items():
@@ -115,10 +115,10 @@ class Compressed(unittest.TestCase):
 
 
 class InPlace(unittest.TestCase):
-    """What is skipped in place is what cannot matter."""
+    """Tests that a reader skips only packets that cannot matter."""
 
     def random_frames(self, dice: random.Random) -> list[Frame]:
-        """Returns frames, some of them LLDP's, at times that mostly increase."""
+        """Returns frames, some of them LLDP frames, at times that mostly increase."""
         time, frames = START, []
         for _ in range(dice.randrange(60)):
             time += dice.choice([0, 1000, 10**6, SECOND, -1000, -SECOND, 7 * SECOND, -5 * SECOND])
@@ -145,13 +145,13 @@ class InPlace(unittest.TestCase):
             self.assertEqual(self.steps_back(looked), self.steps_back(everything))
 
     def steps_back(self, timed: "list[tuple[bytes, int]]") -> list["tuple[int, int]"]:
-        """Returns each step back of the time: from where, and to where."""
+        """Returns each pair of successive times that decrease."""
         times = [time for _, time in timed]
         return [(one, other) for one, other in zip(times, times[1:]) if other < one]
 
 
 class Damaged(unittest.TestCase):
-    """What cannot be read further says where."""
+    """Tests that damaged captures are reported, with the place of the damage."""
 
     def test_no_captures(self) -> None:
         self.assertEqual(fault_of(b""), "it is empty")

@@ -1,4 +1,4 @@
-"""Captures as they come: compressed, from pipes, with clocks that were set and frames to skip."""
+"""Tests captures in practice: compressed, from pipes, with set clocks and frames to skip."""
 
 import os
 import random
@@ -43,7 +43,7 @@ class Files(FilesCase):
 
 
 class Clocks(FilesCase):
-    """Clocks that are set while a capture is taken."""
+    """Tests clocks that are set while a capture is made."""
 
     @by_the_clock
     def test_from_1970_to_now(self) -> None:
@@ -68,7 +68,7 @@ class Clocks(FilesCase):
 
 
 class Ports(FilesCase):
-    """48 ports, with a neighbor at each."""
+    """Tests captures of 48 ports, each with a neighbor."""
 
     def setUp(self) -> None:
         super().setUp()
@@ -76,13 +76,13 @@ class Ports(FilesCase):
                           for number, port in enumerate(PORTS)]
 
     def frames(self, mac: bytes, peer: str, begin: int) -> list[Frame]:
-        """Returns nine frames at a port, of which each fourth is of its neighbor."""
+        """Returns nine frames at a port; every fourth is from its neighbor."""
         octets = lldp_frame(mac, peer.encode())
         return [whole(OTHER if place % 4 else octets, START + (begin + place * 7) * SECOND)
                 for place in range(9)]
 
     def compare(self, *words: str) -> None:
-        """Checks that an agent finds the neighbors in what lldpa-capture writes."""
+        """Checks that an agent finds the neighbors by the trace that lldpa-capture writes."""
         trace, *ended = self.ran(*words)
         self.assertEqual(ended, ["", 0])
         shown = subprocess.run([PROGRAM, "--receive-only", *PORTS], text=True, check=True,

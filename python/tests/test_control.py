@@ -1,4 +1,4 @@
-"""The control socket of a running lldpa-live: what is answered, and to whom."""
+"""Tests what a running lldpa-live answers at its control socket, and to whom."""
 
 import socket
 import time
@@ -12,7 +12,7 @@ from patience import SECONDS, eventually
 from served import numbered, tlv
 
 ORGANIZATIONAL = [tlv(127, bytes([0, 1, 2, kind]) + bytes(500)) for kind in range(2)]
-MOST_CLIENTS, KEPT = 64, 8  # the second are for root and the owner alone
+MOST_CLIENTS, KEPT = 64, 8  # KEPT are for root and the owner
 SECONDS_TO_READ = 10
 
 
@@ -25,7 +25,7 @@ def rest_of(connection: socket.socket) -> bytes:
 
 
 class Answered(OnLinks):
-    """With a running lldpa-live of two ports."""
+    """Tests with a running lldpa-live of two ports."""
 
     links = 2
 
@@ -34,7 +34,7 @@ class Answered(OnLinks):
         self.served = self.live("eth0", "eth1", "--", "--receive-only", "--max-neighbors", "128")
 
     def raw(self) -> socket.socket:
-        """Opens a connection that does as it likes."""
+        """Opens a connection that may send anything."""
         connection = socket.socket(socket.AF_UNIX, socket.SOCK_STREAM)
         self.addCleanup(connection.close)
         connection.settimeout(SECONDS)
@@ -48,7 +48,7 @@ class Answered(OnLinks):
         return rest_of(connection)
 
     def fill(self) -> None:
-        """Makes each show of neighbors longer than what the kernel holds for a connection."""
+        """Makes a show of neighbors longer than what the kernel buffers for a connection."""
         for port in ("0", "1"):
             peer = self.peer(f"peer{port}")
             for number in range(128):
@@ -78,7 +78,7 @@ class Questions(Answered):
     def test_what_lldpa_live_alone_tells_never_reaches_the_agent(self) -> None:
         for word in ("tick", "rx", "up", "down"):
             for line in (word, f"\t {word} eth0", f'"{word}" 3', f"{word}\t00", f'"{word}"x'):
-                self.assertEqual(self.served.ask_refused(line), "for lldpa-live alone")
+                self.assertEqual(self.served.ask_refused(line), "reserved for lldpa-live")
         self.assertIn("lldp.eth0.received=0", self.served.ask("show statistics"))
         self.assertIn("live.eth0.link=up", self.served.ask("live"))
 
@@ -124,7 +124,7 @@ class Clients(Answered):
                 self.assertEqual(len(client.ask("show chassis")), 4)
         self.assertLess(time.monotonic() - began, SECONDS_TO_READ)
         self.assertLess(self.served.resident("VmHWM"), 16_000)
-        time.sleep(SECONDS_TO_READ + 2)  # in which it is ended
+        time.sleep(SECONDS_TO_READ + 2)  # meanwhile it is disconnected
         answer = rest_of(lazy)
         self.assertLess(answer.count(b"\n"), 2 * int(answer[1:answer.index(b"\n")]))
 

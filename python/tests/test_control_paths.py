@@ -1,4 +1,4 @@
-"""Which process has the path of the control socket, and what users may do there."""
+"""Tests which process gets the path of the control socket, and what users may do there."""
 
 import os
 import shutil
@@ -12,7 +12,7 @@ from lldpa.client.connection import Client, Gone
 from patience import eventually
 from running_live import Live, OnLinks
 
-IN_USE = "another lldpa-live answers at this control path"
+IN_USE = "another lldpa-live uses this control socket"
 ASKER = """
 import os, socket, sys
 os.setgroups([int(group) for group in sys.argv[3:]])
@@ -28,7 +28,7 @@ STRANGER, OWNER = 12345, 65534
 
 
 class AtAPath(OnLinks):
-    """With a folder that others may use, and a path there."""
+    """Tests with a path for the control socket."""
 
     def setUp(self) -> None:
         super().setUp()
@@ -41,7 +41,7 @@ class AtAPath(OnLinks):
         return live
 
     def fails(self, text: str, path: str = "") -> None:
-        """Checks that an lldpa-live cannot have the path, and says why."""
+        """Checks that lldpa-live cannot use this path, and says why."""
         self.refuses(text, "--control", path or self.path, "eth0")
 
 
@@ -103,10 +103,10 @@ class Paths(AtAPath):
 
 
 class Permission(AtAPath):
-    """What users may do that are neither root nor the owner."""
+    """Tests what users may do who are neither root nor the owner."""
 
     def asker(self, *groups: int, user: int = STRANGER) -> "subprocess.Popen[str]":
-        """Starts a process of a user that asks what it reads."""
+        """Starts a process of this user that asks each line that it reads."""
         words = [sys.executable, "-c", ASKER, self.path, str(user), *map(str, groups)]
         asker = subprocess.Popen(words, stdin=subprocess.PIPE, stdout=subprocess.PIPE,
                                  stderr=subprocess.DEVNULL, text=True)
@@ -114,7 +114,7 @@ class Permission(AtAPath):
         return asker
 
     def ask(self, asker: "subprocess.Popen[str]", line: str) -> str:
-        """Returns the answer to that process, as it prints it, or nothing if it has failed."""
+        """Returns the answer as the process prints it, or an empty text if it failed."""
         assert asker.stdin is not None and asker.stdout is not None
         try:
             asker.stdin.write(line + "\n")

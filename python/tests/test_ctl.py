@@ -1,4 +1,4 @@
-"""lldpa-ctl as a program, against a control socket with the real agent behind it."""
+"""Tests lldpa-ctl as a program, with a control socket and a real agent."""
 
 import fcntl
 import json
@@ -113,7 +113,7 @@ class Answers(Program):
         self.assertTrue(55 < len(lines[1]) <= 60 and "…" in lines[1], lines[1])
 
     def on_a_terminal(self, width: int, *words: str, before: Sequence[str] = ()) -> bytes:
-        """Returns what lldpa-ctl writes to a terminal of that width."""
+        """Returns what lldpa-ctl writes to a terminal of this width."""
         ours, theirs = pty.openpty()
         fcntl.ioctl(theirs, termios.TIOCSWINSZ, struct.pack("HHHH", 24, width, 0, 0))
         command = [*before, CTL, "--control", self.served.path, *words]
@@ -169,7 +169,7 @@ class Faults(Program):
         self.run_ctl("st", "su", status=1, said="no such port: su (eth0, eth1)")
         self.run_ctl("conf", "lldp", "tx-i", "9")
         self.assertIn(b"configure lldp tx-interval 9", self.served.asked)
-        self.run_ctl("up", status=1, said="for lldpa-live alone")
+        self.run_ctl("up", status=1, said="reserved for lldpa-live")
         self.run_ctl("s", status=1, said="unknown command: s (neighbors, details, interfaces, "
                      "statistics, live, show, configure, update, watch, metrics, help)")
 

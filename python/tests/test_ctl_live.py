@@ -1,4 +1,4 @@
-"""lldpa-ctl with a real lldpa-live, whose ports are links to namespaces."""
+"""Tests lldpa-ctl with a real lldpa-live, whose ports are links to a namespace."""
 
 import re
 import select
@@ -12,7 +12,6 @@ from served import CTL, numbered, tlv
 
 
 class OnARealLink(OnLinks):
-    """Real frames, seconds and links."""
 
     links = 2
 
@@ -78,4 +77,4 @@ class OnARealLink(OnLinks):
         self.assertIsNotNone(peer.hears())
         live.ctl("configure", "system", "hostname", "of the room below")
         is_told = lambda: b"of the room below" in (peer.hears(2) or b"")
-        self.assertTrue(eventually(is_told, 15))  # the next would be sent after 30 all the same
+        self.assertTrue(eventually(is_told, 15))  # the next regular frame is due after 30

@@ -1,4 +1,4 @@
-"""What `lldpa-ctl --json` prints conforms to its schema."""
+"""Tests that the output of `lldpa-ctl --json` conforms to its schema."""
 
 import json
 import unittest
@@ -22,7 +22,7 @@ COMMANDS = (["show", "neighbors"], ["details"], ["show", "statistics"], ["statis
 
 @unittest.skipIf(jsonschema is None, "there is no jsonschema")
 class Schema(Program):
-    """Each answer, and neighbors of real senders and made ones."""
+    """Tests each answer, with neighbors of real senders and made ones."""
 
     def told(self, *words: str) -> Any:
         return json.loads(self.run_ctl("--json", *words))

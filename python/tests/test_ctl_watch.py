@@ -1,4 +1,4 @@
-"""lldpa-ctl watch, against a control socket with the real agent behind it."""
+"""Tests `lldpa-ctl watch`, with a control socket and a real agent."""
 
 import json
 import os
@@ -32,7 +32,7 @@ class Watching(Program):
         return child
 
     def line(self, child: subprocess.Popen[str]) -> str:
-        """Returns its next line; how long it took to come is noted."""
+        """Returns its next line, and notes how long it took to arrive."""
         assert child.stdout is not None
         began = time.monotonic()
         self.assertTrue(select.select([child.stdout], [], [], SECONDS)[0], "no line")

@@ -1,4 +1,4 @@
-"""Clients of an lldpa-live that was taken over, or that is a stranger in its place."""
+"""Tests that clients withstand a hostile lldpa-live, or a stranger in its place."""
 
 import os
 import subprocess
@@ -16,13 +16,13 @@ LLDPCTL = str(REPOSITORY / "bin" / "lldpctl")
 
 
 def rights_of(number: int) -> list[str]:
-    """Returns the users and groups of a process, from the kernel."""
+    """Returns the users and groups of a process."""
     lines = Path(f"/proc/{number}/status").read_text().splitlines()
     return [line for line in lines if line.startswith(("Uid:", "Gid:", "Groups:"))]
 
 
 class Hostile(AnsweringCase):
-    """An lldpa-live that was taken over."""
+    """Tests answers of an lldpa-live that was taken over."""
 
     def test_nothing_raw_is_printed(self) -> None:
         for words in (["show", "chassis"], ["live"], ["configure", "x"], ["update"]):

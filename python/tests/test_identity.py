@@ -1,4 +1,4 @@
-"""Who this host is: its chassis ID whenever interfaces come, its name, what it announces."""
+"""Tests what the agent announces of this host: chassis ID, name and addresses."""
 
 import os
 import signal
@@ -10,15 +10,15 @@ from patience import eventually
 from wires import ip, tlvs_of
 
 
-# in a mount namespace of its own, one file stands for another while a program runs
+# runs a program in a mount namespace in which one file replaces another
 MOUNTED = ["unshare", "--mount", "sh", "-c", 'mount --bind "$1" "$2" && shift 2 && exec "$@"', "sh"]
 class TestLate(OnLinks):
-    """An lldpa-live that is started before its interface."""
+    """Tests an lldpa-live that starts before its interface exists."""
 
     links = 0
 
     def test_interface_that_comes_names_the_host(self) -> None:
-        here = self.wires.here  # which has interfaces that are neither ports nor hardware
+        here = self.wires.here  # it has interfaces that are neither ports nor hardware
         ip("-n", here, "link", "add", "docker0", "up", "type", "bridge")
         ip("-n", here, "link", "add", "vethA", "up", "type", "veth", "peer", "name", "vethB")
         ip("-n", here, "link", "set", "vethB", "up")
@@ -33,7 +33,7 @@ class TestLate(OnLinks):
         self.assertTrue(eventually(live.answers))
         self.assertIn(f"local-chassis.mac={self.wires.address('eth0').hex(':')}",
                       live.ask("show chassis"))
-        self.assertTrue(live.says("eth0: the interface is there, and in use"))
+        self.assertTrue(live.says("eth0: the interface exists and is in use"))
         self.becomes_neighbor(live)
 
     def test_it_sleeps_and_ends_while_it_waits(self) -> None:
@@ -46,7 +46,7 @@ class TestLate(OnLinks):
 
 
 class TestAnnounced(OnLinks):
-    """What the agent says of this host, and with which source address."""
+    """Tests what is announced, and from which source address."""
 
     links = 2
 

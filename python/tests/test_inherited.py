@@ -1,4 +1,4 @@
-"""What a program of root inherits, or finds in the folders of others, gives nobody rights."""
+"""Tests that nobody gets rights from what root's programs inherit, or from other users' folders."""
 
 import os
 import shutil
@@ -14,7 +14,7 @@ from patience import eventually
 from served import REPOSITORY
 from support import FilesCase
 
-# makes a user namespace as nobody without any capability, and prints those that it has there
+# makes a user namespace as `nobody`, without capabilities, and prints those that it has there
 NAMESPACE = """
 import ctypes, os
 libc = ctypes.CDLL(None)
@@ -27,8 +27,8 @@ print(next(line for line in open("/proc/self/status") if line.startswith("CapEff
 
 
 class OthersFolders(FilesCase):
-    """What somebody else puts into a folder does not redirect the rights of those who start a
-    program."""
+    """Tests that files in a stranger's folder do not misuse the rights of whoever starts a program
+    there."""
 
     def test_no_program_runs_code_of_its_environment(self) -> None:
         mark = self.folder / "mark"
@@ -41,7 +41,7 @@ class OthersFolders(FilesCase):
 
 
 class OfRoot(OnLinks):
-    """Rights of root are not redirected, and nothing of it is kept."""
+    """Tests that root's rights are not misused, and that none is kept."""
 
     def test_a_link_to_a_folder_is_followed_in_a_folder_of_the_own_user_alone(self) -> None:
         target, theirs = self.folder / "target", self.folder / "theirs"

@@ -1,4 +1,4 @@
-"""Which frames of an interface reach the agent, and which are counted."""
+"""Tests which frames of an interface reach the agent, and which are counted."""
 
 
 from running_live import Live, OnLinks
@@ -7,11 +7,11 @@ from served import numbered
 from wires import ip
 
 LONGEST_FRAME = 1514
-OTHERS = "it hears LLDP frames that are tagged, to another address or longer than 1,514 octets"
+OTHERS = "ignores LLDP frames that are tagged, to another address or longer than 1,514 octets"
 
 
 class TestFrames(OnLinks):
-    """A sender at the other end of a link."""
+    """Tests frames from a sender at the other end of a link."""
 
     def setUp(self) -> None:
         super().setUp()
@@ -21,7 +21,7 @@ class TestFrames(OnLinks):
         self.port = self.live("eth0", "--", "--receive-only")
 
     def takes(self, number: int, octets: bytes) -> bool:
-        """Returns whether a frame of that neighbor is received: a further one is, in any case."""
+        """True if a frame of this neighbor is received. A later frame shows when to look."""
         self.sender.send(octets)
         self.sender.send(numbered(99))
         name = f"ifname=p{number}"
@@ -51,7 +51,7 @@ class TestFrames(OnLinks):
             self.assertFalse(self.takes(1, other), other[:20])
         self.assertEqual(self.port.number("eth0.other-frames"), len(others))
         self.assertEqual(self.port.errors().count(f"eth0: {OTHERS}"), 1)
-        received = 2 * 4 + 3 * (len(others) + 3)  # with those that `takes` sends
+        received = 2 * 4 + 3 * (len(others) + 3)  # including those that `takes` sends
         self.assertIn(f"lldp.eth0.received={received}", self.port.ask("show statistics"))
 
     def test_what_this_host_sends_is_not_taken(self) -> None:
@@ -74,7 +74,7 @@ class TestFrames(OnLinks):
 
 
 class TestNews(OnLinks):
-    """News of interfaces that the kernel could not deliver."""
+    """Tests news of interfaces that the kernel could not deliver."""
 
     links = 2
 
@@ -94,6 +94,6 @@ class TestNews(OnLinks):
 
 
 def state_of(live: Live) -> list[str]:
-    """Returns whether the first interface is there, and the links."""
+    """Returns whether the first interface is present, and the state of both links."""
     return [live.told("live", key) for key in ("live.eth0.interface", "live.eth0.link",
                                                "live.eth1.link")]

@@ -1,7 +1,7 @@
-"""What is read of organizationally specific TLVs, and what lldpcli and tshark show of them.
+"""Compares what is read of organizationally specific TLVs with what lldpcli and tshark show.
 
-`judged.json` has frames of real senders and made ones, with what lldpcli 1.0.16 and tshark 4.0.17
-showed of each; `tools/by-hand/try-details.py --save` asks them again.
+`judged.json` has frames of real senders and made ones, with the output of lldpcli 1.0.16 and
+tshark 4.0.17 for each; `tools/by-hand/try-details.py --save` makes it anew.
 """
 
 import json
@@ -12,7 +12,7 @@ from served import REPOSITORY
 
 
 class BesideOthers(unittest.TestCase):
-    """Each value that is shown, and each that is read."""
+    """Tests each value that is shown, and each that is read."""
 
     def setUp(self) -> None:
         text = (REPOSITORY / "python" / "tests" / "judged.json").read_text()

@@ -1,4 +1,4 @@
-"""The words of lldpa-live, and what it needs to begin."""
+"""Tests the command line of lldpa-live, and what it needs to start."""
 
 import os
 import unittest
@@ -65,7 +65,7 @@ class TestStart(OnLinks):
                 (1, "no Ethernet interface has such a name", "--once", "1", "lan*"),
                 (1, str(file), "--log", str(file), "eth0"),
                 (1, f"{folder}: {cannot}", "--log", str(folder), "eth0"),
-                # so that systemd does not start it again
+                # with status 2 systemd does not start it again
                 (2, "error: user no-such-one does not exist", "--user", "no-such-one", "eth0")):
             self.refuses(text, *words, status=status)
 

@@ -1,4 +1,4 @@
-"""How lldpa-live ends, even if something hinders it."""
+"""Tests how lldpa-live ends, even if something hinders it."""
 
 import contextlib
 import os
@@ -19,7 +19,7 @@ SO_TIMESTAMPNS = 35  # asm-generic/socket.h
 
 
 class TestEnds(OnLinks):
-    """Each end withdraws from the peers, soon."""
+    """Tests that it ends soon, after shutdown frames."""
 
     @by_the_clock
     def test_each_signal_sends_shutdown_frames(self) -> None:
@@ -67,7 +67,7 @@ class TestEnds(OnLinks):
 
 
 def stamped(peer: Peer) -> Optional[float]:
-    """Returns when the shutdown frame of a peer came, by the kernel's wall clock."""
+    """Returns when a shutdown frame reached a peer, by the kernel's wall clock."""
     peer.socket.settimeout(0.01)
     with contextlib.suppress(OSError):
         while True:
@@ -79,7 +79,7 @@ def stamped(peer: Peer) -> Optional[float]:
 
 
 class TestManyEnds(OnLinks):
-    """As many ports as an agent has, with full tables, on a host that is busy."""
+    """Tests the end of 64 ports with full tables, on a busy host."""
 
     links = 64
 

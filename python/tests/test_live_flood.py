@@ -1,4 +1,4 @@
-"""Many frames and ports: nobody has to wait, and nothing grows."""
+"""Tests that floods of frames and many ports delay nobody, and that memory does not grow."""
 
 import contextlib
 import re
@@ -15,13 +15,13 @@ from wires import flood, inside
 
 WITHOUT_END = 1_000_000_000
 QUESTIONS = 100
-# an answer for which lldpa-live works longer is late
+# an answer is late if lldpa-live works longer than this for it
 LATE = 0.1
 MOST_LATE = QUESTIONS // 10
 MOST_KIB = 8_000
 A_SECOND, AT_ONCE = 64, 1024  # frames of a port that may change its table
 
-# ten strangers that say something new in each frame, 5,000 a second together
+# ten strangers that change their LLDPDU with each frame, 5,000 frames a second together
 STRANGERS = """
 import socket, time
 sender = socket.socket(socket.AF_PACKET, socket.SOCK_RAW)
@@ -47,10 +47,10 @@ def numbers(live: Live) -> dict[str, int]:
 
 
 class TestFlood(OnLinks):
-    """A neighbor that sends as fast as it can."""
+    """Tests neighbors that send as fast as they can."""
 
     def flooded(self, frames: list[bytes]) -> "tuple[Live, subprocess.Popen[bytes]]":
-        """Starts an lldpa-live and a flood without end, and waits for the first frames."""
+        """Starts an lldpa-live and an endless flood, and waits for the first frames."""
         live = self.live("eth0", "--", "--receive-only")
         sender = flood(self.wires, "peer0", frames, WITHOUT_END)
         self.addCleanup(sender.wait)

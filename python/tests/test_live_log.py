@@ -1,4 +1,4 @@
-"""The log of a session: a trace with the time of day, that fills no disk."""
+"""Tests the log of a session: a trace with the time of day, of limited size."""
 
 import os
 import re
@@ -30,7 +30,7 @@ class TestLog(OnLinks):
         self.assertEqual(live.ended(), 0)
         replayed = sent(self.log, "eth0", self.wires.address("eth0"))
         heard = list(iter(lambda: peer.hears(0.5), None))
-        # what it would have sent while the link was down, or stood still, was not sent
+        # frames that were due while the link was down or the process stopped were not sent
         left = iter(replayed)
         self.assertTrue(all(octets in left for octets in heard))
         self.assertEqual(replayed[-1], heard[-1])
@@ -40,7 +40,7 @@ class TestLog(OnLinks):
         self.assertNotIn(b"nonsense", log)
 
     def live_a_little(self, live: Live, peer: Peer) -> None:
-        """Sends frames, questions, refused lines, links, seconds that were missed."""
+        """Makes events of each kind: frames, questions, refused lines, links and missed seconds."""
         for frame in (numbered(1), numbered(2), numbered(3, ttl=1)):
             peer.send(frame)
         self.assertTrue(eventually(lambda: "lldp.eth0.ageouts=1" in live.ask("show statistics")))
@@ -56,7 +56,7 @@ class TestLog(OnLinks):
         live.spend(1)
 
     def test_each_session_has_a_file_of_its_own(self) -> None:
-        self.log.mkdir(mode=0o755)  # of root, who gives it to lldpa-live's user
+        self.log.mkdir(mode=0o755)  # root's, who gives it to lldpa-live's user
         for _ in range(3):
             self.assertEqual(self.live("--log", str(self.log), "eth0").ended(), 0)
         self.assertEqual(len(self.logs()), 3)
@@ -100,7 +100,7 @@ class TestLog(OnLinks):
 
 
 class TestOnce(OnLinks):
-    """The neighbors, as soon as each port has one."""
+    """Tests `--once`, which ends as soon as each port has a neighbor."""
 
     links = 2
 

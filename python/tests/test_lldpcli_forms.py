@@ -1,4 +1,4 @@
-"""lldpcli's forms, compared with what lldpcli printed of the same frames."""
+"""Compares lldpcli's output forms with what lldpcli printed for the same frames."""
 
 import json
 import re
@@ -21,7 +21,7 @@ PORTS = ["swp1", "swp2"]
 
 
 def told_of(agent: Agent, frames: Iterable[Tuple[str, bytes]]) -> Told:
-    """Returns the answers of an lldpa-live that hears frames at ports."""
+    """Returns the answers of an lldpa-live that received these frames at these ports."""
     since: Dict[Tuple[str, str], str] = {}
     numbers: Dict[str, int] = {}
     for port, octets in frames:
@@ -33,13 +33,13 @@ def told_of(agent: Agent, frames: Iterable[Tuple[str, bytes]]) -> Told:
 
 
 def tree_of(frames: Iterable[Tuple[str, bytes]]) -> Node:
-    """Returns the neighbors in detail of an agent that hears frames."""
+    """Returns the neighbors, in detail, of an agent that received these frames."""
     with Agent.start(PORTS, PROGRAM, receive_only=True, max_neighbors=128) as agent:
         return neighbors(told_of(agent, frames), None, Depth.DETAILS)
 
 
 class BesideLldpcli(unittest.TestCase):
-    """The forms of frames that a real lldpd heard."""
+    """Compares the forms for frames that a real lldpd received."""
 
     def compare(self, tree: Node, name: str, forms: Iterable[str]) -> None:
         for form in forms:
@@ -80,10 +80,10 @@ class BesideLldpcli(unittest.TestCase):
 
 
 class Texts(unittest.TestCase):
-    """Names with each octet, and with some that act on a reader."""
+    """Tests names with each octet, and names that could mislead a reader."""
 
     def forms_of(self, name: bytes) -> Dict[str, str]:
-        """Returns the forms of a neighbor with a name."""
+        """Returns all forms for a neighbor with this name."""
         octets = frame(b"\x04\x02\0\0\0\0\1", b"\x05p1", 120, tlv(5, name), tlv(6, name))
         tree = tree_of([("swp1", octets)])
         return {form: made(tree) for form, made in FORMS.items()}
@@ -126,7 +126,7 @@ class Texts(unittest.TestCase):
 
 
 class Numbers(unittest.TestCase):
-    """Times and coordinates."""
+    """Tests ages and coordinates."""
 
     def test_ages(self) -> None:
         self.assertEqual([age(seconds) for seconds in (0, 59, 86399, 86400, 180000)],

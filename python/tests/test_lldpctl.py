@@ -1,4 +1,4 @@
-"""lldpctl as a program, against a control socket with the real agent behind it."""
+"""Tests lldpctl as a program, with a control socket and a real agent."""
 
 import json
 import os
@@ -14,7 +14,7 @@ CHASSIS = "mac=02:00:00:00:00:07"
 
 
 class Program(unittest.TestCase):
-    """With lldpa-live's socket, and a neighbor at the second of two ports."""
+    """Tests with a control socket, and with a neighbor at the second of two ports."""
 
     def setUp(self) -> None:
         self.served = Served(mac="02:00:00:00:00:99", hostname="here", management="192.0.2.1")
@@ -26,7 +26,7 @@ class Program(unittest.TestCase):
         self.served.frame("eth1", numbered(7, 120, tlv(5, b"there"), vlan))
 
     def run_it(self, program: str, *words: str, status: int = 0, said: str = "") -> str:
-        """Returns what it prints; checks its status and its message."""
+        """Returns the output of a program, and checks its status and its message."""
         told = subprocess.run([program, "-u", self.served.path, *words], check=False,
                               capture_output=True, text=True, timeout=SECONDS)
         name = program.rpartition("/")[2]
@@ -89,7 +89,7 @@ class Answers(Program):
 
 
 class Handed(Program):
-    """What is passed on to lldpa-live."""
+    """Tests commands that are passed on to lldpa-live."""
 
     def test_configuration(self) -> None:
         for words in ("configure lldp tx-interval 20", "conf lldp tx-ho 3",
@@ -157,7 +157,7 @@ class Handed(Program):
 
 
 class Refusals(Program):
-    """What it does not have: status 1 and a line."""
+    """Tests that unsupported words give status 1 and a message."""
 
     def test_words(self) -> None:
         shows = "neighbors, interfaces, chassis, statistics, configuration"

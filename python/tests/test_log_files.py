@@ -1,4 +1,4 @@
-"""The files of a log: each replays alone, all stay in bounds, and no disk stops lldpa-live."""
+"""Tests the files of a log: replays, their size, and disks that must not stop lldpa-live."""
 
 import ctypes
 import os
@@ -17,13 +17,13 @@ from wires import flood
 
 PTRACE_DETACH, PTRACE_SEIZE, PTRACE_INTERRUPT = 17, 0x4206, 0x4207  # linux/ptrace.h
 WALL = 0x40000000  # waits for a thread, too
-# 25 neighbors, which say something new in each frame
+# 25 neighbors, which change their LLDPDU with each frame
 LONG = [numbered(number % 25, 600 + number, tlv(5, b"n%d" % number)).ljust(1514, b"\0")
         for number in range(200)]
 
 
 class StoppedWriter:
-    """Holds the thread that writes lldpa-live's log, as a disk that hangs does."""
+    """Stops the thread that writes lldpa-live's log, as a hanging disk would."""
 
     def __init__(self, live: Live) -> None:
         threads = {*os.listdir(f"/proc/{live.process.pid}/task")} - {str(live.process.pid)}
@@ -41,7 +41,7 @@ class StoppedWriter:
         self.trace(PTRACE_DETACH)
 
     def bury(self) -> None:
-        """Takes note of its end, without which the process would not be seen to end."""
+        """Waits in the background for the thread's end, or the process would seem to go on."""
         threading.Thread(target=os.waitpid, args=[self.thread, WALL], daemon=True).start()
 
 
@@ -140,7 +140,7 @@ class TestFiles(OnLinks):
         flood(self.wires, "peer0", LONG, 3_000).wait()
         flood(self.wires, "peer1", LONG, 3_000).wait()  # over 4 MB together, as text
         self.assertTrue(eventually(lambda: live.number("log-lines-lost") > 100))
-        self.assertTrue(live.says("is behind, and lines are lost; lldpa-live continues"))
+        self.assertTrue(live.says("cannot keep up and loses lines; lldpa-live continues"))
         writer.release()
         self.assertTrue(live.says("the log continues in"))
         moments = Moments(live)
@@ -150,7 +150,7 @@ class TestFiles(OnLinks):
 
 
 class TestFrozenDisk(OnLinks):
-    """A file system that takes nothing for a while."""
+    """Tests a file system that accepts no writes for a while."""
 
     def setUp(self) -> None:
         super().setUp()
@@ -192,6 +192,6 @@ class TestFrozenDisk(OnLinks):
 
 
 def is_served(path: str) -> bool:
-    """Returns whether anybody answers at a control socket."""
+    """True if somebody answers at a control socket."""
     with socket.socket(socket.AF_UNIX) as client:
         return client.connect_ex(path) == 0

@@ -1,4 +1,4 @@
-"""Prometheus' text format, and the alerts of share/prometheus."""
+"""Tests the metrics in Prometheus' text format, and the alerts in share/prometheus."""
 
 import re
 import shutil
@@ -20,12 +20,12 @@ Series = dict[tuple[str, tuple[tuple[str, str], ...]], int]
 
 
 def read(value: str) -> str:
-    """Returns the value of a label, as Prometheus reads it."""
+    """Returns the value of a label as Prometheus reads it."""
     return re.sub(r"\\(.)", lambda found: {"n": "\n"}.get(found[1], found[1]), value)
 
 
 def series_of(lines: list[str]) -> Series:
-    """Returns each sample by its name and labels, read as Prometheus does."""
+    """Returns the samples by their names and labels, read as Prometheus does."""
     series: Series = {}
     for line in lines:
         if line.startswith("#"):
@@ -74,7 +74,7 @@ class Metrics(unittest.TestCase):
             ("lldpa_left_out_total", "eth0"): 3, ("lldpa_left_out_total", "eth1"): 0})
 
     def own(self, *lines: bytes) -> Series:
-        """Returns the metrics about itself of an lldpa-live that also writes these lines."""
+        """Returns the metrics about lldpa-live itself, if it also answers these lines."""
         lines_by_key = {line.partition(b"=")[0]: line for line in (*LIVE_LINES, *lines)}
         self.served.live_lines = list(lines_by_key.values())
         return {(name, labels): value for (name, labels), value in self.shown().items()
@@ -163,7 +163,7 @@ class Metrics(unittest.TestCase):
 
 
 class Rules(unittest.TestCase):
-    """The rules, and the tests of them that promtool runs."""
+    """Tests the alert rules, and the rules' own tests, which promtool runs."""
 
     def test_each_metric_is_one_that_is_told(self) -> None:
         with Served() as served:

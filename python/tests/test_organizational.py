@@ -1,4 +1,4 @@
-"""Organizationally specific TLVs: what each says, and that nothing else is ever read from it."""
+"""Tests organizationally specific TLVs: each is read completely, and other octets are not read."""
 
 import unittest
 
@@ -10,7 +10,7 @@ from lldpa.organizational.kinds import READERS
 
 
 class Counted(str):
-    """A text that counts how often such texts are compared."""
+    """A text that counts how often texts of this class are compared."""
     compared = 0
     __hash__ = str.__hash__
 
@@ -20,13 +20,13 @@ class Counted(str):
 
 
 def changed(octets: bytes) -> list[bytes]:
-    """Returns the octets with each of them changed to each other value."""
+    """Returns all variants of octets in which one octet has another value."""
     return [octets[:at] + bytes([value]) + octets[at + 1:]
             for at in range(len(octets)) for value in range(256) if value != octets[at]]
 
 
 class EachKind(unittest.TestCase):
-    """One of each kind, its fronts, and each change of an octet."""
+    """Tests a sample of each kind, its beginnings, and all changes of one octet."""
 
     def test_what_is_said(self) -> None:
         for sample in SAMPLES:
@@ -56,8 +56,8 @@ class EachKind(unittest.TestCase):
                 self.assertEqual(count, sample.changed)
 
     def check(self, sample: Sample, octets: bytes) -> bool:
-        """Returns whether octets are read; if so, what is read has all of them, and in `said_by`
-        too."""
+        """Returns whether octets are read as a TLV. If they are, checks that the TLV and `said_by`
+        have all of them."""
         tlv = read_tlv(*sample.kind, octets)
         oui, subtype = sample.kind
         shown = (f"{oui}.{subtype}", octets.hex())
@@ -71,7 +71,7 @@ class EachKind(unittest.TestCase):
 
 
 class Forms(unittest.TestCase):
-    """What has no form, and what numbers mean."""
+    """Tests octets that no TLV has, and the meanings of numbers."""
 
     def test_what_is_no_vlan(self) -> None:
         for kind, octets in ((1, "0fff"), (1, "1001"), (2, "060fff"), (3, "0fff00"), (6, "0fff")):

@@ -1,4 +1,4 @@
-"""Standard output that is closed, full or not read is reported, and the status says so."""
+"""Tests that a closed or full standard output is reported and gives status 1."""
 
 import os
 import subprocess
@@ -14,15 +14,15 @@ FULL = "standard output: No space left on device\n"
 
 
 def run_with(output: str, words: Sequence[str]) -> Tuple[int, str]:
-    """Returns the status of a program whose standard output is redirected so, and what it says."""
+    """Returns the status and the messages of a program with this redirection of standard output."""
     ran = subprocess.run(["bash", "-c", f'"$@" {output}', "bash", sys.executable, *words],
                          stderr=subprocess.PIPE, stdin=subprocess.DEVNULL, check=False, timeout=60)
     return ran.returncode, ran.stderr.decode()
 
 
 def unread(words: Sequence[str]) -> Tuple[int, str]:
-    """Returns the status of a program whose standard output nobody reads, and what it says, which
-    is neither a complaint about that nor a traceback."""
+    """Returns the status and the messages of a program whose output nobody reads. Checks that it
+    reports neither that nor a traceback."""
     reader, writer = os.pipe()
     os.close(reader)
     ran = subprocess.run([sys.executable, *words], stdout=writer, stderr=subprocess.PIPE,

@@ -1,4 +1,4 @@
-"""The package as pip installs it, and its programs as modules."""
+"""Tests the package as pip installs it, and its programs as modules."""
 
 import os
 import re
@@ -40,7 +40,7 @@ FALSE = "from lldpa import Agent\nnumber: int = Agent.start(['eth0']).neighbors(
 
 
 class Installed(unittest.TestCase):
-    """In a fresh environment, into which pip installs it without a network."""
+    """Tests the package in a fresh environment, installed by pip without a network."""
 
     folder: Path
     said: str
@@ -69,18 +69,18 @@ class Installed(unittest.TestCase):
 
     @classmethod
     def bin(cls, name: str) -> Path:
-        """Returns a program of the environment."""
+        """Returns the path of a program in the environment."""
         return cls.folder / "venv" / "bin" / name
 
     def run_it(self, *words: str) -> str:
-        """Returns what a program of the environment prints."""
+        """Returns the output of a program in the environment."""
         return subprocess.run([str(self.bin(words[0])), *words[1:]], cwd=self.folder,
                               capture_output=True, text=True, check=True).stdout
 
     def test_its_programs(self) -> None:
         for name in PROGRAMS:
             self.assertIn(f"usage: {name} ", self.run_it(name, "--help"))
-        self.assertFalse(self.bin("lldpctl").exists())  # which is lldpd's
+        self.assertFalse(self.bin("lldpctl").exists())  # that name is lldpd's
 
     def test_it_is_imported(self) -> None:
         told = self.run_it("python", "-c", "import lldpa; print(lldpa.__file__, lldpa.__version__)")
@@ -129,7 +129,7 @@ class Installed(unittest.TestCase):
 
 
 class Modules(unittest.TestCase):
-    """The package in its folder."""
+    """Tests the package from its folder."""
 
     def run_module(self, *words: str) -> str:
         path = os.pathsep.join(str(REPOSITORY / name) for name in ("python", "audit"))
@@ -156,10 +156,10 @@ class Modules(unittest.TestCase):
 
 
 class Programs(unittest.TestCase):
-    """The version and the help of each."""
+    """Tests the version and the help of each program."""
 
     def said(self, name: str, word: str) -> str:
-        """Returns what a program writes for a word."""
+        """Returns what a program prints for this option."""
         program = LIVE if name == "lldpa-live" else str(REPOSITORY / "bin" / name)
         return subprocess.run([program, word], capture_output=True, text=True, check=True).stdout
 

@@ -1,4 +1,4 @@
-"""Which tests are run again, and how often."""
+"""Tests which tests are repeated, and how often."""
 
 import contextlib
 import io
@@ -10,10 +10,10 @@ from patience import TRIES, Standstill, by_the_clock, eventually, mostly, stolen
 
 
 class Tried(unittest.TestCase):
-    """A test that fails so often, while the machine stands still for so long each time."""
+    """Tests a test that fails a number of times while the machine stands still for given times."""
 
     def ran(self, standstills: Sequence[float], failures: int) -> "tuple[bool, list[str], str]":
-        """Returns whether it passes in the end, what is done in turn, and what is printed."""
+        """Returns whether it passes in the end, the steps in their order, and what is printed."""
         done: list[str] = []
 
         class Case(unittest.TestCase):
@@ -67,7 +67,7 @@ class Measured(unittest.TestCase):
 
 
 class Mostly(unittest.TestCase):
-    """The times that count if some may be the machine's."""
+    """Tests which time counts if some are long because of the machine."""
 
     def test_half_of_them_may_be_long(self) -> None:
         for times, time in (([3, 9, 1], 3), ([9, 1, 9, 1], 1), ([9, 2, 9], 9), ([4], 4)):

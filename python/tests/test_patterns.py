@@ -1,4 +1,4 @@
-"""Ports that are given by patterns, also those whose interfaces come later."""
+"""Tests ports that patterns select, also of interfaces that are added later."""
 
 from lldpa.client import since_of
 from patience import eventually
@@ -10,10 +10,10 @@ MOST = 64  # ports
 
 
 class TestLaterPorts(OnLinks):
-    """Interfaces that come later, and are given by a pattern."""
+    """Tests interfaces that are added later and match a pattern."""
 
     def made(self, number: int, name: str = "vnet") -> Peer:
-        """Makes a link of another name, and returns its far end."""
+        """Makes a link with another name, and opens a sender at its far end."""
         ip("link", "add", f"{name}{number}", "up", "netns", self.wires.here, "type", "veth",
            "peer", "name", f"far{number}", "netns", self.wires.there)
         ip("-n", self.wires.there, "link", "set", f"far{number}", "up")

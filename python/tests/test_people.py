@@ -1,4 +1,4 @@
-"""The table for people."""
+"""Tests the table for people."""
 
 import unittest
 

@@ -1,4 +1,4 @@
-"""lldpa-ctl metrics --output: a file that is whole, and says so if nobody answers."""
+"""Tests that `lldpa-ctl metrics --output` writes a whole file, also if nobody answers."""
 
 import os
 import resource

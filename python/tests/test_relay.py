@@ -1,4 +1,4 @@
-"""An lldpa-live between an agent and real links, and faults that were once seen there."""
+"""Tests lldpa-live between an agent and real links, also faults that occurred there."""
 
 import re
 import time
@@ -9,7 +9,7 @@ from served import numbered
 
 
 class TestTime(OnLinks):
-    """Frames and seconds are passed on as they came, whenever that is."""
+    """Tests that frames and seconds reach the agent in order, even late."""
 
     @by_the_clock
     def test_stopped_lldpa_live_ages_out_nobody_who_was_heard(self) -> None:
@@ -101,11 +101,11 @@ class TestLinks(OnLinks):
     def test_interface_that_goes_and_comes_back(self) -> None:
         live = self.live("eth0", "--", "--receive-only")
         self.wires.remove_link("eth0")
-        self.assertTrue(live.says("eth0: the interface is gone; waiting for the next of that name"))
+        self.assertTrue(live.says("eth0: the interface is gone; waiting for another of this name"))
         self.assertIn("live.eth0.interface=awaited", live.ask("live"))
         self.assertIn("live.eth0.link=down", live.ask("live"))
         self.wires.add_link(0)
-        self.assertTrue(live.says("eth0: the interface is there, and in use"))
+        self.assertTrue(live.says("eth0: the interface exists and is in use"))
         live.comes_to("live.eth0.link=up")
         self.becomes_neighbor(live)
 
@@ -114,7 +114,7 @@ class TestLinks(OnLinks):
         self.wires.set_link("eth0", "down")
         self.wires.set_link("eth0", "name", "ethX")
         self.wires.set_link("ethX", "up")
-        self.assertTrue(live.says("eth0: the interface is now ethX"))
+        self.assertTrue(live.says("eth0: the interface is now named ethX"))
         self.assertIn("live.eth0.interface=awaited", live.ask("live"))
         self.assertTrue(eventually(self.wires.all_up))
         peer.send(numbered(1))
@@ -189,17 +189,16 @@ def now() -> float:
 
 
 def seconds_left(shown: list[str]) -> int:
-    """Returns how long the first neighbor of a show is kept."""
+    """Returns how long the first neighbor in a show is still kept."""
     return next(int(line.split("=")[1]) for line in shown if ".expires=" in line)
 
 
 def begins_of_its_seconds(live: Live) -> list[tuple[float, float]]:
-    """Returns between which moments it began to count seconds, by how many it has passed on, asked
-    again and again for more than one second. They all overlap if none is lost or passed on
-    twice."""
+    """Counts its seconds for 1.2 seconds. Returns for each count the interval in which its clock
+    must have begun: all overlap if each second is passed on exactly once."""
     last, begins = now() + 1.2, []
     while (before := now()) < last:
-        live.ask("show chassis")  # which it answers after the seconds up to now
+        live.ask("show chassis")  # it answers after the seconds up to now
         told = live.number("seconds")
         begins.append((before - told - 1, now() - told))
         time.sleep(0.02)

@@ -1,4 +1,4 @@
-"""What an attacker who takes over lldpa-live gets: LLDP frames, and no right."""
+"""Tests what an attacker who takes over lldpa-live gets: LLDP frames, and no rights."""
 
 import array
 import ctypes
@@ -21,7 +21,7 @@ SYS_PIDFD_OPEN, SYS_PIDFD_GETFD = 434, 438
 
 
 def what_is_refused(packets: socket.socket) -> list[str]:
-    """Returns which of the calls that would let a packet socket read more are refused."""
+    """Returns the refused calls of those that would let a packet socket read more."""
     code = array.array("B", struct.pack("HBBI", 6, 0, 0, 0xFFFF))
     program = struct.pack("HP", 1, code.buffer_info()[0])
     refused = []
@@ -36,7 +36,7 @@ def what_is_refused(packets: socket.socket) -> list[str]:
 
 
 def sockets_of(live: Live) -> list[socket.socket]:
-    """Returns the packet sockets of an lldpa-live, the very same ones."""
+    """Returns the packet sockets of an lldpa-live: duplicates of its own descriptors."""
     libc = ctypes.CDLL(None, use_errno=True)
     pid = libc.syscall(SYS_PIDFD_OPEN, live.process.pid, 0)
     found = []
@@ -57,13 +57,13 @@ def sockets_of(live: Live) -> list[socket.socket]:
 
 
 def status_of(pid: int) -> dict[str, str]:
-    """Returns what the kernel says of a process."""
+    """Returns the fields of /proc/PID/status."""
     lines = Path(f"/proc/{pid}/status").read_text().splitlines()
     return dict(line.split(":\t", 1) for line in lines if ":\t" in line)
 
 
 class TestFilter(OnLinks):
-    """The filter of a packet socket stays for good."""
+    """Tests that nobody can remove the filter of a packet socket."""
 
     links = 2
 
@@ -77,7 +77,7 @@ class TestFilter(OnLinks):
         self.becomes_neighbor(live)
 
     def socket(self) -> socket.socket:
-        """Returns the packet socket of an lldpa-live, the very same one."""
+        """Starts an lldpa-live, and returns a duplicate of its packet socket."""
         self.watched = self.live("eth0", "--", "--receive-only")
         one = sockets_of(self.watched)[0]
         self.addCleanup(one.close)
@@ -131,7 +131,7 @@ class TestSets(OnLinks):
         self.keeps_nothing(self.live("--user", "daemon", "eth0").process.pid, "1")
 
     def keeps_nothing(self, thread: int, user: str) -> None:
-        """Checks that a thread has no right left, and is of a user and its group."""
+        """Checks that a thread has no rights left, and belongs to a user and its group."""
         status = status_of(thread)
         for kind in ("CapBnd", "CapInh", "CapPrm", "CapEff", "CapAmb"):
             self.assertEqual(int(status[kind], 16), 0, kind)

@@ -1,4 +1,4 @@
-"""lldpa-live as a service: what systemd receives, what metrics say, and the lines of --events."""
+"""Tests lldpa-live as a service: its reports to systemd, its metrics and the lines of --events."""
 
 import os
 import re
@@ -20,7 +20,7 @@ class Service(OnLinks):
         self.addCleanup(self.heard.close)
 
     def service(self, *words: str, seconds: float = 4, **options: Any) -> Live:
-        """Starts an lldpa-live that reports to the test, with a sign of life in so many seconds."""
+        """Starts an lldpa-live that reports to the test, with a watchdog of this many seconds."""
         return self.live(*words, env=self.heard.environment(seconds), **options)
 
 
@@ -51,7 +51,7 @@ class Systemd(Service):
         self.assertTrue(self.heard.hears("STATUS=1 neighbor on 2 ports"))  # one has aged out
         peer.send(numbered(1, 0))
         self.assertTrue(self.heard.hears("STATUS=no neighbors on 2 ports"))
-        self.assertNotIn("eth0", live.errors())  # since nobody wanted --events
+        self.assertNotIn("eth0", live.errors())  # without --events
 
     def test_it_tells_that_it_reloads_and_that_it_ends(self) -> None:
         live = self.service("eth0")
@@ -95,7 +95,7 @@ class Systemd(Service):
 
 class Events(Service):
     def told(self, live: Live) -> list[str]:
-        """Returns the lines of neighbors on standard error."""
+        """Returns the lines about neighbors on standard error."""
         return re.findall("^lldpa-live: (eth0 (?:came|changed|gone): .*)$", live.errors(), re.M)
 
     def test_a_line_for_each_that_comes_changes_or_goes(self) -> None:
@@ -105,7 +105,7 @@ class Events(Service):
                  (numbered(1, 0), "eth0 gone: b p1"),
                  (numbered(2, 2), "eth0 came: 02:00:00:00:00:02 p2"))
         for number, (octets, line) in enumerate(steps, 1):
-            for _ in range(3):  # what is repeated is no news
+            for _ in range(3):  # repeated frames are not reported
                 peer.send(octets)
             self.assertTrue(eventually(lambda: len(self.told(live)) >= number), line)
             self.assertEqual(self.told(live)[-1], line)
@@ -126,7 +126,7 @@ class Events(Service):
         self.assertTrue(eventually(lambda: len(self.told(live)) == 100), live.errors())
         live.spend(2)
         self.assertEqual(len(self.told(live)), 100)
-        more = r"(?m)^lldpa-live: eth0: \d+ more came, changed or went within a minute$"
+        more = r"(?m)^lldpa-live: eth0: \d+ more events within a minute were not reported$"
         self.assertTrue(eventually(lambda: re.search(more, live.errors()), 65))
 
     def test_links_and_want_of_room_are_told(self) -> None:

@@ -1,4 +1,4 @@
-"""Settings that outlive a restart."""
+"""Tests settings that outlive a restart."""
 
 import codecs
 import os
@@ -12,7 +12,7 @@ from patience import eventually
 from served import PROGRAM, numbered
 
 
-# lines, what the agent says of them, and the word that is wrong with what is allowed there
+# lines, the agent's refusals, and the wrong word with what is allowed in its place
 REFUSED = (
     ("configure lldp tx-interval 0", "out of range", "0 (seconds between frames, 1 to 3600)"),
     ("configure lldp tx-hold x", "not a number",
@@ -30,7 +30,7 @@ REFUSED = (
 
 
 def whole(text: str, place: str) -> str:
-    """Returns what is said of a refused line."""
+    """Returns the whole message about a refused line."""
     return f"{text}: {place}" if place else text
 
 
@@ -52,7 +52,7 @@ class TestSettings(OnLinks):
         self.parts.mkdir()
 
     def words(self) -> list[str]:
-        """Returns the words of an lldpa-live with both."""
+        """Returns the options for the file and the folder of settings."""
         return ["--config", str(self.file), "--config", str(self.parts)]
 
     def test_they_are_told_before_any_frame_goes_and_outlive_a_restart(self) -> None:
@@ -85,7 +85,7 @@ class TestSettings(OnLinks):
         self.assertEqual(live.errors().splitlines(), [
             f"lldpa-live: {self.file}:3: configure lldp tx-interval 3601: "
             "out of range: 3601 (seconds between frames, 1 to 3600)",
-            f"lldpa-live: {self.file}:4: show neighbors: show is not `configure`",
+            f"lldpa-live: {self.file}:4: show neighbors: show is not allowed, only `configure`",
             "lldpa-live: 2 settings were not applied"])
         shown = live.ask("show configuration")
         self.assertIn("configuration.tx-hold=3", shown)

@@ -1,4 +1,4 @@
-"""Shows that are read, and their very lines again."""
+"""Tests that shows are read, and that the same lines can be written again."""
 
 import subprocess
 import sys
@@ -42,7 +42,7 @@ lldp.p1.octets=0
 lldp.p1.too-many=no
 """.splitlines()
 
-# each counter and each number has a value of its own
+# each counter and each number has a different value
 COUNTS = {name: number for number, name in enumerate(Counters._fields)}
 STATISTICS = [f"lldp.{port}.{name.replace('_', '-')}={number}"
               for port in ("eth0", "p1") for name, number in COUNTS.items()]
@@ -66,7 +66,7 @@ ALL = NEIGHBORS + STATISTICS + CHASSIS + CONFIGURATION
 
 
 def shows_of_transcript(name: str) -> Iterator[List[str]]:
-    """Returns what each show of a transcript writes, and all shows after its lines."""
+    """Yields the output of each show in a transcript, and of all shows after each of its lines."""
     (_, words, _, trace, steps), = transcripts([name])
     assert not isinstance(steps, str), steps
     lines = [line for line, _ in steps] + [b"show " + show.encode() for show in SHOWS]
@@ -78,7 +78,7 @@ def shows_of_transcript(name: str) -> Iterator[List[str]]:
 
 
 def random_show(seed: int) -> List[str]:
-    """Returns the shows at the end of a random trace, or nothing if its words are bad."""
+    """Returns the shows at the end of a random trace, or nothing if its command line is refused."""
     dice = fuzz.Dice(seed)
     words, lines = fuzz.new_trace(dice)
     lines[-3:-3] = [MARK]
@@ -89,7 +89,7 @@ def random_show(seed: int) -> List[str]:
 
 
 class ThereAndBack(unittest.TestCase):
-    """Lines that are read give the very lines again."""
+    """Tests that what is read gives the same lines again."""
 
     def test_each_show_of_the_transcripts(self) -> None:
         count = neighbors = 0
@@ -185,10 +185,10 @@ class WhatIsRead(unittest.TestCase):
 
 
 class Refused(unittest.TestCase):
-    """Lines that are not a show are reported by their number and their text."""
+    """Tests that lines that are not a show are reported with their number and text."""
 
     def changed(self, old: str, new: List[str]) -> Tuple[int, List[str]]:
-        """Returns all lines, with one that is replaced, and its number."""
+        """Returns the number of a line, and all lines with others in its place."""
         place = ALL.index(old)
         return place + 1, ALL[:place] + new + ALL[place + 1:]
 

@@ -1,4 +1,4 @@
-"""Since when lldpa-live hears each neighbor, and the numbers of chassis."""
+"""Tests since when lldpa-live has heard each neighbor, and the numbers of chassis."""
 
 import time
 from typing import Dict
@@ -12,7 +12,7 @@ from served import frame, numbered
 
 
 def id_of(number: int) -> str:
-    """Returns the MSAP identifier of one of many neighbors."""
+    """Returns the MSAP identifier of the neighbor with this number."""
     return f"mac=02:00:00:00:00:{number:02x} ifname=p{number}"
 
 

@@ -1,4 +1,4 @@
-"""lldpa-live is started again: it continues with the state that the one before left."""
+"""Tests that a new lldpa-live continues with the state that the one before left."""
 
 import os
 import signal
@@ -14,15 +14,15 @@ from served import frame, numbered
 
 
 class Restarts(Replaced):
-    """What one lldpa-live leaves, the next one takes."""
+    """Tests what an lldpa-live restores."""
 
     def setUp(self) -> None:
         super().setUp()
         self.state = self.folder / "state"
 
     def ended(self) -> tuple[list[Neighbor], float, dict[tuple[str, str], str]]:
-        """Lets one see neighbors and end; returns its neighbors, the moment, and since when each
-        was there."""
+        """Runs an lldpa-live until it ends. Returns its neighbors, the moment, and since when it
+        heard each."""
         live = self.begun("--state", str(self.state))
         since = since_of(live.ask("live"))
         neighbors, moment = self.neighbors(live), time.monotonic()
@@ -66,7 +66,7 @@ class Restarts(Replaced):
                             (first.replace(b".", b"0", 1) + b"\n" + rest, "it is not complete"),
                             (booted + rest, "booted since"), (was_set + rest, "clock was set"),
                             (whole.replace(b"\nrx ", b"\nupdate\nrx ", 1), "a malformed line"),
-                            (whole.replace(b"# since eth0", b"# since eth7", 1), "not those"),
+                            (whole.replace(b"# since eth0", b"# since eth7", 1), "name different"),
                             (b"\xff" + whole, "it is not complete")):
             self.state.write_bytes(octets)
             live = self.live("--state", str(self.state), "eth0", "eth1")
@@ -102,7 +102,7 @@ class Restarts(Replaced):
         before, began, since = self.neighbors(live), time.monotonic(), since_of(live.ask("live"))
         self.assertTrue(eventually(lambda: self.state.read_bytes().count(b"# since ") == 4, 75))
         self.assertEqual(live.ended(signal.SIGKILL), -signal.SIGKILL)
-        for _ in range(2):  # and again in the first minute
+        for _ in range(2):  # also after a kill in the first minute
             live = self.live("--state", str(self.state), "eth0", "eth1")
             self.stays(before, began, live)
             self.assertEqual(since_of(live.ask("live")), since)
@@ -135,7 +135,7 @@ class Restarts(Replaced):
 
 
 def forged(count: int) -> Iterator[str]:
-    """Returns the lines of a state with so many neighbors of eth0."""
+    """Yields the lines of a state with this many neighbors of eth0."""
     now = time.clock_gettime(time.CLOCK_BOOTTIME)
     yield f"# lldpa-live state 1 {time.time():.3f} {now:.3f}"
     names = [b"\x07n%d" % number for number in range(count)]

@@ -1,4 +1,4 @@
-"""For tests: a sample of each TLV of an organization, its octets, and what tshark shows."""
+"""For tests: a sample of each organizationally specific TLV, its octets, and tshark's output."""
 
 from by_tshark import FIELDS, SHOWN, Pairs, by_fields, enumerated, expected
 from encoding import ENCODERS, SAMPLES, Sample, by_layout, counted, encoded
@@ -57,7 +57,7 @@ SAMPLES += [
     Sample(("0012bb", 1), "003f 03", MedCapabilities(63, 3), 3 * 255),
     Sample(("0012bb", 2), "01 43e96e", NetworkPolicy(1, False, True, 500, 5, 46), 4 * 255,
            ignored="00 200000"),
-    # changed, its resolutions are up to 34 and 30, and no place is beyond a pole or half the globe
+    # a change is still read if the resolutions stay within 34 and 30, and the place on the globe
     Sample(("0012bb", 3), "01 48 61000000 48 04800000 12 40 00 2380 01",
            Coordinates(18, 97 << 24, 18, 9 << 23, 1, 9, 0x2380, 1),
            (35 * 2 - 1) + 180 + 3 * 255 + (35 * 3 - 1) + 4 * 255 + (16 * 8 - 1) + 5 * 255),
@@ -94,7 +94,7 @@ ENCODERS.update({
 
 
 def parts_of(tlv: Power) -> list[object]:
-    """Returns the TLV, and what later standards add to it."""
+    """Returns the TLV, and the parts that later standards added to it."""
     return [part for part in (tlv, tlv.request, tlv.of_pairs) if part]
 
 
@@ -139,14 +139,14 @@ FIELDS.update({
 
 
 def tables(tlv: EtsTables) -> Pairs:
-    """Returns what tshark shows of the tables of ETS."""
+    """Returns what tshark shows for the tables of ETS."""
     return [*expected("lldp.dcbx.feature.pg.pgid_prio", enumerated(tlv.classes)),
             *expected("lldp.dcbx.feature.pg.per", enumerated(tlv.bandwidths)),
             *expected("lldp.dcbx.ieee.ets.tsa", enumerated(tlv.algorithms))]
 
 
 def pfc(tlv: Pfc) -> Pairs:
-    """Returns what tshark shows of Priority-based Flow Control."""
+    """Returns what tshark shows for Priority-based Flow Control."""
     enabled = enumerated(tuple(priority in tlv.enabled for priority in range(8)))
     return [*expected("lldp.dcbx.ieee.", {
         "willing": tlv.is_willing, "pfc.mbc": tlv.can_bypass_macsec,
@@ -154,7 +154,7 @@ def pfc(tlv: Pfc) -> Pairs:
 
 
 def mac_phy(tlv: MacPhy) -> Pairs:
-    """Returns what tshark shows of MAC/PHY Configuration/Status, the last bit first."""
+    """Returns what tshark shows for MAC/PHY Configuration/Status, the last bit first."""
     front = "lldp.ieee.802_3.pmd_auto_neg_advertised_caps"
     bits = {name: tlv.advertised >> 15 - place & 1 for place, name in enumerate(ADVERTISED)}
     return [*expected("lldp.ieee.802_3.mac_phy_auto_neg_status.", {
@@ -164,8 +164,8 @@ def mac_phy(tlv: MacPhy) -> Pairs:
 
 
 def coordinates(tlv: Coordinates) -> Pairs:
-    """Returns what tshark shows of coordinates: latitude and longitude with the six bits of their
-    resolution before them."""
+    """Returns what tshark shows for coordinates, with the six bits of resolution before latitude
+    and longitude."""
     latitude = tlv.latitude_resolution << 34 | tlv.latitude % (1 << 34)
     longitude = tlv.longitude_resolution << 34 | tlv.longitude % (1 << 34)
     return expected("lldp.media.loc.", {
@@ -176,7 +176,7 @@ def coordinates(tlv: Coordinates) -> Pairs:
 
 
 def civic_address(tlv: CivicAddress) -> Pairs:
-    """Returns what tshark shows of a civic address."""
+    """Returns what tshark shows for a civic address."""
     length = 3 + sum(2 + len(text) for _, text in tlv.elements)
     head = expected("lldp.media.", {
         "loc.data_format": 2, "civic.length": length, "civic.what": tlv.what,

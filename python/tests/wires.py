@@ -1,4 +1,4 @@
-"""For tests on real links: a pair of namespaces with veth pairs, and senders there."""
+"""For tests on real links: two namespaces, joined by veth pairs, and senders in them."""
 
 import contextlib
 import ctypes
@@ -23,7 +23,7 @@ def ip(*words: str) -> None:
 
 @contextlib.contextmanager
 def inside(namespace: str) -> Iterator[None]:
-    """Lets this thread open sockets, and start programs, in a namespace."""
+    """Lets this thread open sockets and start programs in a namespace."""
     libc = ctypes.CDLL(None, use_errno=True)
     with open("/proc/thread-self/ns/net") as own, open(f"/run/netns/{namespace}") as other:
         if libc.setns(other.fileno(), CLONE_NEWNET):
@@ -35,8 +35,8 @@ def inside(namespace: str) -> Iterator[None]:
 
 
 class Wires:
-    """Links eth0.. to peer0.. between the namespaces `here` and `there`, and a folder, which others
-    may enter."""
+    """Links eth0, eth1 .. in the namespace `here` to peer0, peer1 .. in `there`, and a folder that
+    other users may enter."""
 
     numbers = iter(range(1000))
 
@@ -53,12 +53,12 @@ class Wires:
         eventually(self.all_up)
 
     def add_link(self, i: int) -> None:
-        """Makes a further link, and waits until frames go over it."""
+        """Makes another link, and waits until frames pass over it."""
         self.make_link(i)
         eventually(self.all_up)
 
     def all_up(self) -> bool:
-        """Returns whether all ends are up. (Before that the kernel drops what is sent.)"""
+        """True if all ends are up. (Until then the kernel drops what is sent.)"""
         shown = [subprocess.run(["ip", "-n", name, "-br", "link"], capture_output=True, text=True)
                  for name in (self.here, self.there)]
         ends = [line.split() for run in shown for line in run.stdout.splitlines() if "@" in line]
@@ -75,7 +75,7 @@ class Wires:
         return self.there if end.startswith(("peer", "far")) else self.here
 
     def set_link(self, end: str, *words: str) -> None:
-        """Changes an end: `set_link("eth0", "down")`."""
+        """Changes an end, such as `set_link("eth0", "down")`."""
         ip("-n", self.side(end), "link", "set", end, *words)
 
     def remove_link(self, end: str) -> None:
@@ -106,7 +106,7 @@ for number in range(int(sys.argv[2])):
 
 
 def flood(wires: Wires, end: str, frames: list[bytes], count: int) -> subprocess.Popen[bytes]:
-    """Starts a sender of so many frames at an end, one after another, as fast as possible."""
+    """Starts a program that sends `count` frames at an end as fast as it can, in turn."""
     with inside(wires.there):
         sender = subprocess.Popen([sys.executable, "-c", FLOOD, end, str(count)],
                                   stdin=subprocess.PIPE)
@@ -128,11 +128,11 @@ class Peer:
         self.socket.send(octets)
 
     def hears(self, seconds: float = SECONDS, ttl: Optional[int] = None) -> Optional[bytes]:
-        """Returns the next frame, or the next with this time to live; None if none comes."""
+        """Returns the next frame (with this time to live), or None if none comes in time."""
         last = time.monotonic() + seconds
         while (left := last - time.monotonic()) > 0:
             self.socket.settimeout(left)
-            with contextlib.suppress(OSError):  # none in time, or an end that was down
+            with contextlib.suppress(OSError):  # none in time, or the end is down
                 octets, address = self.socket.recvfrom(2000)
                 if address[2] != socket.PACKET_OUTGOING and ttl in (None, ttl_of(octets)):
                     return octets
@@ -143,7 +143,7 @@ class Peer:
 
 
 def tlvs_of(octets: bytes) -> Iterator[Tuple[int, bytes]]:
-    """Returns the type and the body of each TLV of a frame, up to its end or to one that is cut."""
+    """Yields the type and the body of each TLV, up to the End TLV or an incomplete one."""
     place = 14
     while place + 2 <= len(octets):
         head = int.from_bytes(octets[place:place + 2], "big")

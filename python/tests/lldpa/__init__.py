@@ -1,6 +1,6 @@
-"""Stands for the package in its tests: `unittest discover` looks for it only in this folder.
+"""Takes the place of the package `lldpa`, since `unittest discover` searches only this folder.
 
-It puts the folder of the package in front of Python's search path, and is replaced by the package.
+It puts the package's folder first in Python's search path, and imports the package instead.
 """
 import importlib
 import sys

@@ -1,7 +1,8 @@
-//! The agent, and the one that replaces it if the ports or the management address change. The new agent is opened
-//! beside the old one and brought to its state; only then the old one is closed. The lines that do so contain the
-//! settings in force, and each neighbor's last LLDPDU with the seconds between them. Each later file of the log begins
-//! with these lines, and a saved state contains those of the tables.
+//! Opens the agent, and replaces it when the ports or the management address change. A new agent is
+//! opened beside the old one and given lines that bring it to the same state: the settings in
+//! force, and each neighbor's last LLDPDU with the seconds between them. Then the old one is
+//! closed. Later log files of a session begin with these lines; a saved state has those of the
+//! tables.
 
 use crate::links::Mac;
 use crate::options::AgentOptions;
@@ -50,7 +51,7 @@ pub fn set_status(port: &str, status: Status) -> Line {
     Line::Command(format!("configure ports {port} lldp status {status}"))
 }
 
-/// Returns the status with which a port does the same, except that it sends nothing.
+/// Returns the status that receives like this one but does not send.
 fn without_sending(status: Status) -> Status {
     match status {
         Status::RxAndTx => Status::RxOnly,
@@ -59,14 +60,14 @@ fn without_sending(status: Status) -> Status {
     }
 }
 
-/// Puts lines between those that keep ports from sending, and those that let them send again.
+/// Adds commands around these lines: first the ports stop sending, at the end they send again.
 pub fn unsent(names: &[String], status: impl Fn(&String) -> Status, lines: Vec<Line>) -> Vec<Line> {
     let quiet = names.iter().map(|name| set_status(name, without_sending(status(name))));
     let sends = names.iter().filter(|name| without_sending(status(name)) != status(name));
     quiet.chain(lines).chain(sends.map(|name| set_status(name, status(name)))).collect()
 }
 
-/// Returns the line that sets the name or the description of the system. Neither may contain a double quote.
+/// Returns the line that sets the `hostname` or `description` to a text without double quotes.
 pub fn set_text(what: &str, text: &str) -> Line {
     Line::Command(format!("configure system {what} \"{text}\""))
 }
@@ -79,7 +80,7 @@ fn frame(port: &str, octets: &[u8]) -> Line {
     Line::Frame(port.into(), frame)
 }
 
-/// Returns the line of an LLDPDU that has only the two identifiers and a time to live.
+/// Returns the line of an LLDPDU that contains only the Chassis ID, the Port ID and the TTL.
 fn made(port: &str, msap: &Msap<'_>, ttl: u32) -> Line {
     let mut octets = Vec::new();
     for (kind, body) in [(1u16, msap.chassis), (2, msap.port), (3, &(ttl as u16).to_be_bytes()[..])] {
@@ -99,7 +100,7 @@ pub struct Running {
 }
 
 impl Running {
-    /// Opens an agent, and gives it these lines. What its ports send in them is not sent.
+    /// Opens an agent and gives it these lines. Frames that its ports would send are discarded.
     pub fn open(
         options: &AgentOptions,
         names: Vec<String>,
@@ -131,7 +132,7 @@ impl Running {
         self.names.iter().position(|port| port == name).map(|place| place as u8)
     }
 
-    /// Gives the agent a line. One that it refuses changes nothing. Returns which ports send.
+    /// Gives the agent a line and returns the ports that send. A refused line changes nothing.
     pub fn take(&mut self, line: &Line) -> Vec<Sent> {
         let sent = match line {
             Line::Command(line) => self.agent.command(line).map(|done| done.sent).ok(),
@@ -154,7 +155,7 @@ impl Running {
         sent
     }
 
-    /// Returns the value of a key in `show chassis`, as it was set.
+    /// Returns the value of a key of `show chassis`, without the escapes.
     pub fn chassis(&self, key: &str) -> String {
         let show = self.agent.show(Show::Chassis);
         let front = format!("local-chassis.{key}=");
@@ -162,8 +163,9 @@ impl Running {
         value.replace("\\\\", "\\")
     }
 
-    /// The lines that lead to the tables of these ports, and how many seconds pass in them. First comes a short LLDPDU
-    /// of each neighbor, in the order of the tables; then the last ones, in the order in which they came.
+    /// Returns the lines that rebuild the tables of these ports, and how many seconds pass in them.
+    /// First comes a short LLDPDU of each neighbor, in the order of the tables; then each
+    /// neighbor's last LLDPDU, in the order of arrival.
     pub fn tables(&self, names: &[String]) -> (Vec<Line>, u32) {
         let (mut lines, mut last) = (Vec::new(), Vec::new());
         for (port, name) in self.names.iter().enumerate().filter(|one| names.contains(one.1)) {
@@ -186,21 +188,22 @@ impl Running {
         (lines, oldest)
     }
 
-    /// The lines that bring an agent of these ports, which sends nothing meanwhile, to the state of this one. `full`
-    /// has the ports that had no room for a neighbor, and how long it would have stayed; `downs` those without a link.
+    /// Returns the lines that bring an agent of these ports, without sending, to the state of this
+    /// one. `full` lists the ports that had no room for a neighbor, and how many seconds it would
+    /// have stayed; `downs` lists the ports without a link.
     pub fn head(&self, names: &[String], new: Status, full: &[(String, u32)], downs: &[String]) -> Vec<Line> {
         let told = self.agent.configuration();
         let status = |name: &String| self.number(name).map_or(new, |place| told.status[usize::from(place)]);
         let limit = |number: u32| Line::Command(format!("configure lldp max-neighbors {number}"));
         let (tables, oldest) = self.tables(names);
         let mut lines = Vec::new();
-        let name = Some(self.chassis("name")).filter(|name| !name.contains('"')); // no command could set such a one
+        let name = Some(self.chassis("name")).filter(|name| !name.contains('"')); // no command sets a quote
         lines.extend(name.map(|name| set_text("hostname", &name)));
         lines.push(set_text("description", &self.chassis("descr")));
         lines.push(Line::Command(format!("configure lldp tx-interval {}", told.interval)));
         lines.push(Line::Command(format!("configure lldp tx-hold {}", told.hold)));
         for (port, left) in full {
-            // Two neighbors of which the port drops one, while its table is empty.
+            // Restores the too-many condition: with room for one neighbor, it drops a second.
             let named = |name: &'static [u8], ttl| made(port, &Msap { chassis: name, port: name }, ttl);
             let dropped = named(b"\x07dropped", MOST_TTL.min(left + oldest));
             lines.extend([limit(1), named(b"\x07held", MOST_TTL), dropped, named(b"\x07held", 0)]);

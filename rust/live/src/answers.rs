@@ -1,4 +1,4 @@
-//! Answers questions and applies settings. The agent runs even if lines of settings are refused.
+//! Answers questions and applies settings. The agent runs even if some settings are refused.
 
 use crate::clock::{self, SECOND};
 use crate::control::Control;
@@ -9,14 +9,13 @@ use crate::settings::{self, explained, first_word, Setting, LONGEST_LINE};
 use crate::since;
 use lldpa::Status;
 
-/// How long clients are answered before everything else has its turn.
+/// How long clients are answered at a time, before other work continues.
 const MOST_AT_ONCE: i64 = SECOND / 10;
-/// Between looks for what nothing reports: on some systems a new name of the host, or a control socket that was
-/// removed.
+/// How often to check what some systems do not report: a new host name, a removed control socket.
 const BETWEEN_LOOKS: i64 = 10 * SECOND;
 
 impl Live {
-    /// Answers one question of each client, and follows the host's name.
+    /// Answers one question of each client, and gives the agent the host's name if it changed.
     pub fn serve(&mut self, is_asked: bool) {
         self.next_look = clock::now() + BETWEEN_LOOKS;
         self.follow_name();
@@ -49,7 +48,7 @@ impl Live {
         self.command(line).unwrap_or_else(|refusal| refusal + "\n")
     }
 
-    /// Gives the agent a command as of now. Returns the answer, or why it is refused.
+    /// Gives the agent a command. Returns the answer, or the line that says why it is refused.
     pub fn command(&mut self, line: impl AsRef<[u8]>) -> Result<String, String> {
         let line = line.as_ref();
         let running = self.running.as_mut().ok_or("error: waiting for an interface")?;
@@ -126,15 +125,14 @@ impl Live {
         }
     }
 
-    /// Gives the agent a setting. Returns why it is refused. A setting of a port that a pattern may give waits for the
-    /// port.
+    /// Applies a setting, or returns why it is refused. It waits for a port that a pattern may add.
     fn why_refused(&mut self, setting: &Setting) -> Option<String> {
         let word = first_word(&setting.line);
         if setting.line.len() > LONGEST_LINE {
             return Some("line too long".into());
         }
         if word != "configure" {
-            return Some(format!("{word} is not `configure`"));
+            return Some(format!("{word} is not allowed, only `configure`"));
         }
         let refusal = self.command(&setting.line).err()?;
         let text = refusal.trim_start_matches("error: ");
@@ -143,14 +141,15 @@ impl Live {
     }
 }
 
-/// Returns the answer to a line that the agent does not get: it is too long or empty, only lldpa-live itself may give
-/// it, it would change the agent without permission, or it is not a question.
+/// Returns the answer to a line that is not passed on: it is too long, empty, a comment, an event
+/// that only lldpa-live may report, a change without permission, or unknown. Otherwise returns
+/// None.
 pub fn refusal(line: &[u8], may_change: bool) -> Option<&'static str> {
     let word = first_word(line);
     let first = line.iter().find(|octet| !b" \t".contains(octet));
     match &word[..] {
         _ if line.len() > LONGEST_LINE => Some("error: line too long\n"),
-        "tick" | "rx" | "up" | "down" => Some("error: for lldpa-live alone\n"),
+        "tick" | "rx" | "up" | "down" => Some("error: reserved for lldpa-live\n"),
         _ if matches!(first, None | Some(b'#')) => Some(""),
         "configure" | "update" if !may_change => Some("error: no permission\n"),
         "live" | "show" | "configure" | "update" => None,

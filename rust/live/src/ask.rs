@@ -12,7 +12,7 @@ const PATIENCE: i64 = 10 * SECOND;
 const MOST_OCTETS: usize = 128 << 20;
 const REFUSAL: &[u8] = b"error: ";
 
-/// Prints the answer to a line, and returns the status. Root is given up before anything is read.
+/// Sends a line, prints its answer and returns the exit status. Reads without root's rights.
 pub fn ask(path: &str, line: &str) -> Result<i32> {
     let moment = clock::now() + PATIENCE;
     let mut stream = connect(path, Duration::from_secs(10)).map_err(at(path))?;
@@ -26,12 +26,12 @@ pub fn ask(path: &str, line: &str) -> Result<i32> {
         return Ok(1);
     }
     let mut text: String = lines.map(|line| readable(line) + "\n").collect();
-    text.pop(); // behind the last line feed there is no line
+    text.pop(); // no line follows the last line feed
     std::io::stdout().write_all(text.as_bytes())?;
     Ok(0)
 }
 
-/// Reads an answer, up to that moment: a line `=N` and N lines.
+/// Reads an answer, a line `=N` and N lines, until this moment at the latest.
 fn read(stream: &mut UnixStream, moment: i64) -> Result<Vec<u8>> {
     let wrong = |what: &str| Err(Error::new(ErrorKind::Other, what));
     let (mut answer, mut room, mut lines) = (Vec::new(), [0u8; 65536], 0);
@@ -42,7 +42,7 @@ fn read(stream: &mut UnixStream, moment: i64) -> Result<Vec<u8>> {
         }
         stream.set_read_timeout(Some(Duration::from_millis(left as u64)))?;
         let length = match stream.read(&mut room) {
-            Ok(0) => return wrong("lldpa-live has ended"),
+            Ok(0) => return wrong("lldpa-live has ended the connection"),
             Err(fault) if fault.kind() == ErrorKind::WouldBlock => continue,
             read => read?,
         };
@@ -53,8 +53,8 @@ fn read(stream: &mut UnixStream, moment: i64) -> Result<Vec<u8>> {
             first.strip_prefix(b"=").and_then(|count| std::str::from_utf8(count).ok()?.parse::<usize>().ok());
         match count {
             Some(count) if lines > count => return Ok(answer),
-            None if lines > 0 => return wrong("this is not an answer of lldpa-live"),
-            _ if answer.len() > MOST_OCTETS => return wrong("an answer of more than 128 MB"),
+            None if lines > 0 => return wrong("another program answers, not lldpa-live"),
+            _ if answer.len() > MOST_OCTETS => return wrong("the answer is over 128 MB"),
             _ => (),
         }
     }

@@ -1,13 +1,13 @@
-//! The seconds that the agent was given, by the clock that also counts while the machine sleeps, and the wall clock.
+//! Two clocks: one for the agent's seconds, which also runs during suspend, and the wall clock.
 
 use crate::sys;
 
 pub const SECOND: i64 = 1_000_000_000;
 pub const MILLISECOND: i64 = 1_000_000;
-/// A change between the two clocks that may be due to reading them, and by which a stamp may differ from a moment.
+/// The greatest error of the difference between the clocks, and so of a stamp's moment.
 pub const INEXACT: i64 = MILLISECOND;
 
-/// Reads a clock, in nanoseconds: 0 the wall's since 1970, 1 that since the boot but for sleep, 7 that since the boot.
+/// Reads a clock in nanoseconds: 0 counts since 1970, 1 since boot without suspend, 7 since boot.
 pub fn read(number: i32) -> i64 {
     let mut time = [0; 2];
     let _ = sys::time(number, &mut time);
@@ -22,8 +22,7 @@ pub fn wall() -> i64 {
     read(0)
 }
 
-/// Counts whole seconds from its beginning on. Each is given once and none is lost, however late it is asked for,
-/// and whatever is done to the wall clock.
+/// Counts whole seconds since its creation, each exactly once, even if the wall clock is set.
 pub struct Clock {
     begin: i64,
     pub given: i64,
@@ -35,8 +34,8 @@ impl Clock {
         Clock { begin: now(), given: 0, ahead: wall_clock_ahead() }
     }
 
-    /// Notes how far the clocks are apart if that has changed, and otherwise keeps it, so that the moments of
-    /// stamps have the order of the stamps.
+    /// Updates the difference between the clocks if it has changed. Otherwise the difference stays,
+    /// so that moments keep the order of their stamps.
     pub fn note_wall_clock(&mut self) {
         let ahead = wall_clock_ahead();
         if (ahead - self.ahead).abs() > INEXACT {
@@ -44,23 +43,23 @@ impl Clock {
         }
     }
 
-    /// The moment of a stamp by the wall clock. It is never later than now.
+    /// Returns the moment of a stamp of the wall clock (without a stamp: now), never after now.
     pub fn moment(&self, stamp: Option<i64>) -> i64 {
         stamp.map_or(i64::MAX, |stamp| stamp - self.ahead).min(now())
     }
 
-    /// How many seconds end up to a moment and were not given.
+    /// Returns how many seconds have ended by this moment and were not given yet.
     pub fn missing(&self, moment: i64) -> u32 {
         ((moment - self.begin).div_euclid(SECOND) - self.given).clamp(0, i64::from(u32::MAX)) as u32
     }
 
-    /// The moment at which a second ends, counted from the last one that was given.
+    /// Returns when this many more seconds, after those already given, will have ended.
     pub fn end_of(&self, seconds: u32) -> i64 {
         self.begin + (self.given + i64::from(seconds)) * SECOND
     }
 }
 
-/// How far the wall clock is ahead. Of three readings the one counts that was interrupted least.
+/// Returns how far the wall clock is ahead, by the fastest of three readings.
 fn wall_clock_ahead() -> i64 {
     let readings = [(); 3].map(|()| {
         let before = now();
@@ -70,7 +69,7 @@ fn wall_clock_ahead() -> i64 {
     readings.iter().min().map_or(0, |reading| reading.1)
 }
 
-/// Returns a time of the wall clock, in seconds since 1970, as `2026-11-23T19:40:00Z`.
+/// Formats a time, in seconds since 1970, as `2026-11-23T19:40:00Z`.
 pub fn written(seconds: i64) -> String {
     let (days, rest) = (seconds.div_euclid(86_400) + 719_468, seconds.rem_euclid(86_400));
     let (era, day) = (days.div_euclid(146_097), days.rem_euclid(146_097));

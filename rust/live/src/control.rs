@@ -1,6 +1,6 @@
-//! The control socket: a question is a line, its answer `=N` and N lines. Its mode says who may connect: 0600, or
-//! 0660 for the members of a group. They may do everything. If the mode is widened to 0666, everybody may ask, and
-//! `configure` and `update` stay with root, the owner and the group.
+//! The control socket. A question is a line; its answer is `=N` and N lines. The socket's mode
+//! decides who may connect: 0600, or 0660 for a group. They may do everything. If the mode is 0666,
+//! everybody may ask, but only root, the owner and the group may `configure` and `update`.
 
 use crate::clock::SECOND;
 use crate::listening::{Listening, Peer};
@@ -14,13 +14,13 @@ use std::io::{ErrorKind, Read, Result, Write};
 use std::os::unix::net::UnixStream;
 
 const MOST_CLIENTS: usize = 64;
-const KEPT: usize = 8; // further places, for root and the owner of the socket alone
+const KEPT: usize = 8; // more places, only for root and the socket's owner
 const TO_READ: i64 = 10 * SECOND;
 const IDLENESS: i64 = 60 * SECOND;
 const MOST_READS: usize = 64; // of a client at a turn
-const MOST_UNREAD: usize = 64 << 20; // octets of all answers together that wait for their readers
+const MOST_UNREAD: usize = 64 << 20; // octets of all unread answers together
 
-/// A line of a client, and whether it may change the agent.
+/// A client's line, and whether the client may change the agent.
 pub struct Question {
     place: usize,
     pub line: Vec<u8>,
@@ -33,24 +33,24 @@ struct Client {
     asked: Vec<u8>,
     is_at_end: bool,
     answer: VecDeque<u8>,
-    /// Since when it has not read its whole answer, or has asked nothing.
+    /// When it connected or was last answered. Its time limits count from then.
     since: i64,
     is_over: bool,
 }
 
 impl Client {
-    /// Whether a line can be answered. At the end of what is asked it may lack its line feed.
+    /// True if a line can be answered. At the end of input a line may lack its line feed.
     fn has_line(&self) -> bool {
         let is_whole = self.asked.contains(&b'\n') || self.is_at_end && !self.asked.is_empty();
         self.answer.is_empty() && is_whole && !self.is_over
     }
 
-    /// Whether it has ended its questions, and read all answers.
+    /// True if the client has ended its input and read all answers.
     fn is_left(&self) -> bool {
         self.is_at_end && self.asked.is_empty() && self.answer.is_empty()
     }
 
-    /// Takes the next line. If it is too long, this is a part that is too long as well.
+    /// Takes the next line. If it was too long, this is its beginning, which is still too long.
     fn next_line(&mut self) -> Vec<u8> {
         let end = self.asked.iter().position(|octet| *octet == b'\n').unwrap_or(self.asked.len());
         let line = self.asked.drain(..end).collect();
@@ -58,7 +58,7 @@ impl Client {
         line
     }
 
-    /// Reads what has come, unless a whole line or an answer waits.
+    /// Reads what the client sent, unless a whole line or an answer still waits.
     fn read(&mut self) {
         let mut room = [0u8; LONGEST_LINE];
         for _ in 0..MOST_READS {
@@ -76,7 +76,7 @@ impl Client {
         }
     }
 
-    /// Keeps octets that were read, but of a line that is too long only so many that this is seen.
+    /// Keeps octets that were read. Of a line that is too long it keeps just enough to see that.
     fn take(&mut self, octets: &[u8]) {
         let end = octets.iter().position(|octet| *octet == b'\n').unwrap_or(octets.len());
         let room = (LONGEST_LINE + 1).saturating_sub(self.asked.len());
@@ -94,7 +94,7 @@ impl Client {
                 }
             }
         }
-        self.answer = VecDeque::new(); // which gives its room back
+        self.answer = VecDeque::new(); // frees its memory
     }
 }
 
@@ -103,14 +103,14 @@ pub struct Control {
     clients: Vec<Client>,
     /// The place of the client that is answered next.
     next: usize,
-    /// Until when no client is accepted.
+    /// When clients are accepted again, after accepting has failed.
     pause: i64,
-    /// Whether the socket was removed, and could not be made again.
+    /// True if the socket was removed and could not be made again.
     is_lost: bool,
 }
 
 impl Control {
-    /// Takes the path, while lldpa-live still has the right to.
+    /// Opens the socket at a path. This needs the rights that lldpa-live gives up later.
     pub fn open(path: &str, group: Option<u32>) -> Result<Control> {
         let listening = Listening::open(path, group)?;
         Ok(Control { listening, clients: Vec::new(), next: 0, pause: 0, is_lost: false })
@@ -130,7 +130,7 @@ impl Control {
         unread.map(|client| client.since + TO_READ).chain(pause).min()
     }
 
-    /// Accepts, reads and sends what can be; makes the socket again if it was removed.
+    /// Accepts clients, reads and sends without waiting. Makes the socket again if it was removed.
     pub fn turn(&mut self, now: i64, is_asked: bool) {
         let _ = self.listening.watch.as_mut().map(|watch| watch.file.read(&mut [0u8; 256]));
         if !self.listening.is_there() {
@@ -165,8 +165,8 @@ impl Control {
         }
     }
 
-    /// Gives a client a place, if need be that of the client that has been idle longest, for a minute or more. If
-    /// there is none, the answer says so.
+    /// Admits a client. If all places are taken, it gets that of the client that has been idle
+    /// longest, and for at least a minute. Without such a client it is refused.
     fn admit(&mut self, mut stream: UnixStream, now: i64) {
         let peer = Peer::of(&stream);
         let most = if peer.is_preferred(&self.listening.path) { MOST_CLIENTS + KEPT } else { MOST_CLIENTS };
@@ -178,7 +178,7 @@ impl Control {
                 Some(longest) => drop(self.clients.remove(longest)),
                 None => {
                     let _ = stream.write(b"=1\nerror: too many clients\n");
-                    is_over = true; // at the next turn, so that it can ask before it reads this
+                    is_over = true; // at the next turn: it may ask first, and then reads this
                 }
             }
         }
@@ -188,7 +188,7 @@ impl Control {
         self.clients.extend(Some(client).filter(|client| !client.is_left()));
     }
 
-    /// Returns the next question: each client asks one in its turn.
+    /// Returns the next question. Clients take turns, with one question each.
     pub fn question(&mut self) -> Option<Question> {
         let first = std::mem::take(&mut self.next);
         let place = (first..self.clients.len()).find(|place| self.clients[*place].has_line())?;
@@ -214,7 +214,7 @@ impl Control {
         self.clients.iter().any(Client::has_line)
     }
 
-    /// While too many octets wait for their readers, ends the connection that has waited longest.
+    /// Closes the connections that have waited longest while too many octets of answers are unread.
     fn end_slowest(&mut self) {
         while self.clients.iter().map(|client| client.answer.len()).sum::<usize>() > MOST_UNREAD {
             let waiting = self.clients.iter_mut().filter(|client| !client.answer.is_empty());

@@ -1,5 +1,6 @@
-//! The files of a log: one after another, all together in bounds, whole lines in each. The folder is the current one
-//! of the process, so it is found whatever its path becomes. Whatever is done here may take as long as the disk likes.
+//! The files of the log: one after another, of limited size together, with only whole lines. Their
+//! folder is the current folder of the process, so it is found even after its path changes. Each
+//! call may take as long as the disk needs.
 
 use crate::clock;
 use crate::rights::{at, own_user, User};
@@ -17,24 +18,24 @@ pub const O_NONBLOCK: i32 = 0o4_000;
 pub const EBADF: i32 = 9;
 const ENOSPC: i32 = 28;
 const OF_FULL_DISKS: [i32; 3] = [ENOSPC, 122, 27]; // EDQUOT, EFBIG
-const NO_ROOM: &str = "no room is left within --log-keep";
-const MOST_OF_A_SECOND: u32 = 1000; // files
-const LOST_FOUND: &str = "lost+found"; // of a file system that begins in the folder
+const NO_ROOM: &str = "the limit of --log-keep is reached, and there is no older file to remove";
+const MOST_OF_A_SECOND: u32 = 1000; // files that begin in one second
+const LOST_FOUND: &str = "lost+found"; // exists if the folder is a mount point
 
-/// The files of the current folder, of at most `keep` octets together; the oldest are removed.
+/// The files of the current folder, together at most `keep` octets: the oldest are removed.
 pub struct Files {
     path: String,
     keep: u64,
     name: String,
     file: Option<File>,
     size: u64,
-    /// The older ones with their sizes, oldest first.
+    /// The older files with their sizes, oldest first.
     others: Vec<(String, u64)>,
 }
 
-/// Enters a folder, and makes it if it is missing. An empty folder, or one that contains only logs, is given to that
-/// user, unless everybody may write to it. A symbolic link is followed only if nobody but root and this user could
-/// have put it there.
+/// Makes a folder the current one, and creates it if it is missing. If it is empty or contains only
+/// logs, `user` becomes its owner, unless everybody may write to it. A symbolic link is followed
+/// only if nobody but root and the current user can have put it there.
 pub fn enter(path: &str, user: Option<User>) -> Result<()> {
     let above = Path::new(path).parent().unwrap_or_else(|| Path::new("/"));
     let name = Path::new(path).file_name().unwrap_or_default();
@@ -63,7 +64,7 @@ pub fn enter(path: &str, user: Option<User>) -> Result<()> {
     Ok(())
 }
 
-/// Returns an error if this process may not make files in the folder. It makes none, since the disk may hang.
+/// Returns an error if this process may not create files here. It creates none: that could hang.
 pub fn check(path: &str) -> Result<()> {
     sys::may_write(".")
         .map_err(|fault| at(path)(Error::new(fault.kind(), "the log's user may not create files there")))
@@ -78,7 +79,7 @@ pub fn names(path: &str) -> Result<Vec<String>> {
     fs::read_dir(path)?.map(name).collect()
 }
 
-/// Returns the second when the file of that name began, and its number within it. None if it is not a log.
+/// Returns the second in a log's name, and the file's number in that second. None for other names.
 fn place_of(name: &str) -> Option<(&str, u32)> {
     let is_number = |text: &str, lengths: RangeInclusive<usize>| {
         lengths.contains(&text.len()) && text.bytes().all(|octet| octet.is_ascii_digit())
@@ -111,7 +112,7 @@ impl Files {
         self.write(octets)
     }
 
-    /// Makes a new file, named after the present time in UTC, whose name sorts after all others.
+    /// Creates a file with the present UTC time as name, numbered if that second has others.
     fn make(&mut self) -> Result<()> {
         let now = clock::written(clock::wall().div_euclid(clock::SECOND));
         let second = now.replace(&['-', ':'][..], "");
@@ -132,8 +133,7 @@ impl Files {
         Err(ErrorKind::AlreadyExists.into())
     }
 
-    /// Adds octets to the file, all or none, and returns its path. If that fails, the file keeps what it had, and
-    /// ends.
+    /// Appends octets and returns the file's path. A failure leaves the file unchanged and closed.
     pub fn write(&mut self, octets: &[u8]) -> Result<String> {
         let mut file = self.file.take().ok_or_else(|| Error::from_raw_os_error(EBADF))?;
         let found = file.metadata()?;
@@ -156,7 +156,7 @@ impl Files {
         }
     }
 
-    /// Removes the oldest files, but never this one, until there is room for so many more octets.
+    /// Removes the oldest files, but never the current one, until this many more octets have room.
     fn make_room(&mut self, octets: u64) -> Result<()> {
         while self.others.iter().map(|one| one.1).sum::<u64>() + self.size + octets > self.keep {
             if self.others.is_empty() {

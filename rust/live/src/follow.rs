@@ -1,5 +1,5 @@
-//! What changes under a running agent: interfaces that patterns give, the host's name and address, the file of the
-//! log, the state; and how the agent is replaced.
+//! Follows what changes while the agent runs: interfaces that match patterns, the host's name and
+//! address, the log's file and the state. Replaces the agent if necessary.
 
 use crate::agent::{lines_text, set_text, Line, Running};
 use crate::clock::{self, SECOND};
@@ -13,10 +13,9 @@ use crate::state;
 use lldpa::Status;
 use std::net::Ipv4Addr;
 
-/// How long another address must stay, and an interface that a pattern gave must be gone, before the agent is
-/// replaced.
+/// How long a new address, or the lack of a pattern's interface, must last to replace the agent.
 const TO_STAY: i64 = 2 * SECOND;
-/// So that each minute of a log has a comment.
+/// Short enough for a comment with the time in each minute of a log.
 const LONGEST_SLEEP: i64 = 30 * SECOND;
 const BETWEEN_STATES: i64 = 60 * SECOND;
 
@@ -43,13 +42,13 @@ impl Live {
         }
     }
 
-    /// Returns when an interface will have been gone for long enough, or another address will have stayed.
+    /// Returns when a missing interface or a new address will have lasted long enough.
     pub fn next_change(&self) -> Option<i64> {
         let gone = self.ports.all.iter().filter(|port| !port.is_named).filter_map(|port| port.gone_since);
         gone.chain(self.other_management.map(|other| other.1)).min().map(|since| since + TO_STAY)
     }
 
-    /// Adds the ports that patterns give now, and removes those whose interfaces have gone.
+    /// Adds ports for interfaces that now match a pattern; removes those whose interfaces are gone.
     fn follow_ports(&mut self, now: i64) {
         let has_patterns =
             self.given.once.is_none() && self.given.parts.iter().any(|part| patterns::gives(part));
@@ -63,7 +62,7 @@ impl Live {
         {
             return;
         }
-        self.followed = LOOK_AGAIN; // there may be room for another one
+        self.followed = LOOK_AGAIN; // there may be room for another port
         self.ports.take_out(&gone);
         if names.is_empty() {
             self.running = None;
@@ -104,7 +103,8 @@ impl Live {
         self.was_missing = is_missing;
     }
 
-    /// Replaces the agent by one of these ports and that address. If it cannot be opened, the one in use stays.
+    /// Replaces the agent with one for these ports and this address. Returns false if it cannot be
+    /// opened; then the present one stays.
     fn replace(&mut self, names: Vec<String>, management: Option<Ipv4Addr>) -> bool {
         let (lines, options) = (self.head(&names), &self.given.agent);
         let (mac, hostname) = match &self.running {
@@ -118,14 +118,14 @@ impl Live {
                 true
             }
             Err(fault) => {
-                let what = "another agent cannot be opened";
-                self.try_later(&format!("{what}: {fault}; this one stays, and it is tried again"));
+                let what = "the agent cannot be replaced";
+                self.try_later(&format!("{what}: {fault}; it stays in use, and lldpa-live tries again"));
                 false
             }
         }
     }
 
-    /// Returns the lines that bring an agent of these ports to the state of this one.
+    /// Returns the lines that bring a new agent of these ports to the state of the present one.
     fn head(&self, names: &[String]) -> Vec<Line> {
         let new = if self.given.agent.numbers.receive_only { Status::RxOnly } else { Status::RxAndTx };
         let ours = || self.ports.all.iter().filter(|port| names.contains(&port.name));
@@ -144,7 +144,7 @@ impl Live {
         }
     }
 
-    /// Gives the agent the host's name if it has changed, unless somebody else has named the agent.
+    /// Gives the agent the host's changed name, unless an option or a command named the agent.
     pub fn follow_name(&mut self) {
         let name = crate::sys::host_name();
         if name == self.host_name || self.given.agent.hostname.is_some() {
@@ -156,7 +156,7 @@ impl Live {
         }
         let is_able = is_text(&name) && !name.contains('"');
         if !is_able || self.command(set_text("hostname", &name).to_string()).is_err() {
-            notice(&format!("{name}: the agent does not accept this name"));
+            notice(&format!("the host name {name} cannot be announced, so the old one stays"));
         }
     }
 
@@ -174,7 +174,7 @@ impl Live {
         self.manager.turned(clock::now());
     }
 
-    /// Returns when to turn again at the latest. `due` is when the agent next acts by itself.
+    /// Returns when the next turn must begin. `due` is when the agent next acts by itself.
     pub fn deadline(&self, now: i64, due: Option<i64>) -> i64 {
         let of_agent = |moment: Option<i64>| moment.filter(|_| self.running.is_some());
         let is_refused = self.ports.all.iter().any(|port| port.is_refused());

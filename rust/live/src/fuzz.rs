@@ -1,4 +1,4 @@
-//! Random and damaged octets into each reader: no fault, whatever they are.
+//! Feeds damaged input to each reader, which must not fail:
 //!     LLDPA_FUZZ_SECONDS=600 cargo test --release -- --ignored fuzz
 
 use crate::links::{messages, Links};
@@ -14,7 +14,7 @@ const SETTINGS: &str =
     "\u{feff}# a comment\nconfigure system hostname \"a b\"\r\nconfigure lldp tx-hold 300\n\
     configure ports eth0 lldp status rx-only x\nshow neighbors\nupdate \"\n";
 
-/// Makes octets from samples: some are damaged, some are others.
+/// Makes damaged copies of samples, at random.
 struct Octets(u64);
 
 impl Octets {
@@ -41,7 +41,7 @@ impl Octets {
     }
 }
 
-/// Tries a reader for so long as is wanted.
+/// Feeds damaged samples to a reader, for LLDPA_FUZZ_SECONDS (default 5).
 fn try_for_long(samples: &[&[u8]], mut reader: impl FnMut(&[u8])) {
     let seconds = std::env::var("LLDPA_FUZZ_SECONDS").map_or(5, |text| text.parse().expect("a number"));
     let end = Instant::now() + Duration::from_secs(seconds);
@@ -53,11 +53,11 @@ fn try_for_long(samples: &[&[u8]], mut reader: impl FnMut(&[u8])) {
             count += 100;
         }
     }
-    println!("{count} were read");
+    println!("{count} inputs were read");
 }
 
 #[test]
-#[ignore = "it takes as long as is wanted"]
+#[ignore = "it runs for LLDPA_FUZZ_SECONDS"]
 fn fuzz_netlink() {
     let mut links = Links::over(File::open("/dev/null").expect("a file"));
     let link = [
@@ -75,7 +75,7 @@ fn fuzz_netlink() {
 }
 
 #[test]
-#[ignore = "it takes as long as is wanted"]
+#[ignore = "it runs for LLDPA_FUZZ_SECONDS"]
 fn fuzz_control_lines() {
     let samples: Vec<&[u8]> = SETTINGS.lines().map(str::as_bytes).collect();
     try_for_long(&samples, |octets| {
@@ -84,7 +84,7 @@ fn fuzz_control_lines() {
 }
 
 #[test]
-#[ignore = "it takes as long as is wanted"]
+#[ignore = "it runs for LLDPA_FUZZ_SECONDS"]
 fn fuzz_settings() {
     try_for_long(&[SETTINGS.as_bytes()], |octets| {
         for setting in settings::settings_in("a.conf", octets) {
@@ -97,7 +97,7 @@ fn fuzz_settings() {
 }
 
 #[test]
-#[ignore = "it takes as long as is wanted"]
+#[ignore = "it runs for LLDPA_FUZZ_SECONDS"]
 fn fuzz_state() {
     assert_eq!(state::past(STATE.as_bytes(), 110_000, 60_000).map(|past| past.lines.len()), Ok(4));
     try_for_long(&[STATE.as_bytes()], |octets| {

@@ -1,4 +1,4 @@
-//! What frames and news of links do: the agent takes them, and what they change is noted and reported.
+//! Gives the agent frames and changes of links, and notes and reports what they changed.
 
 use crate::agent::{set_status, Line};
 use crate::clock;
@@ -10,7 +10,7 @@ use crate::since::{self, Held};
 use lldpa::{Examined, Info, Msap, News, Status};
 
 impl Live {
-    /// Gives the agent a frame, after the seconds before it.
+    /// Gives the agent the seconds before a frame, then the frame.
     pub fn take_frame(&mut self, frame: &Frame) -> Option<()> {
         self.pass(frame.moment);
         let port = &self.ports.all[frame.port];
@@ -36,7 +36,7 @@ impl Live {
         Some(same.octets().to_vec())
     }
 
-    /// Notes what a frame with that information has done, and reports what differs from before.
+    /// Notes and reports what a frame changed. `before` is the neighbor's previous LLDPDU.
     fn take_news(
         &mut self,
         frame: &Frame,
@@ -105,7 +105,7 @@ impl Live {
         Some(())
     }
 
-    /// Empties the table of a port that went down: it is disabled for a moment.
+    /// Empties the table of a port that went down, by disabling the port for a moment.
     pub fn forget(&mut self, name: &str) -> Option<()> {
         let running = self.running.as_ref()?;
         let status = running.agent.configuration().status[usize::from(running.number(name)?)];
@@ -115,7 +115,7 @@ impl Live {
         Some(())
     }
 
-    /// Returns the number of a chassis, which it keeps while any neighbor belongs to it.
+    /// Returns the number of a chassis. It stays the same while any neighbor has that chassis.
     pub fn number_of(&mut self, chassis: &[u8]) -> u32 {
         let same = self.held().find(|(_, held)| held.msap().chassis == chassis).map(|(_, held)| held.number);
         self.last_number += u32::from(same.is_none());
@@ -126,7 +126,7 @@ impl Live {
         self.ports.all.iter().flat_map(|port| port.held.iter().map(move |held| (&port.name[..], held)))
     }
 
-    /// Removes the neighbors that the agent no longer holds.
+    /// Removes and reports the neighbors that the agent no longer holds.
     pub fn note_gone(&mut self) -> Option<()> {
         let agent = &self.running.as_ref()?.agent;
         for (place, port) in self.ports.all.iter_mut().enumerate() {

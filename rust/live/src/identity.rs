@@ -1,14 +1,14 @@
-//! Who this host is: its chassis ID, what it runs, and where it is managed.
+//! Finds what identifies this host: chassis ID, operating system and management address.
 
 use crate::links::{Link, Links, Mac};
 use std::net::Ipv4Addr;
 
 const OS_RELEASE: [&str; 2] = ["/etc/os-release", "/usr/lib/os-release"];
 const MOST_OF_A_DESCRIPTION: usize = 255;
-const MOST_ABOVE: usize = 8; // interfaces, as a bridge above a bond
+const MOST_ABOVE: usize = 8; // interfaces, such as a bridge above a bond
 
-/// Returns the address that names this host: the permanent one of the first port whose interface is hardware, else of
-/// the first hardware Ethernet interface, else the address of the first port that exists. None if there is none yet.
+/// Returns the MAC address for the chassis ID, if there is one: the permanent address of the first
+/// hardware port, else of the first hardware Ethernet interface, else the first port's address.
 pub fn chassis_address(ports: &[String], links: &Links) -> Option<Mac> {
     let has_address = |one: &&Link| one.is_ethernet && one.address.map_or(false, |mac| mac != [0; 6]);
     let ours = || ports.iter().filter_map(|name| links.named(name)).filter(has_address);
@@ -16,8 +16,8 @@ pub fn chassis_address(ports: &[String], links: &Links) -> Option<Mac> {
     hardware.and_then(|one| one.permanent.or(one.address)).or_else(|| ours().next()?.address)
 }
 
-/// Returns the address under which this host is managed: the first global IPv4 address of a port, else of what is
-/// above a port, else of a hardware interface, else of any other, by their indices. None if there is none.
+/// Returns the management address: the first global IPv4 address of a port, else of an interface
+/// above a port, else of a hardware interface, else of any, by index. None if there is none.
 pub fn management_address(ports: &[String], links: &Links) -> Option<Ipv4Addr> {
     let ours = || ports.iter().filter_map(|name| links.named(name));
     let hardware = links.all().filter(|one| one.is_hardware && one.is_ethernet);
@@ -26,19 +26,19 @@ pub fn management_address(ports: &[String], links: &Links) -> Option<Ipv4Addr> {
         .map(|one| one.1)
 }
 
-/// Returns the interfaces above one: the bond, team or bridge that it belongs to, and so on.
+/// Returns the interfaces above one: its bond, team or bridge, then what is above that, and so on.
 fn above<'a>(one: &'a Link, links: &'a Links) -> impl Iterator<Item = &'a Link> {
     std::iter::successors(Some(one), |one| links.known.get(&one.master).map(|one| &one.0))
         .skip(1)
         .take(MOST_ABOVE)
 }
 
-/// Returns what this host runs: PRETTY_NAME of os-release, as a text that a command can set. None if it is empty.
+/// Returns PRETTY_NAME of os-release, without characters that a command cannot set. None if empty.
 pub fn description() -> Option<String> {
     let text = OS_RELEASE.iter().find_map(|path| std::fs::read(path).ok())?;
     let text = String::from_utf8_lossy(&text).into_owned();
     let value = text.lines().find_map(|line| line.strip_prefix("PRETTY_NAME="))?;
-    let is_literal = value.starts_with('\''); // within single quotes a backslash is one
+    let is_literal = value.starts_with('\''); // in single quotes a backslash escapes nothing
     let (mut kept, mut is_escaped) = (String::new(), false);
     for letter in value.trim_matches(&['"', '\''][..]).chars() {
         is_escaped = letter == '\\' && !is_escaped && !is_literal;
@@ -54,7 +54,7 @@ pub fn description() -> Option<String> {
 mod tests {
     use super::*;
 
-    /// Makes links of these interfaces, each hardware or not.
+    /// Makes `Links` of interfaces, given by their names and whether each is hardware.
     fn links(kinds: &[(&str, bool)]) -> Links {
         let mut links = Links::over(std::fs::File::open("/dev/null").expect("a file"));
         for ((name, is_hardware), index) in kinds.iter().zip(1..) {

@@ -1,6 +1,5 @@
-//! The interfaces of this network namespace and their global IPv4 addresses, followed from those that exist at first.
-//! Listening needs no right, and messages that are not well formed are ignored. (linux/netlink.h, linux/rtnetlink.h,
-//! linux/if_link.h, linux/if_addr.h)
+//! Follows the interfaces of this network namespace and their global IPv4 addresses. This needs no
+//! right. Malformed messages are ignored. (linux: netlink.h, rtnetlink.h, if_link.h, if_addr.h)
 
 use crate::sys;
 use crate::waiting::Awaited;
@@ -26,7 +25,7 @@ const AF_INET: u8 = 2;
 
 pub type Mac = [u8; 6];
 
-/// An interface as it is, or as it was when it went.
+/// An interface as it is, or as it was when it was removed.
 #[derive(Clone, Debug, Default, PartialEq)]
 pub struct Link {
     pub index: i32,
@@ -34,26 +33,26 @@ pub struct Link {
     pub is_there: bool,
     pub is_running: bool,
     pub is_ethernet: bool,
-    /// A device, not made by software. (A switch's own ports have a kind in newer kernels.)
+    /// True for a device (also a switch's port, of kind `dsa`), false if software made it.
     pub is_hardware: bool,
     pub address: Option<Mac>,
     pub permanent: Option<Mac>,
-    /// The bond, team or bridge above it, or 0.
+    /// The index of the bond, team or bridge above it, or 0.
     pub master: i32,
 }
 
-/// What is known of each interface, and which list named it last.
+/// The known interfaces and addresses, each with the number of the last list that contained it.
 pub struct Links {
     pub socket: Awaited<File>,
     room: Vec<u8>,
     pub known: BTreeMap<i32, (Link, u64)>,
     /// Each with the index of its interface, in the kernel's order.
     pub addresses: Vec<((i32, Ipv4Addr), u64)>,
-    /// Counts what happens to both.
+    /// Counts the changes of interfaces and addresses.
     pub changes: u64,
     /// The number of the list that was asked for last.
     list: u64,
-    /// How many lists are still to come: that of interfaces, then that of addresses.
+    /// How many lists are still to come: first the interfaces, then the addresses.
     lists_to_come: u8,
     is_stale: bool,
 }
@@ -66,7 +65,7 @@ impl Links {
         let mut links = Links::over(socket);
         links.ask()?;
         while links.lists_to_come > 0 {
-            links.read()?; // without waiting: the kernel makes a list while it is read
+            links.read()?; // never waits: the kernel makes a list while it is read
         }
         Ok(links)
     }
@@ -77,7 +76,7 @@ impl Links {
         Links { socket, room, known, addresses, changes: 0, list: 0, lists_to_come: 0, is_stale: false }
     }
 
-    /// Asks for the list of all interfaces, which comes as news, followed by that of their addresses.
+    /// Requests the list of all interfaces, which arrives as news. A list of addresses follows.
     fn ask(&mut self) -> Result<()> {
         self.list += 1;
         self.lists_to_come = 2;
@@ -93,7 +92,7 @@ impl Links {
         self.socket.file.write_all(&message)
     }
 
-    /// Returns the news that came, in their order. If the kernel lost some, asks for the list.
+    /// Returns the news that arrived, in order. If the kernel lost some, requests the lists again.
     pub fn read(&mut self) -> Result<Vec<Link>> {
         let mut news = Vec::new();
         let mut room = std::mem::take(&mut self.room);
@@ -130,19 +129,19 @@ impl Links {
             }
             DONE => self.end_list(news),
             ERROR => {
-                self.is_stale = true; // the list was not begun, since one was under way
+                self.is_stale = true; // the list was not begun, since another was under way
                 self.lists_to_come = 0;
             }
             _ => (),
         }
     }
 
-    /// Ends a list. What it did not name is gone.
+    /// Ends a list. Interfaces or addresses that it did not contain are gone.
     fn end_list(&mut self, news: &mut Vec<Link>) {
         self.lists_to_come = if self.is_stale { 0 } else { self.lists_to_come.saturating_sub(1) };
         let list = self.list;
         if self.is_stale {
-            return; // it may not be whole, and is asked for again
+            return; // it may be incomplete, and is requested again
         }
         if self.lists_to_come > 0 {
             let unseen = self.known.values().filter(|one| one.1 < list).map(|one| one.0.clone());
@@ -196,7 +195,7 @@ fn number(octets: &[u8], at: usize) -> Option<u32> {
     Some(u32::from_ne_bytes(octets.get(at..at + 4)?.try_into().ok()?))
 }
 
-/// Returns parts that begin with their length, which `length_of` reads. Each begins at a multiple of four octets.
+/// Splits octets into parts at multiples of four. `length_of` reads the length at each beginning.
 fn parts(octets: &[u8], least: usize, length_of: fn(&[u8]) -> Option<usize>) -> impl Iterator<Item = &[u8]> {
     let mut rest = octets;
     std::iter::from_fn(move || {
@@ -222,7 +221,7 @@ fn text(octets: &[u8]) -> String {
     String::from_utf8_lossy(octets.split(|octet| *octet == 0).next().unwrap_or(&[])).into_owned()
 }
 
-/// Returns what a message says of an interface, or None if it is about its part in a bridge.
+/// Returns the interface in a message. None if it is malformed, or about a bridge's port.
 fn link_of(body: &[u8], is_there: bool) -> Option<Link> {
     let attributes = body.get(16..).filter(|_| body[0] == 0)?;
     let mac = |kind| attribute(attributes, kind).and_then(|octets| Mac::try_from(octets).ok());
@@ -240,7 +239,7 @@ fn link_of(body: &[u8], is_there: bool) -> Option<Link> {
     })
 }
 
-/// Returns the index of an interface and its global IPv4 address, as a message says.
+/// Returns the interface's index and the global IPv4 address in a message, if it has them.
 fn address_of(body: &[u8]) -> Option<(i32, Ipv4Addr)> {
     let attributes = body.get(8..).filter(|_| body[0] == AF_INET && body[3] == 0)?;
     let octets = attribute(attributes, 2).or_else(|| attribute(attributes, 1))?;

@@ -1,4 +1,4 @@
-//! The path of the control socket, which one process uses at a time, and who asks there.
+//! The control socket's path, which one process uses at a time, and the rights of its clients.
 
 use crate::files::O_NOFOLLOW;
 use crate::rights::at;
@@ -16,23 +16,23 @@ use std::time::Duration;
 
 const LOCK_EX_NB: i32 = 2 | 4;
 const O_PATH: i32 = 0o10_000_000;
-const ONLY_OWNER: u32 = 0o177; // for umask
+const ONLY_OWNER: u32 = 0o177; // as a umask
 const SO_PEERCRED: i32 = 17;
 const SO_PEERGROUPS: i32 = 59;
 const MOST_GROUPS: usize = 256;
 
-/// A listening socket at a path that no other process can use until it is dropped or the process ends.
+/// A listening socket. Until it is dropped, or the process ends, no other lldpa-live uses its path.
 pub struct Listening {
     pub path: String,
     group: Option<u32>,
     lock: Option<File>,
     pub socket: Awaited<UnixListener>,
-    /// Tells when the socket is removed.
+    /// Becomes ready when the socket is removed.
     pub watch: Option<Awaited<File>>,
 }
 
 impl Listening {
-    /// Takes the path. A folder that is missing is made.
+    /// Locks the path and listens there. Creates the folder if it is missing.
     pub fn open(path: &str, group: Option<u32>) -> Result<Listening> {
         if let Some(folder) = Path::new(path).parent() {
             let _ = DirBuilder::new().mode(0o755).create(folder);
@@ -43,12 +43,12 @@ impl Listening {
         Ok(Listening { path: path.into(), group, lock: Some(lock), socket, watch: watch(path) })
     }
 
-    /// Whether the socket exists, as far as this user may look.
+    /// True if the socket exists, or this user may not look for it.
     pub fn is_there(&self) -> bool {
         !matches!(fs::symlink_metadata(&self.path), Err(fault) if fault.kind() == ErrorKind::NotFound)
     }
 
-    /// Makes the socket again, since it was removed. The group gets it if this user may still hand it over.
+    /// Makes a removed socket again, with its group if this user may still set that.
     pub fn renew(&mut self) -> Result<()> {
         if fs::symlink_metadata(lock_path(&self.path)).is_ok() {
             self.socket = Awaited::new(listener(&self.path, None)?);
@@ -75,7 +75,7 @@ fn lock_path(path: &str) -> String {
 }
 
 fn in_use(path: &str) -> Error {
-    Error::new(ErrorKind::AddrInUse, format!("{path}: another lldpa-live answers at this control path"))
+    Error::new(ErrorKind::AddrInUse, format!("{path}: another lldpa-live uses this control socket"))
 }
 
 fn locked(path: &str) -> Result<File> {
@@ -101,7 +101,7 @@ fn remove_stale(path: &str) -> Result<()> {
     }
 }
 
-/// Connects to a socket. (If its queue is full, the kernel would wait without end.)
+/// Connects to a socket within this time. (If its queue is full, the kernel would wait forever.)
 pub fn connect(path: &str, patience: Duration) -> Result<UnixStream> {
     let ((ours, theirs), path) = (channel(), path.to_string());
     thread::spawn(move || ours.send(UnixStream::connect(path)));
@@ -110,7 +110,7 @@ pub fn connect(path: &str, patience: Duration) -> Result<UnixStream> {
         .unwrap_or_else(|_| Err(Error::new(ErrorKind::TimedOut, "no answer in time")))
 }
 
-/// A listening socket, of mode 0600 from its first moment on, then 0660 for a group.
+/// Returns a listening socket. Its mode is 0600 at first, then 0660 if a group is given.
 fn listener(path: &str, group: Option<u32>) -> Result<UnixListener> {
     let mask = sys::set_umask(ONLY_OWNER)?;
     let bound = UnixListener::bind(path);
@@ -123,8 +123,8 @@ fn listener(path: &str, group: Option<u32>) -> Result<UnixListener> {
     Ok(socket)
 }
 
-/// Lets a group use the socket at a path, by its descriptor: whoever may write to the folder can put something else
-/// there.
+/// Lets a group use the socket at a path. It uses a descriptor, since others who may write to the
+/// folder could replace the file meanwhile.
 fn hand_over(path: &str, group: u32) -> Result<()> {
     let place = OpenOptions::new().read(true).custom_flags(O_PATH | O_NOFOLLOW).open(path)?;
     if !place.metadata()?.file_type().is_socket() {
@@ -150,8 +150,8 @@ impl Peer {
         Peer { user: told[1], groups }
     }
 
-    /// Whether it may write to the socket at this path as root, as the owner or by its group. (The kernel lets
-    /// nobody connect without that. But the mode may have been widened for all, or the right taken away since.)
+    /// True if the peer is root, or may write to the socket as its owner or by its group. (The
+    /// kernel checks that at connecting, but the mode may allow everybody, or have changed since.)
     pub fn may_change(&self, path: &str) -> bool {
         match fs::symlink_metadata(path) {
             _ if self.user == 0 => true,

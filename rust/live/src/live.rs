@@ -1,5 +1,4 @@
-//! The work: gives the agent what the interfaces receive, and each second at its place among the frames, and sends
-//! what it sends.
+//! Gives the agent received frames, with each second at its place among them, and sends its frames.
 
 use crate::agent::{Line, Running};
 use crate::clock::{self, Clock, INEXACT, MILLISECOND, SECOND};
@@ -21,7 +20,7 @@ use std::os::unix::io::AsRawFd;
 
 const MOST_TICKS: usize = 65535; // of one line
 
-/// A frame that a port sends, and when it should have.
+/// A frame that a port sends, and when it was due.
 struct Outgoing {
     moment: i64,
     port: usize,
@@ -44,29 +43,29 @@ pub struct Live {
     pub clock: Clock,
     pub links: Links,
     pub ports: Ports,
-    /// The agent, unless an interface is awaited.
+    /// The agent. None while lldpa-live waits for an interface.
     pub running: Option<Running>,
     pub log: Log,
     pub control: Option<Control>,
     pub manager: Manager,
     pub events: Events,
-    /// The management address that is announced, and another one that was found, and when.
+    /// The announced management address; another one that was found since, and when.
     pub management: Option<Ipv4Addr>,
     pub other_management: Option<(Option<Ipv4Addr>, i64)>,
-    /// Settings of ports, for those that come later, and how many settings were not applied.
+    /// The settings of ports, kept for later ports; how many settings were not applied.
     pub settings: Vec<Setting>,
     pub not_taken: usize,
     pub host_name: String,
     /// Becomes ready when the host's name has changed.
     name_file: Option<Awaited<File>>,
-    /// The changes of interfaces that the ports have followed.
+    /// The value of `links.changes` that the ports have followed.
     pub followed: u64,
-    /// When the state is written again, and an agent may be opened again.
+    /// When the state is written next; when opening an agent may be tried next.
     pub next_state: i64,
     pub next_try: i64,
-    /// When to look at the host's name and for the control socket, since on some systems nothing reports a change.
+    /// When to check the host's name and the control socket: some systems report no changes.
     pub next_look: i64,
-    /// Whether it was reported that there is no interface, and no address.
+    /// Whether a missing interface was reported; whether a missing address was.
     pub is_awaiting: bool,
     pub was_missing: bool,
     pub last_number: u32,
@@ -105,9 +104,10 @@ impl Live {
         })
     }
 
-    /// Waits until something comes in or is due, up to that moment, and gives the agent what came in: frames by their
-    /// stamps, and each second at its place among them. A link that came up is given before the frames, one that
-    /// went down after them, so that none is lost. For a question it does not wait, and reads ports that rest, too.
+    /// Waits until something comes in or is due, at most until `last`, and gives the agent what
+    /// came in: frames in the order of their stamps, and each second at its place among them. Links
+    /// that came up are given before the frames, links that went down after them, so no frame is
+    /// lost. For a question it does not wait, and also reads ports that rest.
     pub fn turn(&mut self, last: i64, is_question: bool) -> Turn {
         let before = clock::now();
         let due = self.agent_due();
@@ -120,8 +120,8 @@ impl Live {
         let ready = self.ports.ready(&found);
         let is_asked = found.len() > ready.len() + usize::from(has_signal) + usize::from(has_news);
         let left = self.ports.read(&mut self.clock, &ready);
-        // The agent acts in a second that is due. It is given once all frames before it are known to be read: if that
-        // second ended while this waited, at the next turn.
+        // A second in which the agent acts is given when all frames before it are certainly read:
+        // at the next turn if it ended while this turn waited.
         let now = clock::now();
         let all = if due.map_or(false, |due| due <= now) { before } else { now };
         let moment = left.map_or(all, |left| left.min(all));
@@ -129,7 +129,7 @@ impl Live {
         Turn { moment, has_signal, is_asked }
     }
 
-    /// Waits for each file from which something may come now.
+    /// Registers each file from which something may come now.
     fn await_files(&mut self, now: i64, is_question: bool) {
         self.signals.wait_for(&self.epoll, IN);
         self.links.socket.wait_for(&self.epoll, IN);
@@ -138,7 +138,7 @@ impl Live {
         self.ports.await_frames(&self.epoll, if is_question { i64::MAX } else { now });
     }
 
-    /// Gives the agent news of links, and the frames and seconds up to a moment.
+    /// Gives the agent these changes of links, and the frames and seconds up to this moment.
     fn give(&mut self, news: Vec<Link>, moment: i64) {
         if self.running.is_none() {
             return self.await_interface();
@@ -155,7 +155,7 @@ impl Live {
                 self.forget(port);
             }
         }
-        self.send(); // before ports may go
+        self.send(); // before ports may be removed
         self.follow();
     }
 
@@ -170,7 +170,7 @@ impl Live {
         while self.turn(0, true).moment < moment && self.ports.have_more() {}
     }
 
-    /// Gives the agent each second that ends up to a moment, once.
+    /// Gives the agent each second that has ended by this moment and was not given yet.
     pub fn pass(&mut self, moment: i64) -> Option<()> {
         let mut left = self.clock.missing(moment);
         if left == 0 {
@@ -194,8 +194,8 @@ impl Live {
         Some(())
     }
 
-    /// Takes what ports send as of a moment, as they are configured now. Of the frames that a port would have sent in
-    /// seconds that were missed, the last is kept.
+    /// Queues the frames of these ports as due at this moment, by the present configuration. A
+    /// queued frame that is a second late is left out when its port sends the next one.
     pub fn take_sent(&mut self, sent: &[Sent], moment: i64) {
         let now = clock::now();
         for one in sent {

@@ -1,7 +1,7 @@
-//! The log of a session: the trace that the agent is given, with the wall clock as comments, in files that a thread
-//! writes. lldpa-live never waits for it. Lines wait for a slow disk, within bounds. If there is no room for a line,
-//! it is lost and counted, and a new file must begin, since a trace with a gap would replay to something else. The
-//! thread also writes the state.
+//! The log of a session: the trace that the agent is given, with the time as comments, in files
+//! that a thread writes. lldpa-live never waits for this thread. Lines for a slow disk are kept up
+//! to a limit. Lines over the limit are lost and counted. Then a new file must begin, since a trace
+//! with a gap would replay differently. The thread also writes the state.
 
 use crate::clock::{self, SECOND};
 use crate::files::{self, Files};
@@ -29,24 +29,24 @@ pub struct Log {
     most: u64,
     keep: u64,
     thread: Option<(Sender<Work>, Receiver<Result<String>>)>,
-    /// The octets and lines of what the thread has not done yet; none for a state.
+    /// The octets and lines of each piece of work that the thread has not finished; 0 for a state.
     waiting: VecDeque<(usize, u64)>,
-    /// How long the next answer was waited for, and when that was last looked at.
+    /// How long the thread's next answer has been awaited, and when that was last checked.
     waited: i64,
     looked: i64,
-    /// `stalled` or `full`, or nothing.
+    /// `stalled` or `full`, or empty if all is well.
     trouble: &'static str,
     pub lost: u64,
     lost_told: u64,
-    /// Whether nothing was lost since a file began.
+    /// True if no line was lost since the file began.
     is_whole: bool,
     next_try: i64,
-    /// The octets of the file, and with how many the next may follow; 0 before the first.
+    /// The size of the file, and the size at which the next one begins; 0 before the first.
     size: u64,
     least: u64,
     /// The second of the last comment.
     second: Option<i64>,
-    /// Lines that were not handed over yet.
+    /// Lines that were not yet given to the thread.
     kept: String,
     kept_lines: u64,
 }
@@ -56,7 +56,7 @@ impl Log {
         Log { path, most: most * MEGABYTE, keep: keep * MEGABYTE, ..Log::default() }
     }
 
-    /// Begins a file with the words of the agent, and the lines that it was given in advance.
+    /// Begins a file with the agent's command line, and lines that it was given in advance.
     pub fn begin(&mut self, words: &str, lines: &str) {
         self.hand_over();
         self.second = None;
@@ -74,7 +74,7 @@ impl Log {
         }
     }
 
-    /// Notes a line with its moment, and before the first of each second the wall clock.
+    /// Adds a line. Before the first one of each second it adds a comment with the time.
     pub fn write(&mut self, moment: i64, line: &dyn Display) {
         if self.path.is_none() {
             return;
@@ -87,21 +87,21 @@ impl Log {
         self.kept_lines += 1;
     }
 
-    /// Hands over the lines that are kept. If they have no room they are lost.
+    /// Gives the kept lines to the thread. If there is no room for them, they are lost.
     fn hand_over(&mut self) {
         let (octets, lines) =
             (std::mem::take(&mut self.kept).into_bytes(), std::mem::take(&mut self.kept_lines));
         self.is_whole &= self.waiting_octets() + octets.len() <= MOST_WAITING;
         if !self.is_whole && lines > 0 {
             self.lost += lines;
-            self.stall("is behind, and lines are lost; lldpa-live continues");
+            self.stall("cannot keep up and loses lines; lldpa-live continues");
         } else if lines > 0 {
             self.size += octets.len() as u64;
             self.send(octets.len(), lines, move |files| files.write(&octets));
         }
     }
 
-    /// Hands over a state, unless the disk is late already.
+    /// Gives a state to the thread, unless the disk is already late.
     pub fn write_state(&mut self, path: &str, octets: Vec<u8>) {
         if self.waited < TO_STALL {
             let path = path.to_string();
@@ -124,8 +124,8 @@ impl Log {
         self.waiting.iter().map(|one| one.0).sum()
     }
 
-    /// Hands over what is kept, handles the answers that have come in, and notes if one is overdue. If this process
-    /// itself stood still, that counts as a second.
+    /// Gives the kept lines to the thread, handles its answers, and notes if one is overdue. Time
+    /// in which this process did not run counts as one second at most.
     pub fn turn(&mut self) {
         self.hand_over();
         while let Some(result) = self.thread.as_ref().and_then(|thread| thread.1.try_recv().ok()) {
@@ -183,7 +183,7 @@ impl Log {
         }
     }
 
-    /// Whether a new file should begin now: the file has its size, or its disk is back.
+    /// True if a new file should begin: this one is large enough, or its disk may work again.
     pub fn wants_beginning(&self) -> bool {
         match self.least {
             0 => false,
@@ -206,7 +206,7 @@ impl Log {
         }
     }
 
-    /// Waits until everything is written, at most so long.
+    /// Waits until everything is written, at most `patience` nanoseconds.
     pub fn close(&mut self, patience: i64) {
         self.turn();
         let last = clock::now() + patience;
@@ -221,12 +221,12 @@ impl Log {
     }
 }
 
-/// Starts a thread that does what it is given, until nothing more can come.
+/// Starts a thread that does the work that it receives, until its sender is gone.
 fn start(mut files: Files) -> (Sender<Work>, Receiver<Result<String>>) {
     let (works, theirs) = channel::<Work>();
     let (ours, answers) = channel();
     let work = move || theirs.iter().try_for_each(|work| ours.send(work(&mut files)));
-    // Without a thread all counts as waiting.
+    // If the thread cannot start, all work counts as waiting.
     let _ = thread::Builder::new().name("log".into()).stack_size(1 << 17).spawn(work);
     (works, answers)
 }

@@ -1,4 +1,4 @@
-//! lldpa-live: runs the proved agent of lldpa on Ethernet interfaces. lldpa-live(8) describes it.
+//! lldpa-live runs the formally verified agent of lldpa on Ethernet interfaces: see lldpa-live(8).
 #![deny(unsafe_code)]
 
 mod agent;

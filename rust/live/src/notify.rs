@@ -1,5 +1,5 @@
-//! Reports the state of a service to systemd: datagrams to the socket that NOTIFY_SOCKET names, see sd_notify(3).
-//! A datagram that cannot be sent at once is lost, so that reporting never waits.
+//! Reports the service's state to systemd, by datagrams to the socket in NOTIFY_SOCKET: see
+//! sd_notify(3). It never waits: a datagram that cannot be sent at once is lost.
 
 use crate::clock::{self, SECOND};
 use crate::sys;
@@ -8,7 +8,7 @@ use std::fs::File;
 use std::io::Write;
 
 const AF_UNIX: u16 = 1;
-const SIGNS_A_SPAN: i64 = 4; // within the time after which systemd gives a service up
+const SIGNS_A_SPAN: i64 = 4; // signs of life in the time that the watchdog allows
 
 /// The service manager that started this service, if there is one.
 pub struct Manager {
@@ -18,7 +18,7 @@ pub struct Manager {
     status: String,
 }
 
-/// Returns after how many nanoseconds without a sign of life systemd ends this process.
+/// Returns after how many nanoseconds without a sign of life the watchdog acts. None if it is off.
 fn watchdog_span() -> Option<i64> {
     let is_other = |pid: String| pid != std::process::id().to_string();
     if var("WATCHDOG_PID").map_or(false, is_other) {
@@ -28,7 +28,7 @@ fn watchdog_span() -> Option<i64> {
     (1..i64::MAX / 1000).contains(&span).then(|| span * 1000)
 }
 
-/// The address of a socket by its name: a path, or `@` and an abstract name.
+/// Returns the address for a socket's name: a path, or `@` and an abstract name.
 fn address_of(name: &str) -> Option<Vec<u8>> {
     let rest = name.strip_prefix(&['/', '@'][..]).filter(|rest| rest.len() < 107)?;
     let mut address = AF_UNIX.to_ne_bytes().to_vec();
@@ -48,7 +48,7 @@ impl Manager {
         self.socket.is_some()
     }
 
-    /// Reports lines, such as `READY=1`.
+    /// Sends lines, such as `READY=1`.
     pub fn tell(&self, lines: &str) {
         if let Some((socket, address)) = &self.socket {
             let _ = sys::name_socket(socket, address, true).and_then(|()| { socket }.write(lines.as_bytes()));
@@ -60,7 +60,7 @@ impl Manager {
         self.tell(&format!("RELOADING=1\nMONOTONIC_USEC={}", clock::read(1) / 1000));
     }
 
-    /// What `systemctl status` shows, if it differs from before.
+    /// Sets what `systemctl status` shows, if it has changed.
     pub fn show(&mut self, status: String) {
         if status != self.status {
             self.tell(&format!("STATUS={status}"));

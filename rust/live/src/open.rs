@@ -1,5 +1,5 @@
-//! Opens the agent, as soon as there are a port and an interface that names this host, and gives it the settings, the
-//! neighbors of an earlier lldpa-live, and the links.
+//! Opens the agent as soon as there are a port and an interface for the chassis ID. Gives it the
+//! settings, the neighbors of an earlier lldpa-live, and the links.
 
 use crate::agent::{set_text, unsent, Line, Running};
 use crate::clock::{self, Clock, SECOND};
@@ -13,7 +13,7 @@ use crate::state::Past;
 use lldpa::{OpenFault, Status};
 
 const BETWEEN_TRIES: i64 = 10 * SECOND;
-/// Changes of interfaces that ports have not followed.
+/// A value of `followed` that makes the ports follow the interfaces again.
 pub const LOOK_AGAIN: u64 = u64::MAX;
 
 impl Live {
@@ -21,7 +21,7 @@ impl Live {
         if self.followed != self.links.changes && clock::now() >= self.next_try {
             self.followed = self.links.changes;
             if let Err(fault) = self.open(Past::default()) {
-                self.try_later(&format!("the agent cannot be opened: {fault}; it is tried again"));
+                self.try_later(&format!("the agent cannot be opened: {fault}; lldpa-live tries again"));
             }
         }
     }
@@ -32,8 +32,8 @@ impl Live {
         warn(why);
     }
 
-    /// Opens the agent, if there is a port and an interface that names this host; otherwise reports that it waits.
-    /// The agent gets the neighbors of an earlier one.
+    /// Opens the agent, with the neighbors of an earlier one, if there are a port and an interface
+    /// for the chassis ID. Otherwise reports that it waits for an interface.
     pub fn open(&mut self, past: Past) -> Result<(), OpenFault> {
         for name in self.ports.more(&self.given.parts, &self.links) {
             self.ports.add(&name);
@@ -59,7 +59,7 @@ impl Live {
         Ok(())
     }
 
-    /// Gives an agent that was just opened the settings, the neighbors of an earlier one, and the links.
+    /// Gives a newly opened agent the settings, the neighbors of an earlier one, and the links.
     fn begin(&mut self, past: &Past) {
         let text = if self.given.no_description { Some(String::new()) } else { description() };
         text.map(|text| self.command(set_text("description", &text).to_string()));
@@ -86,14 +86,14 @@ impl Live {
         self.ports.all.iter_mut().for_each(|port| port.is_awaited = true);
         let awaited = self.given.parts.join(" ");
         notice(&format!(
-            "{awaited}: no such interface yet; waiting for it, and until then there is no agent"
+            "{awaited}: no such interface yet; waiting for it, and until then nothing is sent or received"
         ));
         self.manager.tell("READY=1"); // so that it does not hold up the start of the system
         self.manager.show(format!("waiting for an interface: {awaited}"));
     }
 
-    /// Gives the agent the neighbors of an earlier lldpa-live, while its ports do not send. Nothing is reported of
-    /// them.
+    /// Gives the agent the neighbors of an earlier lldpa-live, without sending or reporting
+    /// anything.
     fn restore(&mut self, past: &Past) -> Option<()> {
         let running = self.running.as_mut().filter(|_| !past.lines.is_empty())?;
         let is_able = |name: &String| {

@@ -7,14 +7,14 @@ use std::net::Ipv4Addr;
 
 const NOT_HERE: [&str; 4] = ["listen", "connections", "help", "version"];
 
-/// What the agent is opened with, as far as it was given.
+/// The agent's options that were given.
 #[derive(Clone, Debug, Default)]
 pub struct AgentOptions {
     pub mac: Option<Mac>,
     pub hostname: Option<String>,
     pub management: Option<Ipv4Addr>,
     pub numbers: lldpa::Options<'static>,
-    /// The words of all others.
+    /// The words of all other options.
     words: Vec<String>,
 }
 
@@ -75,7 +75,7 @@ impl AgentOptions {
         Ok(())
     }
 
-    /// Returns the words for an agent of that address, name and management address, quoted for a shell.
+    /// Returns the agent's command line with these addresses, name and ports, quoted for a shell.
     pub fn words(&self, mac: Mac, hostname: &str, management: Option<Ipv4Addr>, ports: &[String]) -> String {
         let mac = mac.map(|octet| format!("{octet:02x}")).join(":");
         let mut words = vec![format!("--mac={mac}"), format!("--hostname={hostname}")];
@@ -91,7 +91,7 @@ pub fn is_text(text: &str) -> bool {
     text.len() <= 255 && text.bytes().all(|octet| (b' '..=b'~').contains(&octet))
 }
 
-/// Six pairs of hexadecimal digits, joined by `:`.
+/// Reads a MAC address: six pairs of hexadecimal digits, joined by `:`.
 fn mac_of(text: &str) -> Option<Mac> {
     let octets = crate::said::octets_of(&text.replace(':', ""))?;
     octets

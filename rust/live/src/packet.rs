@@ -1,5 +1,5 @@
-//! The packet socket of a port. Opening it needs CAP_NET_RAW; everything else needs no right: binding it to an
-//! interface, and again to one that came back, its groups, its stamps, reading and sending.
+//! The packet socket of a port. Only opening it needs CAP_NET_RAW. Binding it to an interface, even
+//! anew, joining groups, reading and sending need no right.
 
 use crate::sys::{self, SOL_SOCKET};
 use std::fs::File;
@@ -14,45 +14,45 @@ const PACKET_STATISTICS: i32 = 6;
 const ETH_P_ALL: u16 = 3;
 const ETH_P_LLDP: u16 = 0x88cc;
 const LOOPBACK: i32 = 1;
-/// The last octets of the nearest bridge, the nearest non-TPMR bridge, and the nearest customer bridge.
+/// The ends of the group addresses: nearest bridge, non-TPMR bridge and customer bridge.
 const GROUPS: [u8; 3] = [0x0e, 0x03, 0x00];
 const ROOM_IN_KERNEL: i32 = 1 << 20;
 pub const LONGEST_FRAME: usize = 1514;
 pub const ROOMS: usize = 16; // frames that one call reads
 pub type Rooms = [[u8; LONGEST_FRAME]; ROOMS];
-/// What is read of a frame that is not kept: less than any frame has.
+/// How many octets are read of a frame that is only counted: fewer than a whole frame has.
 const OF_ANOTHER: u32 = 13;
 
 const LLDP: u32 = ETH_P_LLDP as u32;
 
-/// A step of a filter: what is done, how many steps are skipped if so and if not, and a number.
+/// A step of a filter: its operation, how many steps to skip if true and if false, its operand.
 #[repr(C)]
 pub struct Step(pub u16, pub u8, pub u8, pub u32);
 
-/// Lets through a whole LLDP frame that this host received, untagged, to the nearest bridge and of at most 1514
-/// octets; and the first 13 octets of another LLDP frame that an agent could keep. (linux/filter.h)
+/// Lets through whole LLDP frames that were received untagged, to the nearest bridge, with at most
+/// 1,514 octets. Of other LLDP frames it lets 13 octets through, to count them. (linux/filter.h)
 const FILTER: [Step; 21] = [
     Step(0x30, 0, 0, 0xffff_f004), // 0: how the packet came
-    Step(0x15, 18, 0, 4),          // is it outgoing? to 20
+    Step(0x15, 18, 0, 4),          // is it outgoing? then 20
     Step(0x20, 0, 0, 0),           // 2: the front of the destination
     Step(0x15, 0, 16, 0x0180_c200),
     Step(0x28, 0, 0, 12), // 4: the EtherType
     Step(0x15, 4, 0, LLDP),
     Step(0x15, 1, 0, 0x8100),
     Step(0x15, 0, 12, 0x88a8),
-    Step(0x28, 0, 0, 16), // 8: behind a tag
+    Step(0x28, 0, 0, 16), // 8: the EtherType after a tag
     Step(0x15, 9, 10, LLDP),
     Step(0x28, 0, 0, 4), // 10: the end of the destination
     Step(0x15, 2, 0, GROUPS[0] as u32),
     Step(0x15, 6, 0, GROUPS[1] as u32),
     Step(0x15, 5, 6, GROUPS[2] as u32),
-    Step(0x30, 0, 0, 0xffff_f030), // 14: whether the kernel took a tag out
+    Step(0x30, 0, 0, 0xffff_f030), // 14: did the kernel remove a tag?
     Step(0x15, 0, 3, 0),
     Step(0x80, 0, 0, 0), // 16: the length
     Step(0x25, 1, 0, LONGEST_FRAME as u32),
-    Step(0x06, 0, 0, 0xffff),     // 18: the whole
-    Step(0x06, 0, 0, OF_ANOTHER), // 19: the front
-    Step(0x06, 0, 0, 0),          // 20: nothing
+    Step(0x06, 0, 0, 0xffff),     // 18: keep the whole frame
+    Step(0x06, 0, 0, OF_ANOTHER), // 19: keep the front
+    Step(0x06, 0, 0, 0),          // 20: drop it
 ];
 
 /// Opens a socket that receives nothing yet, and whose filter nobody can remove or replace.
@@ -77,7 +77,7 @@ pub fn take(socket: &File, interface: i32) -> Result<()> {
     Ok(())
 }
 
-/// Lets a socket receive nothing more, even if its interface still exists: the loopback has no LLDP frames.
+/// Stops a socket from receiving: binds it to the loopback interface, which has no LLDP frames.
 pub fn release(socket: &File) {
     let _ = bind(socket, LOOPBACK, ETH_P_LLDP);
 }
@@ -90,7 +90,7 @@ fn bind(socket: &File, interface: i32, protocol: u16) -> Result<()> {
     sys::name_socket(socket, &address, false)
 }
 
-/// Returns how many frames the kernel dropped since it was last asked.
+/// Returns how many frames the kernel dropped since the last call.
 pub fn drops(socket: &File) -> u64 {
     sys::get::<2>(socket, SOL_PACKET, PACKET_STATISTICS).map_or(0, |(told, _)| told[1].into())
 }

@@ -1,4 +1,4 @@
-//! Ports that are given by patterns, like those of lldpd's option -I.
+//! Selects ports by patterns, like those of lldpd's option -I.
 
 use crate::links::{Link, Links};
 use crate::sys::matches;
@@ -14,12 +14,12 @@ pub fn is_name(name: &str) -> bool {
     (1..=LONGEST_NAME).contains(&name.len()) && name.bytes().all(is_of_name)
 }
 
-/// Whether it is a pattern, or takes names away, and is not the name of a port.
+/// True if this is a pattern or begins with `!`, and so is not a port's name.
 pub fn is_pattern(part: &str) -> bool {
     part.starts_with('!') || part.contains(&['*', '?', '['][..])
 }
 
-/// Whether it can be a port's name or a pattern of such names.
+/// True if this can be a port's name or a pattern of such names.
 pub fn is_able(part: &str) -> bool {
     let of_pattern = |octet| is_of_name(octet) || b"*?[]^".contains(&octet);
     if !is_pattern(part) {
@@ -31,7 +31,7 @@ pub fn is_able(part: &str) -> bool {
         && name.bytes().all(of_pattern)
 }
 
-/// Whether it is a pattern that gives ports, and takes none away.
+/// True if this is a pattern that adds ports, not one that excludes them with a single `!`.
 pub fn gives(part: &str) -> bool {
     is_pattern(part) && (!part.starts_with('!') || part.starts_with("!!"))
 }
@@ -40,7 +40,7 @@ fn gives_name(part: &str, name: &str) -> bool {
     gives(part) && matches(part.trim_start_matches('!'), name)
 }
 
-/// Whether nothing takes a name away, or something gives it all the same.
+/// True if no `!` pattern excludes this name, or a `!!` pattern adds it all the same.
 fn is_wanted(name: &str, parts: &[String]) -> bool {
     let is_matched = |signs: usize| {
         let of_signs = parts.iter().map(|part| (part, part.trim_start_matches('!')));
@@ -49,19 +49,19 @@ fn is_wanted(name: &str, parts: &[String]) -> bool {
     is_matched(2) || !is_matched(1)
 }
 
-/// Whether a pattern gives an interface. It must be hardware, or also named, unless the pattern begins with a letter
-/// of a name, as `veth*`.
+/// True if a pattern adds an interface. The interface must be hardware or also be named, unless the
+/// pattern begins with a letter of a name, as `veth*` does.
 fn gives_interface(part: &str, one: &Link, parts: &[String]) -> bool {
     let may_be_virtual = !part.trim_start_matches('!').starts_with(&['*', '?', '['][..]);
     gives_name(part, &one.name) && (one.is_hardware || may_be_virtual || parts.contains(&one.name))
 }
 
-/// Whether a pattern could give an interface of that name.
+/// True if a pattern could add an interface of this name.
 pub fn may_give(parts: &[String], name: &str) -> bool {
     is_wanted(name, parts) && parts.iter().any(|part| gives_name(part, name))
 }
 
-/// The ports that names and patterns give of these interfaces. A name is a port even if its interface does not exist.
+/// Returns the ports that names and patterns select. A name is a port even without an interface.
 pub fn ports_of(parts: &[String], links: &Links) -> Vec<String> {
     let mut given: Vec<String> = Vec::new();
     for part in parts {

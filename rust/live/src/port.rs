@@ -1,4 +1,4 @@
-//! One port: it finds, keeps and loses the interface of its name, limits what it receives, and sends.
+//! One port: follows the interface of its name, limits what it receives, and sends.
 
 use crate::clock::SECOND;
 use crate::links::{Link, Mac};
@@ -11,8 +11,8 @@ use std::fs::File;
 use std::io::Write;
 
 const LEAST_FRAME: usize = 14;
-const A_SECOND: i64 = 64; // frames that a port may receive
-const AT_ONCE: i64 = 1024; // 128 neighbors in fast start send 128 a second for four seconds, and are accepted
+const A_SECOND: i64 = 64; // frames that a port may receive in the long run
+const AT_ONCE: i64 = 1024; // frames at once: 128 neighbors in fast start send 128 a second for 4 seconds
 
 pub struct Frame {
     pub moment: i64,
@@ -24,24 +24,24 @@ pub struct Frame {
 #[derive(Default)]
 pub struct Port {
     pub name: String,
-    /// Whether it was named, and not only given by a pattern.
+    /// True if it was named, false if only a pattern selected it.
     pub is_named: bool,
-    /// The interface that it receives from, and its present address.
+    /// The index of the interface in use, and its present address.
     pub index: Option<i32>,
     address: Option<Mac>,
-    /// Why it does not use the interface of its name.
+    /// Why it cannot use the interface of its name, or empty.
     fault: String,
-    /// Whether it was reported that its interface is missing.
+    /// True if it was reported that its interface is missing.
     pub is_awaited: bool,
-    /// Its link as the agent was told.
+    /// The state of its link that was last given to the agent.
     pub is_up: Option<bool>,
     pub gone_since: Option<i64>,
-    /// The moment from which on the frames that it may receive have accumulated.
+    /// Since when its allowance of frames has accumulated.
     allowed_since: i64,
-    /// Whether frames were left in its socket, and the moment of the last that was read.
+    /// Whether frames may be left in its socket; the moment of the last one that was read.
     pub has_more: bool,
     pub read_to: i64,
-    /// Until when it is not read, since it receives more than it may.
+    /// Until when its socket is not read, after it received more than it may.
     pub rests_until: i64,
     pub kernel_drops: u64,
     pub limit_drops: u64,
@@ -51,7 +51,7 @@ pub struct Port {
     is_failing: bool,
     /// The neighbors that the agent holds.
     pub held: Vec<Held>,
-    /// The second up to which a neighbor that found no room would have stayed.
+    /// Until which second a neighbor that had no room would have stayed.
     pub full_until: i64,
 }
 
@@ -60,8 +60,7 @@ impl Port {
         Port { name: name.into(), is_named, ..Port::default() }
     }
 
-    /// Follows a change of an interface. Returns each change of the port's link, true for up, that the agent must be
-    /// given.
+    /// Follows a change of an interface. Returns the link changes for the agent, true for up.
     pub fn take_link(&mut self, socket: &File, news: &Link, now: i64) -> Vec<bool> {
         let mut told = Vec::new();
         if news.is_there && news.name == self.name {
@@ -77,7 +76,7 @@ impl Port {
                 told.extend(self.told_link(news.is_running));
             }
         } else if self.index == Some(news.index) {
-            let what = if news.is_there { format!("now {}", news.name) } else { "gone".into() };
+            let what = if news.is_there { format!("now named {}", news.name) } else { "gone".into() };
             told.extend(self.lose(socket, &what, now));
         }
         told
@@ -92,7 +91,7 @@ impl Port {
         if fault.is_empty() {
             self.index = Some(news.index);
             if self.is_up.is_some() || self.is_awaited {
-                notice(&format!("{}: the interface is there, and in use", self.name));
+                notice(&format!("{}: the interface exists and is in use", self.name));
             }
         } else {
             packet::release(socket);
@@ -107,7 +106,7 @@ impl Port {
         packet::release(socket);
         self.index = None;
         self.gone_since = Some(now);
-        let further = if self.is_named { "; waiting for the next of that name" } else { "" };
+        let further = if self.is_named { "; waiting for another of this name" } else { "" };
         notice(&format!("{}: the interface is {what}{further}", self.name));
         self.told_link(false)
     }
@@ -117,7 +116,7 @@ impl Port {
         (before != Some(is_up)).then_some(is_up)
     }
 
-    /// Notes at the start that its interface does not exist.
+    /// At the start, reports a missing interface. Returns the link change for the agent, if any.
     pub fn await_missing(&mut self) -> Option<bool> {
         if self.index.is_some() {
             return None;
@@ -128,12 +127,12 @@ impl Port {
         self.told_link(false)
     }
 
-    /// Whether its interface exists and could not be used, so that it must be tried again.
+    /// True if its interface exists and could not be used, so that it must be tried again.
     pub fn is_refused(&self) -> bool {
         self.index.is_none() && !self.fault.is_empty()
     }
 
-    /// Takes a frame that was read, unless its interface is gone, it is of another kind, or over the limit.
+    /// Returns a frame that was read, unless its interface is gone or the frame is only counted.
     pub fn take(&mut self, port: usize, octets: &[u8], moment: i64, state: &RandomState) -> Option<Frame> {
         self.read_to = moment;
         self.index?;
@@ -149,8 +148,8 @@ impl Port {
         Some(Frame { moment, port, digest, octets: octets.to_vec() })
     }
 
-    /// Whether a frame is within the limit. A frame in which a neighbor repeats what it said last is, once a second.
-    /// Any other frame uses one of those allowed: 64 more each second, up to 1,024.
+    /// True if a frame is within the limit. A neighbor may repeat its last LLDPDU once a second.
+    /// Each other frame uses up one of the allowed frames: 64 more each second, up to 1,024.
     fn accepts(&mut self, digest: u64, moment: i64) -> bool {
         let second = moment.div_euclid(SECOND);
         let repeated =
@@ -169,13 +168,13 @@ impl Port {
     fn note_other(&mut self) {
         self.other_frames += 1;
         if self.other_frames == 1 {
-            let what = "tagged, to another address or longer than 1,514 octets; they are not read";
-            notice(&format!("{}: it hears LLDP frames that are {what}", self.name));
+            let what = "tagged, to another address or longer than 1,514 octets";
+            notice(&format!("{}: ignores LLDP frames that are {what}", self.name));
         }
     }
 
-    /// Sends a frame, from the address of the interface. A failure is counted, and reported once until a frame is
-    /// sent again.
+    /// Sends a frame with the interface's address as source. Counts each failure, and reports the
+    /// first until a frame is sent again.
     pub fn send(&mut self, mut socket: &File, mut frame: Vec<u8>) {
         if let (Some(address), Some(source)) = (self.address, frame.get_mut(6..12)) {
             source.copy_from_slice(&address);

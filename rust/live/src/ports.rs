@@ -14,28 +14,28 @@ use std::io::ErrorKind;
 use std::os::unix::io::{AsRawFd, RawFd};
 
 pub const MOST_PORTS: usize = 64;
-const MOST_AT_ONCE: usize = 1024; // frames that are read at a turn, of all ports together
-const REST: i64 = 15 * MILLISECOND; // of ports that receive more than they may: all are read together then
+const MOST_AT_ONCE: usize = 1024; // frames that one turn reads from all ports together
+const REST: i64 = 15 * MILLISECOND; // of ports that receive too much; all rest until the same moment
 const BETWEEN_REPORTS: i64 = 60 * SECOND;
 
 pub struct Ports {
     pub all: Vec<Port>,
-    /// One for each port, in their order, and then those for ports that come later.
+    /// One socket for each port, in the order of the ports, then those for later ports.
     pub sockets: Vec<Awaited<File>>,
     rooms: Box<Rooms>,
-    /// Frames that were read, by their moments.
+    /// Frames that were read and not yet given to the agent, in the order of their moments.
     waiting: Vec<Frame>,
-    /// What their LLDPDUs are digested with.
+    /// The key for digests of LLDPDUs.
     pub state: RandomState,
-    /// Interfaces for which there is no port, since 64 are in use.
+    /// Interfaces that patterns select but that are not ports, since 64 are in use.
     pub refused: Vec<String>,
-    /// How many drops were reported, and when the next may be: of the kernel, and of the limit.
+    /// Drops by the kernel and by the limit: how many were reported, and when the next may be.
     told: [(u64, i64); 2],
     pub look_at: Option<i64>,
 }
 
 impl Ports {
-    /// Opens the sockets of these ports, and if `may_grow`, also those of ports that may come later.
+    /// Opens the sockets of these ports and, if `may_grow`, those of ports that may come later.
     pub fn open(names: &[String], parts: &[String], may_grow: bool) -> std::io::Result<Ports> {
         let count = if may_grow { MOST_PORTS } else { names.len() };
         let sockets =
@@ -57,8 +57,8 @@ impl Ports {
         self.all.iter().map(|port| port.name.clone()).collect()
     }
 
-    /// Returns the interfaces that patterns give now and that are not yet ports, as many as there is room for. Each of
-    /// the others is reported once.
+    /// Returns the interfaces that patterns select and that are not ports yet, as many as have
+    /// room. Reports each of the others once.
     pub fn more(&mut self, parts: &[String], links: &Links) -> Vec<String> {
         let mut given = patterns::ports_of(parts, links);
         given.retain(|name| !self.all.iter().any(|port| port.name == *name));
@@ -77,7 +77,7 @@ impl Ports {
         self.all.push(port);
     }
 
-    /// Returns the ports that only a pattern gave, and whose interfaces have been gone since before that moment.
+    /// Returns the ports of patterns whose interfaces were gone at that moment and are still gone.
     pub fn gone(&self, before: i64) -> Vec<String> {
         let is_gone = |port: &&Port| !port.is_named && port.gone_since.map_or(false, |since| since <= before);
         self.all.iter().filter(is_gone).map(|port| port.name.clone()).collect()
@@ -93,8 +93,8 @@ impl Ports {
         }
     }
 
-    /// Waits for frames. A port is not read while frames of it wait, so that few wait, however many come; nor while it
-    /// rests.
+    /// Registers the sockets to wait for. A port is not read while it rests, nor while frames of it
+    /// wait, so that few wait even in a flood.
     pub fn await_frames(&mut self, epoll: &File, now: i64) {
         for (place, socket) in self.sockets.iter_mut().enumerate() {
             let port = self.all.get_mut(place).filter(|port| now >= port.rests_until);
@@ -104,14 +104,13 @@ impl Ports {
         }
     }
 
-    /// Returns which ports are among the files that are ready.
+    /// Returns the ports whose sockets are ready.
     pub fn ready(&self, found: &[RawFd]) -> Vec<usize> {
         let is_ready = |place: &usize| found.contains(&self.sockets[*place].file.as_raw_fd());
         (0..self.all.len()).filter(is_ready).collect()
     }
 
-    /// Reads some frames of the ports that were found ready. Returns up to which moment all frames were read, if some
-    /// of those that came before may be left.
+    /// Reads frames of the ready ports. If some may be left, returns up to when none is left.
     pub fn read(&mut self, clock: &mut Clock, ready: &[usize]) -> Option<i64> {
         if !ready.is_empty() {
             clock.note_wall_clock();
@@ -124,7 +123,7 @@ impl Ports {
         self.all.iter().zip(&self.sockets).filter(is_left).map(|(port, _)| port.read_to).min()
     }
 
-    /// Reads a port, about so many frames at most. If it receives more than it may, it rests then.
+    /// Reads about `most` frames of a port. It rests afterwards if it received more than it may.
     fn read_port(&mut self, place: usize, most: usize, clock: &Clock) {
         let (port, mut count) = (&mut self.all[place], 0);
         let before = port.limit_drops + port.other_frames;
@@ -132,7 +131,7 @@ impl Ports {
         while port.has_more && count < most {
             let read = match sys::receive(&self.sockets[place].file, &mut self.rooms) {
                 Err(fault) if fault.kind() != ErrorKind::WouldBlock => {
-                    count += 1; // its interface went down, which the kernel says once; frames may follow
+                    count += 1; // the kernel reports once that the interface went down; frames may follow
                     continue;
                 }
                 read => read.unwrap_or_default(),
@@ -168,7 +167,7 @@ impl Ports {
         left.map(|port| port.rests_until).chain((!self.waiting.is_empty()).then_some(now)).min()
     }
 
-    /// Counts what the kernel dropped, and reports drops, each kind at most once a minute.
+    /// Reports drops by the kernel and by the limit, each kind at most once a minute.
     pub fn report_drops(&mut self, now: i64) {
         self.count_drops();
         self.look_at = None;
@@ -187,7 +186,7 @@ impl Ports {
                 notice(&format!("{what}: {}", each.join(", ")));
                 (*told, *next) = (drops, now + BETWEEN_REPORTS);
             } else {
-                *told = drops; // fewer, if a port has gone
+                *told = drops; // fewer if a port was removed
             }
         }
     }
@@ -199,8 +198,8 @@ impl Ports {
     }
 }
 
-/// Divides news into those up to the last time that an interface of their name ran, and the others. Both keep the
-/// order of the news of a name, even if several interfaces had it one after another.
+/// Splits news by name: those up to the last one in which an interface of the name runs, and those
+/// after it. Both keep their order, even if several interfaces had the name in turn.
 pub fn ran_and_later(news: Vec<Link>) -> (Vec<Link>, Vec<Link>) {
     let last_run = |one: &Link| news.iter().rposition(|other| other.name == one.name && other.is_running);
     let ran: Vec<bool> = news.iter().enumerate().map(|(place, one)| last_run(one) >= Some(place)).collect();

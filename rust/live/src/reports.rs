@@ -1,5 +1,5 @@
-//! What lldpa-live reports to people on standard error: a line each, with its level if the journal reads it.
-//! A line is lost if it cannot be written at once.
+//! Writes reports for people to standard error, a line each, with a level if the journal reads
+//! them. A line that cannot be written at once is lost.
 
 use crate::clock::{self, SECOND};
 use crate::sys;
@@ -10,14 +10,14 @@ use std::io::Write;
 use std::os::unix::fs::MetadataExt;
 use std::os::unix::io::AsFd;
 
-const MOST_AT_ONCE: usize = 4095; // octets that a pipe takes whole, but for the line feed
+const MOST_AT_ONCE: usize = 4095; // octets that a pipe accepts whole, with a line feed
 pub const ERROR: u8 = 3;
 pub const WARNING: u8 = 4;
 pub const NOTICE: u8 = 5;
 const INFORMATION: u8 = 6;
 const MOST_A_MINUTE: usize = 100; // lines of a port about its neighbors
 const MINUTE: i64 = 60 * SECOND;
-const LONGEST: usize = 1000; // characters of such a line, whatever a neighbor says
+const LONGEST: usize = 1000; // characters of such a line
 
 pub fn report(level: u8, text: &str) {
     let front = if is_journal() { format!("<{level}>") } else { "lldpa-live: ".into() };
@@ -30,7 +30,7 @@ pub fn report(level: u8, text: &str) {
     }
 }
 
-/// Whether standard error takes a line at once, as a file does, which cannot be waited for.
+/// True if standard error accepts a line at once. A file always does, and cannot be waited for.
 fn can_take() -> bool {
     let mut errors = Awaited::new(std::io::stderr());
     sys::epoll().map_or(false, |epoll| {
@@ -47,7 +47,7 @@ pub fn notice(text: &str) {
     report(NOTICE, text);
 }
 
-/// Whether standard error goes to systemd's journal, which reads a level before a line.
+/// True if standard error goes to systemd's journal, which reads a level before each line.
 fn is_journal() -> bool {
     let told = std::env::var("JOURNAL_STREAM").unwrap_or_default();
     let number = std::io::stderr().as_fd().try_clone_to_owned().map(File::from);
@@ -59,12 +59,12 @@ fn is_journal() -> bool {
 /// Letters that a terminal shows as nothing.
 const HIDDEN: [char; 5] = ['\u{115f}', '\u{1160}', '\u{3164}', '\u{ffa0}', '\u{2800}'];
 
-/// Whether a terminal shows a letter, and does nothing else.
+/// True if a terminal shows this letter, and the letter has no other effect.
 fn is_shown(letter: char) -> bool {
     letter.is_ascii_graphic() || (!letter.is_ascii() && letter.is_alphanumeric() && !HIDDEN.contains(&letter))
 }
 
-/// Makes a stranger's text readable: letters and signs stay, everything else becomes `\x` and its octets.
+/// Makes a stranger's text printable: letters and signs stay, other octets become `\x` and digits.
 pub fn readable(octets: &[u8]) -> String {
     let escaped = |octets: &[u8]| octets.iter().map(|octet| format!("\\x{octet:02x}")).collect::<String>();
     let one = |letter: char| match letter {
@@ -84,7 +84,7 @@ pub fn counted(count: usize, what: &str) -> String {
     }
 }
 
-/// Neighbors that come, change and leave, as lines on standard error: a service's history.
+/// Reports neighbors that come, change and go, as a history in the journal.
 #[derive(Default)]
 pub struct Events {
     pub are_wanted: bool,
@@ -93,7 +93,7 @@ pub struct Events {
 }
 
 impl Events {
-    /// Reports an event of a port, unless the port has used up its lines of this minute.
+    /// Reports an event of a port, unless it has used up its lines for this minute.
     pub fn tell(&mut self, port: &str, text: &str) {
         if !self.are_wanted {
             return;
@@ -110,7 +110,7 @@ impl Events {
         }
     }
 
-    /// Reports at the end of a minute how many events were left out.
+    /// Reports at the end of each minute how many events of a port were left out.
     pub fn take_time(&mut self) {
         let now = clock::now();
         if now < self.next_minute {
@@ -118,7 +118,7 @@ impl Events {
         }
         for (port, count) in std::mem::take(&mut self.counts) {
             if let Some(left) = count.checked_sub(MOST_A_MINUTE).filter(|left| *left > 0) {
-                report(INFORMATION, &format!("{port}: {left} more came, changed or went within a minute"));
+                report(INFORMATION, &format!("{port}: {left} more events within a minute were not reported"));
             }
         }
         self.next_minute = now + MINUTE;

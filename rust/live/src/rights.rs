@@ -1,9 +1,9 @@
-//! Giving up rights: a process that reads strangers' frames needs none of those that opened the sockets.
+//! Gives up rights: reading strangers' frames needs none of those that opened the sockets.
 
 use crate::sys;
 use std::io::{Error, Result};
 
-/// The number of keyctl, or of no call.
+/// The number of the system call keyctl, or -1 if it is not known.
 const KEYCTL: std::os::raw::c_long = if cfg!(target_arch = "x86_64") {
     250
 } else if cfg!(target_arch = "aarch64") {
@@ -29,7 +29,7 @@ fn entry(path: &str, name: &str) -> Option<Vec<String>> {
     text.lines().map(fields).find(|fields| fields[0] == name)
 }
 
-/// Returns a number of a user or a group, except the one that means none.
+/// Reads the number of a user or a group. The number that stands for none is refused.
 fn number_of(name: &str) -> Option<u32> {
     name.parse().ok().filter(|number| *number != u32::MAX)
 }
@@ -49,7 +49,7 @@ pub fn group_of(name: &str) -> std::result::Result<u32, String> {
     found.or_else(|| number_of(name)).ok_or(format!("group {name} does not exist"))
 }
 
-/// Returns which user `give_up` should become: for root the one of that name, or `nobody`. None if it stays the same.
+/// Returns the user that root becomes, by name, or `nobody`. None if this process is not root.
 pub fn user_to_be(name: Option<&str>) -> std::result::Result<Option<User>, String> {
     if own_user() != 0 {
         return name.map_or(Ok(None), |_| Err("--user: only root can become another user".into()));
@@ -58,17 +58,17 @@ pub fn user_to_be(name: Option<&str>) -> std::result::Result<Option<User>, Strin
     name.map_or(Ok(user_of("nobody").unwrap_or(nobody)), user_of).map(Some)
 }
 
-/// Keeps no right, for good; becomes that user, if one is given.
+/// Gives up all rights for good, and becomes this user if one is given.
 pub fn give_up(user: Option<User>) -> Result<()> {
     sys::keep_no_right(user.map(|user| (user.user, user.group)), KEYCTL)
 }
 
-/// Puts a path before a fault.
+/// Puts a path before the text of an error.
 pub fn at(path: &str) -> impl Fn(Error) -> Error + '_ {
     move |fault| Error::new(fault.kind(), format!("{path}: {}", text_of(&fault)))
 }
 
-/// Returns what the system says of a fault, without its number.
+/// Returns the text of an error without its number.
 pub fn text_of(fault: &Error) -> String {
     let text = fault.to_string();
     text.split(" (os error").next().unwrap_or(&text).into()

@@ -1,4 +1,4 @@
-//! What a neighbor says, as texts: its identifiers as the agent shows them, and its changes as people read them.
+//! Texts about neighbors: their identifiers as the agent shows them, and their changes for people.
 
 use crate::reports::readable;
 use lldpa::{tlv_text, Info, Msap, Tlv};
@@ -27,14 +27,14 @@ pub fn octets_of(digits: &str) -> Option<Vec<u8>> {
     are_digits.then(|| digits.as_bytes().chunks(2).map(pair).collect())?
 }
 
-/// The key and the value of a TLV as they are shown, such as `chassis.mac` and `00:11:22:33:44:55`.
+/// Returns the key and the value of a TLV in `show`, such as `chassis.mac` and `00:11:22:33:44:55`.
 fn shown(kind: u8, body: &[u8]) -> (String, String) {
     let text = tlv_text(kind, body).unwrap_or_default();
     let (key, value) = text.split_once('=').unwrap_or((&text, ""));
     (key.into(), value.into())
 }
 
-/// Returns a Chassis ID as in an MSAP identifier.
+/// Returns a Chassis ID as it appears in an MSAP identifier.
 pub fn chassis_id(body: &[u8]) -> String {
     identifier(CHASSIS_ID, body)
 }
@@ -49,7 +49,7 @@ pub fn id(msap: &Msap<'_>) -> String {
     format!("{} {}", chassis_id(msap.chassis), identifier(PORT_ID, msap.port))
 }
 
-/// Returns an identifier or an address as people read it, and its kind.
+/// Returns an identifier or an address for people, and its key.
 fn name_of(kind: u8, body: &[u8]) -> (String, String) {
     let (key, value) = shown(kind, body);
     let name = match key.rsplit('.').next() {
@@ -63,7 +63,7 @@ fn name_of(kind: u8, body: &[u8]) -> (String, String) {
     (name, key)
 }
 
-/// Returns a neighbor, its port and its management address in one line.
+/// Describes a neighbor in one line: its name, its port and its management address.
 pub fn summary(info: &Info<'_>) -> String {
     let first = |kind| info.kept().find(|tlv| tlv.kind == kind && !tlv.body.is_empty()).map(|tlv| tlv.body);
     let msap = info.msap();
@@ -74,7 +74,7 @@ pub fn summary(info: &Info<'_>) -> String {
     format!("{name} {} {management}", described.map_or(port, readable)).trim_end().into()
 }
 
-/// Returns the key of a TLV, and what it says.
+/// Returns the key of a TLV, and its value for people.
 fn row(tlv: &Tlv<'_>) -> (String, String) {
     let (key, value) = shown(tlv.kind, tlv.body);
     match tlv.kind {
@@ -99,7 +99,7 @@ fn rows(info: &Info<'_>) -> Vec<(String, String)> {
     rows
 }
 
-/// Returns what a neighbor says now and did not say before, and the reverse.
+/// Returns the differences between two LLDPDUs of a neighbor, such as `ttl: 120 -> 60`.
 pub fn changes(old: &Info<'_>, new: &Info<'_>) -> Vec<String> {
     let (was, now) = (rows(old), rows(new));
     let text = |rows: &[(String, String)], key: &str| {

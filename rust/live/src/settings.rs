@@ -31,8 +31,9 @@ impl Setting {
     }
 }
 
-/// Returns the settings of the files at these paths, and which could not be read, and why. A folder has those that end
-/// with `.conf` and are not hidden, in the order of their names; a path at which nothing exists has none.
+/// Returns the settings of the files at these paths, and the faults of files that could not be
+/// read. In a folder it reads the files `*.conf` that are not hidden, in the order of their names.
+/// A path that does not exist has no settings.
 pub fn read(paths: &[String]) -> (Vec<Setting>, Vec<String>) {
     let (mut settings, mut unread) = (Vec::new(), Vec::new());
     for path in paths {
@@ -57,7 +58,7 @@ fn files_of(path: &str) -> Result<Vec<String>> {
     Ok(names.into_iter().map(|name| format!("{}/{name}", path.trim_end_matches('/'))).collect())
 }
 
-/// Returns the lines of a file without blank ones and comments. It does not wait for a pipe or a device.
+/// Returns the lines of a file except blank ones and comments. Reads no pipe and no device.
 fn lines_of(path: &str) -> Result<Vec<Setting>> {
     let wrong = |what: String| at(path)(Error::new(ErrorKind::Other, what));
     if !fs::metadata(path).map_err(at(path))?.is_file() {
@@ -67,7 +68,7 @@ fn lines_of(path: &str) -> Result<Vec<Setting>> {
     let mut octets = Vec::new();
     file.take(MOST_OCTETS + 1).read_to_end(&mut octets).map_err(at(path))?;
     if octets.len() as u64 > MOST_OCTETS {
-        return Err(wrong("over 1,000,000 octets".into()));
+        return Err(wrong("the file is over 1,000,000 octets, so it is not read".into()));
     }
     Ok(settings_in(path, &octets))
 }
@@ -107,7 +108,7 @@ fn words_of(line: &[u8]) -> Vec<String> {
 
 const A_TEXT: &str = "up to 255 printable characters, in quotes if it has spaces";
 const STATUSES: &str = "rx-and-tx, rx-only, tx-only, disabled";
-/// The forms of settings, and what is allowed at their ends. Words in capitals stand for a value.
+/// The forms of settings, and what is allowed as the last word. Words in capitals stand for values.
 const FORMS: [(&[&str], &str); 6] = [
     (&["configure", "system", "hostname", "TEXT"], A_TEXT),
     (&["configure", "system", "description", "TEXT"], A_TEXT),
@@ -121,7 +122,7 @@ fn is_value(word: &str) -> bool {
     word.bytes().all(|octet| octet.is_ascii_uppercase())
 }
 
-/// Returns how many words at the beginning fit a form.
+/// Returns how many words from the beginning match a form.
 fn fitting(form: &[&str], words: &[String]) -> usize {
     let fits = |(wanted, word): &(&&str, &String)| match **wanted {
         "STATUS" => STATUSES.split(", ").any(|status| status == *word),
@@ -130,7 +131,7 @@ fn fitting(form: &[&str], words: &[String]) -> usize {
     form.iter().zip(words).take_while(fits).count()
 }
 
-/// Returns what the agent said of a line that it refused, such as `out of range`, with the wrong word and what is
+/// Adds to the agent's refusal of a line, such as `out of range`, the wrong word and what is
 /// allowed in its place: `out of range: 0 (seconds between frames, 1 to 3600)`.
 pub fn explained(line: &[u8], text: &str) -> String {
     let words = words_of(line);

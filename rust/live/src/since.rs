@@ -1,4 +1,4 @@
-//! The neighbors of a port: when each came, and what it said last, as the agent reports for each frame.
+//! The neighbors of a port: when each came, and a digest of its last LLDPDU.
 
 use crate::clock::{self, MILLISECOND};
 use crate::said;
@@ -11,13 +11,13 @@ pub struct Held {
     port: Vec<u8>,
     /// When it came by the wall clock, in milliseconds since 1970.
     pub came: i64,
-    /// The digest of the last LLDPDU that the agent took of it.
+    /// The digest of its last LLDPDU that the agent accepted.
     pub last_said: u64,
-    /// The second in which a frame of it was last accepted as a repeated one.
+    /// The second in which a repeated frame of this neighbor was last accepted.
     pub repeated_in: i64,
-    /// The number of its chassis, which stays while any neighbor is of it.
+    /// The number of its chassis, which stays the same while any neighbor belongs to that chassis.
     pub number: u32,
-    /// What it is called in reports.
+    /// How reports describe it.
     pub summary: String,
 }
 
@@ -32,7 +32,7 @@ impl Held {
     }
 }
 
-/// Returns the digest of a frame's LLDPDU. It is keyed, so nobody can make two with the same digest.
+/// Returns the digest of a frame's LLDPDU. It has a secret key, so nobody can make two that match.
 pub fn digest(state: &RandomState, frame: &[u8]) -> u64 {
     let mut hasher = state.build_hasher();
     hasher.write(frame.get(14..).unwrap_or(&[]));

@@ -1,4 +1,4 @@
-//! The life of lldpa-live: it opens what needs rights, gives them up, works, and sends shutdown frames at the end.
+//! Opens what needs rights, gives up the rights, works, and sends shutdown frames at the end.
 
 use crate::clock::{self, SECOND};
 use crate::control::Control;
@@ -17,7 +17,7 @@ use lldpa::{Show, Status};
 use std::io::{Error, ErrorKind, Read, Result, Write};
 use std::panic::{catch_unwind, AssertUnwindSafe};
 
-const FOR_THE_LOG: i64 = SECOND; // at the end
+const FOR_THE_LOG: i64 = SECOND; // to be written at the end
 const SIGHUP: u8 = 1;
 
 pub fn run(given: Given) -> i32 {
@@ -37,7 +37,7 @@ fn fail(fault: &Error) -> i32 {
     1
 }
 
-/// Opens what needs rights, gives them up, and opens the agent if it can be.
+/// Opens what needs rights, gives up the rights, and opens the agent or waits for an interface.
 fn begun(mut given: Given, user: Option<rights::User>, group: Option<u32>) -> Result<Live> {
     given.control = absolute(&given.control);
     given.state = given.state.as_deref().map(absolute);
@@ -66,12 +66,11 @@ fn absolute(path: &str) -> String {
 }
 
 fn needs_a_right(fault: Error) -> Error {
-    let text = format!("{} (to open packet sockets it needs root or CAP_NET_RAW)", text_of(&fault));
+    let text = format!("{} (opening packet sockets needs root or CAP_NET_RAW)", text_of(&fault));
     Error::new(fault.kind(), if fault.kind() == ErrorKind::PermissionDenied { text } else { text_of(&fault) })
 }
 
-/// Returns the ports that names and patterns give at the start. If there are too many, those that are named come
-/// first.
+/// Returns the ports that names and patterns select. If there are too many, named ports come first.
 fn first_ports(given: &Given, links: &Links, may_wait: bool) -> Result<Vec<String>> {
     let wrong = |what: String| Err(Error::new(ErrorKind::Other, what));
     let mut names = patterns::ports_of(&given.parts, links);
@@ -86,13 +85,13 @@ fn first_ports(given: &Given, links: &Links, may_wait: bool) -> Result<Vec<Strin
         }
     }
     if names.len() > MOST_PORTS {
-        names.sort_by_key(|name| !given.parts.contains(name)); // those that are named have a place
+        names.sort_by_key(|name| !given.parts.contains(name)); // named ports first
         names.truncate(MOST_PORTS);
     }
     Ok(names)
 }
 
-/// Works until a signal or a fault, and ends in order.
+/// Works until a signal or a fault, then ends in order. Returns the exit status.
 fn work(mut live: Live) -> i32 {
     let worked = catch_unwind(AssertUnwindSafe(|| match live.given.once {
         Some(seconds) => once(&mut live, seconds),
@@ -102,16 +101,16 @@ fn work(mut live: Live) -> i32 {
         }
     }));
     while live.signals.file.read(&mut [0u8; 128]).is_ok() {}
-    sys::block_signals(1); // no more: a second one ends it at once
+    sys::block_signals(1); // unblocks them: a second signal ends lldpa-live at once
     live.end();
-    drop(live); // so that nothing is held if the disk hangs, and the thread of the log with it
+    drop(live); // closes all files, even if the disk and the log's thread hang
     worked.unwrap_or_else(|_| {
-        report(ERROR, "an internal fault ended it");
+        report(ERROR, "an internal fault ended lldpa-live");
         1
     })
 }
 
-/// Waits until something comes in or is due, up to that moment, and handles it. Returns whether it is to end.
+/// Waits until something comes in or is due, up to `last`, and handles it. True at a signal to end.
 fn turn(live: &mut Live, last: i64) -> bool {
     let has_more = live.control.as_ref().map_or(false, Control::has_more);
     let turn = live.turn(if has_more { 0 } else { last }, false);
@@ -130,7 +129,8 @@ fn turn(live: &mut Live, last: i64) -> bool {
     false
 }
 
-/// Waits until each port has a neighbor, at most so long, prints what is shown, and returns whether each has one.
+/// Waits until each port has a neighbor, at most this many seconds, and prints the neighbors.
+/// Returns the exit status: 0 if each has one or a signal came, else 1.
 fn once(live: &mut Live, seconds: u64) -> i32 {
     let last = clock::now() + seconds as i64 * SECOND;
     let are_complete =
@@ -146,7 +146,7 @@ fn once(live: &mut Live, seconds: u64) -> i32 {
 }
 
 impl Live {
-    /// Leaves the state to the next lldpa-live, and disables each port, so that its shutdown frame is sent.
+    /// Saves the state for the next lldpa-live and disables the ports, which send shutdown frames.
     fn end(&mut self) {
         self.manager.tell("STOPPING=1");
         self.write_state();

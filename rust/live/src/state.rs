@@ -1,6 +1,7 @@
-//! The state that one lldpa-live leaves to the next: the tables, in a file. It is a trace of the neighbors' last
-//! frames with the seconds between them, between two comments; further comments say when each neighbor came. It is
-//! written each minute and at the end, beside the file and then put in its place.
+//! The state that one lldpa-live leaves to the next: the tables, in a file. It is a trace of the
+//! neighbors' last frames with the seconds between them. Comments say when it was written, when
+//! each neighbor came, and where it ends. It is written each minute and at the end, to a new file
+//! that then replaces the old one.
 
 use crate::agent::{lines_text, Line};
 use crate::clock::{self, MILLISECOND};
@@ -18,8 +19,8 @@ use std::os::unix::fs::{MetadataExt, OpenOptionsExt};
 const FRONT: &str = "# lldpa-live state 1 ";
 const END: &str = "# end\n";
 const INCOMPLETE: &str = "it is not complete";
-const MOST_APART: i64 = 5_000; // milliseconds by the two clocks, within one boot
-const MOST_LINES: usize = 64 * 128 * 4; // of each neighbor two, one of since when, and one of seconds
+const MOST_APART: i64 = 5_000; // milliseconds by which the clocks may differ within one boot
+const MOST_LINES: usize = 64 * 128 * 4; // for each neighbor two frames, one `since`, one `tick`
 const MOST_OCTETS: u64 = 64 * 128 * 2 * 4096;
 const MOST_SECONDS: u32 = 65535;
 
@@ -28,12 +29,12 @@ pub struct Past {
     pub lines: Vec<Line>,
     /// When each neighbor came, in milliseconds since 1970, by its port and its identifier.
     pub came: HashMap<(String, String), i64>,
-    /// How many seconds pass in the lines, and have passed since.
+    /// How many seconds pass in the lines, and how many have passed since the state was written.
     passed: u32,
     pub seconds: u32,
 }
 
-/// Reads the state at a path, which that user wrote, or this one. Says why it is not used.
+/// Reads the state at a path. The file must be private, of `user` or of this process's user.
 pub fn read(path: &str, user: Option<User>) -> Result<Past, String> {
     let file = match OpenOptions::new().read(true).custom_flags(O_NOFOLLOW | O_NONBLOCK).open(path) {
         Err(fault) if fault.kind() == ErrorKind::NotFound => return Ok(Past::default()),
@@ -42,14 +43,14 @@ pub fn read(path: &str, user: Option<User>) -> Result<Past, String> {
     let told = file.metadata().map_err(|fault| text_of(&fault))?;
     let is_ours = told.uid() == own_user() || user.map_or(false, |user| told.uid() == user.user);
     if !(told.is_file() && told.nlink() == 1 && is_ours && told.mode() & 0o077 == 0) {
-        return Err("it does not belong to its user alone".into());
+        return Err("it is not a file that only its user can access".into());
     }
     let mut octets = Vec::new();
     file.take(MOST_OCTETS + 1).read_to_end(&mut octets).map_err(|fault| text_of(&fault))?;
     past(&octets, clock::wall() / MILLISECOND, clock::now() / MILLISECOND)
 }
 
-/// Reads the octets of a state, at a moment by the two clocks, in milliseconds.
+/// Reads the octets of a state. `wall` and `now` are the present milliseconds of the two clocks.
 pub fn past(octets: &[u8], wall: i64, now: i64) -> Result<Past, String> {
     if octets.is_empty() {
         return Ok(Past::default());
@@ -75,7 +76,7 @@ pub fn past(octets: &[u8], wall: i64, now: i64) -> Result<Past, String> {
         past.take(line, &mut ttls).ok_or_else(malformed)?;
     }
     if ttls.len() != past.came.len() || !past.came.keys().all(|name| ttls.contains_key(name)) {
-        return Err("its neighbors are not those that it names".into());
+        return Err("its comments and frames name different neighbors".into());
     }
     if past.seconds > ttls.values().copied().max().unwrap_or(0) {
         return Err("it is too old".into());
@@ -84,14 +85,14 @@ pub fn past(octets: &[u8], wall: i64, now: i64) -> Result<Past, String> {
 }
 
 impl Past {
-    /// Lets seconds pass: of all together no more than the longest time to live.
+    /// Adds seconds to the lines. None if all together are more than the longest time to live.
     fn pass(&mut self, seconds: u32) -> Option<()> {
         self.passed = self.passed.checked_add(seconds).filter(|passed| *passed <= MOST_SECONDS)?;
         self.lines.push(Line::Ticks(seconds));
         Some(())
     }
 
-    /// Takes a line, and notes the time to live of a neighbor. Returns None if it is malformed.
+    /// Reads a line, and notes its neighbor's time to live. Returns None if the line is malformed.
     fn take(&mut self, line: &str, ttls: &mut HashMap<(String, String), u32>) -> Option<()> {
         let words: Vec<&str> = line.split(' ').collect();
         match words[..] {
@@ -116,7 +117,7 @@ impl Past {
     }
 }
 
-/// Seconds with three digits behind the point, as milliseconds.
+/// Reads seconds with three decimals, and returns milliseconds.
 fn milliseconds(text: &str) -> Option<i64> {
     let (seconds, part) =
         text.split_once('.').filter(|(seconds, part)| seconds.len() <= 12 && part.len() == 3)?;
@@ -124,7 +125,7 @@ fn milliseconds(text: &str) -> Option<i64> {
     digits.bytes().all(|octet| octet.is_ascii_digit()).then(|| digits.parse().ok())?
 }
 
-/// The text of a state: lines that lead to the tables, and the neighbors of each port.
+/// Returns the text of a state: when each neighbor came, and the lines that rebuild the tables.
 pub fn text<'a>(lines: &[Line], held: impl Iterator<Item = (&'a str, &'a Held)>) -> Vec<u8> {
     let seconds = |milliseconds: i64| format!("{}.{:03}", milliseconds / 1000, milliseconds % 1000);
     let (wall, now) = (seconds(clock::wall() / MILLISECOND), seconds(clock::now() / MILLISECOND));
@@ -135,7 +136,7 @@ pub fn text<'a>(lines: &[Line], held: impl Iterator<Item = (&'a str, &'a Held)>)
     format!("{FRONT}{wall} {now}\n{since}{}{END}", lines_text(lines)).into_bytes()
 }
 
-/// Puts a state in the place of the one before. A link there is replaced, and not followed.
+/// Replaces the file of the state. If the path is a symbolic link, it is replaced, not followed.
 pub fn write(path: &str, octets: &[u8]) -> std::io::Result<()> {
     let beside = format!("{path}.new");
     let _ = fs::remove_file(&beside);

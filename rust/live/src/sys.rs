@@ -1,4 +1,4 @@
-//! What `std` lacks, over functions of the C library, with all `unsafe` of the program.
+//! Calls the C library for what `std` lacks. All `unsafe` code of the program is here.
 
 use crate::packet::{Rooms, Step, ROOMS};
 use std::array::from_fn;
@@ -35,16 +35,16 @@ fn checked(answer: c_int) -> Result<c_int> {
 }
 
 fn opened(fd: c_int) -> Result<File> {
-    // SAFETY: a descriptor that was just made belongs to nobody else.
+    // SAFETY: the descriptor was just made, so nothing else owns it.
     checked(fd).map(|fd| unsafe { File::from_raw_fd(fd) })
 }
 
-/// Declares functions of the C library that are given numbers, and memory of which they use no more than its type has.
+/// Declares functions of the C library. They use lent memory only up to the size of its type.
 macro_rules! calls {
     ($($seen:vis $name:ident = $call:ident($($word:ident: $kind:ty),*);)*) => {
         extern "C" { $(fn $call($($word: $kind),*) -> c_int;)* }
         $($seen fn $name($($word: $kind),*) -> Result<c_int> {
-            // SAFETY: memory is lent during the call, and its type has the length.
+            // SAFETY: memory is borrowed for the call, which uses no more than its type has.
             checked(unsafe { $call($($word),*) })
         })*
     };
@@ -75,16 +75,16 @@ pub fn raw_socket(domain: c_int) -> Result<File> {
     opened(new_socket(domain, 3 | CLOEXEC_NONBLOCK, 0)?)
 }
 
-/// Binds a socket to an address in the kernel's form, or connects it to one.
+/// Binds a socket to an address in the kernel's form or, if `is_peer`, connects it to that address.
 pub fn name_socket(file: &File, address: &[u8], is_peer: bool) -> Result<()> {
     let call = if is_peer { connect } else { bind };
-    // SAFETY: the address is as long as is told.
+    // SAFETY: the stated length is that of the address.
     checked(unsafe { call(file.as_raw_fd(), address.as_ptr().cast(), address.len() as u32) }).map(drop)
 }
 
 pub fn set(file: &File, level: c_int, name: c_int, value: &[u8]) -> Result<()> {
     assert!(name != SO_ATTACH_FILTER, "its value has a pointer");
-    // SAFETY: the value is as long as is told, and the kernel follows no pointer in it.
+    // SAFETY: the stated length is that of the value, and the kernel follows no pointer in it.
     let set = unsafe { setsockopt(file.as_raw_fd(), level, name, value.as_ptr().cast(), value.len() as u32) };
     checked(set).map(drop)
 }
@@ -92,14 +92,14 @@ pub fn set(file: &File, level: c_int, name: c_int, value: &[u8]) -> Result<()> {
 pub fn set_filter(file: &File, steps: &[Step]) -> Result<()> {
     let program = [steps.len() as u64, steps.as_ptr() as u64];
     let (number, start) = (file.as_raw_fd(), program.as_ptr().cast());
-    // SAFETY: the program has 16 octets, whose first 2 are the number of steps; the kernel copies them.
+    // SAFETY: the program has 16 octets, with the number of steps first; the kernel copies them.
     checked(unsafe { setsockopt(number, SOL_SOCKET, SO_ATTACH_FILTER, start, 16) }).map(drop)
 }
 
-/// The numbers of an option, and how many.
+/// Returns the numbers of a socket's option, and how many there are.
 pub fn get<const N: usize>(file: &impl AsRawFd, level: c_int, name: c_int) -> Result<([u32; N], usize)> {
     let (mut told, mut length) = ([0u32; N], 4 * N as u32);
-    // SAFETY: the kernel writes at most as many octets as are told.
+    // SAFETY: the kernel writes at most `length` octets.
     checked(unsafe { getsockopt(file.as_raw_fd(), level, name, told.as_mut_ptr().cast(), &mut length) })?;
     Ok((told, length as usize / 4))
 }
@@ -109,15 +109,15 @@ struct Message(*mut c_void, u32, *const [usize; 2], usize, *mut [u64; 4], usize,
 #[repr(C)]
 struct Received(Message, c_uint);
 
-/// Reads as many frames as there are, each into a room. Returns for each how long it is, and when it came by the wall
-/// clock in nanoseconds, if the kernel says so.
+/// Reads waiting frames, one into each room. Returns the length of each frame and, if the kernel
+/// reports it, when it arrived: nanoseconds of the wall clock.
 pub fn receive(file: &File, rooms: &mut Rooms) -> Result<Vec<(usize, Option<i64>)>> {
     let pieces: [_; ROOMS] = from_fn(|place| [rooms[place].as_mut_ptr() as usize, rooms[place].len()]);
     let mut notes = [[0u64; 4]; ROOMS];
     let mut messages: [Received; ROOMS] =
         from_fn(|place| Received(Message(null_mut(), 0, &pieces[place], 1, &mut notes[place], 32, 0), 0));
     let start = messages.as_mut_ptr();
-    // SAFETY: each room and each note exists during the call, and is as long as its message says.
+    // SAFETY: all rooms and notes outlive the call, and are as long as the messages say.
     let count = checked(unsafe { recvmmsg(file.as_raw_fd(), start, ROOMS as c_uint, 0, null_mut()) })?;
     let frame = |(message, note): (&Received, &[u64; 4])| {
         let is_stamp = note[1] == (SO_TIMESTAMPNS as u64) << 32 | SOL_SOCKET as u64;
@@ -134,9 +134,9 @@ pub fn events(epoll: RawFd, events: &mut Events, milliseconds: c_int) -> Result<
     wait(epoll, events, events.len() as c_int, milliseconds).map(|count| count as usize)
 }
 
-/// Blocks SIGHUP, SIGINT and SIGTERM by 0, and unblocks the last two by 1, but for those that are ignored.
+/// Blocks SIGHUP, SIGINT and SIGTERM (`how` 0) or unblocks the last two (1). Skips ignored signals.
 pub fn block_signals(how: c_int) -> [u64; 16] {
-    let (mut set, mut told) = ([0; 16], [0u64; 19]); // of which the first is the handler
+    let (mut set, mut told) = ([0; 16], [0u64; 19]); // its first number is the handler
     for number in [1, 2, 15].into_iter().skip(how as usize) {
         let is_wanted = handler(number, None, &mut told).is_ok() && told[0] != 1;
         set[0] |= u64::from(is_wanted) << (number - 1);
@@ -145,31 +145,31 @@ pub fn block_signals(how: c_int) -> [u64; 16] {
     set
 }
 
-/// A file that tells of these signals, 128 octets each, in place of their effect.
+/// Blocks SIGHUP, SIGINT and SIGTERM, and returns a file with 128 octets for each that arrives.
 pub fn signals() -> Result<File> {
     opened(new_signals(-1, &block_signals(0), CLOEXEC_NONBLOCK)?)
 }
 
-/// A file that tells when the file at a path is removed, renamed, or gets other rights.
+/// Returns a file that becomes ready when the file at a path is removed, renamed or has a new mode.
 pub fn watch(path: &str) -> Result<File> {
     let file = opened(new_watch(CLOEXEC_NONBLOCK)?)?;
     // SAFETY: the path ends with a zero.
     checked(unsafe { inotify_add_watch(file.as_raw_fd(), CString::new(path)?.as_ptr(), 0x804) }).map(|_| file)
 }
 
-/// Gives a file to a user or a group; `u32::MAX` leaves one as it is.
+/// Changes the owner and the group of a file; `u32::MAX` leaves either as it is.
 pub fn give(path: &str, user: u32, group: u32) -> Result<()> {
     // SAFETY: the path ends with a zero.
     checked(unsafe { chown(CString::new(path)?.as_ptr(), user, group) }).map(drop)
 }
 
-/// Says if this process may not make files in a folder.
+/// Returns an error if this process may not create files in a folder.
 pub fn may_write(path: &str) -> Result<()> {
     // SAFETY: the path ends with a zero.
     checked(unsafe { access(CString::new(path)?.as_ptr(), 3) }).map(drop)
 }
 
-/// Whether a pattern with `*`, `?` and `[..]` matches a text.
+/// True if a pattern with `*`, `?` and `[..]` matches a text.
 pub fn matches(pattern: &str, text: &str) -> bool {
     let texts = CString::new(pattern).and_then(|pattern| Ok((pattern, CString::new(text)?)));
     // SAFETY: both texts end with a zero.
@@ -182,10 +182,11 @@ pub fn host_name() -> String {
     String::from_utf8_lossy(room.split(|octet| *octet == 0).next().unwrap_or(&[])).into_owned()
 }
 
-/// Keeps no capability, no group and no key of the session, for good; becomes a user with its group, if one is given.
-/// No other process of the user may look into this one. (Without the right to drop groups these stay.)
+/// Drops all capabilities, groups and session keys for good, and becomes a user with its group if
+/// one is given. Other processes of the user cannot inspect this one. (Without the right groups
+/// stay.)
 pub fn keep_no_right(user: Option<(c_uint, c_uint)>, keyctl: c_long) -> Result<()> {
-    // SAFETY: the options have numbers alone, and of the key nothing is read.
+    // SAFETY: these options take only numbers, and keyctl reads no memory.
     let option = |name: c_int, value: u64| checked(unsafe { prctl(name, value, 0u64, 0u64, 0u64) });
     (0..64).for_each(|one| drop(option(24, one)));
     unsafe { syscall(keyctl, 1u64, null::<u8>()) };

@@ -1,4 +1,4 @@
-//! What lldpa-live waits for. The kernel is told of a file once, and again only if it is waited for something else.
+//! Waits for files by epoll. A file is registered once, and again only to wait for another event.
 
 use crate::sys::{self, Events, EVENT};
 use std::fs::File;
@@ -13,14 +13,14 @@ const CHANGE: i32 = 3;
 /// The place of a file's number in an event.
 const FILE: usize = EVENT - 2;
 
-/// Waits so long at most, and returns which files are ready.
+/// Waits at most this long, and returns the files that are ready.
 pub fn ready(epoll: &File, milliseconds: i32) -> Vec<RawFd> {
     let mut events: Events = [[0; EVENT]; 256];
     let count = sys::events(epoll.as_raw_fd(), &mut events, milliseconds).unwrap_or(0);
     events[..count].iter().map(|event| event[FILE] as RawFd).collect()
 }
 
-/// A file, and what it is waited for; 0 for nothing.
+/// A file, and the events that are awaited from it (0 for none).
 pub struct Awaited<F> {
     pub file: F,
     wanted: u32,

@@ -8,39 +8,39 @@ const HELP: &str = "\
 usage: lldpa-live [OPTION...] PORT... [-- OPTIONS OF LLDPA]
        lldpa-live [--control PATH] --ask LINE
 
-Runs lldpa on Ethernet interfaces, until it is ended.
+Runs the LLDP agent lldpa on Ethernet interfaces until a signal ends it.
 
-  PORT                   an Ethernet interface, or a pattern: 'swp*', '!swp3'
+  PORT                   an Ethernet interface, or a pattern such as 'swp*';
+                         '!swp3' excludes a name
 
 options:
   -h, --help             print this help
   -V, --version          print the version
   --ask LINE             send LINE, such as 'show neighbors', to a running
-                         lldpa-live, and print its answer
+                         lldpa-live, print its answer, and exit
   --config PATH          read settings from a file or a folder of *.conf; may
                          be repeated
   --control PATH         the control socket (default /run/lldpa/control)
   --control-group GROUP  let members of this group use the control socket
-  --events               report on standard error when a neighbor comes,
-                         changes or goes
+  --events               report on standard error when a neighbor or a link
+                         comes, changes or goes
   --forget-on-down       empty the table of a port when its link goes down
-  --log FOLDER           log the session there, in files that are traces for
-                         lldpa
-  --log-keep N           keep N megabytes of logs in the folder (default 1024)
-  --log-most N           begin another file of the log at N megabytes (default
-                         64)
+  --log FOLDER           log the session in this folder, as traces that lldpa
+                         can replay
+  --log-keep N           keep at most N megabytes of logs there (default 1024)
+  --log-most N           begin a new log file at N megabytes (default 64)
   --no-description       do not announce the operating system of this host
   --no-management        do not announce an address of this host
-  --once N               wait until each port has a neighbor, at most N seconds;
-                         print the neighbors, and exit
+  --once N               wait until each port has a neighbor, at most N seconds,
+                         then print the neighbors and exit
   --only-existing        refuse to start if an interface does not exist
-  --state FILE           save the tables there each minute and at the end, and
-                         restore them at the start
-  --user NAME            as root, become this user once the sockets are open
-                         (default nobody)
+  --state FILE           save the neighbors in FILE each minute and at the end,
+                         and restore them at the start
+  --user NAME            when started as root, become this user once the sockets
+                         are open (default nobody)
 
 example: lldpa-live --log /var/lib/lldpa eth0 eth1 -- --role router
-lldpa-live(8) describes the options, lldpa(1) those after --.
+lldpa-live(8) describes these options, lldpa(1) those after --.
 ";
 
 #[derive(Clone, Debug, Default)]
@@ -100,7 +100,7 @@ impl Given {
             number(&text, last).ok_or(format!("{name}: {text} is not a number from 1 to {last}"))
         };
         match (name, given) {
-            ("--stay" | "--own-source", None) => (), // of earlier versions: it is always so now
+            ("--stay" | "--own-source", None) => (), // options of earlier versions, now always in force
             ("--events", None) => self.events = true,
             ("--forget-on-down", None) => self.forget_on_down = true,
             ("--no-description", None) => self.no_description = true,
@@ -122,7 +122,7 @@ impl Given {
     }
 }
 
-/// Returns the name of an option, and its value if it follows in the same word.
+/// Returns the name of an option, and its value if the same word contains it.
 pub fn split(word: &str) -> (&str, Option<&str>) {
     word.split_once('=').map_or((word, None), |(name, value)| (name, Some(value)))
 }
@@ -132,7 +132,7 @@ pub fn number(text: &str, last: u64) -> Option<u64> {
     number.filter(|_| text.bytes().all(|octet| octet.is_ascii_digit()))
 }
 
-/// Says if a name cannot be a port's, or two are the same.
+/// Returns an error if a name is malformed or given twice, or if there are no or too many ports.
 fn check_ports(parts: &[String]) -> Result<(), String> {
     if let Some(part) = parts.iter().find(|part| !patterns::is_able(part)) {
         let form = "a port's name has 1 to 15 letters, digits, -, _, / and :";
@@ -141,10 +141,10 @@ fn check_ports(parts: &[String]) -> Result<(), String> {
     let names: Vec<&String> = parts.iter().filter(|part| !patterns::is_pattern(part)).collect();
     let is_again = |(place, name): (usize, &&String)| names[..place].contains(name);
     match names.len() {
-        _ if parts.is_empty() => Err("no PORT".into()),
+        _ if parts.is_empty() => Err("a PORT is required".into()),
         _ if names.iter().enumerate().any(is_again) => Err("the same port twice".into()),
         count if count > MOST_PORTS => Err(format!(
-            "{count} ports, and an agent has at most {MOST_PORTS}: run a second service for the others"
+            "{count} ports, but an agent has at most {MOST_PORTS}: run a second service for the others"
         )),
         _ => Ok(()),
     }
