@@ -101,7 +101,7 @@ class Served:
         if line in self.hidden:
             return []
         if line.split(b" ")[0] in (b"tick", b"rx", b"up", b"down"):
-            return [b"error: reserved for lldpa-live"]
+            return [b"error: for lldpa-live alone"]
         if self.waits and line.startswith(b"show"):
             self.live_lines = [*LIVE_LINES, b"live.agent=waiting"]
             return [b"error: waiting for an interface: eth0"]

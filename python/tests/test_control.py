@@ -78,7 +78,7 @@ class Questions(Answered):
     def test_what_lldpa_live_alone_tells_never_reaches_the_agent(self) -> None:
         for word in ("tick", "rx", "up", "down"):
             for line in (word, f"\t {word} eth0", f'"{word}" 3', f"{word}\t00", f'"{word}"x'):
-                self.assertEqual(self.served.ask_refused(line), "reserved for lldpa-live")
+                self.assertEqual(self.served.ask_refused(line), "for lldpa-live alone")
         self.assertIn("lldp.eth0.received=0", self.served.ask("show statistics"))
         self.assertIn("live.eth0.link=up", self.served.ask("live"))
 

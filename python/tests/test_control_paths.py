@@ -12,7 +12,7 @@ from lldpa.client.connection import Client, Gone
 from patience import eventually
 from running_live import Live, OnLinks
 
-IN_USE = "another lldpa-live uses this control socket"
+IN_USE = "another lldpa-live answers at this control path"
 ASKER = """
 import os, socket, sys
 os.setgroups([int(group) for group in sys.argv[3:]])

@@ -169,7 +169,7 @@ class Faults(Program):
         self.run_ctl("st", "su", status=1, said="no such port: su (eth0, eth1)")
         self.run_ctl("conf", "lldp", "tx-i", "9")
         self.assertIn(b"configure lldp tx-interval 9", self.served.asked)
-        self.run_ctl("up", status=1, said="reserved for lldpa-live")
+        self.run_ctl("up", status=1, said="for lldpa-live alone")
         self.run_ctl("s", status=1, said="unknown command: s (neighbors, details, interfaces, "
                      "statistics, live, show, configure, update, watch, metrics, help)")
 

@@ -33,7 +33,7 @@ class TestLate(OnLinks):
         self.assertTrue(eventually(live.answers))
         self.assertIn(f"local-chassis.mac={self.wires.address('eth0').hex(':')}",
                       live.ask("show chassis"))
-        self.assertTrue(live.says("eth0: the interface exists and is in use"))
+        self.assertTrue(live.says("eth0: the interface is there, and in use"))
         self.becomes_neighbor(live)
 
     def test_it_sleeps_and_ends_while_it_waits(self) -> None:

@@ -118,7 +118,7 @@ class Words(Program):
                 ("configure ports eth9 lldp status disabled", "no such port: eth9 (eth0, eth1)"),
                 ("neighbours", "unknown command: neighbours (neighbors, details, interfaces, "
                  "statistics, live, show, configure, update, watch, metrics, help)"),
-                ("tick", "reserved for lldpa-live")):
+                ("tick", "for lldpa-live alone")):
             self.run_ctl(*line.split(), status=1, said=said)
 
     def test_refusals_of_whole_lines_stay(self) -> None:

@@ -101,11 +101,11 @@ class TestLinks(OnLinks):
     def test_interface_that_goes_and_comes_back(self) -> None:
         live = self.live("eth0", "--", "--receive-only")
         self.wires.remove_link("eth0")
-        self.assertTrue(live.says("eth0: the interface is gone; waiting for another of this name"))
+        self.assertTrue(live.says("eth0: the interface is gone; waiting for the next of that name"))
         self.assertIn("live.eth0.interface=awaited", live.ask("live"))
         self.assertIn("live.eth0.link=down", live.ask("live"))
         self.wires.add_link(0)
-        self.assertTrue(live.says("eth0: the interface exists and is in use"))
+        self.assertTrue(live.says("eth0: the interface is there, and in use"))
         live.comes_to("live.eth0.link=up")
         self.becomes_neighbor(live)
 
@@ -114,7 +114,7 @@ class TestLinks(OnLinks):
         self.wires.set_link("eth0", "down")
         self.wires.set_link("eth0", "name", "ethX")
         self.wires.set_link("ethX", "up")
-        self.assertTrue(live.says("eth0: the interface is now named ethX"))
+        self.assertTrue(live.says("eth0: the interface is now ethX"))
         self.assertIn("live.eth0.interface=awaited", live.ask("live"))
         self.assertTrue(eventually(self.wires.all_up))
         peer.send(numbered(1))

@@ -126,7 +126,7 @@ class Events(Service):
         self.assertTrue(eventually(lambda: len(self.told(live)) == 100), live.errors())
         live.spend(2)
         self.assertEqual(len(self.told(live)), 100)
-        more = r"(?m)^lldpa-live: eth0: \d+ more events within a minute were not reported$"
+        more = r"(?m)^lldpa-live: eth0: \d+ more came, changed or went within a minute$"
         self.assertTrue(eventually(lambda: re.search(more, live.errors()), 65))
 
     def test_links_and_want_of_room_are_told(self) -> None:

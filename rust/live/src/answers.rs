@@ -149,7 +149,7 @@ pub fn refusal(line: &[u8], may_change: bool) -> Option<&'static str> {
     let first = line.iter().find(|octet| !b" \t".contains(octet));
     match &word[..] {
         _ if line.len() > LONGEST_LINE => Some("error: line too long\n"),
-        "tick" | "rx" | "up" | "down" => Some("error: reserved for lldpa-live\n"),
+        "tick" | "rx" | "up" | "down" => Some("error: for lldpa-live alone\n"),
         _ if matches!(first, None | Some(b'#')) => Some(""),
         "configure" | "update" if !may_change => Some("error: no permission\n"),
         "live" | "show" | "configure" | "update" => None,

@@ -75,7 +75,7 @@ fn lock_path(path: &str) -> String {
 }
 
 fn in_use(path: &str) -> Error {
-    Error::new(ErrorKind::AddrInUse, format!("{path}: another lldpa-live uses this control socket"))
+    Error::new(ErrorKind::AddrInUse, format!("{path}: another lldpa-live answers at this control path"))
 }
 
 fn locked(path: &str) -> Result<File> {

@@ -76,7 +76,7 @@ impl Port {
                 told.extend(self.told_link(news.is_running));
             }
         } else if self.index == Some(news.index) {
-            let what = if news.is_there { format!("now named {}", news.name) } else { "gone".into() };
+            let what = if news.is_there { format!("now {}", news.name) } else { "gone".into() };
             told.extend(self.lose(socket, &what, now));
         }
         told
@@ -91,7 +91,7 @@ impl Port {
         if fault.is_empty() {
             self.index = Some(news.index);
             if self.is_up.is_some() || self.is_awaited {
-                notice(&format!("{}: the interface exists and is in use", self.name));
+                notice(&format!("{}: the interface is there, and in use", self.name));
             }
         } else {
             packet::release(socket);
@@ -106,7 +106,7 @@ impl Port {
         packet::release(socket);
         self.index = None;
         self.gone_since = Some(now);
-        let further = if self.is_named { "; waiting for another of this name" } else { "" };
+        let further = if self.is_named { "; waiting for the next of that name" } else { "" };
         notice(&format!("{}: the interface is {what}{further}", self.name));
         self.told_link(false)
     }

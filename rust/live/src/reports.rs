@@ -118,7 +118,7 @@ impl Events {
         }
         for (port, count) in std::mem::take(&mut self.counts) {
             if let Some(left) = count.checked_sub(MOST_A_MINUTE).filter(|left| *left > 0) {
-                report(INFORMATION, &format!("{port}: {left} more events within a minute were not reported"));
+                report(INFORMATION, &format!("{port}: {left} more came, changed or went within a minute"));
             }
         }
         self.next_minute = now + MINUTE;
