@@ -73,7 +73,7 @@ class Captures(Hostile):
         named = rack.pcapng({"--listen": rack.frames("swp1"), "18123": rack.frames("swp2")})
         ran = run_capture(["--ports", self.file("named", named)])
         self.assertEqual((ran.returncode, ran.stdout), (2, ""))
-        self.assertIn("a port is named '--listen'", ran.stderr)
+        self.assertIn("port '--listen' looks like an option", ran.stderr)
 
 
 class Lists(Hostile):

@@ -69,13 +69,13 @@ class Neighbors(unittest.TestCase):
                 (LAST_PORT * 2, "line 9: the port c is in it twice, first in line 1"),
                 (SHOW + LAST_PORT, "line 31: the port c is in it twice, first in line 23"),
                 (SHOW[:SHOW.index("lldp.c.too-many")],
-                 "line 25: the end where lldp.c.too-many= was expected"),
-                (SHOW.replace("2.ttl=120", "2.ttl=x"), "line 16: 'lldp.ge-0/0/1.2.ttl=x' where "
-                 "lldp.ge-0/0/1.2.ttl= and a number was expected"),
-                (SHOW.replace("neighbors=2", "neighbors=3"), "line 20: 'lldp.b.neighbors=0' where "
-                 "lldp.ge-0/0/1.3.chassis.KIND= was expected"),
-                (SHOW.replace(LAST_PORT, COUNTERS + LAST_PORT), "'lldp.c.neighbors=1' where the "
-                 "end, or a line of a further show, was expected")):
+                 "line 25: expected lldp.c.too-many=, but found the end"),
+                (SHOW.replace("2.ttl=120", "2.ttl=x"), "line 16: expected lldp.ge-0/0/1.2.ttl= "
+                 "and a number, but found 'lldp.ge-0/0/1.2.ttl=x'"),
+                (SHOW.replace("neighbors=2", "neighbors=3"), "line 20: expected "
+                 "lldp.ge-0/0/1.3.chassis.KIND=, but found 'lldp.b.neighbors=0'"),
+                (SHOW.replace(LAST_PORT, COUNTERS + LAST_PORT), "expected the end or "
+                 "another show, but found 'lldp.c.neighbors=1'")):
             with self.subTest(said), self.assertRaises(ShowFault) as raised:
                 read_ports(text)
             self.assertIn(said, str(raised.exception))

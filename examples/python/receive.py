@@ -1,10 +1,10 @@
 #!/usr/bin/env python3
-"""Hears LLDP on an interface of Linux, and prints every neighbor that comes, changes, leaves or ages out.
+"""Prints each LLDP neighbor on a Linux interface when it is new, changes, leaves or ages out.
 
     LLDPA_LIB_DIR=FOLDER receive.py INTERFACE
 
-FOLDER has liblldpa.so.1; without it the linker's folders are searched. It needs the right to open packet sockets, and
-runs until it gets SIGTERM.
+FOLDER contains liblldpa.so.1. Without LLDPA_LIB_DIR, the usual library folders are searched. The
+program needs the right to open packet sockets, and runs until SIGTERM.
 """
 from __future__ import annotations
 
@@ -24,12 +24,12 @@ REPORTS = {4: "new", 5: "changed", 7: "no room for", 8: "gone"}
 
 
 class Text(Structure):
-    """Octets, with no 0 behind them."""
+    """A text for the library: octets without a final 0."""
     _fields_ = [("octets", c_char_p), ("length", c_size_t)]
 
 
 class Options(Structure):
-    """What an agent is opened with."""
+    """The options with which an agent is opened."""
     _fields_ = [("size", c_size_t), ("ports", POINTER(Text)), ("port_count", c_size_t), ("hostname", Text),
                 ("mac", c_uint8 * 6), ("management", c_uint8 * 4), ("managed", c_bool), ("receive_only", c_bool),
                 ("role", c_uint32), ("max_neighbors", c_uint32), ("credit_max", c_uint32),
@@ -42,7 +42,7 @@ class Handle(Structure):
 
 
 class News(Structure):
-    """What a frame did."""
+    """The effect of a received frame, and the neighbor that sent it."""
     _fields_ = [("chassis", Place), ("port", Place), ("what", c_uint32), ("fault", c_uint32)]
 
 
@@ -52,12 +52,12 @@ class Held(Structure):
 
 
 class Ticks(Structure):
-    """What several ticks did."""
+    """The number of ticks that were processed, and of neighbors that aged out."""
     _fields_ = [("taken", c_uint32), ("aged_out", c_uint32)]
 
 
 def text_of(lldpa: CDLL, kind: int, body: bytes) -> str:
-    """Returns an identifier as `show neighbors` writes it."""
+    """Returns a chassis ID or port ID as `show neighbors` writes it."""
     room, length = create_string_buffer(1058), c_size_t()
     lldpa.lldpa_tlv_text(c_uint32(kind), body, c_size_t(len(body)), room, c_size_t(1058), byref(length))
     return room.raw[:length.value].decode()
@@ -69,7 +69,7 @@ def report(lldpa: CDLL, what: str, octets: bytes, chassis: Place, port: Place) -
 
 
 def give_seconds(lldpa: CDLL, agent: Handle, passed: int) -> None:
-    """Gives the agent the seconds that passed, and prints the neighbors that age out."""
+    """Reports the elapsed seconds to the agent, and prints the neighbors that age out."""
     room, held, count = create_string_buffer(1500), Held(), c_uint32()
     lldpa.lldpa_neighbor_count(byref(agent), c_uint32(0), byref(count))
     for index in range(count.value):
@@ -83,7 +83,7 @@ def give_seconds(lldpa: CDLL, agent: Handle, passed: int) -> None:
 
 
 def give_frame(lldpa: CDLL, agent: Handle, frame: bytes) -> None:
-    """Gives the agent a frame, and prints what it did."""
+    """Passes a received frame to the agent, and prints what happened to the neighbor."""
     marks, news = create_string_buffer(129), News()
     lldpa.lldpa_frame(byref(agent), c_uint32(0), frame, c_size_t(len(frame)), marks, byref(news))
     if news.what in REPORTS:
@@ -91,18 +91,18 @@ def give_frame(lldpa: CDLL, agent: Handle, frame: bytes) -> None:
 
 
 def opened(lldpa: CDLL, interface: str) -> Handle:
-    """Returns an agent with one port, which only receives."""
+    """Opens an agent with one port, which only receives."""
     name, handle = Text(interface.encode(), len(interface.encode())), Handle()
     options = Options(sizeof(Options), pointer(name), 1, receive_only=True, max_neighbors=32, credit_max=5,
                       fast_init=4, reinit=2)
     fault = lldpa.lldpa_open(byref(options), byref(handle))
     if fault != 0:
-        sys.exit(f"receive.py: fault {fault}")
+        sys.exit(f"receive.py: lldpa_open failed with fault {fault}")
     return handle
 
 
 def main() -> None:
-    """Reports what is heard."""
+    """Passes received frames and elapsed seconds to the agent until SIGTERM."""
     signal.signal(signal.SIGTERM, lambda *_: sys.exit(0))
     interface, lldpa = sys.argv[1], library()
     agent, due = opened(lldpa, interface), c_uint32()
@@ -114,7 +114,7 @@ def main() -> None:
     while True:
         lldpa.lldpa_due(byref(agent), byref(due))
         came = select.select([heard], [], [], min(due.value, 3600))[0]
-        # First the seconds that passed, and then the frame.
+        # the seconds passed before the frame arrived, so they are reported first
         before, now = now, int(time.monotonic())
         give_seconds(lldpa, agent, now - before)
         if came:

@@ -1,10 +1,9 @@
 #!/usr/bin/env python3
-"""Prints the neighbors that a capture shows: a line for each, with its chassis ID, its port ID, its
-time to live and its system name.
+"""Prints a line for each neighbor in a capture: chassis ID, port ID, time to live and system name.
 
     LLDPA_LIB_DIR=FOLDER who.py FILE.pcap
 
-FOLDER has liblldpa.so.1; without it the linker's folders are searched.
+FOLDER contains liblldpa.so.1. Without LLDPA_LIB_DIR, the usual library folders are searched.
 """
 from __future__ import annotations
 
@@ -17,27 +16,27 @@ from typing import Iterator
 
 
 class Place(Structure):
-    """Octets among those that were given."""
+    """A range of the octets that were passed to the library."""
     _fields_ = [("start", c_size_t), ("length", c_size_t)]
 
     def of(self, octets: bytes) -> bytes:
-        """Returns the octets at the place."""
+        """Returns the octets in this range."""
         return octets[self.start:self.start + self.length]
 
 
 class Examined(Structure):
-    """What a sound LLDPDU says."""
+    """The contents of a valid LLDPDU."""
     _fields_ = [("chassis", Place), ("port", Place), ("extent", c_size_t), ("discarded", c_size_t),
                 ("unrecognized", c_size_t), ("ttl", c_uint16)]
 
 
 class Kept(Structure):
-    """A walk over the kept TLVs."""
+    """The state of an iteration over the kept TLVs."""
     _fields_ = [("next", c_size_t), ("body", Place), ("met", c_bool * 4), ("kind", c_uint8)]
 
 
 def library() -> ctypes.CDLL:
-    """Returns the library, with the types of the functions that are called."""
+    """Loads the library, and declares the types of the functions that are called."""
     folder = os.environ.get("LLDPA_LIB_DIR")
     found = ctypes.CDLL(os.path.join(folder, "liblldpa.so.1") if folder else "liblldpa.so.1")
     for name, answer, told in (("lldpa_frame_pdu", c_bool, Place),
@@ -49,14 +48,14 @@ def library() -> ctypes.CDLL:
 
 
 def shown(octets: bytes, is_address: bool) -> str:
-    """Returns an address as octets, or another identifier or a text as letters."""
+    """Returns an address in hexadecimal, and any other identifier or text as escaped ASCII."""
     if is_address:
         return octets.hex(":")
     return "".join(chr(octet) if 0x20 < octet < 0x7f else f"\\x{octet:02x}" for octet in octets)
 
 
 def frames(capture: bytes) -> Iterator[bytes]:
-    """Returns the frames of a capture."""
+    """Yields the frames of a pcap file."""
     length_of = struct.Struct("<I" if capture[3] == 0xa1 else ">I")
     at = 24
     while at + 16 <= len(capture):
@@ -68,7 +67,7 @@ def frames(capture: bytes) -> Iterator[bytes]:
 
 
 def line_of(lldpa: ctypes.CDLL, pdu: bytes, told: Examined) -> str:
-    """Returns the line of a neighbor."""
+    """Returns the line to print for a neighbor."""
     chassis, port, walk = told.chassis.of(pdu), told.port.of(pdu), Kept()
     words = [shown(chassis[1:], chassis[0] in (4, 5)), shown(port[1:], port[0] in (3, 4))]
     words.append(str(told.ttl))

@@ -1,5 +1,5 @@
-"""Builds the wheel of the Python package (PEP 517), with the standard library alone, so that pip
-needs no network for it."""
+"""Builds the wheel of the Python package (PEP 517). It needs only the standard library, so pip
+needs no network."""
 from __future__ import annotations
 
 import base64
@@ -13,34 +13,34 @@ from typing import Any, Dict, Iterator, Optional
 
 TOP = Path(__file__).resolve().parent.parent
 NAME = "lldpa"
-SUMMARY = "An LLDP agent as a library, and the programs that stand on it; this wheel has "
-WITHOUT = "not the program lldpa, which they run"
+SUMMARY = "An LLDP agent as a library, and programs that use it; this wheel contains "
+WITHOUT = "all except the program lldpa, which they run"
 PYTHON = ">=3.9"
-# each package, and the folder that has it in the repository; in an archive all are beside this file
+# each package and its folder in the repository; in a source archive they are in the top folder
 PACKAGES = {"lldpa": "python", "lldpa_audit": "audit"}
-# lldpctl is not among them: it would hide lldpd's program of that name
+# lldpctl is left out: it would hide lldpd's program of the same name
 PROGRAMS = {"lldpa-ctl": "lldpa.commands.ctl", "lldpa-capture": "lldpa.commands.capture",
             "lldpa-audit": "lldpa_audit.command"}
-# the platform of a program by the machine that its head (ELF) names
+# the platform of a program, by the machine number in its ELF header
 PLATFORMS = {62: "linux_x86_64", 183: "linux_aarch64"}
-MOMENT = (2026, 1, 1, 0, 0, 0)  # of each file in the wheel: the same sources give the same wheel
+MOMENT = (2026, 1, 1, 0, 0, 0)  # of each file, so that the same sources give the same wheel
 
 
 def version() -> str:
-    """Returns the version that the package says of itself."""
+    """Returns the version in the package's `__init__.py`."""
     found = re.search(r'^__version__ = "(.*)"$', (TOP / NAME / "__init__.py").read_text(), re.M)
     assert found is not None
     return found[1]
 
 
 def folders() -> Iterator[Path]:
-    """Returns the folders that have the packages."""
+    """Yields the folder that contains each package."""
     for name, folder in PACKAGES.items():
         yield TOP if (TOP / name).is_dir() else TOP.parent / folder
 
 
 def package_files() -> Dict[str, Path]:
-    """Returns the files of the packages by their names in a wheel."""
+    """Returns the packages' files, by their paths in a wheel."""
     return {str(path.relative_to(folder)): path
             for name, folder in zip(PACKAGES, folders())
             for path in sorted((folder / name).rglob("*"))
@@ -48,16 +48,15 @@ def package_files() -> Dict[str, Path]:
 
 
 def platform_of(program: bytes) -> str:
-    """Returns the platform that a program is for. Raises ValueError if it is not a known one."""
+    """Returns the platform of a program. Raises ValueError if the platform is not supported."""
     machine = int.from_bytes(program[18:20], "little")
     if program[:6] != b"\x7fELF\2\1" or machine not in PLATFORMS:
-        raise ValueError(f"not a program of {' or '.join(PLATFORMS.values())}")
+        raise ValueError(f"the program is not for {' or '.join(PLATFORMS.values())}")
     return PLATFORMS[machine]
 
 
 def metadata(platform: str = "any") -> Dict[str, str]:
-    """Returns the files that describe the package; a wheel that holds the program is for a
-    platform."""
+    """Returns the metadata files. A wheel without the program lldpa has the platform `any`."""
     has = WITHOUT if platform == "any" else "the program lldpa too"
     programs = "".join(f"{name} = {module}:main\n"
                        for name, module in PROGRAMS.items())
@@ -71,7 +70,7 @@ def metadata(platform: str = "any") -> Dict[str, str]:
 
 
 def write_wheel(folder: str, files: Dict[str, bytes], program: Optional[bytes] = None) -> str:
-    """Writes a wheel of these files, with the program or without, and returns its name."""
+    """Writes a wheel of these files, and of the program lldpa if it is given. Returns its name."""
     about, platform = f"{NAME}-{version()}.dist-info", "any"
     if program is not None:
         platform = platform_of(program)
@@ -91,14 +90,14 @@ def write_wheel(folder: str, files: Dict[str, bytes], program: Optional[bytes] =
 
 
 def sum_of(octets: bytes) -> str:
-    """Returns the sum of a file as a wheel's record has it."""
+    """Returns the checksum of a file in the form that a wheel's RECORD requires."""
     digest = base64.urlsafe_b64encode(hashlib.sha256(octets).digest())
     return f"sha256={digest.rstrip(b'=').decode()}"
 
 
 def build_wheel(wheel_directory: str, config_settings: Optional[Any] = None,
                 metadata_directory: Optional[str] = None) -> str:
-    """Builds a wheel of the packages, with the program if the setting `program` has its path."""
+    """Builds a wheel. It contains the program lldpa if the setting `program` is its path."""
     program = (config_settings or {}).get("program")
     return write_wheel(wheel_directory, {name: path.read_bytes()
                                          for name, path in package_files().items()},
@@ -113,7 +112,7 @@ def build_editable(wheel_directory: str, config_settings: Optional[Any] = None,
 
 
 def build_sdist(sdist_directory: str, config_settings: Optional[Any] = None) -> str:
-    """Builds an archive of what a wheel is built of."""
+    """Builds an archive of the sources from which a wheel is built."""
     front = f"{NAME}-{version()}"
     here = {str(path.relative_to(TOP)): path
             for path in (TOP / "pyproject.toml", Path(__file__).resolve())}

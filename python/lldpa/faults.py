@@ -1,5 +1,5 @@
-"""What all faults of this package have in common."""
+"""Defines the base class of all errors of this package."""
 
 
 class LldpaFault(Exception):
-    """A fault that this package reports, such as an agent that has ended or a refused line."""
+    """An error that this package reports, for example that an agent ended or refused a line."""

@@ -1,4 +1,4 @@
-"""A node of the tree in which lldpcli shows its answers."""
+"""Defines the nodes of the trees from which lldpcli's answers are written."""
 from __future__ import annotations
 
 from typing import Iterable, List, Optional, Tuple
@@ -10,7 +10,7 @@ Attribute = Tuple[str, str, str]
 class Node:
     """A node: its key, its label for people, its attributes, a text, and the nodes in it.
 
-    A text has a surrogate for each octet that is not UTF-8.
+    The text has a surrogate for each octet that is not UTF-8.
     """
 
     def __init__(self, key: str, label: str, attributes: Iterable[Attribute] = (),
@@ -38,7 +38,7 @@ def lldpcli_text(octets: bytes) -> str:
 
 
 def said_text(octets: Optional[bytes]) -> Optional[str]:
-    """Returns a text, None if no octet was sent."""
+    """Returns a text of a neighbor, or None if it is empty or was not sent."""
     return lldpcli_text(octets) if octets else None
 
 

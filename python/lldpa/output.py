@@ -1,4 +1,4 @@
-"""Standard streams, and reports of output that fails: it is closed, full, or not read."""
+"""Sets up the standard streams, and reports output errors, such as a full disk."""
 
 import io
 import os
@@ -13,10 +13,10 @@ INPUT, OUTPUT, ERRORS = 0, 1, 2
 
 
 class OutputFault(LldpaFault):
-    """Says why standard output failed; empty if its reader has gone."""
+    """Standard output failed. The message says why; it is empty if the reader has gone."""
 
 class StandardOutput(io.FileIO):
-    """Standard output. Its faults differ from those of other files."""
+    """Standard output. Raises OutputFault, so that its errors differ from those of other files."""
 
     def __init__(self, fault: str) -> None:
         super().__init__(OUTPUT, "w", closefd=False)
@@ -24,7 +24,7 @@ class StandardOutput(io.FileIO):
         self._is_over = False
 
     def write(self, octets: Any) -> int:
-        """Writes octets. Raises OutputFault once; later octets are lost."""
+        """Writes octets. Raises OutputFault once, and drops all octets after that."""
         if self._is_over:
             return len(octets)
         try:
@@ -39,23 +39,23 @@ class StandardOutput(io.FileIO):
 
 
 class StandardErrors(io.FileIO):
-    """Standard error. What it cannot write is lost, also what argparse writes."""
+    """Standard error. Drops what it cannot write, including the messages of argparse."""
 
     def __init__(self) -> None:
         super().__init__(ERRORS, "w", closefd=False)
 
     def write(self, octets: Any) -> int:
-        """Writes octets."""
+        """Writes octets, and ignores errors."""
         with suppress(OSError):
             super().write(octets)
         return len(octets)
 
 
 def run(name: str, body: Callable[[], int], failed: int, errors: str = "strict") -> int:
-    """Runs a program's body and returns its status, or `failed` if its output fails, which is
-    reported.
+    """Runs a program's body and returns its status. If its output fails, reports that and returns
+    `failed`.
 
-    `errors` says how characters are written that the terminal does not have.
+    `errors` is Python's error handler for characters that the terminal does not have.
     """
     fault = "it is closed" if OUTPUT in missing_streams() else ""
     encoding = getattr(sys.stdout, "encoding", None) or "utf-8"
@@ -74,7 +74,7 @@ def run(name: str, body: Callable[[], int], failed: int, errors: str = "strict")
 
 
 def status_of(body: Callable[[], int]) -> int:
-    """Returns the status of a body, even if argparse ends it, which may have printed its help."""
+    """Returns the status of a body, even if argparse ends it, for example after printing help."""
     try:
         return body()
     except SystemExit as end:
@@ -94,8 +94,8 @@ def missing_streams() -> set[int]:
 
 
 def complain(name: str, text: str) -> None:
-    """Writes a line on standard error, without control characters and cut to what can be written
-    at once. If nobody reads it, the line is lost."""
+    """Writes a line to standard error, without control characters and cut to what can be written at
+    once. If nobody reads standard error, drops the line."""
     printable = "".join(letter if letter.isprintable() else "?" for letter in text)
     line = f"{name}: {printable}" if name else printable
     octets = line.encode(errors="backslashreplace")[:select.PIPE_BUF - 1]

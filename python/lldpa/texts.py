@@ -1,6 +1,6 @@
-"""Texts of neighbors: as Unicode for programs, and as a terminal may show them to people.
+"""Converts texts of neighbors: to Unicode for programs, and to what a terminal may show people.
 
-A neighbor's text is octets, mostly UTF-8. Shows have them escaped; `shown_octets` returns them.
+A neighbor's text is octets, usually UTF-8. Shows escape them; `shown_octets` returns them.
 """
 import unicodedata
 from functools import lru_cache
@@ -9,10 +9,10 @@ from typing import Any, Dict, Iterator, Optional, Tuple
 from .agent.show import unescaped
 
 CUT = "…"
-MOST_MARKS = 2  # above or below one letter
-MOST_LETTERS = 4096  # that are looked up once
-# invisible on a terminal, although printable: fillers, joiners, variation selectors, and the empty
-# pattern of Braille
+MOST_MARKS = 2  # above, below or around one character
+MOST_LETTERS = 4096  # whose properties are remembered
+# characters that Python counts as printable, but that are invisible on a terminal: fillers,
+# joiners, variation selectors, and the empty Braille pattern
 HIDDEN = ((0x034F, 0x034F), (0x115F, 0x1160), (0x17B4, 0x17B5), (0x180B, 0x180F), (0x2800, 0x2800),
           (0x3164, 0x3164), (0xFE00, 0xFE0F), (0xFFA0, 0xFFA0), (0xE0100, 0xE01EF))
 
@@ -32,7 +32,7 @@ def shown_octet(octet: int) -> str:
 
 def text_of(octets: bytes) -> Tuple[str, Optional[str]]:
     """Returns octets as Unicode, and None. If they are not UTF-8, returns them as the agent shows
-    them, and in hexadecimal."""
+    them, and the octets in hexadecimal."""
     try:
         return octets.decode("utf-8"), None
     except UnicodeDecodeError:
@@ -40,7 +40,7 @@ def text_of(octets: bytes) -> Tuple[str, Optional[str]]:
 
 
 def with_text(key: str, octets: bytes, told: Dict[str, Any]) -> Dict[str, Any]:
-    """Adds a text to an object for JSON, and its octets if they are not UTF-8; returns it."""
+    """Adds a text to an object for JSON, and its octets if not UTF-8. Returns the object."""
     text, digits = text_of(octets)
     told[key] = text
     if digits is not None:
@@ -49,27 +49,27 @@ def with_text(key: str, octets: bytes, told: Dict[str, Any]) -> Dict[str, Any]:
 
 
 def shown_octets(shown: str) -> bytes:
-    """Returns the octets of a text of a show, or the UTF-8 of a text that no agent shows."""
+    """Returns the octets of a text in a show. For a text that is not ASCII, returns its UTF-8."""
     return unescaped(shown) if shown.isascii() else shown.encode("utf-8", "surrogateescape")
 
 
 def readable(shown: str) -> str:
-    """Returns a text of a show for people: not escaped, except for what a terminal may not show."""
+    """Returns a text in a show for people, unescaped except for what a terminal may not show."""
     return printable(shown_octets(shown).decode("utf-8", "surrogateescape"))
 
 
 def readable_octets(octets: bytes) -> str:
-    """Returns a text for people, from its octets."""
+    """Returns octets as a text for people."""
     return printable(octets.decode("utf-8", "surrogateescape"))
 
 
 def printable(text: str) -> str:
-    """Returns the text with everything escaped that controls a terminal, is invisible or changes
-    the direction of writing. What is left is letters, signs and the space."""
+    """Escapes everything that controls a terminal, is invisible or changes the direction of
+    writing. Only letters, signs and spaces remain."""
     if text.isascii() and text.isprintable():
         return text
     parts = []
-    marks = MOST_MARKS  # the text may not begin with one
+    marks = MOST_MARKS  # so that a mark at the beginning is escaped
     for letter in text:
         marks = marks + 1 if is_mark(letter) else 0
         parts.append(letter if is_shown(letter) and marks <= MOST_MARKS else escaped(letter))
@@ -78,19 +78,19 @@ def printable(text: str) -> str:
 
 @lru_cache(MOST_LETTERS)
 def is_mark(letter: str) -> bool:
-    """Returns whether it is written above, below or around the letter before it."""
+    """Returns whether a character is written above, below or around the one before it."""
     return unicodedata.category(letter) in ("Mn", "Me")
 
 
 @lru_cache(MOST_LETTERS)
 def is_shown(letter: str) -> bool:
-    """Returns whether a terminal shows something for it, and does nothing else."""
+    """Returns whether a character is visible on a terminal and has no other effect."""
     number = ord(letter)
     return letter.isprintable() and not any(first <= number <= last for first, last in HIDDEN)
 
 
 def escaped(letter: str) -> str:
-    """Returns the octets of a letter in hexadecimal, as the agent shows them."""
+    """Returns the octets of a character, escaped in hexadecimal as the agent shows them."""
     return "".join(f"\\x{octet:02x}" for octet in letter.encode("utf-8", "surrogateescape"))
 
 
@@ -102,14 +102,14 @@ def width_of(text: str) -> int:
 
 
 def columns_of(letter: str) -> int:
-    """Returns the columns of a letter: none for a mark, two for the wide ones of East Asia."""
+    """Returns the width of a character: 0 for a mark, 2 for a wide East Asian one, else 1."""
     if is_mark(letter):
         return 0
     return 2 if unicodedata.east_asian_width(letter) in "WF" else 1
 
 
 def end_of(text: str, begin: int, width: int) -> int:
-    """Returns the end of what has at most this width of a text from a place on."""
+    """Returns the end of the longest part of a text from `begin` that has at most this width."""
     if text.isascii():
         return min(begin + width, len(text))
     end = begin
@@ -119,7 +119,7 @@ def end_of(text: str, begin: int, width: int) -> int:
 
 
 def cut(text: str, width: int) -> str:
-    """Returns the text. If it is wider than this, it is cut and ends with a mark."""
+    """Returns the text. If it is wider than this, it is cut and ends with an ellipsis."""
     if width_of(text) <= width:
         return text
     return text[:end_of(text, 0, max(width - 1, 0))] + CUT
@@ -131,7 +131,7 @@ def padded(text: str, width: int) -> str:
 
 
 def wrapped(text: str, width: int) -> Iterator[str]:
-    """Returns the text in lines of at most this width, broken between words if possible."""
+    """Yields the text in lines of at most this width, broken between words if possible."""
     begin = 0
     while begin < len(text):
         end = after = max(end_of(text, begin, width), begin + 1)

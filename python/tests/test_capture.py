@@ -177,10 +177,10 @@ class Damaged(unittest.TestCase):
         bad = packet(whole(LLDP))
         damages = {
             "a block's two lengths differ": bad[:-4] + b"\0\0\0\0",
-            "a block of 8 octets": bad[:4] + b"\x08\0\0\0" + bad[8:],
-            "the length there is far too large": bad[:4] + b"\xff\xff\xff\x7f" + bad[8:],
-            "a block with fields that do not fit in it": packet(whole(LLDP), place=1),
-            "a section of unknown byte order": section()[:8] + b"abcd" + section()[12:],
+            "a block has only 8 octets": bad[:4] + b"\x08\0\0\0" + bad[8:],
+            "the length of a record is far too large": bad[:4] + b"\xff\xff\xff\x7f" + bad[8:],
+            "the fields of a block do not fit in it": packet(whole(LLDP), place=1),
+            "a section has an unknown byte order": section()[:8] + b"abcd" + section()[12:],
         }
         for why, record in damages.items():
             with self.subTest(why):
@@ -195,7 +195,7 @@ class Damaged(unittest.TestCase):
         at = 24 + 16 + len(OTHER)
         file[at + 8:at + 12] = b"\xff\xff\xff\xff"
         self.assertEqual(fault_of(bytes(file)),
-                         f"it is damaged at octet {at}: the length there is far too large")
+                         f"it is damaged at octet {at}: the length of a record is far too large")
 
     def test_random_damage_is_told_and_never_more(self) -> None:
         dice = random.Random(5)

@@ -57,7 +57,7 @@ class Clocks(FilesCase):
         self.assertEqual(trace.splitlines()[:5],
                          [RX.strip(), "tick 65535", RX.strip(), "tick 2", RX.strip()])
         self.assertEqual(said, "lldpa-capture: a: no packet for 1699999995 s (was the clock set?): "
-                               "only 65535 are counted, after which no neighbor is left\n")
+                               "counted as 65535 s, after which every neighbor has aged out\n")
         self.assertIn("lldp.eth0.ageouts=1\n", shown)
 
     def test_time_in_which_nothing_happens(self) -> None:

@@ -163,10 +163,10 @@ class Refusals(Program):
         shows = "neighbors, interfaces, chassis, statistics, configuration"
         for words, said in (
                 (["show", "bogus"], f"unknown word: bogus ({shows})"),
-                (["show"], f"show what: {shows}"),
+                (["show"], f"a word is missing after show ({shows})"),
                 (["resume"], "unknown word: resume (show, watch, configure, update)"),
-                (["update", "x"], "unknown word: x (nothing follows)"),
-                (["watch", "limit", "0"], "not a number: 0"),
+                (["update", "x"], "unknown word: x (no word is allowed here)"),
+                (["watch", "limit", "0"], "not a number from 1 to 999999999: 0"),
                 (["configure", "med", "x"], "unknown command: med (system or lldp or ports)"),
                 (["conf", "lldp", "tx-h", "0"],
                  "out of range: 0 (intervals that peers keep a frame, 1 to 100)"),

@@ -96,16 +96,16 @@ class Words(Program):
         for line, said in (
                 ("details eth7", "no such port: eth7 (eth0, eth1)"),
                 ("neighbors eth0,eth7", "no such port: eth7 (eth0, eth1)"),
-                ("neighbors eth0,", "no such port: nothing (eth0, eth1)"),
+                ("neighbors eth0,", "no such port: empty name (eth0, eth1)"),
                 ("interfaces x", "no such port: x (eth0, eth1)"),
                 ("statistics x", "no such port: x (eth0, eth1)"),
                 ("show statistics x", "no such port: x (eth0, eth1)"),
-                ("live x", "extra word: x (nothing follows)"),
-                ("update x", "extra word: x (nothing follows)"),
-                ("show chassis x", "extra word: x (nothing follows)"),
+                ("live x", "extra word: x (no word is allowed here)"),
+                ("update x", "extra word: x (no word is allowed here)"),
+                ("show chassis x", "extra word: x (no word is allowed here)"),
                 ("show neighbour", "unknown command: neighbour (neighbors, statistics, chassis, "
                  "configuration, interfaces)"),
-                ("show", "unknown command: nothing follows (neighbors, statistics, chassis, "
+                ("show", "unknown command: a word is missing (neighbors, statistics, chassis, "
                  "configuration, interfaces)"),
                 ("configure lldp tx-hold 0",
                  "out of range: 0 (intervals that peers keep a frame, 1 to 100)"),

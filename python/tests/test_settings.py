@@ -22,10 +22,10 @@ REFUSED = (
     ("configure ports eth0 lldp status on", "unknown command",
      "on (rx-and-tx, rx-only, tx-only, disabled)"),
     ("configure lldp", "unknown command",
-     "nothing follows (tx-interval or tx-hold or max-neighbors)"),
-    ("configure lldp tx-hold 4 5", "extra word", "5 (nothing follows)"),
+     "a word is missing (tx-interval or tx-hold or max-neighbors)"),
+    ("configure lldp tx-hold 4 5", "extra word", "5 (no word is allowed here)"),
     ("configure system description \t", "unknown command",
-     "nothing follows (up to 255 printable characters, in quotes if it has spaces)"),
+     "a word is missing (up to 255 printable characters, in quotes if it has spaces)"),
     ('configure system hostname "a', "bad quote", ""))
 
 

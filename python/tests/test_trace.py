@@ -94,7 +94,7 @@ class Traces(FilesCase):
         file += packet(whole(LLDP)) + packet(whole(LLDP), place=1) + packet(whole(LLDP), place=2)
         self.assertEqual(self.trace(Source(self.file(file))), [RX.strip().replace("eth0", "eth1")])
         name, link_type = self.faults
-        self.assertIn("'eth0.10' has no name for a port", name)
+        self.assertIn("'eth0.10' cannot be a port", name)
         self.assertIn("--port 'eth0.10=NAME'", name)
         self.assertIn("interface 'any' is LINUX_SLL (113)", link_type)
 
@@ -183,8 +183,8 @@ class Program(FilesCase):
 
     def test_words_that_are_wrong(self) -> None:
         self.file(pcap([whole(LLDP)]), "a")
-        for words, text in ((["--port", "eth0.10", "a"], "eth0.10: a port's name has 1 to 15"),
-                            (["eth0.10=a"], "eth0.10: a port's name has 1 to 15"),
+        for words, text in ((["--port", "eth0.10", "a"], "'eth0.10' cannot be a port: a port's name"),
+                            (["eth0.10=a"], "'eth0.10' cannot be a port: a port's name"),
                             (["--port", "x" * 16, "a"], "a port's name has 1 to 15"),
                             ([f"p{i}=a" for i in range(65)], "65 ports; the limit is 64"),
                             ([], "FILE"), (["--por", "x", "a"], "--por")):

@@ -1,1 +1,1 @@
-"""A running lldpa, and the shows that it prints."""
+"""Runs lldpa or connects to it, and reads the shows that it prints."""

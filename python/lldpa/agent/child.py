@@ -16,16 +16,16 @@ Option = Union[bool, int, str, None]
 
 PROGRAM = "lldpa"
 PATIENCE = 10.0
-MOST_SAID = 64 * 1024  # octets of standard error that are read
+MOST_SAID = 64 * 1024  # octets that are read of standard error
 
 
 def words_of(ports: Sequence[str], program: str, options: Mapping[str, Option]) -> List[str]:
-    """Returns the words that start an agent: `max_neighbors=4` is `--max-neighbors=4`.
+    """Returns the command line of an agent: `max_neighbors=4` becomes `--max-neighbors=4`.
 
-    Raises TypeError for a name in place of a list of names.
+    Raises TypeError if `ports` is a single name instead of a list of names.
     """
     if isinstance(ports, (str, bytes)):
-        raise TypeError(f"ports are a list of names, such as ['eth0'], and not {ports!r}")
+        raise TypeError(f"ports must be a list of names such as ['eth0'], not {ports!r}")
     words = [path_of(program)]
     for name, value in options.items():
         option = "--" + name.replace("_", "-")
@@ -37,9 +37,9 @@ def words_of(ports: Sequence[str], program: str, options: Mapping[str, Option]) 
 
 
 def path_of(program: str) -> str:
-    """Returns the program, or that of the wheel if the search path has no `lldpa`.
+    """Returns the program, or the wheel's program if `lldpa` is not on the search path.
 
-    Raises FileNotFoundError if there is neither.
+    Raises FileNotFoundError if neither exists.
     """
     if program != PROGRAM or shutil.which(program):
         return program
@@ -50,10 +50,10 @@ def path_of(program: str) -> str:
 
 
 class Child:
-    """A child process. Ctrl-C does not reach it: it ends when its input ends."""
+    """A child process. Ctrl-C does not reach it; it ends when its input ends."""
 
     def __init__(self, words: List[str]) -> None:
-        """Starts it. Raises OSError if there is no such program."""
+        """Starts the process. Raises OSError if there is no such program."""
         self.socket, theirs = socket.socketpair()
         try:
             with theirs:
@@ -67,11 +67,11 @@ class Child:
 
     @property
     def pid(self) -> int:
-        """Returns the number of the process."""
+        """Returns the process ID."""
         return self._process.pid
 
     def end(self, patience: float = PATIENCE) -> Ended:
-        """Waits for its end, kills it if that does not come in time, and returns how it ended."""
+        """Waits for the process, or kills it after `patience` seconds. Returns how it ended."""
         if self._end is None:
             try:
                 status = self._process.wait(patience)
@@ -82,7 +82,7 @@ class Child:
         return self._end
 
     def _errors(self) -> str:
-        """Returns the beginning of what it wrote on standard error."""
+        """Returns up to 64 kB of what the process wrote to standard error."""
         assert self._process.stderr is not None
         said = b""
         with self._process.stderr as errors, suppress(BlockingIOError):
@@ -92,7 +92,7 @@ class Child:
 
 
 def end_of(status: int, said: str) -> Ended:
-    """Returns how a process ended, by its status and what it wrote on standard error."""
+    """Returns how a process ended, from its status and its standard error."""
     if status < 0:
         names = {one.value: one.name for one in signal.Signals}
         return Ended(status, f"the agent was killed by {names.get(-status, f'signal {-status}')}")

@@ -1,8 +1,8 @@
-"""Lines for an agent, and the faults of an agent.
+"""Writes lines for an agent, and defines the errors of an agent.
 
-The agent does not mark the end of an answer. So a mark is written after the lines: a comment that
-is one octet too long. The answer to the lines is what precedes `error: line too long`. Nothing else
-has this answer, since a line that is too long is never written.
+The agent does not mark the end of an answer. Therefore a comment that is one octet too long is sent
+after the lines. The answer to the lines is everything before `error: line too long`. No other line
+has this answer, because lines that are too long are never sent.
 """
 
 import re
@@ -18,7 +18,7 @@ Line = Union[bytes, str]
 
 
 class Ended(LldpaFault):
-    """An agent that has ended: its status (negative for a signal, None if unknown), and why."""
+    """The agent has ended: `status` (negative for a signal, None if unknown) and the reason."""
 
     def __init__(self, status: Optional[int], text: str) -> None:
         super().__init__(text)
@@ -27,14 +27,14 @@ class Ended(LldpaFault):
 
 
 class Closed(Ended):
-    """An agent that was closed before this call."""
+    """The agent was closed before this call."""
 
     def __init__(self) -> None:
         super().__init__(None, "the agent was closed")
 
 
 class Refused(LldpaFault):
-    """A line that the agent refused: the text after `error: `."""
+    """The agent refused a line. `text` is the part of its answer after `error: `."""
 
     def __init__(self, text: str) -> None:
         super().__init__(text)
@@ -42,17 +42,17 @@ class Refused(LldpaFault):
 
 
 def checked(line: Line) -> bytes:
-    """Returns the octets of a line. Raises ValueError if it has a line feed or is too long."""
+    """Returns the octets of a line. Raises ValueError if it contains a line feed or is too long."""
     octets = line.encode("latin-1") if isinstance(line, str) else bytes(line)
     if b"\n" in octets:
         raise ValueError("a line contains a line feed")
     if len(octets) > LONGEST_LINE:
-        raise ValueError(f"a line of {len(octets)} octets, and the limit is {LONGEST_LINE}")
+        raise ValueError(f"a line has {len(octets)} octets; the limit is {LONGEST_LINE}")
     return octets
 
 
 def command(*words: str) -> str:
-    """Returns the words as a line, each in quotes if it needs them. A quote cannot be written."""
+    """Joins words to a line, quoted if needed. Raises ValueError if a word contains a quote."""
     for word in words:
         if '"' in word:
             raise ValueError(f"a word contains a double quote: {word}")
@@ -60,20 +60,20 @@ def command(*words: str) -> str:
 
 
 def words_of(line: str) -> List[str]:
-    """Returns the words of a line, with the text in quotes as one."""
+    """Returns the words of a line. A quoted text is one word."""
     found = re.findall('("([^"]*)"?|[^ \t]+)', line.strip(" \t"))
     return [text if word.startswith('"') else word for word, text in found]
 
 
 def rx(port: str, octets: bytes) -> str:
-    """Returns the line of a frame that a port received."""
+    """Returns the line that reports a frame received by a port."""
     return f'rx {port} {octets.hex()}' if octets else f'rx {port} ""'
 
 
 def ticks(seconds: int) -> List[str]:
-    """Returns the lines that let so many seconds pass."""
+    """Returns the lines that let this many seconds pass."""
     if seconds < 0:
-        raise ValueError(f"{seconds} seconds")
+        raise ValueError(f"a negative number of seconds: {seconds}")
     whole, rest = divmod(seconds, MOST_TICKS)
     lines = [f"tick {MOST_TICKS}"] * whole
     if rest:

@@ -1,4 +1,4 @@
-"""Reads the lines of lldpa's shows (`read_show`), and writes the very same lines (`lines_of`).
+"""Reads the lines of lldpa's shows (`read_show`), and writes the same lines (`lines_of`).
 
 Each line is `KEY=VALUE`; the manual page lldpa(1) lists every key.
 """
@@ -15,7 +15,7 @@ from .shown import (NUMBERED_KEY, SAID_KEY, SAID_KEYS, Configuration, Counters, 
 __all__ = ["Configuration", "Counters", "Identifier", "LocalChassis", "Neighbor", "Port", "Show",
            "ShowFault", "lines_of", "read_show", "unescaped"]
 
-# for patterns of lines: a number, and the name of a port
+# patterns for a number and for the name of a port
 DIGITS = "(?:0|[1-9][0-9]{0,18})"
 NAME = r"[A-Za-z0-9_/:-]{1,15}"
 
@@ -26,7 +26,7 @@ ESCAPE = rb"\\(\\|x[0-9a-f]{2})"
 
 
 class ShowFault(LldpaFault, ValueError):
-    """Lines that are not a show: which line is wrong, and what was expected in its place."""
+    """The lines are not a show. The message says which line is wrong, and what was expected."""
 
 def unescaped(text: str) -> bytes:
     """Returns the octets of an escaped text."""
@@ -37,16 +37,16 @@ def unescaped(text: str) -> bytes:
 
 
 def read_show(lines: Iterable[str]) -> Show:
-    """Reads the lines of one show, or of several.
+    """Reads the lines of one or several shows.
 
-    The order of shows is neighbors, statistics, chassis, configuration. A line may end with its
-    line feed. Raises ShowFault, which names the line, if one is not known or out of place.
+    The order of shows must be neighbors, statistics, chassis, configuration. A line may end with a
+    line feed. Raises ShowFault, which names the line, if a line is unknown or out of place.
     """
     return Reader(lines).show()
 
 
 class Reader:
-    """Reads the lines one after another, each as what is expected in its place."""
+    """Reads the lines one after another, and checks that each is what is expected next."""
 
     def __init__(self, lines: Iterable[str]) -> None:
         self.lines = [line[:-1] if line.endswith("\n") else line for line in lines]
@@ -56,19 +56,19 @@ class Reader:
         if not (everything.isascii() and everything.isprintable()):
             while self.next().isascii() and self.next().isprintable():
                 self.at += 1
-            raise self.fault("a line of octets from the space to the tilde")
+            raise self.fault("a line of printable ASCII characters")
 
     def fault(self, expected: str) -> ShowFault:
-        """Returns the fault that something else was expected in place of the next line."""
+        """Returns the error that the next line is not what was expected."""
         found = "the end" if self.at == len(self.lines) - 1 else repr(self.next())
-        return ShowFault(f"line {self.at + 1}: {found} where {expected} was expected")
+        return ShowFault(f"line {self.at + 1}: expected {expected}, but found {found}")
 
     def next(self) -> str:
-        """Returns the next line, an empty text at the end."""
+        """Returns the next line without consuming it, or an empty text at the end."""
         return self.lines[self.at]
 
     def text(self, key: str) -> str:
-        """Reads the line of that key, and returns its value."""
+        """Reads the next line, which must have this key. Returns its value."""
         line = self.next()
         if not line.startswith(key + "="):
             raise self.fault(f"{key}=")
@@ -76,34 +76,34 @@ class Reader:
         return line[len(key) + 1:]
 
     def number(self, key: str) -> int:
-        """Reads the line of that key, and returns its number."""
+        """Reads the next line, which must have this key and a number. Returns the number."""
         text = self.text(key)
         is_number = text.isdigit() and len(text) < 20 and (text[0] != "0" or text == "0")
         self.check(is_number, f"{key}= and a number")
         return int(text)
 
     def check(self, is_right: bool, expected: str) -> None:
-        """Raises ShowFault if the line that was read last is wrong."""
+        """Raises ShowFault about the line that was read last, unless `is_right`."""
         if not is_right:
             self.at -= 1
             raise self.fault(expected)
 
     def port_of(self, front: str, key: str) -> str:
-        """Returns the port of the next line, if that is `FRONT.PORT.KEY=`; else an empty text."""
+        """Returns PORT if the next line begins with `FRONT.PORT.KEY=`, else an empty text."""
         words = self.next().split(".", 2)
         if words[0] == front and words[-1].startswith(f"{key}=") and is_port_name(words[1]):
             return words[1]
         return ""
 
     def show(self) -> Show:
-        """Reads all lines."""
+        """Reads all lines as shows."""
         ports = tuple(self.ports())
         counters = dict(self.counters())
         chassis = self.chassis() if self.next().startswith("local-chassis.") else None
         is_configured = self.next().startswith("configuration.")
         configuration = self.configuration() if is_configured else None
         if self.at < len(self.lines) - 1:
-            raise self.fault("the end, or a line of a further show,")
+            raise self.fault("the end or another show")
         return Show(ports, counters, chassis, configuration)
 
     def ports(self) -> Iterator[Port]:
@@ -115,12 +115,12 @@ class Reader:
             names.add(name)
             octets = self.number(f"lldp.{name}.octets")
             too_many = self.text(f"lldp.{name}.too-many")
-            self.check(too_many in ("yes", "no"), f"lldp.{name}.too-many=, with yes or no,")
+            self.check(too_many in ("yes", "no"), f"lldp.{name}.too-many=yes or no")
             neighbors = tuple(self.neighbor(name, place) for place in range(1, count + 1))
             yield Port(name, count, octets, too_many == "yes", neighbors)
 
     def neighbor(self, port: str, place: int) -> Neighbor:
-        """Reads one neighbor, with the lines of what it sent."""
+        """Reads one neighbor, including the lines of its optional TLVs."""
         front = f"lldp.{port}.{place}."
         chassis = self.identifier(front + "chassis.", CHASSIS_KINDS)
         port_id = self.identifier(front + "port.", PORT_KINDS)
@@ -174,17 +174,17 @@ class Reader:
 
 @lru_cache(1024)
 def is_said(key: str) -> bool:
-    """Returns whether it is a key of a later line. Few neighbors need the slow pattern of all."""
+    """Returns whether a neighbor's optional line may have this key. Tries the slow pattern last."""
     return bool(key in SAID_KEYS or re.fullmatch(NUMBERED_KEY, key) or re.fullmatch(SAID_KEY, key))
 
 
 def shown_key(name: str) -> str:
-    """Returns a field's name as the key of its line."""
+    """Returns the key that a show has for a field."""
     return name.replace("_", "-")
 
 
 def lines_of(show: Show) -> List[str]:
-    """Returns the lines of a show that was read, each without its line feed."""
+    """Returns the lines of a show, without line feeds."""
     lines = [line for port in show.ports for line in port_lines(port)]
     for name, counters in show.counters.items():
         lines += [f"lldp.{name}.{shown_key(key)}={number}"

@@ -1,22 +1,22 @@
-"""What the shows of lldpa contain: ports, their neighbors and counters, and the agent itself.
+"""Defines the contents of lldpa's shows: ports, their neighbors and counters, and the agent itself.
 
-Texts are kept as they are shown, each octet that is not printable escaped, so they can be printed
-as they are. `show.unescaped` returns the octets of one.
+Texts stay escaped as they are shown, so they are safe to print. `show.unescaped` returns the octets
+of a text.
 """
-# Without `annotations` of __future__, which would be texts: typing compiles each text of a field.
+# `from __future__ import annotations` is left out: `typing` would compile each field's annotation.
 import re
 from typing import Dict, List, Mapping, NamedTuple, Optional, Tuple
 
-# the keys of a neighbor's lines, except those with the number of a TLV
+# the keys of a neighbor's optional lines, except the keys that contain the number of a TLV
 SAID_KEYS = ("port.descr", "chassis.name", "chassis.descr", "chassis.caps", "chassis.mgmt")
 
-# a key that is not known here, perhaps of a later agent; not a key of the earlier lines, each of
-# which occurs once
+# a key that is unknown here, perhaps of a newer agent. It is not a key of the four lines that every
+# neighbor has once.
 EARLIER = (r"(?:ttl|expires|(?:chassis|port)\.(?:mac|ip|ifname|ifalias|local|component|portcomp"
            r"|circuit|unhandled))(?:=|$)")
 FURTHER_KEY = rf"(?!{EARLIER}|(?:org|unknown)(?:\.|=|$))[a-z][a-z0-9-]*(?:\.[a-z0-9-]+)*"
 
-# a key with the number of a TLV, and any key of a neighbor's later lines
+# a key with the number of a TLV, and any key of a neighbor's optional lines
 NUMBERED_KEY = r"(?:unknown\.[1-9][0-9]{0,2}|org\.[0-9a-f]{6}\.(?:0|[1-9][0-9]{0,2}))"
 SAID_KEY = rf"(?:{'|'.join(map(re.escape, SAID_KEYS))}|{NUMBERED_KEY}|{FURTHER_KEY})"
 
@@ -31,17 +31,17 @@ class Identifier(NamedTuple):
 
 
 def capabilities_in(text: str) -> Dict[str, bool]:
-    """Returns whether each capability is on, from `Bridge:on,Router:off`."""
+    """Returns whether each capability in a text such as `Bridge:on,Router:off` is on."""
     parts = (part.rpartition(":") for part in text.split(",") if part)
     return {name: state == "on" for name, _, state in parts}
 
 
 class Neighbor(NamedTuple):
-    """A neighbor of a port. `place` counts from 1 and changes when another one leaves; `id` stays.
+    """A neighbor of a port. `place` counts from 1 and can change when others leave; `id` stays.
 
-    `ttl` is the time to live that it sent, `expires` what is left of it, both in seconds. `said`
-    has the key and the value of each further line, in the order in which the neighbor sent them,
-    even if the key is not known here.
+    `ttl` is the time to live that it sent and `expires` the time left, both in seconds. `said` has
+    the key and the value of each optional line, in the order in which the neighbor sent them.
+    Unknown keys are included.
     """
     port: str
     place: int
@@ -53,7 +53,7 @@ class Neighbor(NamedTuple):
 
     @property
     def id(self) -> str:
-        """Returns the MSAP identifier: chassis ID and port ID, separated by the one space in it."""
+        """Returns the MSAP identifier: chassis ID, space, port ID. Spaces in an ID are escaped."""
         parts = (self.chassis, self.port_id)
         return " ".join(str(part).replace(" ", "\\x20") for part in parts)
 
@@ -74,23 +74,23 @@ class Neighbor(NamedTuple):
 
     @property
     def capabilities(self) -> Optional[Mapping[str, bool]]:
-        """Returns whether each capability, such as `Bridge`, is on; None if it sent none."""
+        """Returns whether each capability, such as `Bridge`, is on, or None if it sent none."""
         text = self._first("chassis.caps")
         return None if text is None else capabilities_in(text)
 
     @property
     def management(self) -> Tuple[str, ...]:
-        """Returns its management addresses, without the numbers that follow them in the line."""
+        """Returns its management addresses, without the other fields of their lines."""
         return tuple(text.partition(",")[0] for key, text in self.said if key == "chassis.mgmt")
 
     @property
     def org(self) -> Tuple[Tuple[str, str], ...]:
-        """Returns organizationally specific TLVs: kinds such as `00120f.1`, and hexadecimal."""
+        """Returns its organizationally specific TLVs: kinds like `00120f.1`, and octets in hex."""
         return tuple((key[4:], text) for key, text in self.said if key.startswith("org."))
 
     @property
     def unknown(self) -> Tuple[Tuple[int, str], ...]:
-        """Returns TLVs of reserved types: the type, and the octets in hexadecimal."""
+        """Returns its TLVs of reserved types: the type, and the octets in hexadecimal."""
         found = ((key.split("."), text) for key, text in self.said)
         return tuple((int(words[1]), text) for words, text in found if words[0] == "unknown")
 
@@ -99,10 +99,10 @@ class Neighbor(NamedTuple):
 
 
 class Port(NamedTuple):
-    """A port's neighbors in the order of its table.
+    """A port and its neighbors, in the order of its table.
 
-    `octets` is the sum of what is stored of them. `too_many` says whether a neighbor was dropped
-    for lack of room and would still be held.
+    `octets` is the total size of what is stored about them. `too_many` is true while a neighbor
+    that was dropped for lack of room would still be held.
     """
     name: str
     neighbors_held: int
@@ -129,9 +129,9 @@ COUNTED = {
     "shutdowns": "Shutdown frames sent.",
     "received": "LLDP frames received while the port was up and could receive.",
     "discarded": "LLDPDUs refused.",
-    "errors": "LLDPDUs refused or with a discarded TLV.",
+    "errors": "LLDPDUs that were refused or had a discarded TLV.",
     "tlvs_discarded": "TLVs discarded.",
-    "unrecognized": "TLVs kept whose meaning the agent does not know.",
+    "unrecognized": "TLVs that were kept although their meaning is unknown.",
     "ageouts": "Neighbors that aged out.",
     "drops": "LLDPDUs dropped because the table was full.",
 }
@@ -139,7 +139,7 @@ NO_COUNTERS: Mapping[str, Counters] = {}
 
 
 class LocalChassis(NamedTuple):
-    """What the agent announces. `mgmt` is the whole value of its line, or None."""
+    """This host as the agent announces it. `mgmt` is the value of its line, or None."""
     mac: str
     name: str
     descr: str
@@ -148,7 +148,7 @@ class LocalChassis(NamedTuple):
 
 
 class Configuration(NamedTuple):
-    """The numbers in force, and the status of each port by its name."""
+    """The current settings, and the status of each port by its name."""
     tx_interval: int
     tx_hold: int
     ttl: int
@@ -160,7 +160,7 @@ class Configuration(NamedTuple):
 
 
 class Show(NamedTuple):
-    """The content of one or several shows; what none of them has is empty or None."""
+    """The contents of one or several shows. Parts that were not shown are empty or None."""
     ports: Tuple[Port, ...] = ()
     counters: Mapping[str, Counters] = NO_COUNTERS
     chassis: Optional[LocalChassis] = None

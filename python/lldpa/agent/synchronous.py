@@ -1,4 +1,4 @@
-"""A running lldpa: a child of this process, or one that listens on 127.0.0.1."""
+"""Runs lldpa as a child process, or connects to an lldpa that listens on 127.0.0.1."""
 from __future__ import annotations
 
 import select
@@ -19,27 +19,27 @@ AT_ONCE = 65536
 NO_ANSWER = "the agent does not answer: another client may be connected to it"
 SILENCE = "the agent does not answer"
 NO_CONNECTION = "the agent ended the connection"
-NOT_READ = "an answer was not read to its end, so nothing more can be asked"
+NOT_READ = "the last answer was not read completely, so nothing more can be asked"
 
 FrameCallback = Callable[[str, bytes], object]
 
 
 class Agent:
-    """An agent that is asked, and answers. One thread at a time may use it.
+    """A running agent. Only one thread at a time may use it.
 
-    Frames that its ports send are passed to `on_frame(port, octets)`, before the call that caused
-    them ends. Each call raises Ended if the agent has ended, has not answered within `timeout`
-    seconds (None for no bound), or answers with more than 64 MB, and Closed after `close`.
+    Frames that its ports send are passed to `on_frame(port, octets)` before the call that caused
+    them returns. Each call raises Closed after `close`. It raises Ended if the agent has ended, has
+    not answered within `timeout` seconds (None: no limit), or answers with more than 64 MB.
     """
 
     def __init__(self, connection: socket.socket, child: Optional[Child],
                  on_frame: Optional[FrameCallback], timeout: Optional[float] = PATIENCE) -> None:
-        """Takes the socket of the agent's trace; `start` and `connect` make one."""
+        """Uses this socket for the agent's trace. Call `start` or `connect` instead."""
         self.timeout = timeout
         self._socket = connection
         self._child = child
         self._on_frame = on_frame
-        self._over: Optional[Ended] = None  # what each further call raises
+        self._over: Optional[Ended] = None  # the error that each further call raises
         connection.setblocking(False)
         try:
             self._exchange([], PATIENCE if timeout is None else timeout, NO_ANSWER)
@@ -51,9 +51,9 @@ class Agent:
     def start(cls, ports: Sequence[str], program: str = PROGRAM, *,
               on_frame: Optional[FrameCallback] = None, timeout: Optional[float] = PATIENCE,
               **options: Option) -> Agent:
-        """Runs an agent with these ports. Options are the program's: `max_neighbors=4`.
+        """Runs an agent with these ports and the program's options, such as `max_neighbors=4`.
 
-        Raises OSError if there is no such program, and Ended if it refuses its words.
+        Raises OSError if there is no such program, and Ended if it refuses its arguments.
         """
         child = Child(words_of(ports, program, options))
         return cls(child.socket, child, on_frame, timeout)
@@ -61,7 +61,7 @@ class Agent:
     @classmethod
     def connect(cls, number: int, *, on_frame: Optional[FrameCallback] = None,
                 timeout: Optional[float] = PATIENCE) -> Agent:
-        """Connects to the agent that listens on this port of 127.0.0.1.
+        """Connects to the agent that listens on this TCP port of 127.0.0.1.
 
         Raises OSError if none listens, and Ended if it does not answer within `timeout` seconds.
         """
@@ -69,7 +69,7 @@ class Agent:
 
     @property
     def pid(self) -> Optional[int]:
-        """Returns the number of the child's process, or None for an agent that listens."""
+        """Returns the process ID of the child, or None if the agent is not a child."""
         return None if self._child is None else self._child.pid
 
     def ask(self, line: Line) -> List[str]:
@@ -80,7 +80,7 @@ class Agent:
         return answer
 
     def tell(self, lines: Iterable[Line]) -> List[str]:
-        """Sends lines and returns their answers together, those of refused lines among them."""
+        """Sends lines and returns all their answers, including the errors of refused lines."""
         told = []
         for line in self._exchange(lines, self.timeout):
             if not line.startswith("tx "):
@@ -95,7 +95,7 @@ class Agent:
         self.ask(rx(port, octets))
 
     def tick(self, seconds: int = 1) -> None:
-        """Lets so many seconds pass."""
+        """Lets this many seconds pass."""
         for line in ticks(seconds):
             self.ask(line)
 
@@ -104,15 +104,15 @@ class Agent:
         self.ask(f"{'up' if up else 'down'} {port}")
 
     def configure(self, *words: str) -> None:
-        """Sends a command: `configure("system", "hostname", "sw 1")`."""
+        """Changes a setting: `configure("system", "hostname", "sw 1")`."""
         self.ask(command("configure", *words))
 
     def update(self) -> None:
-        """Has each port send the present state again."""
+        """Makes each port announce the current state of this host at once."""
         self.ask("update")
 
     def show(self, what: str) -> Show:
-        """Reads one of the shows: neighbors, statistics, chassis, configuration."""
+        """Returns one of the shows: neighbors, statistics, chassis, configuration."""
         return read_show(self.ask(command("show", what)))
 
     def neighbors(self) -> List[Neighbor]:
@@ -124,10 +124,10 @@ class Agent:
         return self.show("statistics").counters
 
     def close(self, patience: float = PATIENCE) -> None:
-        """Ends the agent's trace and waits for its end, as a child for so many seconds at most.
+        """Ends the trace and waits at most `patience` seconds. Then kills a child that still runs.
 
-        To have a port withdraw from its peers, disable it before: `configure("ports", "eth0",
-        "lldp", "status", "disabled")`.
+        To make peers forget a port at once, disable it first: `configure("ports", "eth0", "lldp",
+        "status", "disabled")`.
         """
         self._over = Closed()
         last = time.monotonic() + patience
@@ -148,13 +148,13 @@ class Agent:
 
     def _exchange(self, lines: Iterable[Line], seconds: Optional[float],
                   silence: str = SILENCE) -> List[str]:
-        """Writes lines while it reads, so that no side blocks the other. Returns the answer."""
+        """Writes lines while it reads, so that neither side blocks. Returns the answer."""
         unsent = memoryview(b"".join(checked(line) + b"\n" for line in lines) + MARK + b"\n")
         if self._over is not None:
             raise self._over
         self._over = Ended(None, NOT_READ)
         last = None if seconds is None else time.monotonic() + seconds
-        answer = bytearray(b"\n")  # so that its end, even if nothing precedes it, follows an LF
+        answer = bytearray(b"\n")  # END begins with a line feed, even after an empty answer
         try:
             while not answer.endswith(END):
                 event = self._wait(bool(unsent), last, silence)

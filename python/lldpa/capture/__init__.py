@@ -1,1 +1,1 @@
-"""Captures: the packets of their files, and the trace that they make."""
+"""Reads the packets of captures, and converts captures to a trace."""

@@ -1,4 +1,4 @@
-"""What captures say of their interfaces and packets."""
+"""Defines the interfaces and the packets of captures."""
 
 from typing import NamedTuple, Optional, Tuple
 
@@ -14,9 +14,9 @@ LINK_TYPES = {
 
 
 class CaptureInterface(NamedTuple):
-    """An interface where packets were captured: its name if the file has one, its link type, the
-    units of its time stamps in a second, the seconds to add to them, and the most octets captured
-    of a packet."""
+    """An interface of a capture: its name if the file has one, its link type, the number of time
+    stamp units in a second, the seconds to add to time stamps, and the most octets captured of a
+    packet."""
     name: Optional[str]
     link_type: int
     units: int
@@ -25,13 +25,13 @@ class CaptureInterface(NamedTuple):
 
 
 class Packet(NamedTuple):
-    """What was captured of a packet, its whole length, and its time: nanoseconds since 1970, or
-    None if the file has none for it."""
+    """A packet of a capture: the octets that were captured, its original length, and its time in
+    nanoseconds since 1970 (None if the file has no time for it)."""
     interface: CaptureInterface
     time: Optional[int]
     octets: bytes
     length: int
 
 
-# The interface of a packet, its time, where its octets begin and end, and its whole length.
+# A packet's interface, time, begin and end of its octets in the window, and original length.
 Look = Tuple[CaptureInterface, Optional[int], int, int, int]

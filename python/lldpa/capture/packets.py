@@ -1,4 +1,4 @@
-"""The packets of a capture: on which interface each came, when, and its octets.
+"""Reads the packets of a capture: the interface, the time and the octets of each.
 
     for packet in packets_of(open("lab.pcap", "rb")):
         print(packet.time, packet.octets.hex())
@@ -22,8 +22,8 @@ NO_PACKET = b"\0" * 1024
 
 
 def reader_of(file: BinaryIO, most_unpacked: Optional[int] = None) -> Reader:
-    """Returns a reader of a capture from its beginning, which gzip may have compressed. Reads at
-    most this many octets of what gzip unpacks.
+    """Returns a reader of a capture from its beginning. The capture may be compressed by gzip; at
+    most `most_unpacked` octets of it are unpacked.
 
     Raises BadCapture if it is not a capture.
     """
@@ -45,7 +45,7 @@ def reader_of(file: BinaryIO, most_unpacked: Optional[int] = None) -> Reader:
 
 
 def packets_of(file: BinaryIO) -> Iterator[Packet]:
-    """Returns the packets of a capture. Raises BadCapture if it cannot be read further."""
+    """Yields the packets of a capture. Raises BadCapture if it cannot be read further."""
     reader = reader_of(file)
     for interface, time, begin, end, length in reader.looks(b""):
         yield Packet(interface, time, reader.window.octets[begin:end], length)
@@ -53,7 +53,7 @@ def packets_of(file: BinaryIO) -> Iterator[Packet]:
 
 def interfaces_of(file: BinaryIO, most_unpacked: Optional[int] = None
                   ) -> List[CaptureInterface]:
-    """Returns the interfaces that a pcapng file describes, as far as it is read; pcap has none."""
+    """Returns the interfaces that a pcapng file describes before any damage; none for pcap."""
     described: List[CaptureInterface] = []
     with suppress(BadCapture):
         reader = reader_of(file, most_unpacked)

@@ -1,4 +1,4 @@
-"""Reads pcap files: a header, then each packet after its time and lengths.
+"""Reads pcap files: a file header, then a header and the octets of each packet.
 
 See https://datatracker.ietf.org/doc/draft-ietf-opsawg-pcap/.
 """
@@ -15,7 +15,7 @@ FILE_HEAD_SIZE = 24
 
 
 def form_of(magic: bytes) -> Optional[Tuple[str, int]]:
-    """Returns the byte order of a pcap file and its units in a second; None for another file."""
+    """Returns the byte order and the time units in a second, or None if the file is not pcap."""
     for order in "<>":
         units = UNITS.get(struct.unpack(order + "I", magic)[0])
         if units is not None:
@@ -24,7 +24,7 @@ def form_of(magic: bytes) -> Optional[Tuple[str, int]]:
 
 
 class PcapReader(Reader):
-    """The packets of a pcap file, all of one interface, whose name the file does not have."""
+    """Reads a pcap file. All its packets are of one interface, which has no name in the file."""
     HEAD_SIZE = OCTETS_AT = 16
 
     def __init__(self, window: Window, order: str, units: int) -> None:
@@ -37,12 +37,12 @@ class PcapReader(Reader):
         self._unpack = struct.Struct(order + "IIII").unpack_from
 
     def record_size(self) -> int:
-        """Returns the size of the next packet with its head."""
+        """Returns the size of the next packet, including its header."""
         captured: int = self._unpack(self.window.octets, self.at)[2]
         return self.HEAD_SIZE + captured
 
     def read_record(self, at: int) -> Look:
-        """Looks at the packet at this place."""
+        """Reads the packet at this place of the window."""
         seconds, fraction, captured, length = self._unpack(self.window.octets, at)
         self.latest = seconds * self._units + fraction
         time = seconds * SECOND + fraction * SECOND // self._units

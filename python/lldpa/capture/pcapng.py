@@ -1,4 +1,4 @@
-"""Files of pcapng: blocks, in sections with a byte order and interfaces of their own.
+"""Reads pcapng files: blocks, in sections that have their own byte order and interfaces.
 
 See https://datatracker.ietf.org/doc/draft-ietf-opsawg-pcapng/.
 """
@@ -18,10 +18,10 @@ MICROSECONDS = b"\x06"
 
 
 class PcapngReader(Reader):
-    """The blocks of such a file. `described` has the interfaces of all sections so far.
+    """Reads the blocks of a pcapng file. `described` has the interfaces of all sections so far.
 
-    Packets of the first `_passable` interfaces, those before one that is not Ethernet, may be
-    skipped. Each packet of that one is looked at, so that it is seen.
+    Only packets of the first `_passable` interfaces may be skipped. All of these are Ethernet.
+    Packets of later interfaces are read, so that another link type is noticed.
     """
     HEAD_SIZE = 12
     OCTETS_AT = 28
@@ -38,14 +38,14 @@ class PcapngReader(Reader):
         if octets.startswith(SECTION_HEADER, at):
             order = BYTE_ORDERS.get(octets[at + 8:at + 12], "")
             if not order:
-                raise self.window.damage(at, "a section of unknown byte order")
+                raise self.window.damage(at, "a section has an unknown byte order")
         size: int = struct.unpack_from(order + "I", octets, at + 4)[0]
         if size < self.HEAD_SIZE:
-            raise self.window.damage(at, f"a block of {size} octets")
+            raise self.window.damage(at, f"a block has only {size} octets")
         return size
 
     def read_record(self, at: int) -> Optional[Look]:
-        """Looks at the block at this place, which is about a section, an interface or a packet."""
+        """Reads the block at this place of the window. Returns its packet, or None."""
         octets = self.window.octets
         if octets.startswith(SECTION_HEADER, at):
             self._begin_section(BYTE_ORDERS[octets[at + 8:at + 12]])
@@ -63,11 +63,11 @@ class PcapngReader(Reader):
             elif kind == SIMPLE_PACKET:
                 return self._simple_packet(begin, end)
         except (struct.error, IndexError):
-            raise self.window.damage(at, "a block with fields that do not fit in it") from None
+            raise self.window.damage(at, "the fields of a block do not fit in it") from None
         return None
 
     def pass_over(self, stop: int) -> Optional[int]:
-        """Skips packets; see Reader. What is wrong with a block is left to read_record."""
+        """Skips packets; see Reader. Stops at a faulty block, which read_record reports."""
         octets, unpack, unpack_size = self.window.octets, self._unpack_packet, self._unpack_size
         at, latest, passed, count = self.at, self.latest, None, 0
         while at + 28 < stop:
@@ -94,8 +94,8 @@ class PcapngReader(Reader):
         self.latest = UNKNOWN
 
     def _describe(self, body: bytes) -> None:
-        """Remembers the interface that a block describes. Time stamps of interfaces with other
-        units cannot be compared as they are."""
+        """Adds the interface that a block describes, and notes whether all interfaces of the
+        section have time stamps with the same units and the same offset."""
         link_type, most = struct.unpack_from(self._order + "HxxI", body)
         options = self._options(body[8:])
         resolution = (options.get(RESOLUTION) or MICROSECONDS)[0]
@@ -123,7 +123,7 @@ class PcapngReader(Reader):
         return options
 
     def _packet(self, fields: str, begin: int, end: int) -> Look:
-        """Returns the packet of a block that names its interface."""
+        """Returns the packet of a block that has the number of its interface."""
         unpacked = struct.unpack_from(self._order + fields, self.window.octets, begin)
         place, high, low, captured, length = unpacked
         interface = self._interfaces[place]
@@ -135,7 +135,7 @@ class PcapngReader(Reader):
         return interface, time, begin + 20, begin + 20 + captured, length
 
     def _simple_packet(self, begin: int, end: int) -> Look:
-        """Returns the packet of a block with only its length. It is one of the first interface."""
+        """Returns the packet of a simple packet block, which belongs to the first interface."""
         (length,) = struct.unpack_from(self._order + "I", self.window.octets, begin)
         interface = self._interfaces[0]
         captured = min(length, interface.most or length)

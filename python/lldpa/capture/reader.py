@@ -1,4 +1,4 @@
-"""Goes over the records of a capture in memory, and decodes only those that can matter."""
+"""Goes over the records of a capture in memory, and decodes only the records that are needed."""
 
 from typing import Iterator, Optional
 
@@ -9,12 +9,11 @@ UNKNOWN = float("inf")
 
 
 class Reader:
-    """The records of one file; each form of captures is a class below this one.
+    """Reads the records of one file. Each format of captures has a subclass.
 
-    `at` is the place of the next record in the window, `number` counts the packets before it, and
-    `latest` is the last one's time stamp in the file's own units, or UNKNOWN, which is after every
-    time stamp, so that the next packet is looked at. A record's octets mostly begin OCTETS_AT
-    after its beginning.
+    `at` is the place of the next record in the window, and `number` counts the packets before it.
+    `latest` is the last packet's time stamp in the file's own units. UNKNOWN is later than every
+    time stamp, so that the next packet is read. Most packets have their octets at offset OCTETS_AT.
     """
     HEAD_SIZE = 0
     OCTETS_AT = 0
@@ -27,21 +26,21 @@ class Reader:
         self._found = self._searched = -1
 
     def record_size(self) -> int:
-        """Returns the size of the next record, whose head is in the window."""
+        """Returns the size of the next record. Its header must be in the window."""
         raise NotImplementedError
 
     def read_record(self, at: int) -> Optional[Look]:
-        """Looks at the whole record at this place. Returns None if it is not a packet."""
+        """Reads the complete record at this place. Returns None if it is not a packet."""
         raise NotImplementedError
 
     def pass_over(self, stop: int) -> Optional[int]:
-        """Skips whole packets whose octets begin before `stop`, up to one whose time stamp goes
-        back. Returns where the last of them begins, or None if none was skipped."""
+        """Skips complete packets whose octets begin before `stop`, until a time stamp goes back.
+        Returns the place of the last skipped packet, or None if no packet was skipped."""
         raise NotImplementedError
 
     def looks(self, prefix: bytes) -> Iterator[Look]:
-        """Returns each packet that begins with these octets, and enough others to follow time: the
-        first, the last, and both if a time stamp goes back."""
+        """Yields each packet that begins with these octets. To show how time passes, also yields
+        the first packet, the last one, and both packets around a time stamp that goes back."""
         while True:
             size = self._reach_record()
             if not size:
@@ -60,8 +59,8 @@ class Reader:
                 yield look
 
     def _next(self, prefix: bytes) -> int:
-        """Returns where these octets come next in the window, or -1. They are searched for once in
-        each stretch of the file, since many records may precede them."""
+        """Returns where these octets occur next in the window, or -1. Remembers the result, since
+        many records may precede them."""
         here, end = self.window.begin + self.at, self.window.begin + len(self.window.octets)
         if self._searched != end or 0 <= self._found < here:
             found = self.window.octets.find(prefix, self.at)

@@ -1,4 +1,4 @@
-"""The files that a trace is made of, and the ports of their frames."""
+"""Opens the captures of a trace, and names the ports of their frames."""
 
 import os
 import shutil
@@ -14,10 +14,10 @@ STANDARD_INPUT = "-"
 
 
 class Source(NamedTuple):
-    """A capture's file, `-` for standard input, and the port of all its frames if one is given.
+    """A capture's file (`-`: standard input). If `port` is given, it is the port of all frames.
 
-    Otherwise `names` has the ports of interfaces whose ports have another name than their own. At
-    most `most_unpacked` octets of a file compressed by gzip are read.
+    Otherwise a port has the name of its interface, or the name that `names` has for the interface.
+    At most `most_unpacked` octets of a file compressed by gzip are unpacked.
     """
     file: str
     port: Optional[str] = None
@@ -26,18 +26,18 @@ class Source(NamedTuple):
 
 
 def port_of(source: Source, interface: CaptureInterface) -> str:
-    """Returns the name for the port of an interface. A port may not be able to have that name."""
+    """Returns the name of an interface's port. The name may be invalid for a port."""
     if source.port is not None or interface.name is None:
         return source.port or UNNAMED
     return source.names.get(interface.name, interface.name)
 
 
-# copies of files that can be read only once, by name
+# copies of pipes, which can be read only once, by their names
 HELD: Dict[str, IO[bytes]] = {}
 
 
 def opened(file: str) -> BinaryIO:
-    """Opens a file, so that its octets are read as soon as they come."""
+    """Opens a file without a buffer, so that its octets are read as soon as they arrive."""
     if file == STANDARD_INPUT:
         return open(0, "rb", buffering=0, closefd=False)
     if file in HELD:
@@ -46,7 +46,7 @@ def opened(file: str) -> BinaryIO:
 
 
 def hold(file: str) -> None:
-    """Lets a pipe be opened as often as a file, by a copy of all its octets. Raises OSError."""
+    """Copies a pipe, so that it can be opened several times like a file. Raises OSError."""
     if file not in HELD and os.path.exists(file) and is_stream(os.stat(file).st_mode):
         copy = tempfile.TemporaryFile(buffering=0)
         with open(file, "rb", buffering=0) as octets:
@@ -55,5 +55,5 @@ def hold(file: str) -> None:
 
 
 def is_stream(mode: int) -> bool:
-    """Returns whether this can be read only once: a FIFO, the pipe of `<(..)`, a terminal."""
+    """Returns whether a file of this mode can be read only once: a FIFO, a socket or a terminal."""
     return stat.S_ISFIFO(mode) or stat.S_ISSOCK(mode) or stat.S_ISCHR(mode)

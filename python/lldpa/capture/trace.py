@@ -1,5 +1,5 @@
-"""Captures as one trace for lldpa: their LLDP frames in the order of their time stamps, and the
-seconds between them."""
+"""Converts captures to one trace for lldpa: their LLDP frames in the order of their time stamps,
+and the seconds between them."""
 
 import os
 from collections import Counter
@@ -19,17 +19,17 @@ __all__ = ["Source", "Told", "TooManyPorts", "frames_of", "ports_of", "trace_of"
 
 ETHERTYPE = bytes.fromhex("88cc")
 TAGS = (b"\x81\x00", b"\x88\xa8", b"\x91\x00")
-MOST_OF_A_KIND = 5  # notes
+MOST_OF_A_KIND = 5  # notes of a kind are written
 
 Tell = Callable[[str], None]
 
 
 class TooManyPorts(LldpaFault):
-    """Captures with frames for more ports than an agent has."""
+    """The captures have frames for more ports than an agent can have."""
 
 class Told(NamedTuple):
-    """Calls for a line about what is skipped (`note`), for what makes the trace incomplete
-    (`fault`), and for the last time stamp of each capture that has one, in seconds since 1970
+    """Functions to call with a note on what is skipped (`note`), with a fault that makes the trace
+    incomplete (`fault`), and with the last time stamp of a capture in seconds since 1970
     (`end`)."""
     note: Tell
     fault: Tell
@@ -40,7 +40,7 @@ SILENT = Told(lambda _: None, lambda _: None)
 
 
 class Notes:
-    """Writes notes on a file: the first of each kind, and how many others there are."""
+    """Reports notes on a file: the first of each kind, and the number of all others."""
 
     def __init__(self, tell: Tell, file: str) -> None:
         self._tell = tell
@@ -48,13 +48,13 @@ class Notes:
         self._counts: Counter[str] = Counter()
 
     def tell(self, kind: str, text: str) -> None:
-        """Writes a note, if it is one of the first of its kind."""
+        """Reports a note if it is one of the first of its kind."""
         self._counts[kind] += 1
         if self._counts[kind] <= MOST_OF_A_KIND:
             self._tell(f"{self._file}: {text}")
 
     def end(self) -> None:
-        """Writes how many notes were left out."""
+        """Reports how many notes were left out."""
         more = sum(max(0, count - MOST_OF_A_KIND) for count in self._counts.values())
         if more:
             self._tell(f"{self._file}: {more} more such {'note' if more == 1 else 'notes'}")
@@ -62,7 +62,7 @@ class Notes:
 
 
 class Moment(NamedTuple):
-    """A time of a capture, the line of the frame that came then, or nothing, and the notes."""
+    """A time in a capture, the line of a frame at this time (or an empty text), and the notes."""
     time: Optional[int]
     line: str
     notes: Notes
@@ -71,9 +71,9 @@ class Moment(NamedTuple):
 def ports_of(sources: Sequence[Source]) -> List[str]:
     """Returns the ports of captures, in the order of sources and interfaces, each once.
 
-    If there are more than 64, returns those that have LLDP frames; raises TooManyPorts if these are
-    too many as well. Standard input and pipes, which can be read once, count with the port they are
-    given.
+    If there are more than 64, returns only the ports that have LLDP frames, and raises TooManyPorts
+    if these are also more than 64. Standard input and pipes can be read only once, so they count as
+    one port: the given one, or eth0.
     """
     ports: Dict[str, None] = {}
     for source in sources:
@@ -87,7 +87,7 @@ def ports_of(sources: Sequence[Source]) -> List[str]:
 
 
 def names_of(source: Source) -> Sequence[str]:
-    """Returns the names for the ports of a capture's interfaces, or the one name that is given."""
+    """Returns the port names of a capture's Ethernet interfaces, or the one name that is given."""
     interfaces: List[CaptureInterface] = []
     if source.port is None and os.path.isfile(source.file):
         with suppress(OSError), opened(source.file) as file:
@@ -97,17 +97,17 @@ def names_of(source: Source) -> Sequence[str]:
 
 
 def trace_of(sources: Sequence[Source], told: Told, seconds: bool = True) -> Iterator[str]:
-    """Returns the lines of the trace, with its seconds or without.
+    """Yields the lines of the trace. Without `seconds`, it has no ticks.
 
-    If a capture cannot be read, or not to its end, that is a fault that names its file, and the
-    others are read further. Raises TooManyPorts before the first line.
+    If a capture cannot be read completely, reports a fault that names the file, and continues with
+    the other captures. Raises TooManyPorts before the first line.
     """
     ports_of(sources)
     yield from frames_of(sources, told, seconds)
 
 
 def frames_of(sources: Sequence[Source], told: Told, seconds: bool) -> Iterator[str]:
-    """Returns the lines of a trace. Captures without time stamps come first."""
+    """Yields the lines of a trace. Captures without time stamps come first."""
     start: Optional[int] = None
     passed = 0  # whole seconds since the start
     moments = (Recording(source, told).moments() for source in sources)
@@ -117,8 +117,8 @@ def frames_of(sources: Sequence[Source], told: Told, seconds: bool) -> Iterator[
             missing = (time - start) // SECOND - passed
             passed += missing
             if missing > MOST_TICKS:
-                notes.tell("jump", f"no packet for {missing} s (was the clock set?): only "
-                           f"{MOST_TICKS} are counted, after which no neighbor is left")
+                notes.tell("jump", f"no packet for {missing} s (was the clock set?): counted as "
+                           f"{MOST_TICKS} s, after which every neighbor has aged out")
                 missing = MOST_TICKS
             yield from ticks(missing)
         if line:
@@ -137,7 +137,7 @@ class Recording:
         self._ports: Dict[CaptureInterface, str] = {}
 
     def moments(self) -> Iterator[Moment]:
-        """Returns the moments, at times that never go back."""
+        """Yields the moments. Their times never go back."""
         try:
             with opened(self._source.file) as file:
                 yield from self._frames(reader_of(file, self._source.most_unpacked))
@@ -151,7 +151,7 @@ class Recording:
         yield Moment(self._latest, "", self._notes)
 
     def _frames(self, reader: Reader) -> Iterator[Moment]:
-        """Returns the beginning and the frames. Only the time of other packets is looked at."""
+        """Yields the beginning and the LLDP frames. Of other packets, only the time is used."""
         shift, interface_before = 0, None
         for interface, stamp, begin, end, length in reader.looks(NEAREST_BRIDGE):
             if interface is not interface_before:
@@ -170,7 +170,7 @@ class Recording:
                 yield Moment(self._latest, line, self._notes)
 
     def _line(self, number: int, interface: CaptureInterface, octets: bytes, length: int) -> str:
-        """Returns the line of a packet, or nothing if it is not an LLDP frame or is skipped."""
+        """Returns a packet's line, or an empty text if it is not an LLDP frame or is skipped."""
         if interface.link_type != ETHERNET or not is_lldp(octets, length):
             return ""
         fault = fault_of(octets, length)
@@ -184,16 +184,16 @@ class Recording:
         return rx(port, octets) if port else ""
 
     def _port(self, interface: CaptureInterface) -> str:
-        """Returns the port of an interface, or nothing if it cannot be one, which is noted."""
+        """Returns an interface's port. Reports an invalid name and returns an empty text for it."""
         port = port_of(self._source, interface)
         if is_port_name(port):
             return port
-        self._fault(f"its interface {port!r} has no name for a port: {PORT_NAME_RULE}; "
-                    f"write --port '{port}=NAME'")
+        self._fault(f"its interface {port!r} cannot be a port: {PORT_NAME_RULE}; "
+                    f"name the port with --port '{port}=NAME'")
         return ""
 
     def _need_ethernet(self, interface: CaptureInterface) -> None:
-        """Notes once that the packets of an interface are skipped."""
+        """Reports once that an interface is skipped because it is not Ethernet."""
         if interface.link_type != ETHERNET and interface not in self._ports:
             self._ports[interface] = ""
             name = f" of its interface {interface.name!r}" if interface.name else ""
@@ -205,17 +205,17 @@ class Recording:
         self._told.fault(f"{self._source.file}: {why}")
 
     def _set_back(self, nanoseconds: int) -> int:
-        """Returns by how much later times are moved on if a time stamp is before the latest one:
-        not at all for less than a second, since packets of several queues may be out of order."""
+        """Returns how much to add to all later times after a time stamp went back by this much.
+        Ignores less than a second, since packets of several queues may be out of order."""
         if nanoseconds < SECOND:
             return 0
-        self._notes.tell("set back", f"the time stamps go back by {nanoseconds // SECOND} s: "
-                                     "no second is added")
+        self._notes.tell("set back", f"the time stamps go back by {nanoseconds // SECOND} s; "
+                                     "time continues from there")
         return nanoseconds
 
 
 def is_lldp(octets: bytes, length: int) -> bool:
-    """Returns whether the captured octets may be LLDP's to the nearest bridge, tagged or not."""
+    """Returns whether the octets may be an LLDP frame to the nearest bridge, tagged or not."""
     if octets[12:14] == ETHERTYPE:
         return octets.startswith(NEAREST_BRIDGE)
     if len(octets) == length < SHORTEST_FRAME:
@@ -228,7 +228,7 @@ def is_lldp(octets: bytes, length: int) -> bool:
 
 
 def fault_of(octets: bytes, length: int) -> str:
-    """Returns why an LLDP frame is skipped, with places for numbers, or nothing."""
+    """Returns why an LLDP frame is skipped (a format string for two lengths), or an empty text."""
     if len(octets) < length:
         return "truncated to {} of {} octets"
     if octets[12:14] in TAGS:

@@ -1,4 +1,4 @@
-"""The octets of a file that gzip compressed, as they are read."""
+"""Unpacks a file compressed by gzip while it is read."""
 
 import gzip
 import io
@@ -19,20 +19,20 @@ class Begun(io.RawIOBase):
         self._begun = begun
 
     def read(self, size: int = -1) -> bytes:
-        """Returns at most this many octets, first those that were read."""
+        """Returns at most this many octets, beginning with those that were already read."""
         octets, self._begun = self._begun[:size], self._begun[size:]
         return octets or self._file.read(size)
 
 
 class Unzipped:
-    """Reads up to `most` octets of a compressed file, whose first octets were already read."""
+    """Unpacks up to `most` octets of a file whose first octets were already read."""
 
     def __init__(self, file: Readable, begun: bytes, most: Optional[int] = None) -> None:
         self._file = gzip.GzipFile(fileobj=Begun(file, begun))
         self._left = most
 
     def read(self, size: int) -> bytes:
-        """Returns at most this many octets, none at the end. Raises BadCapture after the last."""
+        """Returns up to `size` octets, none at the end. Raises BadCapture if it cannot continue."""
         try:
             octets = self._file.read1(size)
         except EOFError:

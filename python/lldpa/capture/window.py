@@ -1,4 +1,4 @@
-"""A stretch of a file in memory, which moves from the file's begin to its end."""
+"""Keeps a part of a file in memory, and moves it from the file's beginning to its end."""
 
 from typing import Protocol
 
@@ -9,17 +9,17 @@ MOST_OCTETS = 1 << 24
 
 
 class BadCapture(LldpaFault):
-    """Why a capture cannot be read further, and at which octet from its beginning."""
+    """The capture cannot be read further. The message says why and, if known, at which octet."""
 
 class Readable(Protocol):
-    """A source of octets: a file, or what unpacks one."""
+    """A source of octets: a file, or an object that unpacks it."""
 
     def read(self, size: int) -> bytes:
         """Returns at most this many octets; none at the end."""
 
 
 class Window:
-    """A stretch of a file: `octets`, the first of which is the file's octet `begin`."""
+    """A part of a file: `octets`, which begin at octet `begin` of the file."""
 
     def __init__(self, file: Readable) -> None:
         self._file = file
@@ -27,12 +27,12 @@ class Window:
         self.octets = b""
 
     def move(self, at: int, count: int) -> bool:
-        """Drops the first `at` octets, and reads until at least `count` follow.
+        """Drops the first `at` octets, and reads until there are at least `count` octets.
 
-        Returns whether there are any. Raises BadCapture if there are some, but too few.
+        Returns False at the file's end. Raises BadCapture if there are some octets, but too few.
         """
         if not 0 <= count <= MOST_OCTETS:
-            raise self.damage(at, "the length there is far too large")
+            raise self.damage(at, "the length of a record is far too large")
         self.begin += at
         parts = [self.octets[at:]]
         missing = count - len(parts[0])
@@ -46,5 +46,5 @@ class Window:
         return len(self.octets) >= count
 
     def damage(self, at: int, why: str) -> BadCapture:
-        """Returns what is wrong with the record that begins at this place of the window."""
+        """Returns the error that the record at this place of the window is damaged."""
         return BadCapture(f"it is damaged at octet {self.begin + at}: {why}")

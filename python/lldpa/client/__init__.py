@@ -1,7 +1,7 @@
 """Asks a running lldpa-live, and presents its answers to people and programs.
 
-`Client` asks a running lldpa-live; `neighbor_object` makes JSON's object of a neighbor that was
-shown; `since_of` reads since when each neighbor has been there.
+`Client` asks a running lldpa-live; `neighbor_object` converts a neighbor to an object for JSON;
+`since_of` reads when each neighbor came.
 """
 from typing import TYPE_CHECKING
 
@@ -13,13 +13,13 @@ if TYPE_CHECKING:
 __all__ = ["Client", "neighbor_object", "since_of"]
 
 
-# modules that are loaded when they are first used
+# the module of each name, which is loaded when the name is first used
 LATER = {"Client": ".connection", "neighbor_object": ".as_json", "since_of": ".live_lines"}
 
 
 def __getattr__(name: str) -> object:
-    """Loads the module of a name that is used for the first time."""
+    """Loads a module when its name is first used."""
     if name in LATER:
-        from importlib import import_module  # as in lldpa
+        from importlib import import_module  # loaded late, as in lldpa
         return getattr(import_module(LATER[name], __name__), name)
     raise AttributeError(f"module {__name__!r} has no attribute {name!r}")

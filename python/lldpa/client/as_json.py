@@ -1,7 +1,7 @@
-"""Shows and their parts as objects for JSON.
+"""Converts shows and their parts to objects for JSON.
 
-Texts are Unicode if their octets are UTF-8. If they are not, a text is escaped as the agent shows
-it, and `octets` beside it has the hexadecimal of each such text by its key.
+Texts are Unicode if their octets are UTF-8. Otherwise a text is escaped as the agent shows it, and
+`octets` in the same object has its octets in hexadecimal, by the key of the text.
 """
 
 from typing import Any, Mapping, Optional
@@ -15,7 +15,7 @@ NOBODY: Since = {}
 
 
 def show_object(show: Show, since: Since = NOBODY) -> dict[str, Any]:
-    """Returns `ports`, `counters`, `chassis` and `configuration`, as far as a show has them."""
+    """Returns `ports`, `counters`, `chassis` and `configuration`, if the show has them."""
     told: dict[str, Any] = {}
     if show.ports:
         told["ports"] = [port_object(port, since) for port in show.ports]
@@ -35,7 +35,7 @@ def port_object(port: Port, since: Since = NOBODY) -> dict[str, Any]:
 
 
 def neighbor_object(neighbor: Neighbor, since: Since = NOBODY) -> dict[str, Any]:
-    """Returns a neighbor, by the names that `lldpa.Neighbor` has for its parts."""
+    """Returns a neighbor as an object with the field names of `lldpa.Neighbor`."""
     capabilities = neighbor.capabilities
     told: dict[str, Any] = {
         "port": neighbor.port,
@@ -60,7 +60,7 @@ def neighbor_object(neighbor: Neighbor, since: Since = NOBODY) -> dict[str, Any]
 
 
 def with_texts(told: dict[str, Any], shown: Mapping[str, Optional[str]]) -> dict[str, Any]:
-    """Adds the texts of a show to an object by their keys, and returns it."""
+    """Adds texts of a show to an object by their keys, and returns the object."""
     for key, text in shown.items():
         if text is not None:
             with_text(key, shown_octets(text), told)

@@ -1,8 +1,7 @@
-"""The client's end of the control socket of a running lldpa-live.
+"""Connects to the control socket of a running lldpa-live.
 
-A question is one line of at most 4,096 octets; its answer is a line `=N` and then N lines. The
-limits of an answer hold for a service that was taken over, too: neither what it sends nor how
-slowly it sends can hold a client.
+A question is one line of at most 4,096 octets. Its answer is a line `=N` and then N lines. Answers
+are limited in size and in time, so that even a service that was taken over cannot block a client.
 """
 
 from __future__ import annotations
@@ -21,16 +20,16 @@ from ..texts import printable
 
 DEFAULT_PATH = "/run/lldpa/control"
 SECONDS_TO_ANSWER = 30.0
-LONGEST_LINE = 64 * 1024  # of an answer, in octets
+LONGEST_LINE = 64 * 1024  # of a line in an answer, in octets
 MOST_OCTETS = 25 * 1024 * 1024  # of an answer: 64 ports with 128 neighbors of 1,500 octets each
-MOST_DIGITS = 12  # of the number of lines, with the `=`
+MOST_DIGITS = 12  # of the number of lines, including the `=`
 NOBODY = 65534  # user and group
 TIMEVAL = struct.Struct("ll")  # seconds and microseconds
 
 
 def connect(connection: socket.socket, path: str, seconds: float) -> None:
-    """Connects, or raises TimeoutError after so many seconds. The socket blocks, because then the
-    kernel lets it wait if the queue of the service is full."""
+    """Connects, or raises TimeoutError after this many seconds. The socket stays blocking, so that
+    the kernel waits if the queue of the service is full."""
     whole, rest = divmod(seconds, 1)
     patience = TIMEVAL.pack(int(whole), int(rest * 1_000_000))
     connection.setsockopt(socket.SOL_SOCKET, socket.SO_SNDTIMEO, patience)
@@ -41,21 +40,21 @@ def connect(connection: socket.socket, path: str, seconds: float) -> None:
 
 
 class Gone(LldpaFault, ConnectionError):
-    """lldpa-live ended the connection before its answer was whole."""
+    """lldpa-live did not send a complete, correct answer."""
 
 
 class Client:
-    """A conversation with an lldpa-live, one question after another; it blocks.
+    """A connection to lldpa-live, for one question after another. Its calls block.
 
-    Raises OSError if no lldpa-live answers at this path, TimeoutError if it accepts no client in
-    time.
+    Raises OSError if no lldpa-live answers at this path, and TimeoutError if it does not accept the
+    connection in time.
     """
 
     def __init__(self, path: str = DEFAULT_PATH, seconds: float = SECONDS_TO_ANSWER) -> None:
         self.seconds = seconds
         self.last = 0.0  # when the answer must be complete
         self.room = 0  # octets that may still be received
-        self.octets = bytearray()  # received, of lines that are not read yet
+        self.octets = bytearray()  # received, but not read yet
         self.connection = socket.socket(socket.AF_UNIX, socket.SOCK_STREAM)
         try:
             connect(self.connection, path, seconds)
@@ -64,16 +63,16 @@ class Client:
             raise
 
     def ask(self, line: str) -> list[str]:
-        """Returns the lines that answer a line. What controls a terminal is escaped in them.
+        """Sends a line, and returns the lines of its answer, safe to print on a terminal.
 
-        Raises `Refused` with the text after `error: `, ValueError if it is not a line or is too
-        long, TimeoutError if the answer is not complete after `seconds`, and `Gone` if
-        lldpa-live ends, or answers with a line of over 64 kB or with over 25 MB.
+        Raises `Refused` with the text after `error: `, ValueError if `line` has a line feed or is
+        too long, TimeoutError if the answer is not complete after `seconds`, and `Gone` if the
+        connection ends early, or the answer is malformed, over 25 MB, or has a line over 64 kB.
         """
         octets = checked(line) + b"\n"
         self.last, self.room = time.monotonic() + self.seconds, MOST_OCTETS
         with contextlib.suppress(BrokenPipeError, ConnectionResetError):
-            self.in_time(self.connection.sendall, octets)  # a service that closed may have said why
+            self.in_time(self.connection.sendall, octets)  # if it closed, it may have said why
         head = self.read_line()
         if not (head.startswith("=") and head[1:].isdecimal() and len(head) <= MOST_DIGITS):
             raise Gone(f"not an answer of lldpa-live: {head!r}")
@@ -93,7 +92,7 @@ class Client:
         return printable(line)
 
     def receive(self) -> None:
-        """Adds the octets that come next."""
+        """Receives more octets of the answer."""
         octets = b""
         with contextlib.suppress(ConnectionResetError):
             octets = self.in_time(self.connection.recv, LONGEST_LINE)
@@ -105,8 +104,8 @@ class Client:
         self.octets += octets
 
     def in_time(self, call: Callable[[Any], Any], argument: Any) -> Any:
-        """Returns what a call of the socket returns. Raises TimeoutError if the time for the answer
-        is over; the socket's own class is another one in Python 3.9."""
+        """Calls a method of the socket, and returns its result. Raises TimeoutError if the time for
+        the answer is over; in Python 3.9, socket.timeout is another class."""
         left = self.last - time.monotonic()
         if left > 0:
             self.connection.settimeout(left)
@@ -115,7 +114,7 @@ class Client:
         raise TimeoutError(f"no complete answer within {self.seconds:g} seconds")
 
     def close(self) -> None:
-        """Ends the conversation."""
+        """Closes the connection."""
         self.connection.close()
 
     def __enter__(self) -> Client:
@@ -126,9 +125,9 @@ class Client:
 
 
 def give_up_root() -> None:
-    """Changes the user from root to nobody for good, if the kernel allows it. A connection stays.
+    """Changes the user from root to `nobody` for good, if that is allowed. Connections stay open.
 
-    Load first what is needed later: nobody may not be able to read it.
+    Import all needed modules before this: the user `nobody` may not be able to read them.
     """
     if os.geteuid() != 0:
         return

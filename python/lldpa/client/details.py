@@ -1,4 +1,4 @@
-"""Shows all that a neighbor sends, for people, in fewer lines than a terminal has."""
+"""Shows people everything that a neighbor sends, in at most 29 lines."""
 
 import time
 from itertools import islice
@@ -17,9 +17,9 @@ Pair = Tuple[str, str]
 
 
 def details(ports: Sequence[Port], since: Since, width: int) -> list[str]:
-    """Returns each neighbor of these ports in at most 29 lines, with an empty line between two.
+    """Returns at most 29 lines for each neighbor of these ports, with empty lines between them.
 
-    The lines are wrapped at a width, and cut if 29 are not enough.
+    Texts are wrapped at `width`, and cut if 29 lines are not enough.
     """
     lines: List[str] = []
     for neighbor in (one for port in ports for one in port.neighbors):
@@ -29,7 +29,7 @@ def details(ports: Sequence[Port], since: Since, width: int) -> list[str]:
 
 
 def discarded(counters: Mapping[str, Counters]) -> list[str]:
-    """Returns a line for each port that discarded TLVs, which no neighbor shows."""
+    """Returns a line for each port that discarded TLVs, since no neighbor shows these."""
     return [f"{readable(port)}: {counted(of.tlvs_discarded, 'TLV')} discarded since the start"
             for port, of in counters.items() if of.tlvs_discarded]
 
@@ -43,7 +43,7 @@ def detail_lines(neighbor: Neighbor, since: Optional[str], width: int) -> list[s
     for heading, text in pairs:
         wanted = wrapped(text, max(width - indent, 1))
         given = list(islice(wanted, 1 + spare))
-        given[-1] = " ".join([given[-1], *islice(wanted, 1)])  # which is cut below
+        given[-1] = " ".join([given[-1], *islice(wanted, 1)])  # the last line is cut below
         spare -= len(given) - 1
         fronts = [padded(f"  {heading}", indent), *[" " * indent] * (len(given) - 1)]
         lines += [cut(front + part, width) for front, part in zip(fronts, given)]
@@ -51,7 +51,7 @@ def detail_lines(neighbor: Neighbor, since: Optional[str], width: int) -> list[s
 
 
 def pairs_of(neighbor: Neighbor, since: Optional[str]) -> Iterator[Pair]:
-    """Returns what is known of a neighbor, under headings."""
+    """Yields everything that is known about a neighbor, as headings and texts."""
     left = f"{neighbor.expires} s of {neighbor.ttl} s left"
     yield "Heard", left if since is None else f"since {local_time(since)}, {left}"
     yield "Chassis ID", with_kind(neighbor.chassis)
@@ -73,14 +73,14 @@ def pairs_of(neighbor: Neighbor, since: Optional[str]) -> Iterator[Pair]:
 
 
 def others_of(neighbor: Neighbor) -> Iterator[Pair]:
-    """Returns its other lines: TLVs of reserved types, and keys that are not known here."""
+    """Yields its other lines: TLVs of reserved types, and keys that are unknown here."""
     for key, value in neighbor.said:
         if key not in SAID_KEYS and not key.startswith("org."):
             yield readable(key), readable(value)
 
 
 def local_time(utc: str) -> str:
-    """Returns a time of an lldpa-live as local time."""
+    """Converts a time that lldpa-live wrote to local time."""
     try:
         seconds = seconds_of(utc)
     except ValueError:

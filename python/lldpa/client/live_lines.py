@@ -2,13 +2,13 @@
 
 from typing import Dict, Iterable, Mapping, Sequence, Tuple
 
-# when a neighbor came, by its port and its MSAP identifier
+# when each neighbor came, by its port and its MSAP identifier
 Since = Mapping[Tuple[str, str], str]
 
 
 class LiveLines:
-    """The values of these lines by key and by port, when each neighbor came, and the number of each
-    chassis. A line of another form is ignored."""
+    """The values of these lines by key and by port, the time when each neighbor came, and the
+    number of each chassis. Other lines are ignored."""
 
     def __init__(self, lines: Iterable[str]) -> None:
         self.own: Dict[str, str] = {}
@@ -35,7 +35,7 @@ class LiveLines:
 
     @property
     def is_up(self) -> bool:
-        """Returns whether the agent runs: it does not wait for an interface."""
+        """Returns whether the agent runs, rather than waits for an interface."""
         return self.own.get("agent", "running") == "running"
 
 

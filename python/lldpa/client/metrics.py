@@ -11,22 +11,22 @@ from ..agent.shown import COUNTED
 Labels = Mapping[str, str]
 SAID = ("0080c2.1", "00120f.4")  # Port VLAN ID and Maximum Frame Size, which are labels
 
-# key of a line of `live`, name, description, and states: the sample of the current one is 1
+# key in `live`, name, description, and states; the sample of the current state is 1
 STATES = (
-    ("agent", "lldpa_agent_state", "State of the agent: 1 for the current one, or 0.",
+    ("agent", "lldpa_agent_state", "1 for the current state of the agent, 0 for others.",
      ("running", "waiting")),
-    ("log", "lldpa_log_state", "State of the log: 1 for the current one, or 0.",
+    ("log", "lldpa_log_state", "1 for the current state of the log, 0 for others.",
      ("full", "off", "on", "stalled")),
 )
 NUMBERS = (
     ("settings-refused", "lldpa_settings_refused", "gauge",
      "Settings that were refused when they were last read."),
     ("ports-refused", "lldpa_ports_refused", "gauge",
-     "Interfaces that a pattern names and that are not used, because 64 ports are in use."),
+     "Interfaces that match a pattern but are not used, because 64 ports are in use."),
     ("log-lines-lost", "lldpa_log_lines_lost_total", "counter",
-     "Lines of the agent that are in no file of the log."),
+     "Lines of the agent that were not written to the log."),
 )
-# the same of a port; with a word, its sample is 1 if the value is this word
+# for ports: key, name, type, description, and the value for which the sample is 1, if any
 OF_PORTS = (
     ("interface", "lldpa_interface_present", "gauge",
      "Whether the interface of the port exists, 1 or 0.", "present"),
@@ -34,13 +34,13 @@ OF_PORTS = (
     ("kernel-drops", "lldpa_kernel_drops_total", "counter",
      "Frames that the kernel dropped because lldpa-live did not read them in time.", ""),
     ("limit-drops", "lldpa_limit_drops_total", "counter",
-     "Frames over the limit of a port, dropped before the agent.", ""),
+     "Frames over the limit of 64 a second, which the agent did not receive.", ""),
     ("unsent", "lldpa_unsent_total", "counter",
      "Frames of the agent that the interface did not accept.", ""),
     ("left-out", "lldpa_left_out_total", "counter",
-     "Frames of the agent left out after a stop: only the last of each port was sent.", ""),
+     "Frames left out after a pause of lldpa-live: only the last of each port was sent.", ""),
     ("other-frames", "lldpa_other_frames_total", "counter",
-     "LLDP frames that are tagged, to another address or too long, which are not read.", ""),
+     "LLDP frames that are not read: tagged, to another address or too long.", ""),
 )
 
 
@@ -51,9 +51,9 @@ def metrics(show: Show, live: Iterable[str]) -> list[str]:
         *metric_lines("lldpa_neighbors", "gauge", "Neighbors that the port holds.",
                       [({"port": port.name}, port.neighbors_held) for port in show.ports]),
         *metric_lines("lldpa_too_many", "gauge",
-                      "Whether a dropped neighbor would still stay, 1 or 0.",
+                      "1 while a neighbor dropped for lack of room would still be present.",
                       [({"port": port.name}, int(port.too_many)) for port in show.ports]),
-        *metric_lines("lldpa_neighbor_info", "gauge", "What a neighbor says of itself; always 1.",
+        *metric_lines("lldpa_neighbor_info", "gauge", "What a neighbor announces; always 1.",
                       [(described(neighbor), 1) for neighbor in show.neighbors]),
         *metric_lines("lldpa_expires_seconds", "gauge", "Seconds until the neighbor ages out.",
                       [(identified(neighbor), neighbor.expires) for neighbor in show.neighbors]),
@@ -62,13 +62,13 @@ def metrics(show: Show, live: Iterable[str]) -> list[str]:
 
 
 def up_lines(is_up: bool) -> Iterator[str]:
-    """Returns the metric that says whether lldpa-live is up, the only one if it does not answer."""
+    """Yields the metric `lldpa_up`. If lldpa-live does not answer, no other metric is written."""
     text = "Whether lldpa-live answers and its agent runs, 1 or 0."
     return metric_lines("lldpa_up", "gauge", text, [({}, int(is_up))])
 
 
 def live_lines(told: LiveLines) -> Iterator[str]:
-    """Returns the metrics of the values that lldpa-live reports."""
+    """Yields the metrics of the values that lldpa-live reports about itself and its ports."""
     yield from up_lines(told.is_up)
     if "began" in told.own:
         start = seconds_of(told.own["began"])
@@ -100,7 +100,7 @@ def identified(neighbor: Neighbor) -> dict[str, str]:
 
 
 def described(neighbor: Neighbor) -> dict[str, str]:
-    """Returns the labels that describe a neighbor; what it did not send is empty."""
+    """Returns the labels that describe a neighbor. A label is empty if its value was not sent."""
     said = said_by(one for one in neighbor.org if one[0] in SAID)
     return {
         **identified(neighbor),
@@ -120,7 +120,7 @@ def counter_lines(counters: Mapping[str, Counters]) -> Iterator[str]:
 
 def metric_lines(name: str, kind: str, text: str,
                  samples: Iterable[Tuple[Labels, int]]) -> Iterator[str]:
-    """Returns the lines of one metric, none if it has no samples."""
+    """Yields the lines of one metric, or no line if it has no samples."""
     lines = [f"{name}{label_list(labels)} {value}" for labels, value in samples]
     if lines:
         yield f"# HELP {name} {text}"
@@ -129,11 +129,11 @@ def metric_lines(name: str, kind: str, text: str,
 
 
 def label_list(labels: Labels) -> str:
-    """Returns labels as they are written after a name, or nothing if there are none."""
+    """Returns labels in braces, as they follow a metric's name; an empty text for no labels."""
     listed = ",".join(f'{name}="{escaped(value)}"' for name, value in labels.items())
     return f"{{{listed}}}" if listed else ""
 
 
 def escaped(value: str) -> str:
-    """Returns a label's value as the format wants it between double quotes."""
+    """Escapes a label's value as the format requires between double quotes."""
     return value.replace("\\", "\\\\").replace('"', '\\"').replace("\n", "\\n")

@@ -1,4 +1,4 @@
-"""The tables for people, as wide as the terminal: neighbors, the state of ports, and counters."""
+"""Formats tables for people, as wide as the terminal: neighbors, states of ports, and counters."""
 
 import os
 import socket
@@ -15,7 +15,7 @@ HEADINGS = ("PORT", "NEIGHBOR", "ITS PORT", VLAN, MANAGEMENT, "LEFT")
 INTERFACES = ("PORT", "INTERFACE", "LINK", "STATUS", "NEIGHBORS")
 UNKNOWN = "?"
 ALL = "all"
-PORT_VLAN = "0080c2.1"  # OUI and subtype of the only such TLV that the table shows
+PORT_VLAN = "0080c2.1"  # OUI and subtype of the Port VLAN ID TLV
 BETWEEN = "  "
 NOT_CUT = 1_000_000  # a width at which nothing is cut
 LEAST_WIDTH_OF_TEXT = 20
@@ -27,7 +27,7 @@ REASONS = {AWAITED: (": no such interface", ": no such interfaces"),
 
 
 def terminal_width() -> int:
-    """Returns the columns of the terminal if standard output is one; otherwise nothing is cut."""
+    """Returns the terminal's width, or a huge width if standard output is not a terminal."""
     try:
         return os.get_terminal_size(sys.stdout.fileno()).columns or NOT_CUT
     except (OSError, ValueError):
@@ -35,11 +35,10 @@ def terminal_width() -> int:
 
 
 def table(ports: Sequence[Port], width: int) -> list[str]:
-    """Returns the neighbors of these ports in lines of at most that many columns, and a count
-    below.
+    """Returns a table of the neighbors of these ports, at most `width` wide, and their number.
 
-    The table has the VLAN if a neighbor says one. If the lines are too wide, the management address
-    is left out first.
+    The VLAN column is shown only if a neighbor sent a VLAN. If the table is too wide, the column of
+    management addresses is left out first.
     """
     rows = [row_of(neighbor) for port in ports for neighbor in port.neighbors]
     if not rows:
@@ -52,34 +51,34 @@ def table(ports: Sequence[Port], width: int) -> list[str]:
 
 
 def row_of(neighbor: Neighbor) -> Tuple[str, ...]:
-    """Returns what the table says of a neighbor, below its headings."""
+    """Returns a neighbor's row of the table."""
     pvid = port_vlan_of(neighbor.org)
     return (readable(neighbor.port), name_of(neighbor), port_of(neighbor),
             str(pvid) if pvid else "", management_of(neighbor), f"{neighbor.expires} s")
 
 
 def port_vlan_of(org: Iterable[Tuple[str, str]]) -> Optional[int]:
-    """Returns a neighbor's Port VLAN ID, 0 for none; None if none was sent, or several differ."""
+    """Returns the Port VLAN ID (0: no VLAN), or None if none or different ones were sent."""
     vids = {vid_of(digits) for kind, digits in org if kind == PORT_VLAN} - {None}
     return vids.pop() if len(vids) == 1 else None
 
 
 def vid_of(digits: str) -> Optional[int]:
-    """Returns a VLAN identifier in hexadecimal, 0 for none; None if it is not one."""
+    """Reads a VLAN identifier from hexadecimal. Returns None if it is not valid."""
     try:
         vid = int.from_bytes(bytes.fromhex(digits), "big")
-    except ValueError:  # not hexadecimal, so no agent has shown them
+    except ValueError:  # not hexadecimal, so not from an agent
         return None
     return vid if len(digits) == 4 and vid <= GREATEST_VID else None
 
 
 def name_of(neighbor: Neighbor) -> str:
-    """Returns its System Name, or its chassis ID if it has none."""
+    """Returns the neighbor's System Name, or its chassis ID if it has none."""
     return readable(neighbor.name) if neighbor.name else identifier_text(neighbor.chassis)
 
 
 def port_of(neighbor: Neighbor) -> str:
-    """Returns its Port ID, or its Port Description if the Port ID does not read well."""
+    """Returns its Port ID, or its Port Description if the Port ID is a MAC address or binary."""
     if neighbor.port_id.kind in ("mac", "unhandled") and neighbor.port_descr:
         return readable(neighbor.port_descr)
     return identifier_text(neighbor.port_id)
@@ -96,7 +95,7 @@ def identifier_text(identifier: Identifier) -> str:
 
 
 def address_text(address: str) -> str:
-    """Returns an address for people, who shorten those of IPv6."""
+    """Returns an address for people. IPv6 addresses are shortened."""
     try:
         return socket.inet_ntop(socket.AF_INET6, socket.inet_pton(socket.AF_INET6, address))
     except (OSError, ValueError):
@@ -110,15 +109,15 @@ def summary(neighbor: Neighbor) -> str:
 
 
 def columns(rows: Sequence[Sequence[str]], width: int, numbers: int = 1) -> list[str]:
-    """Returns rows as lines of columns; the last `numbers` columns are numbers. If the lines are
-    too wide, the widest columns are cut to the same width."""
+    """Formats rows in columns. The last `numbers` columns are numbers. If the lines are too wide,
+    the widest columns are cut to the same width."""
     natural = [max(map(width_of, column)) for column in zip(*rows)]
     widths = fitted(natural, width - len(BETWEEN) * (len(natural) - 1))
     return [cut(line_of(row, widths, numbers), width) for row in rows]
 
 
 def fitted(widths: Sequence[int], room: int) -> list[int]:
-    """Returns the greatest widths, none above those given, that fit together."""
+    """Reduces the greatest widths to one width, so that all widths fit in `room`."""
     most = max(widths)
     while most > 1 and sum(min(width, most) for width in widths) > room:
         most -= 1
@@ -126,7 +125,7 @@ def fitted(widths: Sequence[int], room: int) -> list[int]:
 
 
 def line_of(row: Sequence[str], widths: Sequence[int], numbers: int) -> str:
-    """Returns a row as a line: texts begin below each other, numbers end below each other."""
+    """Returns a row as a line. Texts are aligned to the left, and numbers to the right."""
     parts = [cut(text, width) for text, width in zip(row, widths)]
     first = len(parts) - numbers
     return BETWEEN.join(padded(part, width) if place < first else part.rjust(width)
@@ -134,7 +133,7 @@ def line_of(row: Sequence[str], widths: Sequence[int], numbers: int) -> str:
 
 
 def count_of(ports: Sequence[Port], width: int) -> list[str]:
-    """Returns how many neighbors there are, and what to raise for ports without enough room."""
+    """Returns the number of neighbors, and what to do for each port with too little room."""
     held = sum(port.neighbors_held for port in ports)
     said = f"{counted(held, 'neighbor')} on {counted(len(ports), 'port')}."
     for port in (port for port in ports if port.too_many):
@@ -158,7 +157,7 @@ def reasons(show: Show, live: Mapping[str, Mapping[str, str]], width: int) -> li
 
 
 def reason(live: Mapping[str, str], status: str) -> str:
-    """Returns why a port has no neighbor, one of `REASONS` or nothing."""
+    """Returns why a port may have no neighbor: a key of `REASONS`, or an empty text."""
     if live.get("interface") == AWAITED:
         return AWAITED
     if status in REASONS:
@@ -167,8 +166,8 @@ def reason(live: Mapping[str, str], status: str) -> str:
 
 
 def interfaces(show: Show, live: Iterable[str]) -> list[Dict[str, Any]]:
-    """Returns each port of a configuration: whether its interface exists and its link is up, its
-    status, and how many neighbors it has. What is not known is None."""
+    """Returns for each port whether its interface exists and its link is up, its status, and its
+    number of neighbors. Unknown values are None."""
     states = LiveLines(live).ports
     held = {port.name: port.neighbors_held for port in show.ports}
     statuses: Mapping[str, str] = show.configuration.statuses if show.configuration else {}
@@ -190,7 +189,7 @@ def summed(counters: Iterable[Counters]) -> Counters:
 
 
 def counter_lines(counters: Mapping[str, Counters], width: int) -> list[str]:
-    """Returns a line for each port, and one for all of them if there are several."""
+    """Returns a line of counters for each port, and a line of sums if there are several ports."""
     told = {readable(port): of for port, of in counters.items()}
     if len(told) > 1:
         told[ALL] = summed(counters.values())

@@ -1,7 +1,7 @@
-"""Writes the metrics of lldpa-live for Prometheus, or for a collector of its files.
+"""Writes the metrics of lldpa-live to standard output, or to a file for Prometheus' collector.
 
-If nobody answers, `lldpa_up 0` is written, so that a dead lldpa-live never looks healthy. A file is
-written whole or not at all.
+If lldpa-live does not answer, `lldpa_up 0` is written, so that a dead lldpa-live never looks
+healthy. A file is written completely or not at all.
 """
 
 import os
@@ -20,27 +20,27 @@ SECONDS_TO_ANSWER = 10.0  # for each question; the timer asks again soon
 
 
 def publish(path: str, file: Optional[str]) -> None:
-    """Writes the metrics of lldpa-live at a control socket to a file, or to standard output.
+    """Asks the lldpa-live at this path, and writes its metrics to a file or to standard output.
 
-    After that it raises what `Client` raises if nobody answers, and Refused if the agent waits for
-    an interface. Raises LldpaFault if the file can't be written.
+    Then raises what `Client` raises if lldpa-live does not answer, and Refused if the agent waits
+    for an interface. Raises LldpaFault if the file can't be written.
     """
     try:
         told, lines = asked(path, file is None)
     except (Refused, Gone, ShowFault, OSError):
         write(up_lines(False), file)
         raise
-    except ValueError as fault:  # what answers is not lldpa-live
+    except ValueError as fault:  # the answer is not from lldpa-live
         write(up_lines(False), file)
         raise Gone(f"not an answer of lldpa-live: {fault}") from None
     write(lines, file)
     if not told.is_up:
-        raise Refused(f"the agent is {told.own['agent']}")
+        raise Refused(f"the agent is {told.own['agent']} for an interface")
 
 
 def asked(path: str, is_printed: bool) -> tuple[LiveLines, list[str]]:
-    """Returns what lldpa-live at a control socket says of itself, and its metrics: without those of
-    the agent if there is none yet. Root is kept if a file is to be written."""
+    """Returns the answer to `live`, and the metrics. Leaves out the agent's metrics if it does not
+    run. Gives up root if no file is to be written."""
     with Client(path, SECONDS_TO_ANSWER) as client:
         if is_printed:
             load()
@@ -52,13 +52,13 @@ def asked(path: str, is_printed: bool) -> tuple[LiveLines, list[str]]:
                 shown = read_show(client.ask("show neighbors") + client.ask("show statistics"))
             except Refused:
                 live = client.ask("live")
-                if LiveLines(live).is_up:  # it was not refused because the agent waits
+                if LiveLines(live).is_up:  # the agent does not wait, so something is wrong
                     raise
         return LiveLines(live), metrics(shown, live)
 
 
 def write(lines: Iterable[str], file: Optional[str]) -> None:
-    """Writes lines to a file, which they replace, or to standard output."""
+    """Writes lines to standard output, or replaces a file by them."""
     text = "".join(line + "\n" for line in lines)
     if file is None:
         print(text, end="")
@@ -70,13 +70,13 @@ def write(lines: Iterable[str], file: Optional[str]) -> None:
 
 
 def replace(file: str, text: str) -> None:
-    """Replaces a file by that text, once the text is written whole."""
+    """Replaces a file by this text, after writing all of the text to a temporary file."""
     import tempfile  # slow to load
     folder, name = os.path.split(os.path.abspath(file))
     number, path = tempfile.mkstemp(prefix=f".{name}.", dir=folder)
     try:
         with open(number, "w", encoding="utf-8") as new:
-            os.fchmod(new.fileno(), 0o644)  # for the collector, which is another user
+            os.fchmod(new.fileno(), 0o644)  # so that the collector, another user, can read it
             new.write(text)
             new.flush()
             os.fsync(new.fileno())

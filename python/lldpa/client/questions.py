@@ -1,5 +1,5 @@
-"""The commands for people: what each asks, and how the answers are shown. Modules that only one
-command needs are loaded with it."""
+"""Defines the commands for people: which lines each sends, and how the answers are shown. A module
+that only one command needs is loaded by that command."""
 
 from typing import Any, Callable, Dict, List, NamedTuple, Sequence, Tuple
 
@@ -12,21 +12,21 @@ from ..agent.show import Show, read_show
 Lines = Sequence[str]
 Answers = Sequence[Lines]
 SHOWS = ("neighbors", "statistics", "chassis", "configuration", "interfaces")
-OF_PORTS = ("neighbors", "statistics")  # the shows that ports can follow
+OF_PORTS = ("neighbors", "statistics")  # the shows that may be followed by ports
 SET_PORTS = ("configure", "ports")
-OF_LINES = ("up", "down", "rx", "tick")  # of the agent's trace; these cannot be shortened
-# lldpcli's other names
+OF_LINES = ("up", "down", "rx", "tick")  # lines of the trace, which cannot be shortened
+# lldpcli's names of commands
 OF_LLDPCLI = {("show", "interfaces"): ("interfaces",),
               ("show", "neighbors", "details"): ("details",),
               ("show", "neighbors", "summary"): ("neighbors",),
               ("show", "statistics", "summary"): ("statistics", "summary")}
-# the reasons to refuse a word; the others are about a whole line
+# the reasons for refusing a word; all other reasons are about a whole line
 OF_A_WORD = ("unknown command", "no such port", "not a number", "out of range", "bad text",
              "extra word")
 
 
 class Question(NamedTuple):
-    """Lines to ask, their answers as text and as JSON, and `further` lines that JSON needs."""
+    """Lines to send, functions that show the answers, and `further` lines to send for JSON."""
 
     lines: Sequence[str]
     text: Callable[[Answers, int], List[str]]
@@ -35,7 +35,7 @@ class Question(NamedTuple):
 
 
 def question(words: Sequence[str]) -> Question:
-    """Returns what a command asks, whose words may be shortened. Raises Refused for others."""
+    """Reads a command, whose words may be shortened. Raises Refused if it is unknown."""
     words = in_full(words, COMMANDS)
     for front, short in OF_LLDPCLI.items():
         if tuple(words[:len(front)]) == front:
@@ -50,7 +50,7 @@ def question(words: Sequence[str]) -> Question:
 
 
 def ask_neighbors(rest: Sequence[str]) -> Question:
-    """Asks for the table."""
+    """Asks for the table of neighbors."""
     ports = listed(rest)
 
     def text(answers: Answers, width: int) -> List[str]:
@@ -75,7 +75,7 @@ def ask_details(rest: Sequence[str]) -> Question:
 
 
 def shown_object(answers: Answers, ports: Sequence[str] = ()) -> Any:
-    """Returns what a show says of ports; a second answer is `live`, for since when."""
+    """Returns these ports of a show as an object. The answer to `live`, if given, adds `since`."""
     from .as_json import show_object
     since = since_of(answers[1]) if len(answers) > 1 else {}
     return show_object(only(read_show(answers[0]), ports), since)
@@ -113,7 +113,7 @@ def ask_statistics(rest: Sequence[str]) -> Question:
 
 def ask_live(rest: Sequence[str]) -> Question:
     if rest:
-        raise Refused(f"extra word: {rest[0]} (nothing follows)")
+        raise Refused(f"extra word: {rest[0]} (no word is allowed here)")
     return Question(["live"], lambda answers, width: list(answers[0]), lambda answers: {
         key: value for key, _, value in (line.partition("=") for line in answers[0])})
 
@@ -131,7 +131,7 @@ def ask_show_of(name: str, ports: Sequence[str]) -> Question:
 
 
 def ask_lines(lines: Sequence[str]) -> Question:
-    """Asks lines of the agent, and shows their answers as they are."""
+    """Sends lines to the agent, and shows their answers unchanged."""
     def text(answers: Answers, width: int) -> List[str]:
         return [line for answer in answers for line in answer]
     return Question(lines, text, lambda answers: shown_object(answers[:1]))
@@ -149,20 +149,20 @@ COMMANDS: Tuple[str, ...] = (*OWN, "show", "configure", "update")
 
 
 def in_full(words: Sequence[str], commands: Sequence[str]) -> List[str]:
-    """Returns the words of one of these commands, the first and what it shows in full."""
+    """Returns a command with its first word, and the word after `show`, in full."""
     first, rest = completed(words[0], commands), list(words[1:])
     return [first, *(completed(one, SHOWS) for one in rest[:1] if first == "show"),
             *(rest[1:] if first == "show" else rest)]
 
 
 def completed(word: str, able: Sequence[str]) -> str:
-    """Returns the one of these words that begins with a word, or else the word itself."""
+    """Returns the only one of these words that begins with `word`, or else `word` itself."""
     found = [one for one in able if one.startswith(word)] if word else []
     return found[0] if len(found) == 1 and word not in (*able, *OF_LINES) else word
 
 
 def listed(words: Sequence[str]) -> List[str]:
-    """Returns names of ports from words with commas. The word `ports` may precede them."""
+    """Returns the names of ports in words, split at commas. The word `ports` may come first."""
     some = words[1:] if list(words[:1]) == ["ports"] and len(words) > 1 else words
     return [name for word in some for name in word.split(",")]
 
@@ -172,7 +172,7 @@ def ports_of(show: Show) -> List[str]:
 
 
 def only(show: Show, ports: Sequence[str]) -> Show:
-    """Returns what a show says of ports, of all if none is named. Raises Refused for another."""
+    """Returns only these ports of a show, or all. Raises Refused if a port is unknown."""
     if not ports:
         return show
     check(ports, ports_of(show))
@@ -182,23 +182,23 @@ def only(show: Show, ports: Sequence[str]) -> Show:
 
 
 def check(ports: Sequence[str], known: Sequence[str]) -> None:
-    """Raises Refused for a port that is not known."""
+    """Raises Refused if a port is unknown."""
     for port in ports:
         if port not in known:
-            raise Refused(f"no such port: {port or 'nothing'} ({', '.join(known)})")
+            raise Refused(f"no such port: {port or 'empty name'} ({', '.join(known)})")
 
 
 def explanation(words: Sequence[str], text: str, commands: Sequence[str] = COMMANDS) -> str:
-    """Returns what the agent says of a refused command, with the word that it is about and what is
-    allowed in its place. `commands` are the first words of all commands."""
+    """Returns why the agent refused a command, with the word that is wrong and what is allowed in
+    its place. `commands` are the first words of all commands."""
     if text not in OF_A_WORD or not words:
         return text
     if words[0] not in commands:
         return f"{text}: {words[0]} ({', '.join(commands)})"
     if words[0] == "configure":
-        from .refused import explained  # which is seldom needed
+        from .refused import explained  # seldom needed
         return explained(command(*words), text)
     if words[0] == "show" and (len(words) == 1 or words[1] not in SHOWS):
-        return f"{text}: {words[1] if len(words) > 1 else 'nothing follows'} ({', '.join(SHOWS)})"
+        return f"{text}: {words[1] if len(words) > 1 else 'a word is missing'} ({', '.join(SHOWS)})"
     first = 2 if words[0] == "show" else 1
-    return f"{text}: {words[first]} (nothing follows)" if len(words) > first else text
+    return f"{text}: {words[first]} (no word is allowed here)" if len(words) > first else text

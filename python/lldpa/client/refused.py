@@ -1,4 +1,4 @@
-"""Why a command was refused: which of its words, and what the help of the agent says of it."""
+"""Explains why a command was refused: which word is wrong, and what the agent's help allows."""
 
 import re
 import subprocess
@@ -7,20 +7,20 @@ from typing import Dict, List, Sequence, Tuple
 
 from ..agent.framing import words_of
 
-SECONDS = 5.0  # for `lldpa --help`
+SECONDS = 5.0  # that `lldpa --help` may take
 COMMAND = re.compile(r"  (configure (?:[^ ]+ )*[^ ]+)  +(.*)")
 FURTHER = re.compile(r" {20,}(.*)")  # the rest of a command's description
 THE_SAME = "the same"
 PORT, STATUS = "PORT", "STATUS"
 A_PORT = "a port of this agent"
 
-# forms of commands, word by word, and the description of each; words in capitals are values
+# the words of each form of a command, and its description; words in capitals are values
 Forms = Dict[Tuple[str, ...], str]
 
 
 @lru_cache(maxsize=None)
 def forms_of(program: str) -> Forms:
-    """Returns the forms in the help of an agent, none if there is no such program."""
+    """Returns the forms of commands in an agent's help; none if the program cannot be run."""
     try:
         ran = subprocess.run([program, "--help"], stdin=subprocess.DEVNULL, capture_output=True,
                              timeout=SECONDS, check=False)
@@ -40,8 +40,8 @@ def forms_of(program: str) -> Forms:
 
 
 def explained(line: str, text: str, program: str = "lldpa") -> str:
-    """Returns what the agent said of a line that it refused, for instance `out of range`, with the
-    word that it is about and what is allowed there: `out of range: 0 (seconds between frames, 1 to
+    """Returns why the agent refused a line, for instance `out of range`, with the word that is
+    wrong and what is allowed in its place: `out of range: 0 (seconds between frames, 1 to
     3600)`."""
     words, known = words_of(line), forms_of(program)
     if text == "bad quote" or not known:
@@ -49,22 +49,22 @@ def explained(line: str, text: str, program: str = "lldpa") -> str:
     fits = max(fitting(form, words, known) for form in known)
     forms = [form for form in known if fitting(form, words, known) == fits]
     if len(words) > fits and len(forms) == 1 and len(forms[0]) == fits:
-        return f"{text}: {words[fits]} (nothing follows)"
+        return f"{text}: {words[fits]} (no word is allowed here)"
     wrong = fits if fits < len(words) else len(words)
     if text not in ("unknown command", "extra word"):
         wrong = next(place for place, word in enumerate(forms[0]) if word.isupper())
     wanted = dict.fromkeys(said_of(form[wrong], known[form]) for form in forms if wrong < len(form))
-    said = words[wrong] if wrong < len(words) else "nothing follows"
-    return f"{text}: {said or 'nothing'} ({' or '.join(wanted)})"
+    said = words[wrong] if wrong < len(words) else "a word is missing"
+    return f"{text}: {said or 'empty word'} ({' or '.join(wanted)})"
 
 
 def said_of(word: str, said: str) -> str:
-    """Returns what is allowed for a form's word; `said` is the description of the form."""
+    """Returns what is allowed in place of a form's word. `said` is the form's description."""
     return A_PORT if word == PORT else said if word.isupper() else word
 
 
 def fitting(form: Sequence[str], words: Sequence[str], known: Forms) -> int:
-    """Returns how many words at the beginning are as the form has them."""
+    """Returns how many words match the form, from its first word on."""
     count = 0
     for wanted, word in zip(form, words):
         if wanted == STATUS and word not in known[tuple(form)].split(", "):
@@ -76,7 +76,7 @@ def fitting(form: Sequence[str], words: Sequence[str], known: Forms) -> int:
 
 
 def in_full(some: Sequence[str], forms: Forms) -> List[str]:
-    """Returns the words of a command of the agent, with shortened ones in full."""
+    """Returns the words of an agent's command, with shortened words in full."""
     words = list(some)
     for place in range(1, len(words)):
         forms = {form: said for form, said in forms.items() if len(form) > place

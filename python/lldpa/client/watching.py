@@ -1,4 +1,4 @@
-"""What happens to neighbors between two shows: which came, changed and left."""
+"""Finds out which neighbors came, changed and left between two shows."""
 
 import json
 import time
@@ -29,13 +29,13 @@ class NeighborNews(NamedTuple):
 
 
 class Watch:
-    """Compares each show of the neighbors with the one before."""
+    """Compares each show of the neighbors with the previous one."""
 
     def __init__(self, ports: Iterable[Port]) -> None:
         self.known = by_name(ports)
 
     def news(self, ports: Iterable[Port]) -> Iterator[NeighborNews]:
-        """Returns what happened since the show before, with those that left first."""
+        """Yields what happened since the previous show, beginning with neighbors that left."""
         before, self.known = self.known, by_name(ports)
         for name, neighbor in before.items():
             if name not in self.known:
@@ -54,12 +54,12 @@ def news_line(news: NeighborNews) -> str:
 
 
 def by_name(ports: Iterable[Port]) -> dict[Name, Neighbor]:
-    """Returns the neighbors by port and MSAP identifier, which no two share."""
+    """Returns the neighbors by port, chassis ID and port ID, which identify each of them."""
     return {(one.port, one.chassis, one.port_id): one for port in ports for one in port.neighbors}
 
 
 def changes(old: Neighbor, new: Neighbor) -> Iterator[str]:
-    """Returns what differs between two states of a neighbor, except the seconds left."""
+    """Yields the differences between two states of a neighbor, except the seconds left."""
     if old.ttl != new.ttl:
         yield f"ttl: {old.ttl} -> {new.ttl}"
     if old.said == new.said:
@@ -71,7 +71,7 @@ def changes(old: Neighbor, new: Neighbor) -> Iterator[str]:
 
 
 def content_of(neighbor: Neighbor) -> Dict[str, str]:
-    """Returns all that a neighbor says, by keys: in words if its meaning is known."""
+    """Returns everything that a neighbor sent, by key, in words if its meaning is known."""
     said = said_by(neighbor.org)
     plain = [(key, value) for key, value in neighbor.said if not key.startswith("org.")]
     rest = [(f"org.{kind}", octets) for kind, octets in said.rest]
@@ -82,7 +82,7 @@ def content_of(neighbor: Neighbor) -> Dict[str, str]:
 
 
 def looks(client: Client) -> Iterator[List[str]]:
-    """Asks for the neighbors again and again. Skips answers while the agent waits."""
+    """Asks for the neighbors again and again, and yields the answers while the agent runs."""
     while True:
         time.sleep(SECONDS_BETWEEN_LOOKS)
         try:
@@ -93,8 +93,8 @@ def looks(client: Client) -> Iterator[List[str]]:
 
 
 def watch(client: Client, some: Sequence[str], as_json: bool) -> None:
-    """Prints a line for each neighbor of some ports, or of all, that comes, changes or leaves,
-    without end. Raises Refused for a port that does not exist."""
+    """Prints a line for each neighbor of these ports (all if empty) that comes, changes or leaves.
+    Never returns. Raises Refused if a port does not exist."""
     neighbors = Watch(only(read_show(client.ask("show neighbors")), some).ports)
     for lines in looks(client):
         now = time.strftime("%Y-%m-%dT%H:%M:%S%z")

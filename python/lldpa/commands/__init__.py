@@ -1,1 +1,1 @@
-"""The programs: the words and the main of each."""
+"""The programs: the arguments and the `main` of each."""

@@ -15,10 +15,10 @@ from ..version import add_version
 
 NAME = "lldpa-capture"
 SUMMARY = "Writes the LLDP frames of captures as a trace for lldpa, with the seconds between them."
-FILE_HELP = """a capture of Ethernet, pcap or pcapng, or - for standard input; PORT=FILE names the
-port of all its frames"""
-PORT_HELP = """use NAME as the port of all frames; INTERFACE=NAME: of the frames of that interface
-(default: the interface that a pcapng file names, or eth0)"""
+FILE_HELP = """an Ethernet capture in pcap or pcapng form, or - for standard input; with PORT=FILE,
+PORT is the port of all its frames"""
+PORT_HELP = """use NAME as the port of all frames; with INTERFACE=NAME, only of the frames of that
+interface (default: the interface's name in a pcapng file, or eth0)"""
 EPILOG = """\
 example: lldpa-capture --show lab.pcap | lldpa --receive-only eth0
 lldpa-capture(1) describes which packets are skipped, and the exit statuses.
@@ -28,7 +28,7 @@ ANY_INTERFACE = ""
 
 
 def note(text: str) -> None:
-    """Writes a line on standard error."""
+    """Writes a line to standard error."""
     complain(NAME, text)
 
 
@@ -43,31 +43,31 @@ def parser_of_words() -> argparse.ArgumentParser:
     parser.add_argument("--no-seconds", action="store_true",
                         help="omit the seconds, so that no neighbor ages out")
     parser.add_argument("--ports", action="store_true",
-                        help="print the names of the ports, and no trace")
+                        help="print the names of the ports instead of a trace")
     add_version(parser)
     return parser
 
 
 def renamed(word: str) -> Tuple[str, str]:
-    """Returns the interface that a word of --port is for, and the port's name."""
+    """Splits an argument of --port into the interface (empty for all) and the port's name."""
     interface, _, port = word.rpartition("=")
     if not is_port_name(port):
-        raise ValueError(f"{port}: {PORT_NAME_RULE}")
+        raise ValueError(f"{port!r} cannot be a port: {PORT_NAME_RULE}")
     return interface, port
 
 
 def source_of(word: str, names: Mapping[str, str]) -> Source:
-    """Returns the capture that a word names."""
+    """Returns the capture that an argument FILE or PORT=FILE names."""
     front, mark, file = word.partition("=")
     if mark and is_port_name(front):
         return Source(file, front)
     if mark and not os.path.exists(word):
-        raise ValueError(f"{front}: {PORT_NAME_RULE}; write another name before ={file}")
+        raise ValueError(f"{front!r} cannot be a port: {PORT_NAME_RULE}; use another PORT={file}")
     return Source(word, names.get(ANY_INTERFACE), names)
 
 
 def write_trace(sources: List[Source], seconds: bool, shows: bool) -> int:
-    """Writes the trace. Returns 1 if something of the captures is missing, else 0."""
+    """Writes the trace. Returns 1 if it is incomplete, else 0."""
     faults: List[str] = []
     is_live = not all(os.path.isfile(source.file) for source in sources)
 
@@ -86,7 +86,7 @@ def write_trace(sources: List[Source], seconds: bool, shows: bool) -> int:
 
 
 def run(given: argparse.Namespace) -> int:
-    """Does what the words say, and returns the status."""
+    """Writes the trace, or prints the ports. Returns the status."""
     names: Dict[str, str] = dict(renamed(word) for word in given.port)
     sources = [source_of(word, names) for word in given.files]
     if [source.file for source in sources].count(STANDARD_INPUT) > 1:
@@ -95,8 +95,8 @@ def run(given: argparse.Namespace) -> int:
         return write_trace(sources, not given.no_seconds, given.show)
     ports = ports_of(sources)
     for port in ports:
-        if port.startswith("-"):  # which another program could take for an option
-            raise ValueError(f"a port is named {port!r}: write --port='{port}=NAME'")
+        if port.startswith("-"):  # other programs could take it for an option
+            raise ValueError(f"port {port!r} looks like an option: use --port='{port}=NAME'")
     print("\n".join(ports), flush=True)
     faults = [f"{source.file}: {why}" for source in sources if (why := fault_of(source.file))]
     for fault in faults:
@@ -105,7 +105,7 @@ def run(given: argparse.Namespace) -> int:
 
 
 def fault_of(file: str) -> str:
-    """Returns why a capture cannot be read, or nothing. A stream is not tried."""
+    """Returns why a capture cannot be read, or an empty text. Does not try streams."""
     try:
         if file == STANDARD_INPUT or is_stream(os.stat(file).st_mode):
             return ""
@@ -119,12 +119,12 @@ def fault_of(file: str) -> str:
 
 
 def main(words: Optional[Sequence[str]] = None) -> int:
-    """Runs the program on these words, and returns its status."""
+    """Runs the program with these arguments, and returns its status."""
     return output.run(NAME, lambda: status_of(words), 1)
 
 
 def status_of(words: Optional[Sequence[str]]) -> int:
-    """Returns the status, if the output does not fail."""
+    """Runs the program and returns its status. The caller reports output that fails."""
     parser = parser_of_words()
     given = parser.parse_args(words)
     try:

@@ -14,9 +14,9 @@ from ..agent.show import read_show
 from ..faults import LldpaFault
 from ..texts import printable
 
-# Modules that only some questions need are loaded there, so that a question is quick.
+# Modules that only some commands need are imported in functions, so that others start quickly.
 NO_PORT, UNKNOWN = "no such port", "unknown command"
-ALONE = ("watch", "metrics", "help")  # the commands that only this program has
+ALONE = ("watch", "metrics", "help")  # commands of this program only
 
 USAGE = "usage: lldpa-ctl [OPTION...] [COMMAND...]"
 HELP = f"""\
@@ -32,7 +32,7 @@ options:
   -V, --version   print the version
 
 commands (without a command, a table of all neighbors is printed):
-  neighbors [PORT..]       print the table, of all ports or of these
+  neighbors [PORT..]       print a table of the neighbors
   details [PORT..]         print everything that the neighbors sent
   interfaces [PORT..]      print the state of the ports
   statistics [PORT..]      print the counters as a table
@@ -64,7 +64,7 @@ class Given(NamedTuple):
 
 
 class WrongWords(LldpaFault):
-    """Words that the program does not accept, and why."""
+    """The arguments of the program are wrong. The message says why."""
 
 
 def print_answer(client: Client, asked: Question, as_json: bool) -> None:
@@ -78,7 +78,7 @@ def print_answer(client: Client, asked: Question, as_json: bool) -> None:
 
 
 def answer(client: Client, line: str) -> list[str]:
-    """Returns the answer to a line. Raises Refused with the word that the refusal is about."""
+    """Returns the answer to a line. Raises Refused with the reason and the word that is wrong."""
     try:
         return client.ask(line)
     except Refused as refused:
@@ -95,7 +95,7 @@ def answer(client: Client, line: str) -> list[str]:
 
 
 def read_words(words: Sequence[str]) -> Given:
-    """Reads the words of the program. Raises WrongWords if they are wrong."""
+    """Reads the arguments of the program. Raises WrongWords if they are wrong."""
     try:
         options, rest = getopt.gnu_getopt(list(words), "hV", OPTIONS)
     except getopt.GetoptError as fault:
@@ -103,7 +103,7 @@ def read_words(words: Sequence[str]) -> Given:
     told = dict(options)
     for name in told:
         if name.startswith("--") and name not in [word.partition("=")[0] for word in words]:
-            raise WrongWords(f"an option cannot be shortened: {name}")
+            raise WrongWords(f"an option cannot be shortened: write {name}")
     if len(rest) == 1:
         rest = words_of(rest[0])
     if rest:
@@ -121,8 +121,8 @@ def read_words(words: Sequence[str]) -> Given:
 
 
 def work_of(given: Given) -> Callable[[Client], None]:
-    """Returns what asks and prints what was asked for, with all loaded that it needs: root becomes
-    nobody, which may not be able to read it."""
+    """Returns a function that asks lldpa-live and prints the answer. Imports all needed modules
+    now: root then becomes the user `nobody`, who may not be able to read them."""
     words = given.words or ["neighbors"]
     if given.json:
         import json  # noqa: F401
@@ -139,7 +139,7 @@ def work_of(given: Given) -> Callable[[Client], None]:
 
 
 def said_of(fault: Exception, path: str) -> str:
-    """Returns what is reported of a fault, for people."""
+    """Returns the message that reports an error to people."""
     if isinstance(fault, (FileNotFoundError, ConnectionRefusedError)):
         return f"nobody answers at {path}: is lldpa-live running?"
     if isinstance(fault, PermissionError):
@@ -150,14 +150,14 @@ def said_of(fault: Exception, path: str) -> str:
 
 
 def main(words: Optional[Sequence[str]] = None) -> int:
-    """Runs the program: 0 if all was answered, 1 if not, 2 if the words are wrong."""
+    """Runs the program. Returns 0 if all was answered, 1 if not, 2 if its arguments are wrong."""
     given = sys.argv[1:] if words is None else words
-    # characters that the terminal does not have are written as a question mark
+    # characters that the terminal does not have are written as question marks
     return output.run("lldpa-ctl", lambda: status_of(given), 1, errors="replace")
 
 
 def status_of(words: Sequence[str]) -> int:
-    """Returns the status, if the output does not fail."""
+    """Runs the program and returns its status. The caller reports output that fails."""
     try:
         given = read_words(words)
     except WrongWords as fault:
@@ -180,14 +180,14 @@ def status_of(words: Sequence[str]) -> int:
 
 
 def answer_all(given: Given) -> None:
-    """Asks what the words say, and prints or writes the answers."""
+    """Asks lldpa-live as the arguments say, and prints or writes the answers."""
     if given.words == ["metrics"]:
         from ..client.publishing import publish
         publish(given.control, given.output)
         return
     work = work_of(given)
     with Client(given.control) as client:
-        if given.words[:1] != ["configure"]:  # whose refusals `lldpa --help` explains
+        if given.words[:1] != ["configure"]:  # explaining its refusals runs `lldpa --help`
             give_up_root()
         work(client)
 

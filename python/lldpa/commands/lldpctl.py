@@ -1,4 +1,4 @@
-"""lldpctl, also under the name lldpcli: asks a running lldpa-live, and prints lldpcli's forms."""
+"""lldpctl, also installed as lldpcli: asks a running lldpa-live, and answers like lldpcli."""
 
 import getopt
 import os
@@ -27,21 +27,21 @@ usage: NAME [-u PATH] [-f FORM] [PORT... | COMMAND]
 Asks a running lldpa-live, and prints the answer like lldpcli of lldpd.
 
   -u PATH        the control socket of lldpa-live (default {DEFAULT_PATH})
-  -f FORM        {', '.join(FORMS)} (default plain)
+  -f FORM        the output form: {', '.join(FORMS)} (default plain)
   -d, -s         accepted and ignored
   -h, --help     print this help
   -v, --version  print the version
 
 Without a command, lldpctl prints the details of all neighbors, or of those on
-the given ports. Under its second name, lldpcli, it then reads commands from
-standard input until the command exit. The commands are:
+the given ports. If you call it as lldpcli without a command, it reads commands
+from standard input until the command exit. The commands are:
   show neighbors [details | summary] [ports PORT,..]
   show interfaces [details | summary] [ports PORT,..]
   show chassis [details | summary]
   show statistics [summary] [ports PORT,..]
   show configuration
   watch [details | summary] [ports PORT,..] [limit N]
-  configure ...  see lldpa(1)
+  configure ...  change a setting, see lldpa(1)
   update
 
 example: lldpctl -f keyvalue eth0
@@ -60,13 +60,13 @@ class Given(NamedTuple):
     words: List[str]
 
     def write(self, root: Node) -> None:
-        """Prints a tree."""
+        """Prints a tree of nodes in the format that was asked for."""
         if text := form_of(self.form, os.isatty(output.OUTPUT))(root):
             print(text, flush=True)
 
 
 def read_words(words: Sequence[str]) -> Given:
-    """Reads the words of the program. Raises Refused if an option is not known."""
+    """Reads the arguments of the program. Raises Refused if an option or a form is unknown."""
     try:
         options, rest = getopt.gnu_getopt(list(words), "dhsvu:f:", ["help", "version"])
     except getopt.GetoptError as fault:
@@ -80,7 +80,7 @@ def read_words(words: Sequence[str]) -> Given:
 
 
 def show(client: Client, given: Given, question: Question) -> None:
-    """Prints a show. Then raises Refused for a port that does not exist."""
+    """Prints a show. Then raises Refused if a port that was asked for does not exist."""
     live = client.ask("live")
     told = told_by([client.ask(line) for line in LINES], live, time.time())
     given.write(question.tree(told))
@@ -91,7 +91,7 @@ def show(client: Client, given: Given, question: Question) -> None:
 
 def watch(client: Client, given: Given, watching: Watching) -> None:
     """Prints each neighbor that comes, changes or leaves, up to the limit if there is one. Raises
-    Refused for a port that does not exist."""
+    Refused if a port does not exist."""
     told = told_by([client.ask("show neighbors")], [], time.time())
     known = [port.name for port in told.show.ports]
     if missing := [port for port in watching.ports or () if port not in known]:
@@ -111,7 +111,7 @@ def watch(client: Client, given: Given, watching: Watching) -> None:
 
 
 def obey(given: Given, command: Command) -> int:
-    """Does what a command says. Raises Refused if that is not possible."""
+    """Runs a command. Raises Refused if lldpa-live refuses it or does not answer."""
     try:
         with Client(given.path) as client:
             if isinstance(command, Lines):
@@ -130,8 +130,8 @@ def obey(given: Given, command: Command) -> int:
 
 
 def console(given: Given) -> int:
-    """Obeys the commands of standard input, up to its end or `exit`. Returns 1 if the output of
-    one of them failed, else 0; as in lldpcli, it does not count that one is refused."""
+    """Runs commands from standard input, until its end or `exit`. Returns 1 if the output of a
+    command failed, else 0. As in lldpcli, refused commands do not change the status."""
     import shlex
     status = 0
     prompt = f"[{LLDPCLI}] $ " if os.isatty(output.INPUT) else ""
@@ -152,7 +152,7 @@ def console(given: Given) -> int:
 
 
 def obey_in_child(given: Given, words: Sequence[str]) -> int:
-    """Obeys a command in a child, which may give up root. Returns 1 if its output failed."""
+    """Runs a command in a child process, which may give up root. Returns 1 if its output failed."""
     child = os.fork()
     if child == 0:
         status = 1
@@ -168,7 +168,7 @@ def obey_in_child(given: Given, words: Sequence[str]) -> int:
 
 
 def answer(name: str, words: Sequence[str]) -> int:
-    """Prints what is asked for, and returns the status."""
+    """Prints help, the version or an answer. Returns the status."""
     given = read_words(words)
     if given.is_help:
         print(HELP.replace("NAME", name), end="")
@@ -182,7 +182,7 @@ def answer(name: str, words: Sequence[str]) -> int:
 
 
 def told_status(name: str, body: Callable[[], int]) -> int:
-    """Returns the status of a body, and reports its faults."""
+    """Runs a body, reports its errors and returns its status."""
     try:
         return body()
     except KeyboardInterrupt:
@@ -193,7 +193,7 @@ def told_status(name: str, body: Callable[[], int]) -> int:
 
 
 def main(words: Optional[Sequence[str]] = None) -> int:
-    """Runs the program: 0 if all was answered, else 1."""
+    """Runs the program. Returns 0 if all was answered, else 1."""
     name = LLDPCLI if os.path.basename(sys.argv[0]) == LLDPCLI else LLDPCTL
     given = sys.argv[1:] if words is None else words
     return output.run(name, lambda: told_status(name, lambda: answer(name, given)), 1,

@@ -1,2 +1,2 @@
-"""Prints what lldpcli 1.0.16 prints, from what a running lldpa-live answers: `words` reads the
-commands, `shows` makes trees of nodes, `writing` prints them. docs/LLDPD.md lists what differs."""
+"""Writes the answers of a running lldpa-live as lldpcli 1.0.16 does: `words` reads the commands,
+`shows` builds trees of nodes, and `writing` writes them. docs/LLDPD.md lists what differs."""

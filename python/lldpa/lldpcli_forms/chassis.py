@@ -1,4 +1,4 @@
-"""The nodes of a chassis, a port, the identifiers and unknown TLVs."""
+"""Builds the nodes of a chassis, a port, the identifiers and unknown TLVs."""
 
 from typing import Iterable, Iterator, Mapping, Optional, Tuple
 
@@ -20,7 +20,7 @@ def chassis_of(neighbor: Neighbor, is_brief: bool) -> Node:
 
 
 def local_chassis(chassis: LocalChassis, is_brief: bool) -> Node:
-    """Returns what this host says of itself."""
+    """Returns the node of this host's chassis."""
     said = [("chassis.name", chassis.name), ("chassis.descr", chassis.descr)]
     said += [("chassis.mgmt", chassis.mgmt)] if chassis.mgmt else []
     identifier = identifier_node("ChassisID", Identifier("mac", chassis.mac), {})
@@ -29,7 +29,7 @@ def local_chassis(chassis: LocalChassis, is_brief: bool) -> Node:
 
 def chassis_node(identifier: Node, said: Iterable[Tuple[str, str]],
                  capabilities: Mapping[str, bool], is_brief: bool) -> Node:
-    """Returns a chassis, in brief its identifier and its name."""
+    """Returns the node of a chassis. If `is_brief`, it has only the identifier and the name."""
     said = list(said)
     node = Node("chassis", "Chassis", nodes=[identifier])
     node.add("name", "SysName", first(said, "chassis.name"))
@@ -48,8 +48,8 @@ def chassis_node(identifier: Node, said: Iterable[Tuple[str, str]],
 
 
 def identifier_node(label: str, identifier: Identifier, known: Mapping[int, str]) -> Node:
-    """Returns a Chassis ID or Port ID. `known` has lldpd's kinds for subtypes whose octets the
-    agent shows as unhandled."""
+    """Returns the node of a Chassis ID or Port ID. `known` has lldpd's kinds for subtypes that the
+    agent shows as `unhandled`."""
     kind, text = identifier
     if kind == "ip":
         text = address_text(text)
@@ -65,12 +65,12 @@ def identifier_node(label: str, identifier: Identifier, known: Mapping[int, str]
 
 
 def first(said: Iterable[Tuple[str, str]], key: str) -> Optional[str]:
-    """Returns the text of a key, or None if nothing is said of it."""
+    """Returns the first text with this key, or None if there is none."""
     return next((said_text(unescaped(text)) for name, text in said if name == key), None)
 
 
 def managements(said: Iterable[Tuple[str, str]]) -> Iterator[Tuple[str, Optional[str]]]:
-    """Returns the IP management addresses, each with its interface number."""
+    """Yields the IP management addresses, each with its interface number if it has one."""
     for key, text in said:
         if key == "chassis.mgmt" and not text.startswith("af"):
             address, numbering, number, *_ = text.split(",")
@@ -79,7 +79,7 @@ def managements(said: Iterable[Tuple[str, str]]) -> Iterator[Tuple[str, Optional
 
 
 def port_of(neighbor: Neighbor) -> Node:
-    """Returns the port of a neighbor, without what IEEE 802.3 says of it."""
+    """Returns the node of a neighbor's port, without the TLVs of IEEE 802.3."""
     identifier = identifier_node("PortID", neighbor.port_id, KINDS_OF_PORT)
     node = Node("port", "Port", nodes=[identifier])
     node.add("descr", "PortDescr", first(neighbor.said, "port.descr"))
@@ -88,7 +88,7 @@ def port_of(neighbor: Neighbor) -> Node:
 
 
 def unknown_nodes(unknown: Iterable[Tuple[str, str]]) -> Iterator[Node]:
-    """Returns the node of TLVs as octets, if there are any."""
+    """Yields one node with these TLVs as octets, or nothing if there are none."""
     node = Node("unknown-tlvs", "Unknown TLVs")
     for kind, digits in unknown:
         oui, _, subtype = kind.partition(".")

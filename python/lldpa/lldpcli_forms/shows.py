@@ -1,4 +1,4 @@
-"""The trees of the shows, each with its title, from what lldpa-live answers."""
+"""Builds the trees of the shows from the answers of lldpa-live."""
 
 from enum import Enum
 from typing import (Callable, Dict, Iterable, Iterator, List, Mapping, NamedTuple, Optional,
@@ -29,8 +29,8 @@ class Depth(Enum):
 
 
 class Told(NamedTuple):
-    """What lldpa-live answers: its shows, since when each neighbor has been there, and the number
-    of each chassis; `now` is the time, in seconds of the epoch."""
+    """The answers of lldpa-live: its shows, the time when each neighbor came, and the number of
+    each chassis. `now` is the current time in seconds since 1970."""
     show: Show
     since: Since
     numbers: Mapping[str, int]
@@ -45,7 +45,7 @@ def told_by(answers: Sequence[Sequence[str]], live: Iterable[str], now: float) -
 
 
 def neighbors(told: Told, ports: Ports, depth: Depth) -> Node:
-    """Returns `show neighbors`, of all ports or of some."""
+    """Returns the tree of `show neighbors`, for all ports or for some."""
     found = [one for one in told.show.neighbors if ports is None or one.port in ports]
     return Node("lldp", "LLDP neighbors",
                 nodes=[neighbor_node(told, one, depth) for one in found])
@@ -66,7 +66,7 @@ def neighbor_node(told: Told, neighbor: Neighbor, depth: Depth) -> Node:
 
 
 def presence(told: Told, neighbor: Neighbor) -> Iterator["tuple[str, str, str]"]:
-    """Returns a chassis' number and how long it has been there, if lldpa-live knows them."""
+    """Yields the chassis' number and the neighbor's age, if lldpa-live knows them."""
     chassis, _, _ = neighbor.id.partition(" ")
     number, came = told.numbers.get(chassis), told.since.get((neighbor.port, neighbor.id))
     if number is not None:
@@ -77,14 +77,14 @@ def presence(told: Told, neighbor: Neighbor) -> Iterator["tuple[str, str, str]"]
 
 
 def age(seconds: int) -> str:
-    """Returns a time as lldpcli writes it."""
+    """Returns a number of seconds as lldpcli writes it."""
     days, rest = divmod(seconds, 24 * 60 * 60)
     plural = "s" if days > 1 else ""
     return f"{days} day{plural}, {rest // 3600:02}:{rest // 60 % 60:02}:{rest % 60:02}"
 
 
 def interfaces(told: Told, ports: Ports, depth: Depth) -> Node:
-    """Returns `show interfaces`: what this host says at its ports."""
+    """Returns the tree of `show interfaces`: what this host announces at its ports."""
     root = Node("lldp", "LLDP interfaces")
     of_host = reported(told.show.chassis, OF_HOST)
     numbers = reported(told.show.configuration, OF_NUMBERS)
@@ -116,7 +116,7 @@ def reported(part: Optional[Part], what: str) -> Part:
 
 
 def configuration(told: Told, *_: object) -> Node:
-    """Returns `show configuration`, as far as lldpd has the same."""
+    """Returns the tree of `show configuration`, with the settings that lldpd has too."""
     numbers = reported(told.show.configuration, OF_NUMBERS)
     only_receives = all(status == "rx-only" for status in numbers.statuses.values())
     node = Node("config", "Configuration")
@@ -129,7 +129,7 @@ def configuration(told: Told, *_: object) -> Node:
 
 
 def statistics(told: Told, ports: Ports, depth: Depth) -> Node:
-    """Returns `show statistics`, of ports or their sums."""
+    """Returns the tree of `show statistics`, for ports or for their sums."""
     found = {name: counters for name, counters in told.show.counters.items()
              if ports is None or name in ports}
     if depth is Depth.SUMMARY:
@@ -141,7 +141,7 @@ def statistics(told: Told, ports: Ports, depth: Depth) -> Node:
 
 
 def counter_nodes(counters: Counters) -> List[Node]:
-    """Returns counters. Like lldpd's, the count of sent frames includes shutdown frames."""
+    """Returns the nodes of counters. As in lldpd, the sent frames include shutdown frames."""
     values = (("tx", "Transmitted", counters.sent + counters.shutdowns),
               ("rx", "Received", counters.received),
               ("rx_discarded_cnt", "Discarded", counters.discarded),

@@ -1,4 +1,4 @@
-"""Reads the commands: the words of lldpcli, and the ports after lldpctl."""
+"""Reads the commands of lldpcli, and the arguments of lldpctl."""
 
 from typing import List, NamedTuple, Optional, Sequence, Union
 
@@ -9,7 +9,7 @@ from .shows import TREES, Depth, Told
 from ..node import Node
 
 PORTS, LIMIT = "ports", "limit"
-# what may follow each show
+# the words that may follow each show
 SHOWS = {"neighbors": ("details", "summary", "hidden", PORTS),
          "interfaces": ("details", "summary", "hidden", PORTS),
          "chassis": ("details", "summary"),
@@ -19,17 +19,17 @@ COMMANDS = ("show", "watch", "configure", "update")
 
 
 class Question(NamedTuple):
-    """A show, how much of it, and of which ports; None for all."""
+    """A show: its name, how much of it, and of which ports (None: all ports)."""
     show: str
     depth: Depth
     ports: Optional[List[str]]
 
     def tree(self, told: Told) -> Node:
-        """Returns the tree, from what lldpa-live answers."""
+        """Builds the tree of the show from the answers of lldpa-live."""
         return TREES[self.show](told, self.ports, self.depth)
 
     def missing(self, told: Told) -> List[str]:
-        """Returns the ports that are asked for and do not exist."""
+        """Returns the ports that were asked for but do not exist."""
         configuration = told.show.configuration
         known = configuration.statuses if configuration else {}
         return [port for port in self.ports or () if port not in known]
@@ -57,31 +57,31 @@ def of_lldpctl(words: Sequence[str]) -> Command:
 
 
 def of_lldpcli(words: Sequence[str]) -> Command:
-    """Reads a command of lldpcli, whose words may be shortened. Raises Refused for others."""
+    """Reads a command of lldpcli, whose words may be shortened. Raises Refused if it is wrong."""
     first, rest = meant(words[0], COMMANDS), list(words[1:])
     if first == "configure":
         return Lines(question(in_full([first, *rest], forms_of("lldpa"))).lines)
     if first == "update":
         if rest:
-            raise Refused(f"unknown word: {rest[0]} (nothing follows)")
+            raise Refused(f"unknown word: {rest[0]} (no word is allowed here)")
         return Lines([first])
     if first == "watch":
         return read_rest(rest, ["details", "summary", "hidden", LIMIT, PORTS])
     if not rest:
-        raise Refused(f"show what: {', '.join(SHOWS)}")
+        raise Refused(f"a word is missing after show ({', '.join(SHOWS)})")
     show = meant(rest.pop(0), tuple(SHOWS))
     depth, ports, _ = read_rest(rest, list(SHOWS[show]))
     return Question(show, depth, ports)
 
 
 def read_rest(rest: List[str], able: List[str]) -> Watching:
-    """Returns what follows a command: how much, ports and a limit, each at most once."""
+    """Reads the words after a command: how much, ports and a limit, each at most once."""
     told = Watching(Depth.NORMAL, None, None)
     while rest:
         word = meant(rest.pop(0), able)
         able.remove(word)
         if word in (PORTS, LIMIT) and not rest:
-            raise Refused(f"nothing follows {word}")
+            raise Refused(f"a word is missing after {word}")
         if word == PORTS:
             told = told._replace(ports=listed([rest.pop(0)]))
         elif word == LIMIT:
@@ -93,21 +93,21 @@ def read_rest(rest: List[str], able: List[str]) -> Watching:
 
 
 def number_of(word: str) -> int:
-    """Returns a number from 1 on. Raises Refused for another word."""
+    """Reads a number from 1 to 999999999. Raises Refused for another word."""
     if not (word.isascii() and word.isdecimal() and len(word) < 10 and int(word)):
-        raise Refused(f"not a number: {word}")
+        raise Refused(f"not a number from 1 to 999999999: {word}")
     return int(word)
 
 
 def meant(word: str, able: Sequence[str]) -> str:
-    """Returns the one word that this word shortens. Raises Refused for none or several."""
+    """Returns the only allowed word that begins with this one. Raises Refused otherwise."""
     found = [one for one in able if one.startswith(word)] if word else []
     if len(found) != 1:
-        instead = ", ".join(able) if able else "nothing follows"
+        instead = ", ".join(able) if able else "no word is allowed here"
         raise Refused(f"unknown word: {word} ({instead})")
     return found[0]
 
 
 def listed(words: Sequence[str]) -> List[str]:
-    """Names of ports, with commas between some of them."""
+    """Returns the names of ports in words, split at commas."""
     return [name for word in words for name in word.split(",") if name]

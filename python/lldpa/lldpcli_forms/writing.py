@@ -1,4 +1,4 @@
-"""The forms of a tree: for people, as keys and values, and as JSON."""
+"""Writes a tree in each form: for people, as keys and values, and as JSON."""
 
 import json
 import unicodedata
@@ -23,7 +23,7 @@ def plain(root: Node) -> str:
 
 
 def plain_lines(node: Node, depth: int) -> Iterator[str]:
-    """Returns the lines of a node and those in it."""
+    """Yields the lines of a node and of the nodes in it."""
     front = "  " * depth
     told = [f"{label}: {printable(value)}" if label else printable(value)
             for _, label, value in node.attributes]
@@ -39,17 +39,17 @@ def plain_lines(node: Node, depth: int) -> Iterator[str]:
 
 
 def keyvalue(root: Node) -> str:
-    """Writes keys and values, a line each."""
+    """Returns a line KEY=VALUE for each value."""
     return "\n".join(f"{key}={one_line(value)}" for key, value in pairs(root, ""))
 
 
 def on_a_terminal(root: Node) -> str:
-    """Writes keys and values, with all escaped that a terminal does not show as it is."""
+    """Returns lines KEY=VALUE, with characters escaped that a terminal may not show as they are."""
     return "\n".join(map(printable, keyvalue(root).split("\n")))
 
 
 def pairs(node: Node, front: str) -> Iterator[Tuple[str, str]]:
-    """Returns the keys of a node and of those in it, and their values."""
+    """Yields the keys of a node and of the nodes in it, with their values."""
     names = [value for key, _, value in node.attributes if key in NAMING]
     path = front + (one_line(names[0]) if names else node.key)
     for key, _, value in node.attributes:
@@ -62,8 +62,8 @@ def pairs(node: Node, front: str) -> Iterator[Tuple[str, str]]:
 
 
 def one_line(text: str) -> str:
-    """Returns a text in a line. A line feed becomes a space, and what else may end a line for a
-    reader, controls a terminal or is not UTF-8 is escaped."""
+    """Returns a text in one line. Line feeds become spaces. Other line ends, characters that
+    control a terminal, and octets that are not UTF-8 are escaped."""
     if text.isascii() and text.isprintable():
         return text
     return "".join(" " if letter == "\n" else escaped(letter) if is_control(letter) else letter
@@ -71,23 +71,23 @@ def one_line(text: str) -> str:
 
 
 def is_control(letter: str) -> bool:
-    """Returns whether it is a control character except a tab, ends a line, or is an octet."""
+    """Returns whether a character is a line end, not UTF-8, or a control character except a tab."""
     kind = unicodedata.category(letter)
     return kind in ENDS or kind[0] == "C" and kind not in ("Cf", "Co", "Cn") and letter != "\t"
 
 
 def json0(root: Node) -> str:
-    """Returns JSON in which all that may come several times is a list."""
+    """Returns JSON in which everything that may occur several times is in a list."""
     return json.dumps({root.key: [whole(root)]}, indent=2)
 
 
 def json_short(root: Node) -> str:
-    """Returns JSON in which a list of one is its item, and nodes with a name are under it."""
+    """Returns JSON in which a list of one is its item, and a node's name is its key."""
     return json.dumps({root.key: shortened([whole(root)])}, indent=2)
 
 
 def whole(node: Node) -> Dict[str, Any]:
-    """Returns a node as an object: attributes, lists of nodes by their keys, and its text."""
+    """Returns a node as an object with its attributes, lists of nodes by key, and its text."""
     told: Dict[str, Any] = {}
     for key, _, value in node.attributes:
         is_flag = value in FLAGS and key not in NAMING
@@ -105,7 +105,7 @@ def unicode_of(text: str) -> str:
 
 
 def shortened(told: Any) -> Any:
-    """Returns an object or a list of the whole form in the short one."""
+    """Converts an object or a list of `json0` to the short form `json`."""
     if isinstance(told, list):
         parts: List[Any] = [shortened(one) for one in told]
         return parts[0] if len(parts) == 1 else parts
@@ -125,5 +125,5 @@ FORMS = {"plain": plain, "keyvalue": keyvalue, "json": json_short, "json0": json
 
 
 def form_of(name: str, is_terminal: bool) -> Callable[[Node], str]:
-    """Returns the writer of a form, for a terminal or for anything else."""
+    """Returns the function that writes a form, to a terminal or to anything else."""
     return on_a_terminal if is_terminal and name == "keyvalue" else FORMS[name]

@@ -1,4 +1,4 @@
-"""Organizationally specific TLVs: what neighbors say of VLANs, frame sizes, power and the like.
+"""Reads organizationally specific TLVs, such as those about VLANs, frame sizes and power.
 
     >>> from lldpa.organizational import PortVlan, read_tlv, said_by
     >>> read_tlv("0080c2", 1, bytes.fromhex("0078"))
@@ -7,8 +7,7 @@
     >>> said.pvid, said.max_frame_size, said.rest
     (120, 1522, (('001122.5', '68656c'),))
 
-Octets that do not have the form of their kind are never read as something else: they stay in
-hexadecimal. Texts stay octets, as they were sent.
+TLVs that are malformed for their kind stay in hexadecimal. Texts stay octets, as they were sent.
 """
 from importlib import import_module
 from typing import TYPE_CHECKING
@@ -31,7 +30,7 @@ __all__ = ["MODULES", "Row", "Said", "Tlv", "known_to_lldpd", "organizational_ob
 
 
 def __getattr__(name: str) -> object:
-    """Loads the module of a class that is used for the first time."""
+    """Loads the module of a class when the class is first used."""
     for module in () if name.startswith("_") else MODULES:
         found = getattr(import_module(f"{__name__}.{module}"), name, None)
         if found is not None:

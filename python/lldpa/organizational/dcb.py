@@ -6,7 +6,7 @@ from typing import Any, Optional, Tuple
 
 from .kinds import DOT1, Object, Tlv, number, of
 
-CLASS_COUNT = 8  # priorities, and traffic classes
+CLASS_COUNT = 8  # of priorities, and of traffic classes
 ALGORITHMS = {0: "strict priority", 1: "credit-based shaper", 2: "enhanced transmission selection",
               255: "vendor specific"}
 SHORT = {0: "strict", 1: "CBS", 2: "ETS", 255: "vendor"}
@@ -15,20 +15,20 @@ SELECTORS = {1: "EtherType", 2: "TCP or SCTP port", 3: "UDP or DCCP port",
 
 
 def willing(is_willing: bool) -> str:
-    """Returns in words whether a port accepts the settings of its peer."""
+    """Returns as text whether a port accepts the settings of its peer."""
     return "willing" if is_willing else "not willing"
 
 
 @dataclass(frozen=True)
 class EtsTables:
-    """The traffic class of each priority; the percentage and the algorithm of each class."""
+    """The traffic class of each priority, and the percentage and the algorithm of each class."""
     classes: Tuple[int, ...]
     bandwidths: Tuple[int, ...]
     algorithms: Tuple[int, ...]
 
     @classmethod
     def read(cls, octets: bytes) -> Optional[EtsTables]:
-        """Reads eight half octets, eight octets, and eight octets."""
+        """Reads eight classes of half an octet, eight percentages and eight algorithms."""
         if len(octets) != 4 + 2 * CLASS_COUNT:
             return None
         classes = tuple(half for octet in octets[:4] for half in (octet >> 4, octet & 0x0f))
@@ -56,7 +56,7 @@ class Ets(Tlv):
 
     @classmethod
     def read(cls, octets: bytes) -> Optional[Ets]:
-        """Reads flags with the number of classes, 0 for 8, and the tables."""
+        """Reads flags with the number of classes (0 means 8), and the tables."""
         tables = EtsTables.read(octets[1:])
         if tables is None:
             return None
@@ -95,7 +95,7 @@ class EtsRecommendation(Tlv):
 @of(DOT1, 11, is_of_lldpd=False)
 @dataclass(frozen=True)
 class Pfc(Tlv):
-    """Priority-based Flow Control, subtype 11: the priorities that have it, and how many can."""
+    """Priority-based Flow Control, subtype 11: the enabled priorities, and how many are allowed."""
     key, heading, group, path = "pfc", "PFC", "Bridging", "dcb.pfc"
     is_willing: bool
     can_bypass_macsec: bool
@@ -121,7 +121,7 @@ class Pfc(Tlv):
 
 @dataclass(frozen=True)
 class ApplicationPriority:
-    """The priority of what a selector and a protocol's number name; see `SELECTORS`."""
+    """The priority of an application: a selector (see `SELECTORS`) and a protocol's number."""
     priority: int
     selector: int
     protocol: int

@@ -13,7 +13,7 @@ LONGEST_NAME = 32  # octets of a VLAN's name
 
 
 def vid_text(vid: int) -> str:
-    """Returns a VLAN identifier in words."""
+    """Returns a VLAN identifier as text: a number, or `none` for 0."""
     return str(vid) if vid else "none"
 
 
@@ -30,7 +30,7 @@ class PortVlan(Tlv):
 
     @classmethod
     def nodes(cls, said: Said) -> List[Node]:
-        """Returns the nodes of the VLANs that have a name, and of the port's if it has none."""
+        """Returns the nodes of named VLANs, and of the port's VLAN if that has no name."""
         vlan, names = said.one(PortVlan), said.all(VlanName)
         pvid = vlan.pvid if vlan else 0
         nodes = [vlan_node(one.vid, vlan is not None and one.vid == pvid, lldpcli_text(one.name))
@@ -41,7 +41,7 @@ class PortVlan(Tlv):
 
 
 def vlan_node(vid: int, is_of_port: bool, name: Optional[str]) -> Node:
-    """Returns the node of a VLAN, with a name or without."""
+    """Returns the node of a VLAN, with its name if it has one."""
     return Node("vlan", "VLAN", [("vlan-id", "", str(vid)), ("pvid", "pvid", yes(is_of_port))],
                 name)
 
@@ -56,7 +56,7 @@ class VlanName(Tlv):
 
     @classmethod
     def read(cls, octets: bytes) -> Optional[VlanName]:
-        """Reads a VLAN in two octets, the length of the name, and the name."""
+        """Reads a VLAN identifier of two octets, the length of the name, and the name."""
         vid, name = number(octets[:2]), octets[3:]
         if vid > GREATEST_VID or octets[2:3] != bytes([len(name)]) or len(name) > LONGEST_NAME:
             return None
@@ -99,7 +99,7 @@ class ProtocolIdentity(Tlv):
 
     @classmethod
     def read(cls, octets: bytes) -> Optional[ProtocolIdentity]:
-        """Reads a length, and as many octets."""
+        """Reads a length, and this many octets."""
         if not octets or octets[0] != len(octets) - 1:
             return None
         return cls(octets[1:])
@@ -117,7 +117,7 @@ class ProtocolIdentity(Tlv):
 @of(DOT1, 6, is_of_lldpd=False)
 @dataclass(frozen=True)
 class ManagementVlan(Tlv):
-    """Management VID, subtype 6, 0 if there is none."""
+    """Management VID, subtype 6; `vid` is 0 if there is none."""
     key, heading, path = "management-vlan", "Management VLAN", "vlan.management"
     group, layout = "Other VLANs", "vid:16v"
     vid: int

@@ -29,7 +29,7 @@ class MaxFrameSize(Tlv):
 @of(DOT1, 7, is_of_lldpd=False)
 @dataclass(frozen=True)
 class LinkAggregation(Tlv):
-    """Link Aggregation, subtype 3, or 7 of IEEE 802.1; `port` is the aggregated port's number."""
+    """Link Aggregation, subtype 3 (in IEEE 802.1: 7); `port` is the aggregated port's number."""
     key, heading, path = "link-aggregation", "Aggregation", "link_aggregation"
     parent, layout = "port", "_:6 is_aggregated:1 is_capable:1 port:32"
     is_capable: bool
@@ -50,7 +50,7 @@ class LinkAggregation(Tlv):
 @of(DOT3, 1)
 @dataclass(frozen=True)
 class MacPhy(Tlv):
-    """MAC/PHY Configuration/Status, subtype 1: 16 bits that are advertised, and a MAU type."""
+    """MAC/PHY Configuration/Status, subtype 1; `advertised` has a bit for each mode."""
     key, heading, path, parent = "mac-phy", "Link", "mac_phy", "port"
     layout = "_:6 autonegotiates:1 supports_autonegotiation:1 advertised:16 mau_type:16"
     supports_autonegotiation: bool
@@ -60,17 +60,17 @@ class MacPhy(Tlv):
 
     @property
     def mau(self) -> Optional[Mau]:
-        """Returns the MAU type by its name, or None if its number is not known."""
+        """Returns the MAU type, or None if its number is not known."""
         return mau_of(self.mau_type)
 
     @property
     def modes(self) -> Tuple[str, ...]:
-        """Returns what is advertised."""
+        """Returns the names of the advertised modes."""
         return advertised_names(self.advertised)
 
     @classmethod
     def rows(cls, said: Said) -> List[Row]:
-        """Returns what the link is, and what is advertised."""
+        """Returns a row about the link, and a row of the advertised modes."""
         modes = ", ".join(mode for one in said.all(cls) for mode in one.modes)
         return [*super().rows(said), Row("advertised", "Advertised", modes)]
 

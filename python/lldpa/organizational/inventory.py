@@ -11,9 +11,9 @@ from .kinds import IANA, MED, Object, Said, Tlv, of, watts
 from .power import LLDPCLI_PD_SOURCES, PD_SOURCES, PRIORITIES, PSE_SOURCES
 
 DEVICES = {0: "PSE", 1: "PD"}
-# the kinds of inventory, from subtype 5 on
+# the kinds of inventory TLVs, from subtype 5 on
 INVENTORY = ("hardware", "firmware", "software", "serial", "manufacturer", "model", "asset")
-# lldpcli's names, the inventory in its order
+# lldpcli's names of sources, and of the inventory in the order of lldpcli
 LLDPCLI_PSE_SOURCES = ("unknown", "Primary Power Source",
                        "Backup Power Source / Power Conservation Mode", "unknown")
 LABELS = (("hardware", "Hardware Revision"), ("software", "Software Revision"),
@@ -34,12 +34,12 @@ class MedPower(Tlv):
 
     @property
     def device_name(self) -> Optional[str]:
-        """Returns `PSE` or `PD`, or None if the number is of neither."""
+        """Returns `PSE` or `PD`, or None if the number means neither."""
         return DEVICES.get(self.device)
 
     @property
     def source_name(self) -> Optional[str]:
-        """Returns where the power of a PSE or a PD comes from."""
+        """Returns where the power comes from, or None if the device is neither a PSE nor a PD."""
         if self.device not in DEVICES:
             return None
         return (PD_SOURCES if self.device else PSE_SOURCES)[self.source]
@@ -59,7 +59,7 @@ class MedPower(Tlv):
                 "priority": self.priority_name, "watts": self.power / 10}
 
     def node(self) -> Node:
-        """Returns its node, with the power in milliwatts."""
+        """Returns lldpcli's node, with the power in milliwatts."""
         node = Node("poe", "Extended Power-over-Ethernet")
         sources = {0: LLDPCLI_PSE_SOURCES, 1: LLDPCLI_PD_SOURCES}.get(self.device, ())
         node.add("device-type", "Power Type & Source", self.device_name or "unknown")
@@ -71,7 +71,7 @@ class MedPower(Tlv):
 
 @dataclass(frozen=True)
 class Inventory(Tlv):
-    """Inventory, subtypes 5 to 11: its kind, of `INVENTORY`, and its text."""
+    """Inventory, subtypes 5 to 11: a kind from `INVENTORY`, and its text."""
     key, heading, path, parent = "inventory", "Inventory", "med.inventory", "lldp-med"
     kind: str
     text: bytes
@@ -85,7 +85,7 @@ class Inventory(Tlv):
 
     @classmethod
     def values(cls, said: Said) -> Object:
-        """Returns the texts by their kinds."""
+        """Returns the texts by kind."""
         texts: Object = {}
         for one in said.all(cls):
             with_text(one.kind, one.text, texts)
@@ -93,7 +93,7 @@ class Inventory(Tlv):
 
     @classmethod
     def nodes(cls, said: Said) -> List[Node]:
-        """Returns the node of all texts, if there is one."""
+        """Returns one node with all texts, or no node if there are no texts."""
         texts = {one.kind: said_text(one.text) for one in said.all(cls)}
         node = Node("inventory", "Inventory")
         for kind, label in LABELS:
@@ -114,7 +114,7 @@ class MudUrl(Tlv):
 
     @classmethod
     def read(cls, octets: bytes) -> Optional[MudUrl]:
-        """Reads one octet or more."""
+        """Reads the URL, which has at least one octet."""
         return cls(octets) if octets else None
 
     def words(self) -> str:

@@ -1,8 +1,8 @@
-"""The base of the classes of TLVs, and where each class registers itself.
+"""Defines the base of all TLV classes, and registers each class.
 
-A class has all that the package knows of its TLV: the reader of its octets, its words for people,
-its value in JSON, and the nodes in which lldpcli shows it. A module is loaded with the first TLV of
-its organization.
+A class has everything that the package knows about its TLV: how to read its octets, its text for
+people, its value in JSON, and its nodes for lldpcli. A module is loaded when the first TLV of its
+organization is read.
 """
 from __future__ import annotations
 
@@ -16,7 +16,7 @@ from ..limits import GREATEST_VID
 from ..node import Node
 
 DOT1, DOT3, MED, IANA = "0080c2", "00120f", "0012bb", "00005e"
-# the modules in the order of their output, with the organizations whose TLVs they read
+# the modules in the order of their output, and the organizations whose TLVs they read
 MODULES = {"dot1": (DOT1,), "dot3": (DOT1, DOT3), "power": (DOT3,), "dcb": (DOT1,), "med": (MED,),
            "location": (MED,), "inventory": (MED, IANA)}
 
@@ -28,7 +28,7 @@ Reader = Callable[[bytes], Optional["Tlv"]]
 
 
 class Row(NamedTuple):
-    """What a neighbor says, for people. Rows of one group are shown together under its name."""
+    """A text for people. Rows of one group are shown together, under the name of the group."""
     key: str
     heading: str
     text: str
@@ -38,21 +38,22 @@ class Row(NamedTuple):
 class Fields:
     """Values that follow one another in octets.
 
-    The `layout` has the name of each (`_` for bits that mean nothing), its bits, and `s` if it is
-    signed or `v` if it is a VLAN: `is_on:1 _:3 vid:12v height:16s`. One bit is read as a bool.
+    `layout` has for each value its name (`_` for reserved bits), its number of bits, and `s` if it
+    is signed or `v` if it is a VLAN identifier: `is_on:1 _:3 vid:12v height:16s`. One bit is read
+    as a bool.
     """
     layout: ClassVar[str] = ""
 
     @classmethod
     def read(cls: Type[Some], octets: bytes) -> Optional[Some]:
-        """Returns what octets mean, None if they do not have this form. Ignores reserved bits."""
+        """Reads the values from octets. Returns None if they do not fit. Ignores reserved bits."""
         values = values_of(octets, cls.layout)
         return None if values is None else cls(**values)
 
 
 @lru_cache(maxsize=None)
 def fields_of(layout: str) -> List[Tuple[str, int, str]]:
-    """Returns the fields of a layout, the last one first: name, bits, and `s`, `v` or nothing."""
+    """Returns the fields of a layout, last field first: name, bits, and `s`, `v` or nothing."""
     fields = [field.split(":") for field in reversed(layout.split())]
     return [(name, int(bits.rstrip("sv")), bits.lstrip("0123456789")) for name, bits in fields]
 
@@ -76,49 +77,49 @@ def values_of(octets: bytes, layout: str) -> Optional[Object]:
 
 
 class Tlv(Fields):
-    """What a TLV of an organization says. A neighbor may send several if it `is_repeated`."""
+    """An organizationally specific TLV. A neighbor may send several of them if it `is_repeated`."""
     is_repeated: ClassVar[bool] = False
     key: ClassVar[str] = ""
     heading: ClassVar[str] = ""
     group: ClassVar[str] = ""
-    between: ClassVar[str] = ", "  # separates the words of several
+    between: ClassVar[str] = ", "  # between the texts of several TLVs
     path: ClassVar[str] = ""  # the key of its value in JSON, with dots
     parent: ClassVar[str] = ""  # the key of the node that holds its nodes
 
     @property
     def part(self) -> str:
-        """Returns what distinguishes the TLVs of this class that may be sent once each."""
+        """Returns what distinguishes TLVs of one class. A neighbor may send each of them once."""
         return ""
 
     def words(self) -> str:
-        """Returns it in words."""
+        """Returns the contents as text for people."""
         return str(self.value())
 
     def value(self) -> Any:
-        """Returns its value in JSON: its field, or all of them by their names without `is_`."""
+        """Returns the value in JSON: the only field, or all fields by name without `is_`."""
         values = {name[3:] if name.startswith("is_") else name: value
                   for name, value in vars(self).items()}
         return values if len(values) > 1 else values.popitem()[1]
 
     def node(self) -> Optional[Node]:
-        """Returns its node, None if lldpcli shows nothing of it."""
+        """Returns lldpcli's node, or None if lldpcli does not show this TLV."""
         return None
 
     @classmethod
     def rows(cls, said: Said) -> List[Row]:
-        """Returns the rows of all TLVs of this class."""
+        """Returns the rows for people of all TLVs of this class."""
         texts = (one.words() for one in said.all(cls))
         return [Row(cls.key, cls.heading, cls.between.join(filter(None, texts)), cls.group)]
 
     @classmethod
     def values(cls, said: Said) -> Object:
-        """Returns the values of all TLVs of this class by their paths."""
+        """Returns the values of all TLVs of this class, by their paths in JSON."""
         found = [one.value() for one in said.all(cls)]
         return {cls.path: found if cls.is_repeated else found[0] if found else None}
 
     @classmethod
     def nodes(cls, said: Said) -> List[Node]:
-        """Returns the nodes of all TLVs of this class."""
+        """Returns lldpcli's nodes of all TLVs of this class."""
         nodes = (one.node() for one in said.all(cls))
         return [node for node in nodes if node is not None]
 
@@ -128,8 +129,7 @@ class Said:
     """The organizationally specific TLVs of a neighbor, in the order in which they were sent.
 
     `rest` has OUI and subtype, and the octets in hexadecimal, of all TLVs that are not in `tlvs`:
-    those of other kinds, those without the form of their kind, and those that should be sent once
-    but were sent several times and differ.
+    TLVs of unknown kinds, malformed TLVs, and different TLVs of a kind that may be sent only once.
     """
     tlvs: Tuple[Tlv, ...] = ()
     rest: Tuple[Tuple[str, str], ...] = ()
@@ -141,15 +141,15 @@ class Said:
 
     @property
     def max_frame_size(self) -> Optional[int]:
-        """Returns the maximum frame size in octets."""
+        """Returns the maximum frame size in octets, or None if none was sent."""
         return self._number("max_frame_size")
 
     def _number(self, path: str) -> Optional[int]:
-        """Returns the value of the TLV with this path in JSON, whose class may not be loaded."""
+        """Returns the value of the TLV with this path in JSON, without loading its class."""
         return next((tlv.value() for tlv in self.tlvs if tlv.path == path), None)
 
     def one(self, kind: Type[One]) -> Optional[One]:
-        """Returns the TLV of a class, None if there is none: `one(PortVlan)`."""
+        """Returns the TLV of a class, or None if there is none: `one(PortVlan)`."""
         return next((tlv for tlv in self.tlvs if isinstance(tlv, kind)), None)
 
     def all(self, kind: Type[One]) -> Tuple[One, ...]:
@@ -164,7 +164,7 @@ OF_LLDPD: Set[str] = set()  # OUI and subtype of the kinds that lldpd knows
 
 def of(oui: str, subtype: int, is_of_lldpd: bool = True,
        reader: Optional[Reader] = None) -> Callable[[Kind], Kind]:
-    """Registers a class for an OUI and a subtype, which it reads itself if no reader is given."""
+    """Registers a class for an OUI and a subtype. The default `reader` is the class's `read`."""
     def registered(kind: Kind) -> Kind:
         tlv: Type[Tlv] = kind
         READERS[oui, subtype] = reader or tlv.read
@@ -178,14 +178,14 @@ def of(oui: str, subtype: int, is_of_lldpd: bool = True,
 
 @lru_cache
 def load(oui: str = "") -> None:
-    """Loads the modules that read the TLVs of an organization, or all modules."""
+    """Loads the modules that read the TLVs of an organization, or all modules for an empty OUI."""
     for name, organizations in MODULES.items():
         if oui in ("", *organizations):
             import_module(f"{__package__}.{name}")
 
 
 def reader_of(oui: str, subtype: int) -> Optional[Reader]:
-    """Returns the reader of a kind, for which its modules are loaded; None if it is not known."""
+    """Loads the modules of a kind, and returns its reader, or None if the kind is not known."""
     load(oui)
     return READERS.get((oui, subtype))
 
@@ -197,22 +197,22 @@ def kinds() -> List[Type[Tlv]]:
 
 
 def nodes_in(parent: str, said: Said) -> List[Node]:
-    """Returns the nodes that belong in the node of a key."""
+    """Returns the nodes of all TLVs that belong in the node with the key `parent`."""
     return [node for kind in kinds() if kind.parent == parent for node in kind.nodes(said)]
 
 
 def number(octets: bytes) -> int:
-    """Returns a number, most significant octet first."""
+    """Converts octets to a number, most significant octet first."""
     return int.from_bytes(octets, "big")
 
 
 def ability(is_supported: bool, is_enabled: bool) -> str:
-    """Returns in a word whether something can be done, and whether it is."""
+    """Returns `enabled`, `disabled` or `not supported`."""
     if is_enabled:
         return "enabled"
     return "disabled" if is_supported else "not supported"
 
 
 def watts(tenths: int) -> str:
-    """Returns a power in words, from tenths of a watt."""
+    """Returns a power as text in watts, from tenths of a watt."""
     return f"{tenths / 10:g} W"

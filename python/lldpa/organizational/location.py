@@ -22,7 +22,7 @@ ELEMENTS = {
 # lldpcli's names
 LLDPCLI_DATUMS = {1: "WGS84", 2: "NAD83", 3: "NAD83/MLLW"}
 LLDPCLI_UNITS = {1: "m", 2: "floor"}
-# bits before and after the point
+# the numbers of bits before and after the point
 DEGREES, ALTITUDE = (9, 25), (22, 8)
 
 
@@ -42,14 +42,14 @@ class Location(Tlv):
 
 
 def location_node(kind: str) -> Node:
-    """Returns the node of a location of a kind, with nothing in it."""
+    """Returns an empty node for a location of this kind."""
     return Node("location", "LLDP-MED Location Identification", [("type", "Type", kind)])
 
 
 @dataclass(frozen=True)
 class Coordinates(Location):
-    """Coordinates of RFC 6225. Latitude and longitude are in 2^-25 of a degree, north and east
-    positive, altitude in 2^-8 of its unit; a resolution is the count of valid bits."""
+    """Coordinates of RFC 6225. Latitude and longitude are in 2^-25 degrees, positive to the north
+    and east; altitude is in 2^-8 of its unit. A resolution is the number of valid bits."""
     layout = ("latitude_resolution:6 latitude:34s longitude_resolution:6 longitude:34s "
               "altitude_type:4 altitude_resolution:6 altitude:30s datum:8")
     latitude_resolution: int
@@ -63,7 +63,7 @@ class Coordinates(Location):
 
     @classmethod
     def read(cls, octets: bytes) -> Optional[Coordinates]:
-        """Reads its fields. Returns None for places beyond a pole or half the globe."""
+        """Reads the fields. Returns None if latitude, longitude or a resolution is out of range."""
         found = super().read(octets)
         is_place = found is not None and (
             found.latitude_resolution <= 34 and abs(found.latitude) <= 90 << 25
@@ -79,7 +79,7 @@ class Coordinates(Location):
                 f"{self.altitude / 256:g} {unit}, {DATUMS.get(self.datum, f'datum {self.datum}')}")
 
     def value(self) -> Any:
-        """Returns degrees, north and east positive, and the count of valid bits of each value."""
+        """Returns degrees, positive to the north and east, and the number of valid bits of each."""
         return {
             "form": "coordinates",
             "latitude": self.latitude / (1 << 25),
@@ -107,11 +107,11 @@ class Coordinates(Location):
 
 
 def fixed(value: int, places: int, resolution: int, whole: int) -> str:
-    """Returns the amount of a number, whose last `places` bits follow the point, as lldpd
-    writes it.
+    """Returns the absolute value of a number in lldpd's form. Its last `places` bits are those
+    after the point.
 
-    `resolution` counts the bits that are valid, and `whole` those of the part before the point.
-    From them lldpd takes the number of digits, and cuts off the rest.
+    `resolution` is the number of valid bits, and `whole` the number of bits before the point. They
+    determine how many decimal digits lldpd writes; it cuts off the rest.
     """
     size = abs(value)
     part = size & ((1 << places) - 1)
@@ -123,15 +123,15 @@ def fixed(value: int, places: int, resolution: int, whole: int) -> str:
 
 @dataclass(frozen=True)
 class CivicAddress(Location):
-    """A civic address of RFC 4776: what it is the address of, its country, and the type and the
-    text of each further part (see `ELEMENTS`)."""
+    """A civic address of RFC 4776: what is at the address (see `WHATS`), the country, and the type
+    and the text of each further part (see `ELEMENTS`)."""
     what: int
     country: bytes
     elements: Tuple[Tuple[int, bytes], ...]
 
     @classmethod
     def read(cls, octets: bytes) -> Optional[CivicAddress]:
-        """Reads the length of all that follows, a number of `WHATS`, two letters, and elements."""
+        """Reads a length, a key of `WHATS`, two letters of the country, and elements."""
         if len(octets) < 4 or octets[0] != len(octets) - 1:
             return None
         elements = []
@@ -188,7 +188,7 @@ class Elin(Location):
 
 
 def read_location(octets: bytes) -> Optional[Location]:
-    """Reads the number of a form, 1 to 3, and a location of that form."""
+    """Reads the number of a form, 1 to 3, and a location in this form."""
     forms: Dict[bytes, Type[Location]] = {b"\1": Coordinates, b"\2": CivicAddress, b"\3": Elin}
     form = forms.get(octets[:1])
     return None if form is None else form.read(octets[1:])

@@ -1,4 +1,4 @@
-"""The names of MAU types, also lldpcli's, and of what a port advertises in autonegotiation.
+"""Names MAU types, in our spelling and in lldpcli's, and the modes that a port advertises.
 
 The numbers are those of IANA-MAU-MIB (dot3MauType), and the bits those of ifMauAutoNegCapability.
 """
@@ -6,8 +6,8 @@ The numbers are those of IANA-MAU-MIB (dot3MauType), and the bits those of ifMau
 import re
 from typing import Iterator, NamedTuple, Optional, Tuple
 
-# The types 1 and up: the name, after a slash the duplex mode, if the type has one of its own, and
-# lldpcli's description. A row with {first|second} is about several types, one after the other.
+# The types from 1 on: the name, with a slash and the duplex mode if the type has one of its own,
+# and lldpcli's description. A row with {first|second} is for several types, in this order.
 MAU_TYPES = """
 AUI No internal MAU, view from AUI
 10BASE5 Thick coax MAU
@@ -121,13 +121,13 @@ least {2|10|40} km
 duplex|multidrop|full duplex} mode
 """.strip().split("\n")
 
-# what lldpcli writes for parts of the names, from type 54 on with "base", and its names besides
+# how lldpcli spells parts of the names, and the names that do not follow these rules
 LLDPCLI_PARTS = (("/half", "HD"), ("/full", "FD"), ("-multidrop", "MD"), ("10/1G", "10G1G"),
                  ("2.5", "2p5"), ("-", ""), ("GBASE", "GigBASE"), ("BASE", "Base"))
 LLDPCLI_NAMES = {3: "Foirl", 9: "10Broad36", 13: "10BaseFLDF", 43: "10PassTS", 103: "2p5GigT",
                  104: "5GigT", 113: "10GpassXR"}
 
-# the bits of the two octets, the most significant first
+# what each of the 16 bits advertises, the most significant bit first
 ADVERTISED_NAMES = (
     "other", "10BASE-T/half", "10BASE-T/full", "100BASE-T4", "100BASE-TX/half", "100BASE-TX/full",
     "100BASE-T2/half", "100BASE-T2/full", "pause", "asymmetric pause", "symmetric pause",
@@ -135,19 +135,19 @@ ADVERTISED_NAMES = (
     "1000BASE-T/full")
 
 CHOICE = re.compile(r"\{(.*?)\}")
-# no speed if the directions differ, such as 10/1GBASE-PRX
+# does not match if the directions differ in speed, such as 10/1GBASE-PRX
 SPEED = re.compile(r"([0-9.]+)(G?)(?:BASE|PASS|BROAD)")
 
 
 class Mau(NamedTuple):
-    """A MAU type's name, speed in Mb/s, and duplex mode, `half` or `full`; None if it has none."""
+    """A MAU type: its name, its speed in Mb/s, and `half` or `full` duplex. None if not defined."""
     name: str
     speed: Optional[int]
     duplex: Optional[str]
 
 
 def types_of(row: str) -> Iterator[Tuple[str, str]]:
-    """Yields the name and the description of each type that a row is about."""
+    """Yields the name and the description of each type in a row."""
     first = CHOICE.search(row)
     for place in range(first[1].count("|") + 1 if first else 1):
         # pylint: disable-next=cell-var-from-loop
@@ -159,7 +159,7 @@ MAUS = [described for row in MAU_TYPES for described in types_of(row)]
 
 
 def mau_of(number: int) -> Optional[Mau]:
-    """Returns the MAU type of a number, or None if it is not known (0 is `other or unknown`)."""
+    """Returns the MAU type with this number, or None if it is not known (0: other or unknown)."""
     if not 1 <= number <= len(MAUS):
         return None
     name = MAUS[number - 1][0]
@@ -170,7 +170,7 @@ def mau_of(number: int) -> Optional[Mau]:
 
 
 def advertised_names(bits: int) -> Tuple[str, ...]:
-    """Returns what each bit of two octets says that a port advertises."""
+    """Returns the names of the modes whose bits are set."""
     return tuple(name for place, name in enumerate(ADVERTISED_NAMES) if bits >> (15 - place) & 1)
 
 

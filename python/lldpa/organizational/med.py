@@ -22,7 +22,7 @@ QUALITIES = ("Best effort", "Background", "Excellent effort", "Critical applicat
 @of(MED, 1)
 @dataclass(frozen=True)
 class MedCapabilities(Tlv):
-    """LLDP-MED Capabilities, subtype 1: 16 bits, the least significant first, and a class."""
+    """LLDP-MED Capabilities, subtype 1: bits in the order of `CAPABILITIES`, and a device class."""
     key, heading, path, parent = "med", "MED", "med.capabilities", "interface"
     layout = "capabilities:16 device_class:8"
     capabilities: int
@@ -30,7 +30,7 @@ class MedCapabilities(Tlv):
 
     @property
     def names(self) -> Tuple[str, ...]:
-        """Returns the capabilities that are known."""
+        """Returns the names of the known capabilities that are set."""
         return tuple(name for bit, name in enumerate(CAPABILITIES) if self.capabilities >> bit & 1)
 
     def words(self) -> str:
@@ -39,14 +39,14 @@ class MedCapabilities(Tlv):
 
     @classmethod
     def values(cls, said: Said) -> Object:
-        """Returns the capabilities, and the class."""
+        """Returns the capabilities and the device class."""
         found = said.one(cls)
         return {cls.path: None if found is None else list(found.names),
                 "med.class": None if found is None else found.device_class}
 
     @classmethod
     def nodes(cls, said: Said) -> List[Node]:
-        """Returns the node with all of LLDP-MED, or none if no class of devices is said."""
+        """Returns the node of all LLDP-MED TLVs, or no node if the device class is missing."""
         found = said.one(cls)
         if found is None or found.device_class == 0:
             return []
@@ -62,7 +62,7 @@ class MedCapabilities(Tlv):
 @of(MED, 2)
 @dataclass(frozen=True)
 class NetworkPolicy(Tlv):
-    """Network Policy, subtype 2. If it `is_unknown`, the device does not know what follows."""
+    """Network Policy, subtype 2. If it `is_unknown`, the device does not know its policy."""
     is_repeated, between, parent = True, "; ", "lldp-med"
     key, heading, path = "med-policies", "Policies", "med.policies"
     layout = "application:8 is_unknown:1 is_tagged:1 _:1 vid:12v priority:3 dscp:6"
@@ -75,7 +75,7 @@ class NetworkPolicy(Tlv):
 
     @property
     def application_name(self) -> Optional[str]:
-        """Returns the application, or None if its number is not known."""
+        """Returns the application's name, or None if its number is not known."""
         return APPLICATIONS.get(self.application)
 
     def words(self) -> str:
@@ -105,6 +105,6 @@ class NetworkPolicy(Tlv):
 
     @classmethod
     def nodes(cls, said: Said) -> List[Node]:
-        """Returns the node of the last policy of each application that is known."""
+        """Returns the node of each known application's last policy."""
         last = {one.application: one for one in said.all(cls)}
         return [last[one].node() for one in sorted(last) if one in APPLICATIONS]

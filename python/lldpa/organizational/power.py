@@ -34,7 +34,7 @@ Leaf = Tuple[str, str, str]
 
 @dataclass(frozen=True)
 class PowerRequest(Fields):
-    """What IEEE 802.3at adds. `requested` and `allocated` are in tenths of a watt."""
+    """The fields that IEEE 802.3at adds; `requested` and `allocated` are in tenths of a watt."""
     layout = "type:2 source:2 _:2 priority:2 requested:16 allocated:16"
     type: int
     source: int
@@ -55,7 +55,7 @@ class PowerRequest(Fields):
                 "allocated": self.allocated / 10}
 
     def leaves(self) -> Iterator[Leaf]:
-        """Returns what lldpcli shows of it, in milliwatts."""
+        """Yields the lines that lldpcli shows, with powers in milliwatts."""
         sources = LLDPCLI_PD_SOURCES if self.type & 1 else LLDPCLI_PSE_SOURCES
         yield "power-type", "Power type", "1" if self.type & 2 else "2"
         yield "source", "Power Source", sources[self.source]
@@ -66,8 +66,8 @@ class PowerRequest(Fields):
 
 @dataclass(frozen=True)
 class PowerOfPairs(Fields):
-    """What IEEE 802.3bt adds. Powers are in tenths of a watt; A and B are the modes of a
-    dual-signature PD, and the alternatives of its PSE. `down_seconds` is 0 for no end."""
+    """The fields that IEEE 802.3bt adds. Powers are in tenths of a watt. A and B are the modes of a
+    dual-signature PD, or the alternatives of its PSE. `down_seconds` of 0 means no end."""
     layout = ("requested_a:16 requested_b:16 allocated_a:16 allocated_b:16 "
               "pse_status:2 pd_status:2 pse_pairs:2 class_a:3 class_b:3 power_class:4 "
               "_:4 type:3 is_isolated:1 most_available:16 "
@@ -98,12 +98,12 @@ class PowerOfPairs(Fields):
                 f"{watts(self.allocated_b)}")
 
     def value(self) -> Object:
-        """Returns its powers in watts, and the rest as the numbers that were sent."""
+        """Returns the powers in watts, and all other fields as they were sent."""
         powers = ("requested_a", "requested_b", "allocated_a", "allocated_b", "most_available")
         return {key: value / 10 if key in powers else value for key, value in vars(self).items()}
 
     def leaves(self) -> Iterator[Leaf]:
-        """Returns what lldpcli shows of it, in milliwatts."""
+        """Yields the lines that lldpcli shows, with powers in milliwatts."""
         yield "requested-a", "Requested mode A", str(self.requested_a * 100)
         yield "requested-b", "Requested mode B", str(self.requested_b * 100)
         yield "allocated-a", "Allocated alternative A", str(self.allocated_a * 100)
@@ -136,19 +136,19 @@ class Power(Tlv):
 
     @classmethod
     def read(cls, octets: bytes) -> Optional[Power]:
-        """Reads three octets; eight with what IEEE 802.3at adds, and 25 with what 802.3bt adds."""
+        """Reads 3 octets, 8 with the fields of IEEE 802.3at, or 25 with those of 802.3bt too."""
         power = super().read(octets[:3]) if len(octets) in (3, 8, 25) else None
         return power and replace(power, request=PowerRequest.read(octets[3:8]),
                                  of_pairs=PowerOfPairs.read(octets[8:]))
 
     @property
     def power_class(self) -> Optional[int]:
-        """Returns the power class, 0 to 4, or None if the number is not that of a class."""
+        """Returns the power class, 0 to 4, or None if the number does not mean a class."""
         return self.class_number - 1 if 1 <= self.class_number <= 5 else None
 
     @property
     def pairs_name(self) -> Optional[str]:
-        """Returns the pairs that carry power, `signal` or `spare`; None for another number."""
+        """Returns the pairs that carry power, `signal` or `spare`, or None for another number."""
         return PAIRS.get(self.pairs)
 
     @property
@@ -187,7 +187,7 @@ class Power(Tlv):
 @of(DOT3, 5, is_of_lldpd=False)
 @dataclass(frozen=True)
 class Eee(Tlv):
-    """Energy-Efficient Ethernet, subtype 5: times to wake in microseconds, and their echoes."""
+    """Energy-Efficient Ethernet, subtype 5: wake times in microseconds, and their echoes."""
     key, heading, path = "eee", "EEE", "eee"
     layout = "transmit:16 receive:16 fallback_receive:16 echo_transmit:16 echo_receive:16"
     transmit: int

@@ -1,4 +1,4 @@
-"""What a neighbor sends in TLVs of organizations: as objects, as rows for people, as JSON."""
+"""Reads a neighbor's organizationally specific TLVs: as objects, as rows for people, as JSON."""
 
 from typing import Dict, Iterable, List, Optional, Tuple
 
@@ -9,16 +9,16 @@ Org = Iterable[Tuple[str, str]]
 
 
 def read_tlv(oui: str, subtype: int, octets: bytes) -> Optional[Tlv]:
-    """Returns what a TLV says; None if its kind is not known or it does not have its kind's form.
+    """Returns the contents of a TLV, or None if its kind is not known or it is malformed.
 
-    The OUI is in lower case, as `0080c2`; the octets are those after the subtype.
+    The OUI is in lower case, such as `0080c2`. The octets are those after the subtype.
     """
     reader = kinds.reader_of(oui, subtype)
     return None if reader is None else reader(octets)
 
 
 def said_by(org: Org) -> Said:
-    """Returns what the TLVs of a neighbor say together: `said_by(neighbor.org)`."""
+    """Reads all TLVs of a neighbor: `said_by(neighbor.org)`."""
     read = [(shown, read_shown(*shown)) for shown in org]
     first: Dict[Tuple[type, str], Tlv] = {}
     once = [((type(tlv), tlv.part), tlv) for _, tlv in read if tlv and not tlv.is_repeated]
@@ -34,17 +34,17 @@ def said_by(org: Org) -> Said:
 
 
 def read_shown(kind: str, digits: str) -> Optional[Tlv]:
-    """Returns what a TLV says that is shown as `00120f.1` and hexadecimal."""
+    """Reads a TLV as a show has it: its kind, such as `00120f.1`, and its octets in hexadecimal."""
     oui, _, subtype = kind.partition(".")
     try:
         return read_tlv(oui, int(subtype), bytes.fromhex(digits))
-    except ValueError:  # not numbers, so no agent has shown them
+    except ValueError:  # not numbers, so not from an agent
         return None
 
 
 def known_to_lldpd(org: Org) -> Tuple[Said, List[Tuple[str, str]]]:
-    """Returns what the TLVs say that lldpd knows, and the others in their order, among them those
-    whose octets do not have the form of their kind."""
+    """Returns the contents of the TLVs that lldpd knows, and the other TLVs in their order.
+    Malformed TLVs are among the others."""
     kinds.load()
     shown = list(org)
     said = said_by(one for one in shown if one[0] in OF_LLDPD)
@@ -53,12 +53,12 @@ def known_to_lldpd(org: Org) -> Tuple[Said, List[Tuple[str, str]]]:
 
 
 def rows_of(said: Said) -> List[Row]:
-    """Returns the content, one row for each thing."""
+    """Returns the contents as rows for people."""
     return [row for kind in kinds.kinds() for row in kind.rows(said) if row.text]
 
 
 def organizational_object(said: Said) -> Object:
-    """Returns the content as an object for JSON; what was not sent is null or empty."""
+    """Returns the contents as an object for JSON. Values that were not sent are null or empty."""
     kinds.load()
     told: Object = {}
     for kind in kinds.kinds():

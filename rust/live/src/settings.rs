@@ -143,7 +143,7 @@ pub fn explained(line: &[u8], text: &str) -> String {
         _ => forms[0].0.iter().position(|word| is_value(word)).unwrap_or(most),
     };
     let allowed = |form: &&(&[&'static str], &'static str)| match form.0.get(place) {
-        None => "nothing follows",
+        None => "no word is allowed here",
         Some(&"PORT") => "a port of this agent",
         Some(word) if is_value(word) => form.1,
         Some(word) => word,
@@ -151,8 +151,8 @@ pub fn explained(line: &[u8], text: &str) -> String {
     let mut wanted: Vec<&str> = forms.iter().map(allowed).collect();
     wanted.dedup();
     let found = match words.get(place).map(|word| &word[..]) {
-        None => "nothing follows",
-        Some("") => "nothing",
+        None => "a word is missing",
+        Some("") => "empty word",
         Some(word) => word,
     };
     format!("{text}: {found} ({})", wanted.join(" or "))
