@@ -1,3 +1,3 @@
--- All ports: an event for one port or for each port, and what stays true of them.
+-- The ports of an agent: how an event changes them, and that they stay sound.
 pub mod EachPort
 pub mod Sound

@@ -1,4 +1,4 @@
--- Lemmas for the laws. No proof of a call uses them.
+-- Lemmas for the laws. The proofs of functions do not use them.
 pub mod LastSet
 pub mod PortAt
 pub mod Marks

@@ -1,4 +1,4 @@
--- The headline: what agents that stand for a past promise, and the answer at an event.
+-- The headline: what is promised of each agent, and of the answer of each step.
 pub mod Promise
 pub mod Answered
 -- used by the crates that depend on this one

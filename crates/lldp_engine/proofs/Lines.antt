@@ -1,4 +1,4 @@
--- Lines of `show`, and the sinks that take them.
+-- The lines of show commands, and the sinks that receive them.
 pub mod Parts
 pub mod Taken
 pub mod OneKept

@@ -1,4 +1,4 @@
--- What is read from an agent is what the definitions give for its past.
+-- The functions of an agent return what the definitions give for its past.
 use Rattle.std.proofs.Common.{◌≡◌, ℕ, ◌+◌, ◌<◌, List, [], ◌∷◌, length, get_or, Option, Some, None, refl, ap, sym, ◌∙◌, subst, arith, map, suc, zero, add-zero}
 use Rattle.std.specs.Prelude.{slice_get, IfSome, Bool, true, false, if◌then◌else◌}
 use Rattle.std.specs.Str.{bytes_eq}
@@ -17,7 +17,7 @@ pub ports_are : (past : Past) (agent : AgentState) → Stands past agent → age
 unfolding agent_of
 ports_are past agent h = ap (λ (a : AgentState). a.ports) h.is
 
--- what the definitions give for a port with this past
+-- The port p is the one that the definitions give for this past, and has this name.
 pub record IsPortAfter (o : Options) (past : List Happened) (name : Option (List ℕ)) (p : PortState) : Type 0 where
   pub named : name ≡ Some p.name
   pub is : p ≡ port_after o past p.name
@@ -56,7 +56,7 @@ ports_number o events i (name ∷ names) = omega (arith, ports_number o events (
 pub number_reads : (past : Past) (agent : AgentState) → Stands past agent → length agent.ports ≡ length past.options.names
 number_reads past agent h = ap length (ports_are past agent h) ∙ ports_number past.options past.events 0 past.options.names
 
--- A place that is found is below the number of names.
+-- A place below m is below n if m and n are equal.
 within_more : (o : Option ℕ) (m n : ℕ) → m ≡ n → IfSome o (λ i. i < m) → IfSome o (λ i. i < n)
 within_more None m n e h = tt
 within_more (Some i) m n e h = omega arith

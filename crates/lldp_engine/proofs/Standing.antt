@@ -1,4 +1,4 @@
--- Agents that stand for pasts: a newly opened agent, and an agent after an event.
+-- The past of a newly opened agent, and of an agent after an event.
 pub mod Carrying
 pub mod Opened
 pub mod Step

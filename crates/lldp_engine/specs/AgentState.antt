@@ -8,7 +8,7 @@ use Rattle.lldp_engine.specs.declared.port.counters.Counters.{Counters}
 use Rattle.lldp_engine.specs.Configuration.{Configuration}
 use Rattle.lldp_engine.specs.Event.{Event, tick, frame, link, set, Setting, limit, status, IsInRange}
 
--- The data of a port. Its transmit machine also holds whether its link is up.
+-- The data of a port. The field `machine` includes whether the link is up.
 pub record PortState : Type 0 where
   pub name : List ℕ
   pub status : Status
@@ -33,17 +33,17 @@ name_of agent port = get_or (names_of agent) port []
 abbrev pub IsPort : AgentState → ℕ → Type 0
 IsPort agent port = port < length agent.ports
 
--- True if no port holds more neighbors than this.
+-- True if no port holds more than `most` neighbors.
 abbrev pub fits : List PortState → ℕ → Bool
 fits ports most = list_all (λ port. nat_le (length port.table.neighbors) most) ports
 
--- The agent accepts a limit from 1 to that of opening, unless some port holds more neighbors.
+-- The agent accepts a limit from 1 to the limit at opening, unless a port holds more neighbors.
 pub record AcceptsLimit (agent : AgentState) (neighbors : ℕ) : Type 0 where
   pub least : 1 ≤ neighbors
   pub most : neighbors ≤ agent.configuration.capacity
   pub held : fits agent.ports neighbors ≡ true
 
--- The agent accepts a limit as above, a status if the port exists, and other settings in range.
+-- A limit must be accepted, the port of a status must exist, other values must be in range.
 abbrev pub AllowsSetting : AgentState → Setting → Type 0
 AllowsSetting agent (limit neighbors) = AcceptsLimit agent neighbors
 AllowsSetting agent (status port given) = IsPort agent port

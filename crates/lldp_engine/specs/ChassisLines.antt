@@ -6,13 +6,13 @@ use Rattle.lldp_engine.specs.Configuration.{Configuration}
 use Rattle.lldp_text.specs.Text.{escaped}
 use Rattle.lldp_text.specs.Addresses.{mac_text, ipv4_text}
 
--- Returns the one capability of a role, shown as enabled.
+-- Returns the text of a role's only capability, which is shown as enabled.
 abbrev pub role_text : Role → List ℕ
 role_text Station = codes "Station:on"
 role_text Bridge = codes "Bridge:on"
 role_text Router = codes "Router:on"
 
--- The address is followed by 1 (interface numbering unknown), interface number 0, and no OID.
+-- The text of an address, then 1 (interface numbering unknown), interface number 0, and no OID.
 abbrev pub own_address_text : List ℕ → List ℕ
 own_address_text address = ipv4_text address ++ codes ",1,0,"
 
@@ -21,7 +21,7 @@ abbrev pub management_lines : Option (List ℕ) → List (List ℕ)
 management_lines None = []
 management_lines (Some address) = (codes "local-chassis.mgmt=" ++ own_address_text address) ∷ []
 
--- The lines: MAC address, system name, system description, capabilities, any management address.
+-- Returns the lines: MAC address, system name, description, capabilities, any management address.
 abbrev pub chassis_lines : Configuration → List (List ℕ)
 chassis_lines c =
     (codes "local-chassis.mac=" ++ mac_text c.mac)

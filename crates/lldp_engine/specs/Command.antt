@@ -1,4 +1,4 @@
--- What a command asks for, as plain data.
+-- Commands as plain data.
 use Rattle.lldp_engine.specs.declared.command.Show.{Show}
 use Rattle.lldp_engine.specs.declared.command.Command.{Command as CodeCommand}
 use Rattle.lldp_engine.specs.declared.command.Command.TheVariants as code
@@ -16,7 +16,7 @@ abbrev pub command_of : CodeCommand → Command
 command_of (code.Show what) = show what
 command_of (code.Set setting) = set (setting_of setting)
 
--- Holds if the agent accepts the command. It accepts every show.
+-- Holds if the agent accepts the command. Every show command is accepted.
 abbrev pub AllowsCommand : AgentState → Command → Type 0
 AllowsCommand agent (show what) = Unit {0}
 AllowsCommand agent (set setting) = Allows agent (event.set setting)

@@ -4,7 +4,7 @@ use Rattle.lldp_engine.specs.declared.agent.options.Role.{Role}
 use Rattle.lldp_engine.specs.Options.{Options}
 use Rattle.lldp_engine.specs.Event.{Event, set, Setting, hostname, description, interval, hold, limit, status, update}
 
--- The values up to `capacity` are fixed by the options; commands change the others: the two texts,
+-- The options fix the values up to `capacity`. Commands change the others: the two texts,
 -- tx-interval (msgTxInterval) in seconds, tx-hold (msgTxHold) and the limit of neighbors.
 pub record Configuration : Type 0 where
   pub mac : List ℕ
@@ -38,7 +38,7 @@ configuration_at_opening o =
       limit = o.max_neighbors;
     }
 
--- A command sets only what it names.
+-- A command changes only the value that it names.
 abbrev pub with_setting : Setting → Configuration → Configuration
 with_setting (hostname text) c = record c { hostname = text }
 with_setting (description text) c = record c { description = text }

@@ -17,7 +17,7 @@ status_text Disabled = codes "disabled"
 abbrev pub status_line : PortState → List ℕ
 status_line port = front_of (codes "configuration.") port.name ++ (codes "status=" ++ status_text port.status)
 
--- Each number has its key: `ttl` is that of ordinary frames, `max-neighbors` the limit in force.
+-- The numbers and their keys; `ttl` is for ordinary frames, `max-neighbors` is the limit in force.
 abbrev pub numbers_shown : AgentState → List (List ℕ × ℕ)
 numbers_shown agent =
     let c = agent.configuration in
@@ -30,7 +30,7 @@ numbers_shown agent =
     ∷ (codes "max-neighbors=", c.limit)
     ∷ (codes "ports=", length agent.ports) ∷ []
 
--- The lines: the numbers, then the status of each port in the order of opening.
+-- Returns the lines of the numbers, then of the status of each port in the order of opening.
 abbrev pub configuration_lines : AgentState → List (List ℕ)
 configuration_lines agent =
     number_lines (codes "configuration.") (numbers_shown agent) ++ map status_line agent.ports

@@ -20,12 +20,12 @@ abbrev pub is_refused : Heard → Bool
 is_refused refused = true
 is_refused heard = false
 
--- Returns how many TLVs were discarded, if the LLDPDU has no fault and a TTL above 0.
+-- Returns the number of discarded TLVs, or 0 if the LLDPDU has a fault or a TTL of 0.
 abbrev pub discarded_tlvs : Heard → ℕ
 discarded_tlvs (tells pdu) = discarded_of pdu
 discarded_tlvs heard = 0
 
--- Returns how many kept TLVs are unrecognized, if the LLDPDU has no fault and a TTL above 0.
+-- Returns the number of unrecognized kept TLVs, or 0 if the LLDPDU has a fault or a TTL of 0.
 abbrev pub unrecognized_tlvs : Heard → ℕ
 unrecognized_tlvs (tells pdu) = count_unrecognized (kept_of pdu)
 unrecognized_tlvs heard = 0
@@ -43,7 +43,7 @@ abbrev pub is_dropped : TableEvent → Bool
 is_dropped (learned msap ttl octets Dropped) = true
 is_dropped event = false
 
--- Counts the neighbors that were live before a tick and not after it, for all ticks.
+-- Counts the neighbors that aged out at all ticks: those live before a tick and not after it.
 abbrev pub all_aged_out : List TableEvent → ℕ
 all_aged_out [] = 0
 all_aged_out (event ∷ past) = (if is_tick event then aged_out past else 0) + all_aged_out past
@@ -62,7 +62,7 @@ is_shutdown mark = false
 
 -- ## One port
 
--- Returns the counters of a port that heard these LLDPDUs, had these table events, and sent this.
+-- Returns the counters of a port from what it heard, its table events, and what it sent.
 unfoldable pub counters_of : List Heard → List TableEvent → List Mark → Counters
 counters_of heard events marks =
     record {

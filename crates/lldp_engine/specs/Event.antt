@@ -18,7 +18,7 @@ pub data Setting : Type 0 where
   status : (port : ℕ) (given : Status) → Setting
   update : Setting
 
--- Holds if a number is in its range and a text is valid; limits and statuses depend on the agent.
+-- Holds if the number is in range or the text is valid. Limits and statuses are not checked here.
 abbrev pub IsInRange : Setting → Type 0
 IsInRange (hostname text) = is_text text ≡ true
 IsInRange (description text) = is_text text ≡ true
@@ -34,7 +34,7 @@ pub data Event : Type 0 where
   link : (port : ℕ) (up : Bool) → Event
   set : (setting : Setting) → Event
 
--- Holds if received octets are octets, as in every event of the program.
+-- Holds if received octets are numbers below 256, as in every event of the program.
 abbrev pub HasOctets : Event → Type 0
 HasOctets (frame port octets) = AreOctets octets
 HasOctets event = Unit {0}

@@ -1,4 +1,4 @@
--- The fixed numbers: the ends of ranges, the rooms of lines and writers, and the faults.
+-- Fixed numbers: the ends of ranges, the sizes of lines and writers, the numbers of faults.
 use Rattle.std.specs.Prelude.{◌≡◌, ℕ, ◌<◌, ◌↔◌, [], ◌∷◌, map}
 use Rattle.lldp_transmit.specs.declared.limits.TheConstants.{MOST_CREDIT, MOST_FAST, MOST_REINIT}
 use Rattle.lldp_engine.specs.declared.agent.options.TheConstants.{MOST_NEIGHBORS}
@@ -10,7 +10,7 @@ use Rattle.lldp_engine.specs.declared.agent.open_fault.OpenFault.TheVariants as 
 use Rattle.lldp_engine.specs.Event.{interval, hold}
 use Rattle.lldp_engine.specs.AgentState.{AgentState, AllowsSetting}
 
--- Returns the number of a fault of opening.
+-- Returns the number of a fault at opening.
 abbrev pub number_of_refusal : OpenFault → ℕ
 number_of_refusal refusal.Memory = 1
 number_of_refusal refusal.NoPorts = 2
@@ -19,7 +19,7 @@ number_of_refusal refusal.PortName = 4
 number_of_refusal refusal.SamePort = 5
 number_of_refusal refusal.Text = 6
 
--- The greatest number of each range, the rooms of a line with its LF and of a writer, the faults.
+-- The constants have these values, and the faults at opening are numbered from 1 to 6.
 pub record AreConstants : Type 0 where
   pub neighbors : MOST_NEIGHBORS ≡ 128
   pub credit : MOST_CREDIT ≡ 10
@@ -33,7 +33,7 @@ pub record AreConstants : Type 0 where
   pub refusals : map number_of_refusal (refusal.Memory ∷ refusal.NoPorts ∷ refusal.TooManyPorts ∷ refusal.PortName ∷ refusal.SamePort ∷ refusal.Text ∷ [])
       ≡ 1 ∷ 2 ∷ 3 ∷ 4 ∷ 5 ∷ 6 ∷ []
 
--- Commands may set exactly the numbers above 0 and below these.
+-- Commands may set a tx-interval from 1 to 3600 and a tx-hold from 1 to 100, and no others.
 pub record MaySet (agent : AgentState) (n : ℕ) : Type 0 where
   pub interval : AllowsSetting agent (interval n) ↔ ((0 < n) × (n < 3601))
   pub hold : AllowsSetting agent (hold n) ↔ ((0 < n) × (n < 101))

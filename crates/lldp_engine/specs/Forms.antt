@@ -13,8 +13,8 @@ use Rattle.lldp_engine.specs.Event.{hostname, description, interval, hold, limit
 use Rattle.lldp_text.specs.Answer.{or_fault, on_ok}
 use Rattle.lldp_engine.specs.Command.{Command, show, set}
 
--- The words that may still follow in a command: none; a fixed word and those after it; or an
--- argument, on which the rest may depend.
+-- The rest of a command: nothing; a fixed word and the rest after it; or an argument, on which the
+-- rest may depend.
 pub data Form : Type 0 where
   complete : Command → Form
   word : List ℕ → Form → Form
@@ -55,7 +55,7 @@ status_of w =
     else if bytes_eq w (codes "disabled") then Some Disabled
     else None
 
--- A word of the form leaves the rest of the form, any other word has a fault.
+-- Returns the rest of the form after a word that fits it, or the fault of a word that does not.
 abbrev pub after_word : List (List ℕ) → Form → List ℕ → Result Form CommandFault
 after_word names (complete command) w = Err Extra
 after_word names (word expected next) w = if bytes_eq w expected then Ok next else Err Unknown
@@ -64,12 +64,12 @@ after_word names (number least greatest next) w = on_ok next (number_of w least 
 after_word names (text next) w = if is_text w then Ok (next w) else Err Text
 after_word names (status next) w = on_ok next (or_fault (status_of w) Unknown)
 
--- Adds what is left of one more form, if the word fits it.
+-- Adds the rest of one more form to the others, if the word fits that form.
 abbrev pub and_left : Result Form CommandFault → List Form → List Form
 and_left (Ok next) others = next ∷ others
 and_left (Err fault) others = others
 
--- The fault of one more form, or that of the others if the word fits the form or gives it Extra.
+-- Returns the fault of one more form, or that of the others if the form has none or has Extra.
 abbrev pub fault_or : Result Form CommandFault → CommandFault → CommandFault
 fault_or (Ok next) others = others
 fault_or (Err Extra) others = others
@@ -80,7 +80,7 @@ abbrev pub if_any : List Form → CommandFault → Result (List Form) CommandFau
 if_any [] fault = Err fault
 if_any (form ∷ others) fault = Ok (form ∷ others)
 
--- Returns what is left of the forms that a word fits.
+-- Returns what remains of the forms that a word fits.
 abbrev pub forms_left : List (List ℕ) → List Form → List ℕ → List Form
 forms_left names [] w = []
 forms_left names (form ∷ others) w = and_left (after_word names form w) (forms_left names others w)
@@ -90,17 +90,17 @@ abbrev pub first_fault : List (List ℕ) → List Form → List ℕ → CommandF
 first_fault names [] w = Extra
 first_fault names (form ∷ others) w = fault_or (after_word names form w) (first_fault names others w)
 
--- Returns what is left of the forms that a word fits, or its fault if it fits none.
+-- Returns what remains of the forms that a word fits, or the word's fault if it fits none.
 abbrev pub going_on : List (List ℕ) → List Form → List ℕ → Result (List Form) CommandFault
 going_on names left w = if_any (forms_left names left w) (first_fault names left w)
 
--- With no word left, a complete form gives its command. Without such a form the fault is Unknown.
+-- Returns the command of a form that is complete at the end of the words, or else Unknown.
 abbrev pub completed : List Form → Result Command CommandFault
 completed [] = Err Unknown
 completed (complete command ∷ others) = Ok command
 completed (form ∷ others) = completed others
 
--- The words are read from left to right. The first that fits none of the forms decides the fault.
+-- Words are read from left to right. The first word that fits no form decides the fault.
 abbrev pub read_forms : List (List ℕ) → Result (List Form) CommandFault → List (List ℕ) → Result Command CommandFault
 read_forms names (Err fault) words = Err fault
 read_forms names (Ok left) [] = completed left

@@ -21,7 +21,7 @@ unit kind body = record { kind = kind; body = body }
 abbrev pub sent_msap : Configuration → List ℕ → MsapId
 sent_msap c name = record { chassis = 4 ∷ c.mac; port = 5 ∷ name }
 
--- The body of an IPv4 address: interface numbering unknown (1), interface number 0, and no OID.
+-- The body for an IPv4 address: interface numbering unknown (1), interface number 0, and no OID.
 abbrev pub management_body : List ℕ → List ℕ
 management_body address = (5 ∷ 1 ∷ address) ++ (1 ∷ 0 ∷ 0 ∷ 0 ∷ 0 ∷ 0 ∷ [])
 
@@ -43,8 +43,8 @@ sent_tlvs c name =
     unit 4 name ∷ unit 5 c.hostname ∷ unit 6 c.description ∷ unit 7 (capabilities_of c.role)
     ∷ management_tlvs c.management
 
--- The content of a frame: an ordinary one has the TTL and TLVs of the configuration, a shutdown one
--- a TTL of 0 and no more. At Quiet no frame is sent; the value is the same as at Shutdown.
+-- The content of a frame. An ordinary frame has the configuration's TTL and TLVs, a shutdown frame
+-- a TTL of 0 and no optional TLVs. Quiet sends no frame; its value here is that of Shutdown.
 abbrev pub draft_of : Configuration → List ℕ → Mark → Draft
 draft_of c name Ordinary = record { msap = sent_msap c name; ttl = sent_ttl c; tlvs = sent_tlvs c name }
 draft_of c name Shutdown = record { msap = sent_msap c name; ttl = 0; tlvs = [] }

@@ -1,4 +1,4 @@
--- What is promised of every agent, for each past that it stands for.
+-- What is promised of every agent, for each past that it may have had.
 use Rattle.std.specs.Prelude.{◌≡◌, ℕ, ◌<◌, ◌↔◌, Some, slice_get, List, length}
 use Rattle.std.specs.List.{Contains, AllPairs, AllByRecursion}
 use Rattle.lldp_transmit.specs.declared.event.Mark.TheVariants.{Ordinary, Shutdown}
@@ -15,11 +15,11 @@ pub record Promised (past : Past) (agent : AgentState) : Type 0 where
       HoldsLastStored past.options (past_of past i) port.table
   pub sending : (i : ℕ) → i < length past.options.names → HasSentExactly past.options (past_of past i)
 
--- Holds if the port of the first has a smaller number than that of the second.
+-- Holds if the port in the first entry has a smaller number than the port in the second.
 abbrev pub IsEarlierPort : Sending → Sending → Type 0
 IsEarlierPort a b = a.0 < b.0
 
--- At this event an ordinary frame is due on port i, and its credit window is open.
+-- At this event an ordinary frame is due on port i, and the credit window of the port is open.
 abbrev pub DueAndOpenNow : Past → Event → ℕ → Type 0
 DueAndOpenNow past event i =
     DueAndOpen past.options (happened past.options i event past.events) (past_of past i)
@@ -28,9 +28,9 @@ DueAndOpenNow past event i =
 abbrev pub StopsNow : Past → Event → ℕ → Type 0
 StopsNow past event i = Stops past.options (happened past.options i event past.events) (past_of past i)
 
--- The answer at an event is what the definitions give. It has port i with an ordinary frame exactly
--- if one is due and its credit window is open, and with a shutdown frame exactly if the port stops.
--- It has nothing else, and its ports ascend.
+-- The answer at an event is what the definitions give. It lists port i with an ordinary frame if
+-- and only if one is due and the port's credit window is open, and with a shutdown frame if and
+-- only if the port stops. It lists nothing else, and the ports are in ascending order.
 pub record AnswersExactly (past : Past) (event : Event) (marks : List Sending) : Type 0 where
   pub are : marks ≡ marks_of (with_event past event)
   pub ordinary : (i : ℕ) → i < length past.options.names → Contains marks (i, Ordinary) ↔ DueAndOpenNow past event i
@@ -38,8 +38,8 @@ pub record AnswersExactly (past : Past) (event : Event) (marks : List Sending) :
   pub only : AllByRecursion (λ mark. (mark.0 < length past.options.names) × IsSent mark.1) marks
   pub rising : AllPairs IsEarlierPort marks
 
--- What is promised of a step, for each past that the agent stood for before it: the answer is
--- exact, and the promise holds of the agent after it.
+-- What is promised of a step by an agent with this past: the answer is exact, and the promise holds
+-- for the agent after the step.
 pub record PromisedStep (past : Past) (event : Event) (marks : List Sending) (agent : AgentState) : Type 0 where
   pub answered : AnswersExactly past event marks
   pub promised : Promised (with_event past event) agent

@@ -1,4 +1,4 @@
--- The starts of shown lines, and lines of numbers.
+-- The starts of the lines of shows, and lines with numbers.
 use Rattle.std.specs.Prelude.{ℕ, List, ◌++◌, map, codes, decimal}
 
 -- Returns a word, the name of a port and a `.`, joined.

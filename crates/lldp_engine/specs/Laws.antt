@@ -1,4 +1,4 @@
--- What only laws use: the definitions of the calls in other words, by positions, octets and counts.
+-- Definitions that only the laws use. They restate other definitions by positions, octets, counts.
 pub mod CauseOf
 pub mod Deaf
 pub mod FirstFault

@@ -4,7 +4,7 @@ use Rattle.std.specs.Borrow.{Fml, RattleType, MutBor, LendsSo}
 use Rattle.lldp_text.specs.contracts.writing.Writer.{the_row as writer_row}
 use Rattle.lldp_text.specs.Text.{ended}
 
--- The sink takes what is appended to the lent writer: a line of at most 2,049 octets with its LF.
+-- The sink takes the line appended to the lent writer, at most 2,049 octets with its line feed.
 abbrev pub TakesWritten : {S : Type 0} → (S → S → List ℕ → Type 0) → S → Option (MutBor (List ℕ)) → S → List ℕ → Type 0
 TakesWritten takes old lent new text =
     (writer : MutBor (List ℕ)) (line : List ℕ) → lent ≡ Some writer → text ≡ writer.now ++ ended line

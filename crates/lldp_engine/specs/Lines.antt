@@ -9,7 +9,7 @@ use Rattle.lldp_engine.specs.ConfigurationLines.{configuration_lines}
 use Rattle.lldp_engine.specs.declared.command.Show.{Show}
 use Rattle.lldp_engine.specs.declared.command.Show.TheVariants.{Neighbors, Statistics, Chassis, Configuration}
 
--- Returns the lines of a show of an agent.
+-- Returns the lines of a show command for this agent.
 abbrev pub lines_of : Show → AgentState → List (List ℕ)
 lines_of Neighbors agent = neighbors_lines agent.ports
 lines_of Statistics agent = statistics_lines agent.ports

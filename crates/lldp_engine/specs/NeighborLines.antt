@@ -9,7 +9,7 @@ use Rattle.lldp_engine.specs.Keys.{port_key, neighbor_key}
 use Rattle.lldp_text.specs.Identifier.{chassis_text, port_text}
 use Rattle.lldp_text.specs.KeptTlv.{tlv_text}
 
--- Returns the line of a kept TLV, which begins with this key.
+-- Returns the line of a kept TLV: this key, and then the text of the TLV.
 abbrev pub kept_line : List ℕ → TlvUnit → List ℕ
 kept_line key tlv = key ++ tlv_text tlv
 
@@ -23,7 +23,7 @@ neighbor_lines name number neighbor =
     ∷ (key ++ (codes "expires=" ++ decimal neighbor.left))
     ∷ map (kept_line key) (kept_of neighbor.octets)
 
--- Returns the lines of these neighbors, numbered from this number.
+-- Returns the lines of these neighbors, which are numbered from `number` on.
 abbrev pub numbered_lines : List ℕ → ℕ → List Neighbor → List (List ℕ)
 numbered_lines name number [] = []
 numbered_lines name number (neighbor ∷ others) =
@@ -38,7 +38,7 @@ abbrev pub too_many_line : List ℕ → Bool → List ℕ
 too_many_line name too_many = port_key name ++ (codes "too-many=" ++ yes_or_no too_many)
 
 -- The first three lines of a port: how many neighbors it holds, the sum of their stored octets, and
--- whether there are too many, that is, whether the timer of that condition is not 0.
+-- whether there are too many neighbors (the timer of that condition is not 0).
 abbrev pub count_lines : PortState → List (List ℕ)
 count_lines port =
     (port_key port.name ++ (codes "neighbors=" ++ decimal (length port.table.neighbors)))

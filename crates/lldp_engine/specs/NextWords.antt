@@ -17,7 +17,7 @@ port_said names words = do
   port ← or_fault (place_of names name.0) NoSuchPort
   Ok (port, name.1)
 
--- No word may be left. If one is left, the fault is Extra.
+-- Returns the fault Extra if a word is left.
 abbrev pub end_said : List (List ℕ) → Result Unit CommandFault
 end_said [] = Ok tt
 end_said (word ∷ words) = Err Extra

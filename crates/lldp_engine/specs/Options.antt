@@ -1,4 +1,4 @@
--- What an agent is opened with, as plain data, and which options are refused.
+-- The options of an agent as plain data, and which options are refused.
 use Rattle.std.specs.Prelude.{◌≡◌, ℕ, ◌≤◌, ◌==◌, ◌&&◌, ◌||◌, not, nat_le, nat_lt, Bool, false, List, [], ◌∷◌, length, map, Option, Some, None}
 use Rattle.std.specs.List.{list_any, list_all}
 use Rattle.std.specs.Str.{bytes_eq}
@@ -62,7 +62,7 @@ abbrev pub has_same : List (List ℕ) → Bool
 has_same [] = false
 has_same (name ∷ names) = list_any (λ other. bytes_eq other name) names || has_same names
 
--- The checks are in this order, each over the whole list of ports.
+-- Returns the checks in their order. Each check is over the whole list of ports.
 abbrev pub checks : Options → List (Check OpenFault)
 checks o =
     record { fails = length o.names == 0; fault = NoPorts }
@@ -72,7 +72,7 @@ checks o =
     ∷ record { fails = not (is_text o.hostname); fault = Text }
     ∷ []
 
--- The fault is that of the first check that fails. If none fails, only memory can be lacking.
+-- Returns the fault of the first check that fails, if any.
 abbrev pub fault_of : Options → Option OpenFault
 fault_of o = first_fault (checks o)
 

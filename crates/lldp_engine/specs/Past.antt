@@ -1,5 +1,5 @@
--- The past of an agent, and what the definitions make of it: the configuration, the past of each
--- port, the agent, and what is sent.
+-- The past of an agent, and what the definitions compute from it: the configuration, the past of
+-- each port, the agent, and what is sent.
 use Rattle.std.specs.Prelude.{ℕ, ◌+◌, List, [], ◌∷◌}
 use Rattle.lldp_transmit.specs.declared.event.Mark.{Mark}
 use Rattle.lldp_transmit.specs.declared.event.Mark.TheVariants.{Quiet, Ordinary, Shutdown}
@@ -28,7 +28,7 @@ abbrev pub configuration_after : Options → List Event → Configuration
 configuration_after o [] = configuration_at_opening o
 configuration_after o (event ∷ events) = configured event (configuration_after o events)
 
--- Returns what an event is for port i, if it comes after these events.
+-- Returns what happens to port i at an event that follows these events.
 abbrev pub happened : Options → ℕ → Event → List Event → Happened
 happened o i event events = record {
   event = for_port i (whose event);
@@ -44,7 +44,7 @@ port_past o i (event ∷ events) = happened o i event events ∷ port_past o i e
 abbrev pub past_of : Past → ℕ → List Happened
 past_of past i = port_past past.options i past.events
 
--- Returns the ports with these names, numbered from i.
+-- Returns the ports with these names after these events. The first is port i.
 abbrev pub ports_after : Options → List Event → ℕ → List (List ℕ) → List PortState
 ports_after o events i [] = []
 ports_after o events i (name ∷ names) = port_after o (port_past o i events) name ∷ ports_after o events (i + 1) names
@@ -57,25 +57,25 @@ agent_of past =
       ports = ports_after past.options past.events 0 past.options.names;
     }
 
--- Each event was allowed by the agent before it, and received octets are octets.
+-- Each event was allowed by the agent before it, and received octets are below 256.
 abbrev pub AreAllowed : Options → List Event → Type 0
 AreAllowed o [] = Unit {0}
 AreAllowed o (event ∷ events) =
     Allows (agent_of (record { options = o; events = events })) event × HasOctets event × AreAllowed o events
 
--- ## What is sent
+-- ## Frames that are sent
 
 -- The number of a port that sends, and what it sends.
 abbrev pub Sending : Type 0
 Sending = ℕ × Mark
 
--- Adds a port before the others that send, unless it sends nothing.
+-- Puts a port and its mark before the others, unless the port sends nothing.
 abbrev pub sending : ℕ → Mark → List Sending → List Sending
 sending i Quiet others = others
 sending i Ordinary others = (i, Ordinary) ∷ others
 sending i Shutdown others = (i, Shutdown) ∷ others
 
--- Returns which of the ports with these names, numbered from i, sent at the last of these events.
+-- Returns the ports that sent at the last event, with what they sent. The first name is port i.
 abbrev pub sent_from : Options → List Event → ℕ → List (List ℕ) → List Sending
 sent_from o events i [] = []
 sent_from o events i (name ∷ names) = sending i (mark_after o (port_past o i events)) (sent_from o events (i + 1) names)

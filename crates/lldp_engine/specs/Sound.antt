@@ -4,7 +4,7 @@ use Rattle.std.specs.List.{AllByRecursion}
 use Rattle.lldp_table.specs.Contents.{IsSound}
 use Rattle.lldp_engine.specs.AgentState.{PortState}
 
--- A port has a name of 1 to 15 octets, and a sound table with this room.
+-- A port has a name of 1 to 15 octets, and a sound table with this capacity.
 pub record IsSoundPort (capacity : ℕ) (port : PortState) : Type 0 where
   pub table : IsSound port.table
   pub room : port.table.capacity ≡ capacity

@@ -5,7 +5,7 @@ use Rattle.lldp_engine.specs.declared.port.counters.Counters.{Counters}
 use Rattle.lldp_engine.specs.AgentState.{PortState}
 use Rattle.lldp_engine.specs.Keys.{port_key, number_lines}
 
--- Each counter has its key.
+-- Returns the counters, each with its key.
 abbrev pub counters_shown : Counters → List (List ℕ × ℕ)
 counters_shown counters =
     (codes "sent=", counters.sent)
@@ -18,7 +18,7 @@ counters_shown counters =
     ∷ (codes "ageouts=", counters.ageouts)
     ∷ (codes "drops=", counters.drops) ∷ []
 
--- The lines of a port: each of its counters.
+-- Returns the lines of a port: one for each of its counters.
 abbrev pub counter_lines : PortState → List (List ℕ)
 counter_lines port = number_lines (port_key port.name) (counters_shown port.counters)
 

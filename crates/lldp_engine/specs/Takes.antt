@@ -1,4 +1,4 @@
--- What a sink of lines took.
+-- The lines that a sink took.
 use Rattle.std.specs.Prelude.{◌≡◌, ℕ, List, [], ◌∷◌}
 
 -- The sink took these lines, one after another.

@@ -38,8 +38,8 @@ use lldp_transmit::Transmit;
 use std::alloc::{Allocator, Global};
 use std::marker::Model;
 
-/// An LLDP agent with 1 to 64 ports. Only `open` allocates memory. The agent *stands for* a past,
-/// its options and all events since, if the definitions give this agent for that past (`Stands`).
+/// An LLDP agent with 1 to 64 ports. Only `open` allocates memory. An agent *stands for* its past,
+/// the options and all events since: the definitions compute the agent from it (`Stands`).
 #[derive(Drop)]
 pub struct Agent<A: Allocator = Global> {
     configuration: Configuration,
@@ -59,12 +59,12 @@ impl<A: Allocator> Model for Agent<A> {
 }
 
 impl<A: Allocator> Agent<A> {
-    /// Opens an agent, whose past is these options and no events. The four numbers must be in their
+    /// Opens an agent. Its past is these options and no events. The four numbers must be in their
     /// ranges (`Options::in_range`).
     ///
-    /// The options are checked first, each check over the whole list of ports. NoPorts,
+    /// The options are checked first. Each check is over the whole list of ports. NoPorts,
     /// TooManyPorts, PortName, SamePort or Text names the first check that fails, in this order.
-    /// Then memory for all neighbors is allocated, and none after that. Memory is the fault only if
+    /// Memory for all neighbors is allocated next, and no memory later. Memory is the fault only if
     /// no check failed.
     pub fn open(alloc: A, options: &Options<'_>) -> Result<Self, OpenFault>
     where
@@ -154,7 +154,7 @@ impl<A: Allocator> Agent<A> {
         self.port(port).status()
     }
 
-    /// Returns whether the link of a port is up, by its last link event; true if there was none.
+    /// Returns whether the link of a port is up by its last link event, or true if it had none.
     pub fn is_up(&self, port: u8) -> bool
         requires { IsPort self.now port }
         ensures value { option_map (λ p. p.machine.up) (slice_get self.now.ports port)
@@ -165,7 +165,7 @@ impl<A: Allocator> Agent<A> {
         self.port(port).is_up()
     }
 
-    /// Returns the neighbor table of a port, as the events so far have left it.
+    /// Returns the neighbor table of a port after the events so far.
     pub fn table(&self, port: u8) -> &Table<A>
         requires { IsPort self.now port }
         ensures value { option_map (λ p. p.table) (slice_get self.now.ports port)
@@ -177,7 +177,7 @@ impl<A: Allocator> Agent<A> {
         self.port(port).table()
     }
 
-    /// Returns the transmit machine of a port, as the events so far have left it.
+    /// Returns the transmit machine of a port after the events so far.
     pub fn machine(&self, port: u8) -> &Transmit
         requires { IsPort self.now port }
         ensures value { option_map (λ p. p.machine) (slice_get self.now.ports port)
@@ -200,9 +200,8 @@ impl<A: Allocator> Agent<A> {
         self.port(port).counters()
     }
 
-    /// Returns whether the agent accepts the event: the port exists, the number is in range, the
-    /// text is at most 255 octets, all printable, and no port holds more neighbors than a new
-    /// limit.
+    /// Returns whether the agent accepts the event: its port exists, its number is in range, its
+    /// text has at most 255 octets, all printable, and no port holds more neighbors than its limit.
     pub fn allows(&self, event: &Event<'_>) -> bool
         ensures { IsTrue result ↔ Allows self.now (event_of event.now) }
     {
@@ -232,10 +231,10 @@ impl<A: Allocator> Agent<A> {
     }
 
     /// Applies an event that `allows` accepts. Returns the ports that send, in ascending order,
-    /// each with what it sends. It cannot fail and allocates no memory.
+    /// each with what it sends. Does not fail and allocates no memory.
     ///
-    /// If the agent stood for a past, it now stands for that past with this event added. The ports
-    /// returned are exactly those that send by the definitions, and the headline of docs/CLAIMS.md
+    /// The past of the agent is now its earlier past with this event added. The ports returned are
+    /// exactly those that send according to the definitions, and the headline of docs/CLAIMS.md
     /// holds (`PromisedStep`).
     pub fn step(&mut self, event: Event<'_>) -> Marks
         requires { Allows self.old (event_of event) }
@@ -244,7 +243,7 @@ impl<A: Allocator> Agent<A> {
         ensures marks { result.items ≡ agent_marks (event_of event.entry) self.old }
         ensures sent { AllByRecursion (λ mark. IsPort self.new mark.0
             × IsSent mark.1) result.items }
-        // If the agent stood for a past, it now stands for that past with this event added.
+        // The past of the agent is now its earlier past with this event added (`Stands`).
         ensures stands { (past : Past) → Stands past self.old →
             Stands (with_event past (event_of event.entry)) self.new }
         ensures marks_past { (past : Past) → Stands past self.old →

@@ -41,7 +41,7 @@ pub enum Command<'l> {
     Show(Show),
 }
 
-/// Reads what follows `show`.
+/// Reads the words after `show`.
 fn read_show(words: &mut Words<'_>) -> Result<Show, CommandFault>
     ensures { (agent : AgentState) →
         Says agent (codes "show" ∷ words.old) result (λ what. show what) words.new }
@@ -60,7 +60,7 @@ fn read_show(words: &mut Words<'_>) -> Result<Show, CommandFault>
     }
 }
 
-/// Reads a command from its first word and those after it. Words may be left over.
+/// Reads a command from its first word and the words after it. Words may remain unread.
 fn read_form<'l, A: Allocator>(
     agent: &Agent<A>,
     first: &[u8],
@@ -80,7 +80,7 @@ fn read_form<'l, A: Allocator>(
     }
 }
 
-/// Reads a command from its first word and those after it. No word may be left over.
+/// Reads a command from its first word and the words after it. No word may remain.
 fn read_whole<'l, A: Allocator>(
     agent: &Agent<A>,
     first: &[u8],
@@ -94,7 +94,7 @@ fn read_whole<'l, A: Allocator>(
     Ok(command)
 }
 
-/// Returns the command, or `InUse` if it sets a limit below what some port holds.
+/// Returns the command, or `InUse` if it sets a limit below the number of neighbors of a port.
 fn refuse_in_use<'l, A: Allocator>(
     agent: &Agent<A>,
     command: Command<'l>,
@@ -113,9 +113,9 @@ fn refuse_in_use<'l, A: Allocator>(
 }
 
 impl<A: Allocator> Agent<A> {
-    /// Reads a command from its first word and those after it. Returns it, or the first fault: the
-    /// words are checked from left to right, then whether a word is left over, then whether a limit
-    /// is below what a port holds. The agent allows a returned command.
+    /// Reads a command from its first word and the words after it. Returns the command or the first
+    /// fault: the words are checked from left to right, then that no word remains, then that no
+    /// port holds more neighbors than a limit. The agent allows a returned command.
     pub fn read_words<'l>(
         &self,
         first: &[u8],
@@ -129,8 +129,8 @@ impl<A: Allocator> Agent<A> {
         refuse_in_use(self, command)
     }
 
-    /// Reads a command from a line. Returns it, or the first fault: a bad quote anywhere, then
-    /// those of `read_words`. A line without words is `Unknown`. The agent allows what is returned.
+    /// Reads a command from a line. The first fault is a bad quote anywhere, or else a fault of
+    /// `read_words`. A line without words is `Unknown`. The agent allows a returned command.
     pub fn read_command<'l>(&self, line: &'l [u8]) -> Result<Command<'l>, CommandFault>
         ensures read { on_ok command_of result ≡ command_given self.now line.now }
         ensures allowed { IfOk result (λ command. AllowsCommand self.now (command_of command)) }

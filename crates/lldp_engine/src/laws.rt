@@ -25,8 +25,8 @@ pub mod shows;
 pub mod tables;
 pub mod whose;
 
-/// If an agent stands for a past and allows an event, then after the event it stands for that past
-/// with the event added, and the ports that send are those that the definitions give.
+/// After an event that an agent allows, the past of the agent is its earlier past with the event
+/// added, and the ports that send are those that the definitions give.
 #[tactic(auto, using(crate::proofs::Standing::Carrying::steps_carry_standing))]
 pub fn steps_carry_standing()
     ensures marks { (past : Past) (event : Event) (agent : AgentState) → Stands past agent →
@@ -45,15 +45,15 @@ pub fn standing_agents_are_promised()
     ensures { (past : Past) (agent : AgentState) → Stands past agent → Promised past agent }
 {}
 
-/// Whatever has happened, a port's transmit machine may transmit exactly if the port's status lets
-/// it, so the right returns with the status. The link is up exactly if the last link event says so,
-/// or if there was none.
+/// After any past, a port's transmit machine may transmit exactly if the port's status allows it,
+/// so setting such a status restores the right. The link is up exactly if the last link event says
+/// so, or if there was none.
 pub fn rights_follow_statuses()
     ensures { (options : Options) (past : List Happened) → FollowsStatus options past }
 {}
 
-/// A port's status and link, and the configuration, are each as the last event for them left them:
-/// one event set the value, and no later event sets it. If no event set it, it is as at opening.
+/// A port's status, its link and each part of the configuration have the value that the last event
+/// for them set; no later event sets it. If no event set a value, it is as at opening.
 pub fn last_events_decide()
     ensures status { (options : Options) (port : ℕ) (events : List Event) (status : Status) →
         (status ≡ status_after options (port_past options port events))

@@ -56,7 +56,7 @@ fn name_of(octets: &[u8]) -> ArrayVec<u8, 15>
 }
 
 impl<A: Allocator> Port<A> {
-    /// Opens a port without any events so far, and allocates its table.
+    /// Opens a port and allocates its table. The port has had no events yet.
     pub(crate) fn open(alloc: A, name: &[u8], options: &Options<'_>) -> Result<Port<A>, AllocError>
         requires name { length name.now ≤ 15 }
         requires range { InRange (options_of options.now) }
@@ -137,8 +137,7 @@ impl<A: Allocator> Port<A> {
         self.counters.count_aged_out(aged_out);
     }
 
-    /// Applies an event to the table and the counters. Returns what it means to the transmit
-    /// machine.
+    /// Applies an event to the table and the counters. Returns what the event means to the machine.
     #[inline(always)]
     fn apply(&mut self, event: &PortEvent<'_>) -> Cause
         requires { FitsLimit (port_event_of event.now) self.old.table }
@@ -161,7 +160,7 @@ impl<A: Allocator> Port<A> {
         }
     }
 
-    /// Sets the status, and empties the table if the port no longer receives. Returns the cause.
+    /// Sets the status, and empties the table if receiving ends. Returns the machine's cause.
     fn set_status(&mut self, given: Status) -> Cause
         ensures after { self.new ≡ port_after_event (status given) self.old }
         ensures cause { result ≡ port_cause (status given) self.old }

@@ -1,4 +1,4 @@
--- The ports after an event for one port, which changes that port only, or for each port in turn.
+-- How an event for one port or for each port changes the list of ports.
 use Rattle.std.proofs.Common.{◌≡◌, ℕ, zero, suc, ◌+◌, ◌<◌, ◌≤◌, Bool, true, false, List, [], ◌∷◌, ◌++◌, length, get_or, set, take, drop, refl, ap, sym, subst, arith, append-nil}
 use Rattle.std.specs.Prelude.{◌==◌, if◌then◌else◌}
 use Rattle.std.specs.List.{AllByRecursion}
@@ -14,12 +14,12 @@ use Rattle.lldp_engine.specs.Code.PortStep.{port_step, port_mark}
 use Rattle.lldp_engine.specs.Code.Step.{ports_step, marks_step}
 use Rattle.std.proofs.lemmas.Grind.{common_steps}
 
--- P holds for what an event is for a port if P holds for the event and for `nothing`.
+-- P holds for `if b then event else nothing` if it holds for `event` and for `nothing`.
 pub own_or_nothing : (P : PortEvent → Type 0) (b : Bool) (event : PortEvent) → P event → P nothing → P (if b then event else nothing)
 own_or_nothing P true event own none = own
 own_or_nothing P false event own none = none
 
--- ## One port's event
+-- ## An event for one port
 
 other : (event : PortEvent) (q i : ℕ) → (q ≡ i → ⊥) → for_port i (one_port q event) ≡ nothing
 other event q i h = let no : (q == i) ≡ false = grind (arith, nat_tests) in rw no refl
@@ -27,7 +27,7 @@ other event q i h = let no : (q == i) ≡ false = grind (arith, nat_tests) in rw
 own : (event : PortEvent) (q : ℕ) → for_port q (one_port q event) ≡ event
 own event q = let yes : (q == q) ≡ true = grind (arith, nat_tests) in rw yes refl
 
--- An event of one port does nothing to another port.
+-- An event for one port does not change another port.
 after_other : (event : PortEvent) (n q i : ℕ) (p : PortState) → (q ≡ i → ⊥) → port_step (for_port i (one_port q event)) n p ≡ p
 after_other event n q i p h = ap (λ (e : PortEvent). port_step e n p) (other event q i h)
 
@@ -54,7 +54,7 @@ one_mark event n s k q [] p h lt a = absurd (omega arith)
 one_mark event n s zero q (x ∷ xs) p h lt a = grind (arith, common_steps, own, later_silent)
 one_mark event n s (suc k) q (x ∷ xs) p h lt a = grind (arith, common_steps, mark_of_other, one_mark event n (s + 1) k q xs p (omega arith) (omega arith) a)
 
--- An event of port q changes only port q.
+-- Replacing port q by its state after an event for it gives the ports after that event.
 pub one_port_after : (event : PortEvent) (n q : ℕ) (ports : List PortState) (p : PortState) → q < length ports → p ≡ get_or ports q p
     → set ports q (port_step event n p) ≡ ports_step (one_port q event) n 0 ports
 one_port_after event n q ports p lt at = one_after event n 0 q q ports p (omega arith) lt at
@@ -63,7 +63,7 @@ pub one_port_marks : (event : PortEvent) (n q : ℕ) (ports : List PortState) (p
     → sending q (port_mark event n p) [] ≡ marks_step (one_port q event) n 0 ports
 one_port_marks event n q ports p lt at = one_mark event n 0 q q ports p (omega arith) lt at
 
--- What holds of each port holds of port i.
+-- If P holds for each port, it holds for port i.
 pub at_own : (P : PortState → Type 0) (i : ℕ) (ports : List PortState) (p : PortState) → i < length ports → p ≡ get_or ports i p → AllByRecursion P ports → P p
 at_own P i [] p lt h all = absurd (omega arith)
 at_own P zero (x ∷ xs) p lt h all = subst P (sym h) all.0
@@ -92,14 +92,14 @@ next_mark event n s i k [] p e lt h = absurd (omega arith)
 next_mark event n s zero k (x ∷ xs) p e lt h = let place : k ≡ s = omega arith in rw (place, h) refl
 next_mark event n s (suc i) k (x ∷ xs) p e lt h = grind (arith, common_steps, sending-append, next_mark event n (s + 1) i k xs p (omega arith) (omega arith) h)
 
--- The next port handles the event.
+-- When port i also handles the event, the ports and the marks are those for i + 1 ports.
 pub one_more : (event : PortEvent) (n i : ℕ) (ports : List PortState) (p q : PortState) (mark : Mark) → i < length ports → p ≡ get_or (so_far event n i ports) i p
     → q ≡ port_step event n p → mark ≡ port_mark event n p
     → (set (so_far event n i ports) i q ≡ so_far event n (suc i) ports)
     × (marks_step (each_port event) n 0 (take i ports) ++ sending i mark [] ≡ marks_step (each_port event) n 0 (take (suc i) ports))
 one_more event n i ports p q mark lt h a m = (rw a (next_step event n 0 i ports p lt h), rw m (next_mark event n 0 i i ports p (omega arith) lt h))
 
--- What holds of each port holds of the next port to handle the event.
+-- If P holds for each port at first, it holds for port i before port i handles the event.
 pub at_turn : (P : PortState → Type 0) (event : PortEvent) (n s i : ℕ) (ports : List PortState) (p : PortState) → i < length ports → p ≡ get_or (ports_step (each_port event) n s (take i ports) ++ drop i ports) i p
     → AllByRecursion P ports → P p
 at_turn P event n s i [] p lt h all = absurd (omega arith)

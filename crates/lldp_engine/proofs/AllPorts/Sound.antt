@@ -46,13 +46,13 @@ ports_opened o (name ∷ names) r h = let b = and_parts (is_port_name name) (lis
 pub opened_are_sound : (o : Options) (ports : List PortState) → InRange o → ports ≡ map (opened_port o) o.names → list_all is_port_name o.names ≡ true → length o.names ≤ 64 → AreSound o.max_neighbors ports
 opened_are_sound o ports r e named few = grind (arith, common_steps, length-map, ports_opened)
 
--- ## At an event
+-- ## After an event
 
 with_call_sound : (table : Contents) (call : Option Call) → IsSound table → IfSome call (IsPossible table) → IsSound (with_call table call)
 with_call_sound table None s t = s
 with_call_sound table (Some call) s t = sound_after table call s t
 
--- No call changes the room of a table.
+-- Learning a neighbor does not change the capacity of the table.
 learned-room : (a : Learned) (table : Contents) (msap : MsapId) (ttl : ℕ) (octets : List ℕ) → (learned_as a table msap ttl octets).capacity ≡ table.capacity
 learned-room New table msap ttl octets = refl
 learned-room Refreshed table msap ttl octets = refl
@@ -91,7 +91,7 @@ pub stay_sound : (capacity : ℕ) (event : Whose) (n : ℕ) (ports new : List Po
     → AreSound capacity ports → AreSound capacity new
 stay_sound capacity event n ports new e h f s = grind (arith, common_steps, ports_number, ports_sound, each_fits)
 
--- ## A limit that an agent allows fits its ports
+-- ## If an agent allows a limit, every port can have it
 
 limit_for_all : (capacity n : ℕ) (ports : List PortState) → 1 ≤ n → n ≤ capacity → fits ports n ≡ true → AllSound capacity ports → AllByRecursion (λ port. IsNewLimit port.table n) ports
 limit_for_all capacity n [] least most f s = tt

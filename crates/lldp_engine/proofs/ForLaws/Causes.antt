@@ -28,9 +28,9 @@ use Rattle.lldp_engine.proofs.ForLaws.PortAt.{of_table}
 use Rattle.lldp_engine.proofs.ForLaws.Deaf.{own_happened, heard_now}
 use Rattle.lldp_engine.proofs.ForLaws.Held.{held_after, IsGain, gains}
 
--- ## What an event means
+-- ## What an event means to a port
 
--- what the event means to port i, after this past
+-- what the event means to the transmit machine of port i, after this past
 abbrev pub cause_now : Past → Event → ℕ → Cause
 cause_now past event i = (caused_at past.options (happened past.options i event past.events) (past_of past i)).cause
 
@@ -46,7 +46,7 @@ abbrev first_cause : History → Cause
 first_cause [] = Nothing
 first_cause (e ∷ h) = e.cause
 
--- the answer of the table of port i to an MSAP identifier, after this past
+-- whether the table of port i would add, refresh or drop a neighbor with this MSAP identifier
 abbrev pub answers_now : Past → ℕ → MsapId → Learned
 answers_now past i name = answer past.options.max_neighbors name (table_events_after past.options (past_of past i))
 
@@ -80,7 +80,7 @@ heard_is_no_change : (answers : MsapId → Learned) (h : Option Heard) → IsNoC
 heard_is_no_change answers (Some (tells pdu)) = answer_is_no_change (answers (msap_of pdu))
 heard_is_no_change answers other = tt
 
--- An event that is not a local change for its own port is not one for any other port.
+-- If an event of a port is not a local change for that port, it is not one for any port.
 module _ (event : PortEvent) (n : (given : Status) (up : Bool) (answers : MsapId → Learned) → IsNoChange (cause_at event given up answers)) where
   own_no_change : (past : Past) (i port : ℕ) → IsNoChange (cause_at (if port == i then event else own.nothing) (status_after past.options (past_of past i)) (up_after (past_of past i)) (answers_now past i))
   own_no_change past i port =

@@ -1,4 +1,4 @@
--- Which ports hear, and what they hear.
+-- Which ports ignore received frames, and which process them.
 use Rattle.std.proofs.Common.{◌≡◌, ℕ, Bool, true, false, List, Option, Some, None, refl, ap, sym, ◌∙◌, arith, ◌⊎◌, inl, inr}
 use Rattle.std.specs.Prelude.{◌==◌, ◌&&◌, if◌then◌else◌, option_and_then}
 use Rattle.std.specs.Option.{option_map}
@@ -22,18 +22,18 @@ use Rattle.lldp_engine.proofs.ForLaws.LastSet.{last_is_status, last_is_link}
 use Rattle.lldp_engine.proofs.ForLaws.PortAt.{answers}
 use Rattle.lldp_engine.proofs.ForLaws.Whose.{nothing_leaves}
 
--- ## An event of the port itself
+-- ## An event for the port itself
 
 pub of_own : (event : PortEvent) (i : ℕ) → for_port i (one_port i event) ≡ event
 of_own event i = let yes : (i == i) ≡ true = grind (arith, nat_tests) in rw yes refl
 
--- the same with a tx-interval
+-- An event for port i reaches port i unchanged, with any tx-interval.
 pub own_happened : (event : PortEvent) (i n : ℕ) → ◌≡◌ {A = Happened} (record { event = for_port i (one_port i event); interval = n }) (record { event = event; interval = n })
 own_happened event i n = ap (λ (e : PortEvent). let h : Happened = record { event = e; interval = n } in h) (of_own event i)
 
--- ## Deaf ports
+-- ## Ports that ignore frames
 
--- what port i hears from received octets, after this past
+-- the LLDPDU that port i hears in these octets after this past, if any
 abbrev pub heard_now : Past → ℕ → List ℕ → Option Heard
 heard_now past i octets = heard_by (status_after past.options (past_of past i)) (up_after (past_of past i)) octets
 
@@ -66,7 +66,7 @@ pub none_either_way : (b : Bool) (o : Option (List ℕ)) → o ≡ None → (if 
 none_either_way true o e = ap (option_map heard_of) e
 none_either_way false o e = refl
 
--- ## Ports that hear
+-- ## Ports that process frames
 
 receives_now : (now : Status) → (now ≡ RxAndTx) ⊎ (now ≡ RxOnly) → receives now ≡ true
 receives_now now (inl e) = ap receives e
@@ -79,7 +79,7 @@ given_is past i (inr h) = inr (sym (last_is_status past.options i past.events Rx
 hears_of : (given : Status) (up : Bool) (octets : List ℕ) → receives given ≡ true → up ≡ true → heard_by given up octets ≡ option_map heard_of (lldpdu_of octets)
 hears_of given up octets r u = rw (r, u) refl
 
--- If port i hears, it hears the LLDPDU of the octets.
+-- A port that can receive hears the LLDPDU in the octets.
 pub hears_it : (past : Past) (i : ℕ) (octets pdu : List ℕ) → Hears past i → lldpdu_of octets ≡ Some pdu → heard_now past i octets ≡ Some (heard_of pdu)
 hears_it past i octets pdu h e =
     hears_of (status_after past.options (past_of past i)) (up_after (past_of past i)) octets (receives_now (status_after past.options (past_of past i)) (given_is past i h.status)) (sym (last_is_link past.options i past.events true h.link))

@@ -1,4 +1,4 @@
--- What removes neighbors: LLDPDUs with their MSAP identifier, and statuses that end receiving.
+-- When LLDPDUs and status commands remove neighbors.
 use Rattle.std.proofs.Common.{◌≡◌, ℕ, Bool, true, false, List, [], ◌∷◌, Option, Some, None, refl, ap, sym, ◌∙◌, subst}
 use Rattle.std.specs.Prelude.{◌==◌, ◌&&◌, not, if◌then◌else◌, slice_get, IfSome, option_and_then}
 use Rattle.std.specs.List.{cons_option}
@@ -34,13 +34,13 @@ use Rattle.lldp_engine.proofs.ForLaws.Deaf.{deaf, of_own, own_happened, heard_no
 use Rattle.lldp_engine.proofs.OnePort.Heard.{heard_leaves, heard_refused}
 use Rattle.lldp_engine.proofs.ForLaws.Held.{held_after, by_heard, others_stay, after_leaves}
 
--- ## A frame that the port received
+-- ## A frame that the port receives
 
 map_same : {X : Type 0} (o : Option X) → option_map (λ x. x) o ≡ o
 map_same None = refl
 map_same (Some x) = refl
 
--- If f of the neighbors after what is heard equals g of those before, so it is for the frame.
+-- If f of the neighbors after a frame is g of those before it, the same is true of `neighbors_at`.
 by_frame : {X : Type 0} (f g : List Neighbor → X) (past : Past) (i : ℕ) (octets : List ℕ)
     → f (held_after past.options.max_neighbors (calls_after past.options (past_of past i)) (heard_now past i octets)) ≡ g (neighbors (events_of past.options.max_neighbors (calls_after past.options (past_of past i))))
     → option_map f (neighbors_at (with_event past (agent.frame i octets)) i) ≡ option_map g (neighbors_at past i)
@@ -86,7 +86,7 @@ refused_leaves past i octets pdu fault is f =
     ∙ by_heard (λ h. option_and_then call_of h ≡ None) given up octets refl
     (λ own e. ap call_of (heard_refused own fault (sym (ap fault_of (same_pdu own pdu (lldpdu_of octets) e is) ∙ f)))))
 
--- ## Statuses that receive
+-- ## A status command that lets a port receive changes no table
 
 module _ (given : Status) (receiving : receives given ≡ true) where
   pub receiving_leaves_tables : (past : Past) (port : ℕ) → LeavesTables past (agent.set (agent.status port given))

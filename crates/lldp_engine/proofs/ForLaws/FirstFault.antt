@@ -1,4 +1,4 @@
--- The fault of a word that no form has in its place.
+-- The fault of a word that no command allows at its position.
 use Rattle.std.proofs.Common.{◌≡◌, ℕ, ◌<◌, Bool, true, false, ◌&&◌, List, [], ◌∷◌, ◌++◌, length, Option, Some, None, Result, Ok, Err, refl, sym, ap, ◌∙◌, subst, true≢false, arith}
 use Rattle.std.specs.Prelude.{if◌then◌else◌, codes}
 use Rattle.std.specs.Bool.{Decides}
@@ -70,7 +70,7 @@ module _ (names : List (List ℕ)) (w : List ℕ) (behind : List (List ℕ)) whe
   no_status (Some TxOnly) read h = absurd (h (2, omega arith, sym (read TxOnly refl)))
   no_status (Some Disabled) read h = absurd (h (3, omega arith, sym (read Disabled refl)))
 
-  -- ## A word that the only form left does not accept
+  -- ## A word that the only remaining form does not accept
 
   one_fault : (fault : CommandFault) → read_forms names (one_left (Err fault)) behind ≡ Err fault
   one_fault Extra = refl
@@ -82,7 +82,7 @@ module _ (names : List (List ℕ)) (w : List ℕ) (behind : List (List ℕ)) whe
   made_fault : {A : Type 0} (r : Result A CommandFault) (next : A → Form) (fault : CommandFault) → r ≡ Err fault → read_forms names (one_left (on_ok next r)) behind ≡ Err fault
   made_fault r next fault e = ap (λ s. read_forms names (one_left (on_ok next s)) behind) e ∙ one_fault fault
 
-  -- ## A word after a whole command
+  -- ## A word after a complete command
 
   text_extra : (b : Bool) (command : Command) → b ≡ true → read_forms names (one_left (if b then Ok (complete command) else Err Text)) (w ∷ behind) ≡ Err Extra
   text_extra b command e = ap (λ (c : Bool). read_forms names (one_left (if c then Ok (complete command) else Err Text)) (w ∷ behind)) e
@@ -96,12 +96,12 @@ module _ (agent : AgentState) (w : List ℕ) (behind : List (List ℕ)) where
   abbrev names : List (List ℕ)
   names = names_of agent
 
-  -- the forms left after these words, which are given last word first
+  -- the forms that remain after these words, which are in reverse order
   abbrev left_behind : List (List ℕ) → List Form
   left_behind [] = forms agent.configuration.capacity
   left_behind (last ∷ before) = forms_left names (left_behind before) last
 
-  -- the command or the fault of the words after a port's name, given the number of the port
+  -- the result of reading the words after a port's name; `place` is the number of that port
   abbrev with_port : Option ℕ → List (List ℕ) → Result Command CommandFault
   with_port place words = read_forms names (one_left (on_ok status_form (or_fault place NoSuchPort))) words
 

@@ -14,7 +14,7 @@ use Rattle.lldp_engine.specs.Configuration.{Configuration, sent_ttl}
 use Rattle.lldp_engine.specs.Frames.{unit, capabilities_of, management_tlvs, management_body, frame_of}
 use Rattle.lldp_engine.specs.Laws.FrameOctets.{HasLengths, tlv_octets, capability_octets, management_octets, ordinary_octets, shutdown_octets}
 
--- ## Two octets
+-- ## Numbers in two octets
 
 both_small : (a b i : ℕ) → a < 256 → b < 256 → get_or (a ∷ b ∷ []) i 0 < 256
 both_small a b zero l m = l

@@ -1,4 +1,4 @@
--- The neighbors that a port holds after a frame, by what it hears.
+-- The neighbors that a port holds after it receives a frame.
 use Rattle.std.proofs.Common.{◌≡◌, ℕ, ◌+◌, ◌<◌, ◌≤◌, Bool, true, false, ◌⊎◌, inl, inr, List, [], ◌∷◌, ◌++◌, length, map, Option, Some, None, refl, ap, ◌∙◌, arith}
 use Rattle.std.specs.Prelude.{◌&&◌, not, if◌then◌else◌, ◌==◌, filter, is_some, option_and_then}
 use Rattle.std.specs.List.{cons_option}
@@ -27,7 +27,7 @@ use Rattle.lldp_engine.specs.Heard.{Heard, refused, leaves, tells, heard_of, hea
 use Rattle.lldp_engine.specs.Laws.Neighbors.{others_than}
 use Rattle.lldp_engine.specs.Port.Effects.{call_of, cause_of_answer, cause_of_heard}
 
--- ## What is heard, case by case
+-- ## The three kinds of heard LLDPDUs: refused, with a TTL of 0, with a TTL above 0
 
 module _ (P : Heard → Type 0) (pdu : List ℕ) where
   heard_as : (f : Option PduFault) (b : Bool) → fault_of pdu ≡ f → (ttl_of pdu == 0) ≡ b
@@ -83,11 +83,11 @@ module _ (opened : ℕ) (calls : List Call) where
   abbrev past : List TableEvent
   past = events_of opened calls
 
-  -- the neighbors after something was heard, or nothing
+  -- the neighbors after this LLDPDU, if any, was heard
   abbrev pub held_after : Option Heard → List Neighbor
   held_after h = neighbors (events_of opened (cons_option (option_and_then call_of h) calls))
 
-  -- the neighbors after an LLDPDU with a TTL above 0, by the table's answer
+  -- the neighbors after an LLDPDU with a TTL above 0: one added, one refreshed, or no change
   abbrev told_as : Learned → MsapId → ℕ → List ℕ → List Neighbor → List Neighbor
   told_as New name ttl octets xs = xs ++ fresh name ttl octets ∷ []
   told_as Refreshed name ttl octets xs = map (refreshed name ttl octets) xs
@@ -109,19 +109,19 @@ module _ (opened : ℕ) (calls : List Call) where
   others_told Refreshed name ttl octets xs = others_refreshed name ttl octets xs
   others_told Dropped name ttl octets xs = refl
 
-  -- Neighbors with other MSAP identifiers stay.
+  -- An LLDPDU does not change the neighbors with other MSAP identifiers.
   pub others_stay : (pdu : List ℕ) → others_than (msap_of pdu) (held_after (Some (heard_of pdu))) ≡ others_than (msap_of pdu) (neighbors past)
   others_stay pdu =
       heard_cases (λ h. others_than (msap_of pdu) (held_after (Some h)) ≡ others_than (msap_of pdu) (neighbors past)) pdu (λ fault f. refl)
       (λ f t. ap (others_than (msap_of pdu)) (after_leaves (msap_of pdu)) ∙ filter_twice (λ x. not (same_msap (msap_of pdu) x.msap)) (neighbors past))
       (λ f t. ap (others_than (msap_of pdu)) (after_tells pdu t) ∙ others_told (answer opened (msap_of pdu) past) (msap_of pdu) (ttl_of pdu) (extent pdu) (neighbors past))
 
-  -- ## One neighbor more
+  -- ## One more neighbor
 
   abbrev answers : MsapId → Learned
   answers name = answer opened name past
 
-  -- Either one more neighbor is held and the cause is Neighbor, or no more and it is Nothing.
+  -- The cause is Neighbor if there is one more neighbor than before, and Nothing if there is not.
   abbrev pub IsGain : Cause → List Neighbor → Type 0
   IsGain cause held = ((length held ≡ 1 + length (neighbors past)) × (cause ≡ NeighborCause)) ⊎ ((length held ≤ length (neighbors past)) × (cause ≡ Nothing))
 

@@ -1,4 +1,4 @@
--- A limit is in use if a port holds more neighbors, and nothing else is reported as InUse.
+-- The fault InUse: a command would set a limit below the number of neighbors of some port.
 use Rattle.std.proofs.Common.{◌≡◌, ℕ, suc, ◌<◌, ◌≤◌, ◌&&◌, Bool, true, false, List, [], ◌∷◌, length, Option, Some, None, Result, Ok, Err, refl, ap, ◌∙◌, subst, arith}
 use Rattle.std.specs.Prelude.{nat_le, if◌then◌else◌}
 use Rattle.std.specs.Bool.{Decides}
@@ -85,7 +85,7 @@ not_said agent words e =
     (subst (λ (r : Result Command CommandFault). is_other r ≡ true) e
     (words_other (names_of agent) (Ok (forms agent.configuration.capacity)) words refl))
 
--- ## What ports hold
+-- ## Neighbors that ports hold
 
 holds_decided : (most : ℕ) (here : PortState) → Decides (nat_le (length here.table.neighbors) most) (length here.table.neighbors ≤ most)
 holds_decided most here = (leb-true (length here.table.neighbors) most, le-leb (length here.table.neighbors) most)
@@ -108,7 +108,7 @@ not_all_hold ports most h =
     list_all_at (λ here. nat_le (length here.table.neighbors) most) ports h.0 h.1 h.2
     (ap (λ p. nat_le (length p.table.neighbors) most) h.3 ∙ lt-leb (length h.1.table.neighbors) most h.4)
 
--- ## In use
+-- ## When a limit is in use
 
 limit_in_use : (agent : AgentState) (most : ℕ) (b : Bool) → fits agent.ports most ≡ b → (if b then Ok (set (limit most)) else Err InUse) ≡ Err InUse → HoldsMore agent most
 limit_in_use agent most true e h = cc
@@ -136,7 +136,7 @@ would_be agent line h =
     ap (λ (w : Option (List (List ℕ))). or_fault w Quote >>= command_said agent) h.2
     ∙ ap (unless_in_use agent.ports) h.3 ∙ in_use_at agent h.1 (not_all_hold agent.ports h.1 h.4)
 
--- ## What is allowed
+-- ## Limits that are allowed
 
 pub allows_limit : (agent : AgentState) (most : ℕ) → AllowsSetting agent (limit most) → (1 ≤ most) × (most ≤ agent.configuration.capacity) × HoldAtMost agent most
 allows_limit agent most h = (h.least, h.most, (held_decided agent.ports most).0 h.held)

@@ -1,4 +1,4 @@
--- A value that is computed event by event is the one that the last event for it set.
+-- A value computed event by event equals the value set by the last event that sets it.
 use Rattle.std.proofs.Common.{◌≡◌, ℕ, ◌⊎◌, inl, inr, Bool, true, false, List, [], ◌∷◌, ◌++◌, refl, ap, sym, ◌∙◌}
 use Rattle.std.specs.Prelude.{◌==◌}
 use Rattle.std.proofs.lemmas.Bool.Decides.{eqb_tells}
@@ -13,7 +13,7 @@ use Rattle.lldp_engine.specs.Port.Past.{status_after, up_after}
 use Rattle.lldp_engine.specs.Laws.LastSet.{NoneSets, IsLastSet, IsLastStatus, IsLastLink, without_commands, IsLastConfiguration}
 use Rattle.lldp_engine.proofs.AllPorts.EachPort.{own_or_nothing}
 
--- An event either sets the value, whatever came before it, or leaves the value unchanged.
+-- An event either sets the value, whatever the earlier events were, or leaves it unchanged.
 abbrev SetsOrLeaves : {X : Type 0} → (X → Event) → (List Event → X) → Event → Type 0
 SetsOrLeaves make value_after event =
     ((x : _) × (event ≡ make x) × ((events : List Event) → value_after (event ∷ events) ≡ x))
@@ -89,7 +89,7 @@ status_is_last o i events = last_is_set (λ s. set (status i s)) (status_at o i)
 pub last_is_status : (o : Options) (i : ℕ) (events : List Event) (s : PortStatus) → IsLastStatus o i events s → s ≡ status_at o i events
 last_is_status o i events s h = set_is_last (λ s. set (status i s)) (status_at o i) (λ x y e. cc) (status_each o i) events s h
 
--- ## Its link
+-- ## The link of port i
 
 abbrev up_at : Options → ℕ → List Event → Bool
 up_at o i events = up_after (port_past o i events)

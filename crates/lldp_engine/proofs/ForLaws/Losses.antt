@@ -1,4 +1,4 @@
--- The counters of lost neighbors: those that age out, and those that find no room.
+-- The counters of neighbors that age out and of frames that are dropped for lack of room.
 use Rattle.std.proofs.Common.{◌≡◌, ◌≢◌, ℕ, suc, ◌+◌, ◌-◌, ◌≤◌, ◌%◌, ◌^◌, Bool, true, false, ◌⊎◌, inl, inr, List, ◌∷◌, length, filter, Option, Some, None, refl, ap, sym, ◌∙◌, subst, arith}
 use Rattle.std.specs.Prelude.{◌==◌, ◌&&◌, not, nat_lt, if◌then◌else◌, slice_get, is_some, option_and_then}
 use Rattle.std.specs.List.{cons_option, list_any}
@@ -42,21 +42,21 @@ use Rattle.lldp_engine.proofs.OnePort.Heard.{heard_tells}
 use Rattle.lldp_engine.proofs.ForLaws.Held.{by_heard, heard_cases}
 use Rattle.lldp_engine.proofs.ForLaws.Deaf.{own_happened, hears_it, deaf}
 
--- ## Losses by one more call on a table
+-- ## What ages out or is dropped in one more call on a table
 
 module _ (opened : ℕ) (calls : List Call) where
   abbrev past : List TableEvent
   past = events_of opened calls
 
-  -- the table events with one more call, if there is one
+  -- the table events after one more call, if there is a call
   abbrev pub with_call : Option Call → List TableEvent
   with_call call = events_of opened (cons_option call calls)
 
-  -- No neighbor ages out at the call.
+  -- If there is a call, no neighbor ages out in it.
   abbrev pub AgesNone : Option Call → Type 0
   AgesNone call = all_aged_out (with_call call) ≡ all_aged_out past
 
-  -- No frame is dropped at the call.
+  -- If there is a call, no frame is dropped in it.
   abbrev pub DropsNone : Option Call → Type 0
   DropsNone call = length (filter is_dropped (with_call call)) ≡ length (filter is_dropped past)
 
@@ -89,14 +89,14 @@ module _ (opened : ℕ) (calls : List Call) where
   learn_drops : (name : MsapId) (ttl : ℕ) (octets : List ℕ) (a : Learned) → answer opened name past ≡ a → with_call (Some (learn name ttl octets)) ≡ learned name ttl octets a ∷ past
   learn_drops name ttl octets a e = events-more opened (learn name ttl octets) calls ∙ ap (λ (b : Learned). learned name ttl octets b ∷ past) e
 
-  -- A frame with an MSAP identifier that is not held is dropped if the limit is reached.
+  -- If the table is full, a frame with an unknown MSAP identifier is dropped.
   dropped_answer : (name : MsapId) → list_any (is_named name) (neighbors past) ≡ false → limit_after opened past ≤ length (neighbors past) → answer opened name past ≡ Dropped
   dropped_answer name held full =
       let no : is_some (live name past) ≡ false = sym (has-live past (arrived opened calls) name) ∙ held in
       let room : nat_lt (length (neighbors past)) (limit_after opened past) ≡ false = grind (arith, nat_tests) in
       ap (λ b. answer_by b (nat_lt (length (neighbors past)) (limit_after opened past))) no ∙ ap (answer_by false) room
 
-  -- Only such a frame is dropped.
+  -- A frame is dropped only if its MSAP identifier is unknown and the table is full.
   answer_dropped : (name : MsapId) → answer opened name past ≡ Dropped → (list_any (is_named name) (neighbors past) ≡ false) × (limit_after opened past ≤ length (neighbors past))
   answer_dropped name e =
       let parts = by_dropped (is_some (live name past)) (nat_lt (length (neighbors past)) (limit_after opened past)) e in
@@ -120,9 +120,9 @@ module _ (opened : ℕ) (calls : List Call) where
 one_rises : (n : ℕ) → wrapped (suc n) ≡ (wrapped n + 1) % 2 ^ 32
 one_rises n = omega arith
 
--- ## An event of the agent, for port i
+-- ## What an event of the agent is for port i
 
--- the port event that an event of the agent is for port i
+-- the port event that port i gets from an event of the agent
 abbrev own : Past → ℕ → Event → PortEvent
 own _ i event = for_port i (whose event)
 
@@ -189,7 +189,7 @@ module _ (past : Past) (i : ℕ) where
   others_age_none event other before after was now =
       ageouts_at (with_event past event) i after now ∙ ap wrapped (none_age event other) ∙ sym (ageouts_at past i before was)
 
-  -- ## Frames that find no room
+  -- ## Frames that are dropped for lack of room
 
   abbrev given : Status
   given = status_after past.options (past_of past i)
@@ -268,9 +268,9 @@ module _ (past : Past) (i : ℕ) where
       ∙ ap wrapped (heard_drops_none octets (receives given && up) refl room before was)
       ∙ sym (drops_at past i before was)
 
-  -- ## Events that are not frames of the port
+  -- ## Events that are not frames received by the port
 
-  -- Nothing is heard at the event, and nothing is dropped.
+  -- At the event the port hears no LLDPDU and drops none.
   abbrev IsUnheard : PortEvent → Type 0
   IsUnheard event = (heard_at event given up ≡ None) × Drops event
 

@@ -1,4 +1,4 @@
--- What a port sends at the last event is its mark at that event.
+-- At the last event a port sends its mark: Ordinary, Shutdown, or Quiet for nothing.
 use Rattle.std.proofs.Common.{◌≡◌, ℕ, ◌+◌, ◌<◌, length, ap, ◌∙◌, subst, sym, arith}
 use Rattle.std.specs.List.{Contains}
 use Rattle.std.proofs.lemmas.List.Elements.{All-from_recursion, All-contains}
@@ -10,7 +10,7 @@ use Rattle.lldp_engine.specs.Laws.PortAt.{Sends}
 use Rattle.lldp_engine.specs.Port.Past.{mark_after}
 use Rattle.lldp_engine.proofs.Headline.Answered.{IsOf, all_are, is_there}
 
--- If port i sends a mark, the port exists, the mark is not Quiet, and it is the port's last mark.
+-- If `Sends` holds, port i exists, the mark is not Quiet, and it is the port's last mark.
 pub sent_is : (past : Past) (i : ℕ) (mark : Mark) → Sends past i mark → (i < length past.options.names) × IsSent mark × (mark_after past.options (past_of past i) ≡ mark)
 sent_is past i mark h =
     let all = All-from_recursion (IsOf past.options past.events 0) (marks_of past) (all_are past.options past.events 0 past.options.names (omega arith)) in

@@ -1,4 +1,4 @@
--- Only the words of its form give a command.
+-- A command is read only from the words of its own form.
 use Rattle.std.proofs.Common.{◌≡◌, ℕ, Bool, true, false, ◌⊎◌, inl, inr, List, [], ◌∷◌, Option, Some, None, Result, Ok, Err, refl, ap, ◌∙◌, subst}
 use Rattle.std.specs.Prelude.{if◌then◌else◌, codes}
 use Rattle.std.specs.Bool.{Decides}
@@ -22,9 +22,9 @@ use Rattle.lldp_text.specs.Words.{words_of}
 use Rattle.lldp_engine.specs.Laws.OnlyForms.{AreWordsOf, IsNotInUse, IsLineOf, word_of}
 use Rattle.lldp_engine.proofs.ForLaws.InUse.{held_decided}
 
--- ## One form left
+-- ## When one form is left
 
--- what is left of the only form if it accepts the word, or its fault
+-- the result of a word when one form is left: the rest of that form, or the fault
 abbrev pub one_left : Result Form CommandFault → Result (List Form) CommandFault
 one_left one = if_any (and_left one []) (fault_or one Extra)
 
@@ -34,7 +34,7 @@ text_said names b command e = ap (λ (c : Bool). read_forms names (one_left (if 
 made_said : {A : Type 0} (names : List (List ℕ)) (r : Result A CommandFault) (command : A → Command) (a : A) → r ≡ Ok a → read_forms names (one_left (on_ok (λ a. complete (command a)) r)) [] ≡ Ok (command a)
 made_said names r command a e = ap (λ s. read_forms names (one_left (on_ok (λ a. complete (command a)) s)) []) e
 
--- what is left of the form after a port's name
+-- the rest of the form that sets a status, after the name of the port
 abbrev pub status_form : ℕ → Form
 status_form p = word (codes "lldp") (word (codes "status") (status (λ given. complete (set (set_status p given)))))
 
@@ -65,7 +65,7 @@ word_is_read w given e = ap status_of e ∙ own_word_read given
 -- ## Words that match a form
 
 module _ (names : List (List ℕ)) (command : Command) where
-  -- The words are those of the form, and the form gives the command.
+  -- The words match the form, and the form then gives the command.
   abbrev Matches : Form → List (List ℕ) → Type 0
   Matches (complete c) words = (words ≡ []) × (c ≡ command)
   Matches (word expected next) words = (rest : List (List ℕ)) × (words ≡ expected ∷ rest) × Matches next rest
@@ -175,7 +175,7 @@ module _ (agent : AgentState) (command : Command) (words : List (List ℕ)) wher
   pub only_its_words : said_by agent words ≡ Ok command → AreWordsOf agent command words
   only_its_words e = form_words (said_matches (names_of agent) command words (forms agent.configuration.capacity) e)
 
--- ## The words of a form give its command
+-- ## The words of each form are read as its command
 
 module _ (agent : AgentState) where
   abbrev names : List (List ℕ)

@@ -1,4 +1,4 @@
--- The first fault of the options is that of the first check that fails.
+-- Opening reports the fault of the first check that fails.
 use Rattle.std.proofs.Common.{◌≡◌, ℕ, zero, suc, ◌<◌, ◌≤◌, ◌==◌, ◌&&◌, Bool, true, false, not, List, [], ◌∷◌, length, get_or, Option, Some, None, refl, sym, ap, ◌∙◌, subst, arith, inl, inr}
 use Rattle.std.specs.Prelude.{◌≢◌, nat_le, nat_lt, if◌then◌else◌}
 use Rattle.std.specs.Bool.{Decides}
@@ -17,7 +17,7 @@ use Rattle.lldp_text.specs.Text.{is_text}
 use Rattle.lldp_engine.specs.FixedNumbers.{number_of_refusal}
 use Rattle.lldp_engine.specs.Laws.Opening.{IsName, IsText, Passes, IsFirstFault}
 
--- ## The test of each check
+-- ## A Boolean test for each check
 
 names_decided : (name : List ℕ) → Decides (is_port_name name) (IsName name)
 names_decided name = (
@@ -67,7 +67,7 @@ apart (name ∷ names) h (suc i) (suc j) d lt below =
     let parts = or_parts (list_any (λ other. bytes_eq other name) names) (has_same names) h in
     apart names parts.1 i j d (omega arith) (omega arith)
 
--- Distinct names do not contain the same name twice.
+-- If all names differ, the first name does not occur among the others.
 not_apart : (name : List ℕ) (names : List (List ℕ)) → AllPairs (λ a b. a ≢ b) (name ∷ names) → list_any (λ other. bytes_eq other name) names ≡ true → ⊥
 not_apart name names apart_all h =
     let again = Any-from_list_any (λ other. bytes_eq other name) names h in
@@ -99,14 +99,14 @@ at_most_6 : (f : OpenFault) → number_of_refusal f ≤ 6
 at_most_6 Memory = omega arith
 at_most_6 fault = omega arith
 
--- ## The first fault, by tests
+-- ## The tests determine the first fault
 
 -- The test is true exactly if the check fails.
 record Tests (failed : Bool) (P : Type 0) : Type 0 where
   fails : failed ≡ true → P → ⊥
   passes : failed ≡ false → P
 
--- Each check has a test, and the faults have the numbers from n to 6.
+-- Each check has a test, and the faults of the checks are numbered from n to 6.
 abbrev AreTests : Options → ℕ → List (Check OpenFault) → Type 0
 AreTests o n [] = 6 < n
 AreTests o n (c ∷ cs) = (number_of_refusal c.fault ≡ n) × (Tests c.fails (Passes o c.fault) × AreTests o (suc n) cs)
@@ -147,7 +147,7 @@ all_passed : (o : Options) (n : ℕ) (cs : List (Check OpenFault)) → AreTests 
 all_passed o n [] t below h f = below f (omega (arith, t, at_most_6 f))
 all_passed o n (c ∷ cs) t below h f = passed_or o n c.fault c.fails (first_fault cs) t.0 t.1.0 below f (λ b e. all_passed o (suc n) cs t.1.1 b e f) h
 
--- There is only one first fault.
+-- Options have at most one first fault.
 one_first : (o : Options) (f g : OpenFault) → IsFirstFault o f → IsFirstFault o g → f ≡ g
 one_first o f g hf hg =
     elim (cases_order (number_of_refusal f) (number_of_refusal g)) [

@@ -1,4 +1,4 @@
--- A word names the first port that has it as its name.
+-- A word names the first port whose name is that word.
 use Rattle.std.proofs.Common.{◌≡◌, ◌≢◌, ℕ, zero, suc, ◌+◌, ◌<◌, Bool, true, false, List, [], ◌∷◌, Option, Some, refl, ap, ◌∙◌, arith}
 use Rattle.std.specs.Prelude.{slice_get, if◌then◌else◌}
 use Rattle.std.specs.Bool.{Decides}
@@ -10,11 +10,11 @@ use Rattle.lldp_engine.specs.Laws.Places.{IsFirstPlace}
 pub same_inside : {X : Type 0} (x y : X) → Some x ≡ Some y → x ≡ y
 same_inside x y h = cc
 
--- Counted from s, the place of the word is s plus its place in the list.
+-- The number i is s plus the place at which the word first occurs in the list.
 abbrev IsPlaceFrom : ℕ → List (List ℕ) → List ℕ → ℕ → Type 0
 IsPlaceFrom s names word i = (k : ℕ) × (i ≡ s + k) × IsFirstPlace names word k
 
--- ## One name more in front
+-- ## One more name at the front of the list
 
 not_before : (name : List ℕ) (names : List (List ℕ)) (word : List ℕ) (k : ℕ) → name ≢ word → IsFirstPlace names word k → (j : ℕ) → j < suc k → slice_get (name ∷ names) j ≢ Some word
 not_before name names word k other h zero lt = λ e. other (same_inside name word e)
@@ -23,7 +23,7 @@ not_before name names word k other h (suc j) lt = h.first j (omega arith)
 one_before : (name : List ℕ) (names : List (List ℕ)) (word : List ℕ) (k : ℕ) → IsFirstPlace (name ∷ names) word (suc k) → IsFirstPlace names word k
 one_before name names word k h = record { here = h.here; first = λ j lt. h.first (suc j) (omega arith) }
 
--- ## Both directions
+-- ## The search finds exactly the first place
 
 found_by : (b : Bool) (s i : ℕ) (name : List ℕ) (names : List (List ℕ)) (word : List ℕ) (others : Option ℕ) → Decides b (name ≡ word) → (others ≡ Some i → IsPlaceFrom (s + 1) names word i)
     → (if b then Some s else others) ≡ Some i → IsPlaceFrom s (name ∷ names) word i

@@ -1,4 +1,4 @@
--- The ports of the agent that has a past, by number, and what one more event does to them.
+-- The ports of the agent with a given past, and how one more event changes them.
 use Rattle.std.proofs.Common.{◌≡◌, ℕ, zero, suc, ◌+◌, Bool, List, [], ◌∷◌, Option, Some, None, refl, ap, sym, ◌∙◌, arith, add-zero}
 use Rattle.std.specs.Prelude.{slice_get}
 use Rattle.std.specs.List.{cons_option}
@@ -30,7 +30,7 @@ use Rattle.lldp_engine.proofs.OnePort.Allowed.{port_table}
 use Rattle.lldp_engine.proofs.OnePort.Counters.{counted_mark}
 use Rattle.lldp_engine.proofs.Standing.Carrying.{settings_in_range}
 
--- ## The port with a number
+-- ## Port i
 
 at_place : (o : Options) (events : List Event) (s i : ℕ) (names : List (List ℕ)) → slice_get (ports_after o events s names) i ≡ option_map (port_after o (port_past o (s + i) events)) (slice_get names i)
 at_place o events s i [] = refl
@@ -39,7 +39,7 @@ at_place o events s (suc i) (name ∷ names) =
     let place : s + 1 + i ≡ s + suc i = omega arith in
     at_place o events (s + 1) i names ∙ ap (λ k. option_map (port_after o (port_past o k events)) (slice_get names i)) place
 
--- Port i is what the definitions give for its past.
+-- Port i is the port that the definitions give for its past and its name.
 pub port_at_is : (past : Past) (i : ℕ) → port_at past i ≡ option_map (port_after past.options (past_of past i)) (slice_get past.options.names i)
 unfolding agent_of
 port_at_is past i =
@@ -54,26 +54,26 @@ pub map_twice : {X Y Z : Type 0} (f : X → Y) (g : Y → Z) (o : Option X) → 
 map_twice f g None = refl
 map_twice f g (Some x) = refl
 
--- If the definitions give the same for the port after the event, port i is as it was.
+-- If the definitions give the same port before and after the event, port i does not change.
 pub port_at_same : (past : Past) (event : Event) (i : ℕ)
     → ((name : List ℕ) → port_after past.options (happened past.options i event past.events ∷ past_of past i) name ≡ port_after past.options (past_of past i) name)
     → port_at (with_event past event) i ≡ port_at past i
 port_at_same past event i h = port_at_is (with_event past event) i ∙ map_agree _ _ (slice_get past.options.names i) h ∙ sym (port_at_is past i)
 
--- ## Its table
+-- ## The table of port i
 
 table_after : (o : Options) (past : List Happened) (name : List ℕ) → (port_after o past name).table ≡ port_table o past
 unfolding port_after
 table_after o past name = refl
 
--- a function of the table of port i
+-- A function of port i's table can be computed from the options and the past of port i.
 pub of_table : {X : Type 0} (f : Contents → X) (past : Past) (i : ℕ) → option_map (λ port. f port.table) (port_at past i) ≡ option_map (λ name. f (port_table past.options (past_of past i))) (slice_get past.options.names i)
 of_table f past i =
     ap (option_map (λ (port : PortState). f port.table)) (port_at_is past i)
     ∙ map_twice (port_after past.options (past_of past i)) (λ (port : PortState). f port.table) (slice_get past.options.names i)
     ∙ map_agree _ _ (slice_get past.options.names i) (λ name. ap f (table_after past.options (past_of past i) name))
 
--- a function of the table of port i after one more event, in terms of the table before it
+-- If f of the table after an event is h of g of the table before, the same is true of `port_at`.
 pub of_table_after : {X Y : Type 0} (f : Contents → X) (g : Contents → Y) (h : Y → X) (past : Past) (event : Event) (i : ℕ)
     → f (port_table past.options (happened past.options i event past.events ∷ past_of past i)) ≡ h (g (port_table past.options (past_of past i)))
     → option_map (λ port. f port.table) (port_at (with_event past event) i) ≡ option_map h (option_map (λ port. g port.table) (port_at past i))
@@ -83,7 +83,7 @@ of_table_after f g h past event i e =
     ∙ sym (map_twice (λ (name : List ℕ). g (port_table past.options (past_of past i))) h (slice_get past.options.names i))
     ∙ ap (option_map h) (sym (of_table g past i))
 
--- If the event makes no call on the table of port i, the table is as it was.
+-- If the event makes no call on the table of port i, the table does not change.
 pub table_same : (past : Past) (event : Event) (i : ℕ)
     → call_at (happened past.options i event past.events).event (status_after past.options (past_of past i)) (up_after (past_of past i)) ≡ None
     → table_at (with_event past event) i ≡ table_at past i
@@ -92,7 +92,7 @@ table_same past event i e =
     ∙ ap (λ (c : Option Call). option_map (λ (name : List ℕ). table_of past.options.max_neighbors (cons_option c (calls_after past.options (past_of past i)))) (slice_get past.options.names i)) e
     ∙ sym (of_table (λ table. table) past i)
 
--- ## An event that is nothing for a port
+-- ## An event that does not affect a port
 
 quiet_mark : (s : Settings) (h : History) (n : ℕ) → AreSettings s → mark_at s (caused Nothing n ∷ h) ≡ Quiet
 quiet_mark s h n r = sym (machine_marks s h (machine_of s h) (caused Nothing n) (machine_left s h r))
@@ -110,7 +110,7 @@ module _ (o : Options) (past : List Happened) (now : Happened) (r : InRange o) w
   abbrev pub answers : MsapId → Learned
   answers name = answer o.max_neighbors name (table_events_after o past)
 
-  -- The event keeps the status, is not heard, makes no call on the table, and its cause is Nothing.
+  -- The status stays, no LLDPDU is heard, the table is not called, and the cause is Nothing.
   pub record IsNothing : Type 0 where
     pub status : status_then now.event given ≡ given
     pub heard : heard_at now.event given up ≡ None

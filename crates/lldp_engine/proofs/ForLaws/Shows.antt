@@ -1,4 +1,4 @@
--- Each show has these lines and no others.
+-- Each show command prints exactly the lines of `whole_of`.
 use Rattle.std.proofs.Common.{◌≡◌, ℕ, ◌+◌, List, [], ◌∷◌, ◌++◌, map, take, Option, Some, None, refl, sym, ap, ◌∙◌, append_assoc}
 use Rattle.std.specs.Prelude.{codes, decimal}
 use Rattle.std.specs.List.{flat_map, enumerate_from}
@@ -20,7 +20,7 @@ use Rattle.lldp_engine.specs.Lines.{lines_of}
 use Rattle.lldp_engine.specs.Laws.OnlyForms.{word_of}
 use Rattle.lldp_engine.specs.Laws.Shows.{line_of, lines_of_counts, first_lines, lines_of_neighbor, lines_of_port, lines_of_management, line_of_status, whole_of}
 
--- ## The lines of the agent itself
+-- ## Lines about the agent
 
 management_alike : (address : Option (List ℕ)) → management_lines address ≡ lines_of_management address
 management_alike None = refl
@@ -37,7 +37,7 @@ statuses_alike : (ports : List PortState) → map status_line ports ≡ map line
 statuses_alike [] = refl
 statuses_alike (port ∷ ports) = rw (status_alike port, statuses_alike ports) refl
 
--- ## The lines of ports
+-- ## Lines about the ports
 
 both_alike : (a b c d : List (List ℕ)) → a ≡ c → b ≡ d → a ++ b ≡ c ++ d
 both_alike a b c d h k = rw (h, k) refl

@@ -24,7 +24,7 @@ use Rattle.lldp_engine.proofs.OnePort.Rights.{follows_status}
 use Rattle.lldp_engine.proofs.ForLaws.Marks.{sent_is}
 use Rattle.std.proofs.lemmas.Grind.{common_steps}
 
--- ## One history
+-- ## The history of one port
 
 -- an active port may transmit
 allowed_if_active : (s : Settings) (h : History) → is_active (moments s h) ≡ true → is_allowed s (moments s h) ≡ true
@@ -42,7 +42,7 @@ stop_parts : (s : Settings) (past : List Moment) (e : Caused) → (moment s past
 unfolding moment
 stop_parts s past e stop = grind (arith, common_steps, and_parts, not-true)
 
--- ## By the status
+-- ## What a port may send with each status
 
 module _ (o : Options) where
   right : (past : List Happened) → is_allowed (settings_of o) (moments (settings_of o) (causes_after o past)) ≡ transmits (status_after o past)
@@ -65,7 +65,7 @@ module _ (o : Options) where
       let stop = stop_parts s (moments s h) c ((exact s (moments s h) c (mark_after o (now ∷ past)) refl).1.0 e) in
       (sym (right past) ∙ allowed_if_active s h stop.0, sym (right (now ∷ past)) ∙ stop.1)
 
--- the statuses that may transmit, and those that may not
+-- the statuses that let a port transmit, and those that do not
 pub may_transmit : (given : Status) → transmits given ≡ true → (given ≡ RxAndTx) ⊎ (given ≡ TxOnly)
 may_transmit RxAndTx e = inl refl
 may_transmit TxOnly e = inr refl

@@ -1,4 +1,4 @@
--- What is counted, event by event.
+-- How the counters of a port change with each event.
 use Rattle.std.proofs.Common.{◌≡◌, ◌≢◌, ℕ, zero, suc, ◌+◌, ◌<◌, ◌%◌, ◌^◌, Bool, true, false, ◌⊎◌, inl, inr, List, [], ◌∷◌, length, filter, Option, Some, None, refl, ap, sym, ◌∙◌, subst, arith}
 use Rattle.std.specs.Prelude.{if◌then◌else◌, slice_get, nat_lt}
 use Rattle.std.specs.List.{cons_option, sum_by}
@@ -52,7 +52,7 @@ port_known o past i (Some name) port at e =
 pub counters_at : (past : Past) (i : ℕ) (port : PortState) → port_at past i ≡ Some port → (i < length past.options.names) × (port.counters ≡ counters_after past.options (past_of past i))
 counters_at past i port e = port_known past.options (past_of past i) i (slice_get past.options.names i) port refl (sym (port_at_is past i) ∙ e)
 
--- ## What it sent
+-- ## Frames that the port sent
 
 module _ (wanted : Mark) (sent : IsSent wanted) (test : Mark → Bool) (decides : (mark : Mark) → ((mark ≡ wanted) × (test mark ≡ true)) ⊎ ((mark ≢ wanted) × (test mark ≡ false))) (o : Options) (i : ℕ) (exists : i < length o.names) where
   abbrev at : List Event → Past
@@ -103,7 +103,7 @@ shutdowns_are_counted past i port e =
     let m = many Shutdown tt is_shutdown shutdown_or_not o i known.0 past.events in
     (m.0, m.1, ap (λ (c : Counters). c.shutdowns) known.1 ∙ shutdowns_wrapped (heard_after o (past_of past i)) (table_events_after o (past_of past i)) (marks_after o (past_of past i)) ∙ ap (λ n. n % 2 ^ 32) m.2)
 
--- ## What it heard
+-- ## LLDPDUs that the port heard
 
 abbrev one_if : Bool → ℕ
 one_if b = if b then 1 else 0

@@ -26,7 +26,7 @@ use Rattle.lldp_engine.proofs.AllPorts.EachPort.{own_or_nothing}
 use Rattle.lldp_engine.proofs.ForLaws.PortAt.{port_at_same, table_same, of_table, of_table_after, IsNothing, nothing_sent, port_same}
 use Rattle.lldp_engine.proofs.ForLaws.Marks.{quiet_is_silent}
 
--- ## An event that is nothing for a port leaves it as it was
+-- ## An event that does not affect a port leaves it unchanged
 
 pub nothing_leaves : (past : Past) (event : Event) (i : ℕ) (r : InRange past.options) → IsNothing past.options (past_of past i) (happened past.options i event past.events) r → LeavesPort past event i
 nothing_leaves past event i r n = record {
@@ -35,11 +35,11 @@ nothing_leaves past event i r n = record {
 }
 
 module _ (o : Options) (past : List Happened) (r : InRange o) where
-  -- An event of another port is nothing for this port.
+  -- An event of one port does not affect another port.
   pub of_another : (event : PortEvent) (port i n : ℕ) → i ≢ port → IsNothing o past (record { event = for_port i (one_port port event); interval = n }) r
   of_another event port i n other = let no : (port == i) ≡ false = grind (arith, nat_tests) in rw no (record { status = refl; heard = refl; call = refl; cause = refl })
 
--- ## A tick comes to each port
+-- ## A tick concerns each port
 
 older_one : (x : Neighbor) (xs : List Neighbor) → cons_option (aged x) (one_tick_older xs) ≡ one_tick_older (x ∷ xs)
 older_one x xs = grind (arith, nat_tests)
@@ -62,7 +62,7 @@ link_leaves_one past port i up = own_or_nothing (λ (e : PortEvent). call_at e (
 pub link_leaves_tables : (past : Past) (port : ℕ) (up : Bool) → LeavesTables past (link port up)
 link_leaves_tables past port up = λ i. table_same past (link port up) i (link_leaves_one past port i up)
 
--- Every setting except a status or a limit leaves all tables as they were.
+-- A setting that is neither a status nor a limit changes no table.
 pub setting_leaves_tables : (past : Past) (setting : Setting) → ((port : ℕ) (given : Status) → setting ≢ status port given) → ((n : ℕ) → setting ≢ limit n) → LeavesTables past (set setting)
 setting_leaves_tables past (status port given) no_status no_limit = absurd (no_status port given refl)
 setting_leaves_tables past (limit n) no_status no_limit = absurd (no_limit n refl)
@@ -79,7 +79,7 @@ limit_leaves_neighbors past i n =
 
 -- ## The limit
 
--- the limit after a call
+-- the limit of a table after a call, if any; `before` is the limit before it
 abbrev limit_by : Option Call → ℕ → ℕ
 limit_by (Some (set_limit n)) before = n
 limit_by call before = before
@@ -90,7 +90,7 @@ limit-more opened None calls = refl
 limit-more opened (Some (set_limit n)) calls = refl
 limit-more opened (Some call) calls = refl
 
--- What is heard sets no limit.
+-- A heard LLDPDU sets no limit.
 heard_sets_none : (h : Option Heard) (before : ℕ) → limit_by (option_and_then call_of h) before ≡ before
 heard_sets_none None before = refl
 heard_sets_none (Some refused) before = refl

@@ -1,4 +1,4 @@
--- A frame has the configuration that the definitions give for the past.
+-- A frame is built from the configuration that the definitions give for the past.
 use Rattle.std.proofs.Common.{◌≡◌, ℕ, List, Option, Some, ap, ◌∙◌}
 use Rattle.lldp_transmit.specs.declared.event.Mark.{Mark}
 use Rattle.lldp_engine.specs.Configuration.{Configuration}

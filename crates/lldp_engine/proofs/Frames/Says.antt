@@ -8,7 +8,7 @@ use Rattle.lldp_pdu.proofs.Framing.{has_lldpdu}
 use Rattle.lldp_pdu.proofs.Drafts.{built, built_short, finished}
 use Rattle.lldp_engine.specs.Frames.{SaysBack}
 
--- A frame is its header, its TLVs and its end, one after the other.
+-- A frame is its Ethernet header, its TLVs and the End Of LLDPDU TLV, in this order.
 pub framed : (draft : Draft) (source head tlvs octets : List ℕ) → head ≡ nearest_bridge ++ source ++ lldp_ethertype → tlvs ≡ head ++ spellings (all_tlvs draft) → octets ≡ tlvs ++ spelling end_of_lldpdu
     → octets ≡ nearest_bridge ++ source ++ lldp_ethertype ++ lldpdu_octets draft
 framed draft source head tlvs octets h t e =

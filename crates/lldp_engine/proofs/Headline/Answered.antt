@@ -1,4 +1,4 @@
--- The answer of a step is what the definitions give, port by port.
+-- The answer of a step is exactly what the definitions give for each port.
 use Rattle.std.proofs.Common.{◌≡◌, ℕ, zero, suc, ◌+◌, ◌<◌, ◌≤◌, List, [], ◌∷◌, length, refl, ap, sym, ◌∙◌, subst, arith}
 use Rattle.std.specs.List.{AllPairs, AllByRecursion, Contains}
 use Rattle.std.proofs.lemmas.List.Elements.{All-from_recursion, All-contains}
@@ -69,7 +69,7 @@ is_there o events s (suc d) (name ∷ names) mark lt sent e =
     other_is_there s (mark_after o (port_past o s events)) (sent_from o events (s + 1) names) (s + suc d, mark)
     (subst (λ k. Contains (sent_from o events (s + 1) names) (k, mark)) (sym there) (is_there o events (s + 1) d names mark (omega arith) sent is))
 
--- ## The ports ascend
+-- ## The ports are in ascending order
 
 before_all : (o : Options) (events : List Event) (s : ℕ) (mark : Mark) (xs : List Sending) → AllByRecursion (IsOf o events (s + 1)) xs → AllByRecursion (IsEarlierPort (s, mark)) xs
 before_all o events s mark [] h = tt
@@ -86,7 +86,7 @@ all_rise o events s [] l = λ i j d lt within. absurd (omega (arith, within))
 all_rise o events s (name ∷ names) l =
     one_rises o events s (mark_after o (port_past o s events)) _ (all_are o events (s + 1) names (omega arith)) (all_rise o events (s + 1) names (omega arith))
 
--- ## What a step answers
+-- ## The answer of a step
 
 module _ (past : Past) (event : Event) (r : InRange past.options) where
   abbrev now : List Sending

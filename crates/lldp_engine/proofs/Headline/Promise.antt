@@ -1,4 +1,4 @@
--- An agent that stands for a past keeps its promise.
+-- The promise holds for every agent and each past that it may have had.
 use Rattle.std.proofs.Common.{◌≡◌, ℕ, ◌<◌, ◌≤◌, List, [], ◌∷◌, length, get_or, Some, ap, sym, ◌∙◌, refl, subst, arith, zero, suc}
 use Rattle.std.specs.Prelude.{slice_get}
 use Rattle.std.specs.List.{Contains, AllPairs, AllByRecursion}
@@ -25,7 +25,7 @@ use Rattle.lldp_engine.proofs.OnePort.Rights.{follows_status}
 use Rattle.lldp_engine.proofs.Readers.{port_reads, number_reads}
 use Rattle.std.proofs.lemmas.Grind.{common_steps}
 
--- ## The fields of a port with a past
+-- ## The fields of a port, given its past
 
 module _ (o : Options) (past : List Happened) (p : PortState) (h : p ≡ port_after o past p.name) where
   pub status_is : p.status ≡ status_after o past

@@ -1,4 +1,4 @@
--- No show has more than 6,127,808 lines.
+-- No show command has more than 6,127,808 lines.
 use Rattle.std.proofs.Common.{◌≡◌, ℕ, ◌+◌, ◌*◌, ◌<◌, ◌≤◌, List, [], ◌∷◌, length, map, Option, Some, None, IsSome, refl, ap, sym, arith}
 use Rattle.std.specs.Prelude.{slice_get}
 use Rattle.std.specs.Option.{option_map}
@@ -22,7 +22,7 @@ use Rattle.lldp_engine.specs.declared.command.Show.TheVariants.{Neighbors, Stati
 use Rattle.lldp_engine.specs.declared.show.lines.TheConstants.{MOST_LINES}
 use Rattle.std.proofs.lemmas.Grind.{common_steps}
 
--- a neighbor: 4 lines, and at most (1500 - 12) / 2 of kept TLVs
+-- a neighbor: 4 lines, and one for each of at most (1500 - 12) / 2 kept TLVs
 few_of_neighbor : (name : List ℕ) (number : ℕ) (neighbor : Neighbor) → IsHeld neighbor → length (neighbor_lines name number neighbor) ≤ 748
 few_of_neighbor name number neighbor h = grind (arith, common_steps, kept_is_short, length-map)
 
@@ -37,7 +37,7 @@ few_of_ports : (capacity : ℕ) (ports : List PortState) → AllByRecursion (IsS
 few_of_ports capacity [] h = omega arith
 few_of_ports capacity (port ∷ ports) h = grind (arith, common_steps, few_of_port, length-append, few_of_ports capacity ports h.1)
 
--- the counters: at most 99 lines for each port, fewer than the bound
+-- the counters: at most 99 lines for each port, a rough bound that is low enough
 few_of_counters : (ports : List PortState) → length (statistics_lines ports) ≤ 99 * length ports
 few_of_counters [] = omega arith
 few_of_counters (port ∷ ports) = grind (arith, common_steps, length-append, few_of_counters ports)
@@ -56,7 +56,7 @@ few_lines Statistics agent h = let all = few_of_counters agent.ports in omega (a
 few_lines Chassis agent h = let all = few_of_chassis agent.configuration agent.configuration.management refl in omega (arith, all)
 few_lines Configured agent h = let all = few_of_configuration agent in omega (arith, all, h.few)
 
--- The place of a line that exists is below the number of lines.
+-- If line i exists, i is below every bound on the number of lines.
 pub within : (given : Option (ArrayVec ℕ)) (lines : List (List ℕ)) (i most : ℕ) → option_map octets_of given ≡ slice_get lines i → length lines ≤ most → IsSome given → i < most
 within None lines i most e few some = cc
 within (Some line) lines i most e few some = let lt : i < length lines = slice_get_within lines i (octets_of line) (sym e) in omega (arith, lt, few)

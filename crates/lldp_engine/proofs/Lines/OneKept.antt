@@ -1,4 +1,4 @@
--- Which line the sink of one line keeps.
+-- Which line a one-line sink keeps.
 use Rattle.std.proofs.Common.{◌≡◌, ℕ, zero, suc, ◌-◌, ◌≤◌, List, [], ◌∷◌, length, take, true, false, Bool, Option, Some, None, refl, ap, sym, subst, ◌∙◌, arith, length-append}
 use Rattle.std.specs.Prelude.{slice_get, if◌then◌else◌}
 use Rattle.std.proofs.Math.Seq.{take-append_seam}
@@ -7,13 +7,13 @@ use Rattle.lldp_text.specs.Text.{ended}
 use Rattle.lldp_engine.specs.declared.show.one_line.OneLine.{OneLine}
 use Rattle.lldp_engine.specs.Code.OneLineState.{KeepsOne, line_kept}
 
--- The kept line is at most as long as a line with its line feed.
+-- The kept line has at most 2,049 octets, its line feed included.
 pub is_short : (a b : OneLine) (lines : List (List ℕ)) → Takes KeepsOne a b lines → length a.line ≤ 2049 → length b.line ≤ 2049
 unfolding Takes
 is_short a b [] h short = subst (λ (s : OneLine). length s.line ≤ 2049) h short
 is_short a b (x ∷ xs) h short = is_short h.0 b xs h.2 (h.1.1 short)
 
--- The sink returns None if the wanted line did not come, and otherwise that line.
+-- The sink returns the wanted line, or None if that line was not written.
 pub record Gives (sink : OneLine) (given : Option (List ℕ)) : Type 0 where
   pub none : sink.came ≡ false → given ≡ None
   pub line : (line : List ℕ) → sink.came ≡ true → sink.line ≡ ended line → given ≡ Some line

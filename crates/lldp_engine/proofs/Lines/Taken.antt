@@ -1,4 +1,4 @@
--- How sinks take lines.
+-- Lemmas about the lines that a sink takes.
 use Rattle.std.proofs.Common.{◌≡◌, ℕ, suc, zero, ◌+◌, ◌<◌, List, [], ◌∷◌, ◌++◌, length, get_or, take, drop, map, Some, refl, ap, sym, ◌∙◌, add-one, append_assoc}
 use Rattle.std.specs.Prelude.{slice_get}
 use Rattle.std.specs.List.{flat_map}
@@ -12,45 +12,45 @@ pub takes_none : {S : Type 0} (t : S → S → List ℕ → Type 0) (a : S) → 
 unfolding Takes
 takes_none t a = refl
 
--- A sink that takes one line and then others takes them all.
+-- If a sink takes a line and then more lines, it takes all of them in order.
 pub takes_line : {S : Type 0} (t : S → S → List ℕ → Type 0) (a b c : S) (x : List ℕ) (xs : List (List ℕ)) → t a b x → Takes t b c xs → Takes t a c (x ∷ xs)
 unfolding Takes
 takes_line t a b c x xs h k = (b, h, k)
 
--- A sink that takes some lines and then others takes them all.
+-- If a sink takes some lines and then more lines, it takes all of them in order.
 pub takes_then : {S : Type 0} (t : S → S → List ℕ → Type 0) (a b c : S) (xs ys : List (List ℕ)) → Takes t a b xs → Takes t b c ys → Takes t a c (xs ++ ys)
 unfolding Takes
 takes_then t a b c [] ys h k = rw h k
 takes_then t a b c (x ∷ xs) ys h k = (h.0, h.1, takes_then t h.0 b c xs ys h.2 k)
 
--- A sink that no line changes takes all lines.
+-- If no line changes a sink, it takes any lines and stays the same.
 pub takes_all : {S : Type 0} (t : S → S → List ℕ → Type 0) (a : S) (xs : List (List ℕ)) → ((x : List ℕ) → t a a x) → Takes t a a xs
 unfolding Takes
 takes_all t a [] h = refl
 takes_all t a (x ∷ xs) h = (a, h x, takes_all t a xs h)
 
--- After the lines of the elements so far, the lines of the next element are taken.
+-- If a sink took the lines of i elements and then of the next, it took those of i + 1 elements.
 pub takes_next : {S X : Type 0} (t : S → S → List ℕ → Type 0) (f : X → List (List ℕ)) (a b c : S) (xs : List X) (i : ℕ) (d x : X) → i < length xs → x ≡ get_or xs i d → Takes t a b (flat_map f (take i xs)) → Takes t b c (f x) → Takes t a c (flat_map f (take (i + 1) xs))
 takes_next t f a b c xs i d x lt e h k =
     rw (add-one, take-suc xs i d lt, flat_map-append f (take i xs) (get_or xs i d ∷ []), append-nil (f (get_or xs i d)), ← e) (takes_then t a b c _ _ h k)
 
--- the same with one line for each element
+-- `takes_next` with one line for each element
 pub takes_next_line : {S X : Type 0} (t : S → S → List ℕ → Type 0) (f : X → List ℕ) (a b c : S) (xs : List X) (i : ℕ) (d x : X) → i < length xs → x ≡ get_or xs i d → Takes t a b (map f (take i xs)) → t b c (f x) → Takes t a c (map f (take (i + 1) xs))
 takes_next_line t f a b c xs i d x lt e h k =
     rw (← flat_map_single f (take (i + 1) xs)) (takes_next t (λ y. f y ∷ []) a b c xs i d x lt e (rw (flat_map_single f (take i xs)) h) (takes_line t b c c (f x) [] k (takes_none t c)))
 
--- If no further line changes the sink, the lines of all elements are taken.
+-- If no further line changes the sink, it counts as having taken the lines of all elements.
 pub takes_rest : {S X : Type 0} (t : S → S → List ℕ → Type 0) (f : X → List (List ℕ)) (a b : S) (xs : List X) (i : ℕ) → Takes t a b (flat_map f (take i xs)) → ((x : List ℕ) → t b b x) → Takes t a b (flat_map f xs)
 takes_rest t f a b xs i h k =
     let split : flat_map f xs ≡ flat_map f (take i xs) ++ flat_map f (drop i xs) = ap (flat_map f) (sym (take-append-drop i xs)) ∙ flat_map-append f (take i xs) (drop i xs) in
     rw split (takes_then t a b b _ _ h (takes_all t b _ k))
 
--- the same with one line for each element
+-- `takes_rest` with one line for each element
 pub takes_rest_lines : {S X : Type 0} (t : S → S → List ℕ → Type 0) (f : X → List ℕ) (a b : S) (xs : List X) (i : ℕ) → Takes t a b (map f (take i xs)) → ((x : List ℕ) → t b b x) → Takes t a b (map f xs)
 takes_rest_lines t f a b xs i h k =
     rw (← flat_map_single f xs) (takes_rest t (λ y. f y ∷ []) a b xs i (rw (flat_map_single f (take i xs)) h) k)
 
--- All lines were taken except these last ones.
+-- The sink took all the lines of `all` except the last ones, `left`.
 abbrev pub TakesTo : {S : Type 0} → (S → S → List ℕ → Type 0) → S → S → List (List ℕ) → List (List ℕ) → Type 0
 TakesTo t a b left all = (gone : List (List ℕ)) × (gone ++ left ≡ all) × Takes t a b gone
 

@@ -1,4 +1,4 @@
--- Allowed events, for one port.
+-- Events that an agent allows are possible for each of its ports.
 use Rattle.std.proofs.Common.{◌≡◌, ℕ, zero, suc, ◌+◌, ◌<◌, ◌≤◌, true, List, [], ◌∷◌, length, Option, Some, None, refl, ◌∙◌, subst, arith, add-zero}
 use Rattle.std.specs.Prelude.{◌==◌, IfSome, nat_le}
 use Rattle.std.specs.List.{cons_option}
@@ -22,7 +22,7 @@ use Rattle.lldp_engine.proofs.OnePort.Heard.{event_told, octets_for}
 use Rattle.lldp_engine.proofs.AllPorts.EachPort.{own_or_nothing}
 use Rattle.std.proofs.lemmas.Grind.{common_steps}
 
--- ## The limit of opening never changes
+-- ## The limit at opening never changes
 
 pub configured-capacity : (event : Event) (c : Configuration) → (configured event c).capacity ≡ c.capacity
 configured-capacity (agent.set (agent.hostname text)) c = refl
@@ -73,11 +73,11 @@ fits_limit o i events event lt a = tt
 
 -- ## The calls on the table of a port
 
--- The call of the event, if it makes one, is possible on the table of a port with this past.
+-- If the event makes a call on the table of a port with this past, the call is possible.
 abbrev pub IsTaken : Options → PortEvent → List Happened → Type 0
 IsTaken o event past = IfSome (call_at event (status_after o past) (up_after past)) (IsPossible (port_table o past))
 
--- The same holds for each event of the past.
+-- Each call that an event of the past made on the table was possible.
 abbrev pub AreTaken : Options → List Happened → Type 0
 AreTaken o [] = Unit {0}
 AreTaken o (now ∷ past) = IsTaken o now.event past × AreTaken o past

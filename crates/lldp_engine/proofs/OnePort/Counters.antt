@@ -1,4 +1,4 @@
--- One more LLDPDU, table event or mark changes the counters as the code counts it.
+-- The counters of the code match their definition after each LLDPDU, table event or mark.
 use Rattle.std.proofs.Common.{◌≡◌, ℕ, ◌+◌, Bool, true, false, List, [], ◌∷◌, length, filter, refl, arith, suc}
 use Rattle.std.specs.Prelude.{if◌then◌else◌}
 use Rattle.std.specs.Int.{from_bool}
@@ -16,19 +16,19 @@ use Rattle.lldp_engine.specs.Counters.{wrapped, is_dropped, all_aged_out, is_ord
 use Rattle.lldp_engine.specs.Code.Counting.{none_counted, with_received, with_refused, with_tlvs, with_answer, with_aged_out, with_mark}
 use Rattle.std.proofs.lemmas.Grind.{common_steps}
 
--- A counter rises by n.
+-- Adding n to a counter counts n more, modulo 2^32.
 counts : (all n : ℕ) → wrapped (wrapped all + n) ≡ wrapped (n + all)
 counts all n = omega arith
 
--- A counter rises by one.
+-- Adding 1 to a counter counts one more, modulo 2^32.
 counts_one : (all : ℕ) → wrapped (wrapped all + 1) ≡ wrapped (suc all)
 counts_one all = omega arith
 
--- A counter keeps its value.
+-- A counter that counts 0 more keeps its value.
 counts_none : (all : ℕ) → wrapped all ≡ wrapped (0 + all)
 counts_none all = omega arith
 
--- A counter rises by one if the test holds.
+-- A counter rises by one exactly if the test is true.
 counts_if : (b : Bool) (x : Heard) (xs : List Heard) → wrapped (wrapped (length xs) + from_bool b) ≡ wrapped (length (if b then x ∷ xs else xs))
 counts_if true x xs = omega arith
 counts_if false x xs = omega arith

@@ -1,4 +1,4 @@
--- What a port hears leads only to calls that are possible on its table.
+-- Events of a port make only calls that are possible on its table.
 use Rattle.std.proofs.Common.{◌≡◌, ℕ, ◌<◌, ◌≤◌, Bool, true, false, List, length, take, drop, Option, Some, None, refl, sym, subst, arith}
 use Rattle.std.proofs.lemmas.List.{take-append-drop, length-drop}
 use Rattle.std.specs.Prelude.{◌==◌, ◌&&◌, not, if◌then◌else◌, is_some, option_and_then, IfSome}
@@ -54,26 +54,26 @@ purge_told : (table : Contents) (b : Bool) → IfSome (if b then Some purge else
 purge_told table true = tt
 purge_told table false = tt
 
--- Received octets are octets.
+-- The octets of a frame event are octets: numbers below 256.
 abbrev pub HasOctets : PortEvent → Type 0
 HasOctets (frame octets) = AreOctets octets
 HasOctets event = Unit {0}
 
--- The call of an allowed event is possible on the table.
+-- The call that an allowed event makes is possible on the table.
 pub event_told : (table : Contents) (event : PortEvent) (given : Status) (up : Bool) → HasOctets event → FitsLimit event table → IfSome (call_at event given up) (IsPossible table)
 event_told table (frame octets) given up h f = heard_told_as table octets (receives given && up) h
 event_told table (limit neighbors) given up h f = f
 event_told table (status next) given up h f = purge_told table (receives given && not (receives next))
 event_told table event given up h f = tt
 
--- What the agent received as octets, the port receives as octets.
+-- If the octets of an agent's event are below 256, so are those of the event for port i.
 pub octets_for : (i : ℕ) (event : Event) → agent.HasOctets event → HasOctets (for_port i (whose event))
 octets_for i (agent.frame port octets) h = own_or_nothing HasOctets (port == i) (frame octets) h tt
 octets_for i (agent.link port up) h = own_or_nothing HasOctets (port == i) (link up) tt tt
 octets_for i (agent.set (agent.status port given)) h = own_or_nothing HasOctets (port == i) (status given) tt tt
 octets_for i event h = tt
 
--- ## How an LLDPDU is heard, by its examination
+-- ## The kind of a heard LLDPDU, by its fault and its TTL
 
 pub heard_refused : (pdu : List ℕ) (fault : PduFault) → Some fault ≡ fault_of pdu → heard_of pdu ≡ refused
 unfolding heard_of

@@ -18,7 +18,7 @@ use Rattle.lldp_engine.specs.Port.Effects.{status_then, up_then, cause_at, cause
 use Rattle.lldp_engine.specs.Port.Past.{Happened, status_after, up_after, table_events_after, settings_of, causes_after}
 use Rattle.lldp_engine.specs.Port.Headline.{FollowsStatus}
 
--- What is heard means a new neighbor or nothing.
+-- The table's answer means either a new neighbor or nothing.
 answer_is : (P : Cause → Type 0) → P Neighbor → P Nothing → (a : Learned) → P (cause_of_answer a)
 answer_is P neighbor none New = neighbor
 answer_is P neighbor none a = none
@@ -84,7 +84,7 @@ is_up-cons : (s : Settings) (c : Cause) (n : ℕ) (h : History) → is_up (momen
 unfolding moment
 is_up-cons s c n h = refl
 
--- The machine's link is up exactly if the link events say so.
+-- The machine's link is up exactly if the last link event says up, or if there was none.
 pub links_are : (o : Options) (past : List Happened) → is_up (moments (settings_of o) (causes_after o past)) ≡ up_after past
 links_are o [] = refl
 links_are o (now ∷ past) =

@@ -1,4 +1,4 @@
--- After an event an agent stands for the past with that event: first one port, then the agent.
+-- After an event, each port and the agent are those of the past with that event added.
 use Rattle.std.proofs.Common.{◌≡◌, ℕ, ◌+◌, ◌-◌, Bool, true, false, List, [], ◌∷◌, length, Option, Some, None, refl, ap, sym, ◌∙◌, subst, arith}
 use Rattle.std.specs.Prelude.{if◌then◌else◌, option_and_then, IfSome}
 use Rattle.std.specs.List.{cons_option}
@@ -41,7 +41,7 @@ use Rattle.std.proofs.lemmas.Grind.{common_steps}
 
 -- ## The table of a port
 
--- one more call on the table that these calls made
+-- Applying one more possible call to a table gives the table of all the calls.
 table_called : (opened : ℕ) (calls : List Call) (call : Call) → TableStands opened calls (table_of opened calls) → IsPossible (table_of opened calls) call → table_after (table_of opened calls) call ≡ table_of opened (call ∷ calls)
 table_called opened calls call h t = (table_carries (table_of opened calls) opened calls call h t).is
 
@@ -51,12 +51,12 @@ table_with_call opened calls (Some call) h t = table_called opened calls call h 
 
 -- ## The counters of a port
 
--- the number of neighbors that age out at a tick
+-- A tick shortens the table by the number of neighbors that age out.
 aged : (opened : ℕ) (calls : List Call) (new : Contents) → new ≡ table_of opened (tick_call ∷ calls) → length (table_of opened calls).neighbors - length new.neighbors ≡ aged_out (events_of opened calls)
 aged opened calls new h = grind (arith, common_steps, events-more, aged_out-count)
 
 module _ (opened : ℕ) (calls : List Call) (heard : List Heard) (marks : List Mark) (s : TableStands opened calls (table_of opened calls)) where
-  -- the counters after something was heard, or nothing
+  -- The code counts a heard LLDPDU, if there is one, as the definition does.
   one_counted : (h : Option Heard) → with_heard (learn_answer (table_of opened calls)) (counters_of heard (events_of opened calls) marks) h
       ≡ counters_of (cons_option h heard) (events_of opened (cons_option (option_and_then call_of h) calls)) marks
   one_counted None = refl
@@ -88,7 +88,7 @@ module _ (opened : ℕ) (calls : List Call) (heard : List Heard) (marks : List M
 
 -- ## The transmit machine of a port
 
--- What is heard means the same if the table's answers are the same.
+-- If two tables answer the same, a heard LLDPDU has the same cause with both.
 heard_same : (a b : MsapId → Learned) (h : Option Heard) → ((name : MsapId) → a name ≡ b name) → cause_of_heard a h ≡ cause_of_heard b h
 heard_same a b (Some (tells pdu)) e = ap cause_of_answer (e (msap_of pdu))
 heard_same a b h e = refl

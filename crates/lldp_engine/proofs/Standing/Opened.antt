@@ -1,4 +1,4 @@
--- A newly opened agent stands for the options and no events.
+-- The past of a newly opened agent is its options and no events.
 use Rattle.std.proofs.Common.{◌≡◌, ℕ, zero, suc, ◌+◌, ◌<◌, ◌≤◌, true, List, [], ◌∷◌, ◌++◌, length, get_or, take, drop, map, Bor, refl, ap, arith}
 use Rattle.std.specs.List.{list_all}
 use Rattle.std.proofs.lemmas.Bool.{and_parts}
@@ -33,12 +33,12 @@ pub opened_stands : (o : Options) (agent : AgentState) → InRange o → agent.c
 unfolding agent_of
 opened_stands o agent r c h = grind (arith, common_steps, ports_opened)
 
--- ## One name after another
+-- ## The next name
 
 short_name : (name : List ℕ) → is_port_name name ≡ true → length name ≤ 15
 short_name name h = grind (arith, nat_tests)
 
--- The next name is valid, and so are those after it.
+-- If all remaining names are valid, the next has at most 15 octets and the others are valid.
 pub next_named : (names : List (Bor (List ℕ))) (i : ℕ) (none : Bor (List ℕ)) → i < length names → list_all is_port_name (map (λ n. n.now) (drop i names)) ≡ true
     → (length (get_or names i none).now ≤ 15) × (list_all is_port_name (map (λ n. n.now) (drop (suc i) names)) ≡ true)
 next_named [] i none lt h = absurd (omega arith)
@@ -51,7 +51,7 @@ next_taken f [] i none lt = absurd (omega arith)
 next_taken f (n ∷ ns) zero none lt = refl
 next_taken f (n ∷ ns) (suc i) none lt = ap (λ (ps : List PortState). f n.now ∷ ps) (next_taken f ns i none (omega arith))
 
--- Its port is appended to those of the names before it.
+-- Appending the port of the next name gives the ports of one more name.
 pub next_port : (f : List ℕ → PortState) (names : List (Bor (List ℕ))) (i : ℕ) (none : Bor (List ℕ)) (before after : List PortState) (port : PortState) (name : List ℕ) → i < length names
     → before ≡ map f (map (λ n. n.now) (take i names)) → name ≡ (get_or names i none).now → port ≡ f name → after ≡ before ++ port ∷ [] → after ≡ map f (map (λ n. n.now) (take (suc i) names))
 next_port f names i none before after port name lt b n p a = rw (a, b, p, n) (next_taken f names i none lt)

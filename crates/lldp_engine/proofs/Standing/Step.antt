@@ -1,4 +1,4 @@
--- A step of the program, in terms of the definitions.
+-- A step of the program is the step of the definitions.
 use Rattle.std.proofs.Common.{◌≡◌, ℕ, ◌+◌, ◌<◌, ◌≤◌, List, [], ◌∷◌, length, true, refl, arith}
 use Rattle.std.specs.List.{AllByRecursion}
 use Rattle.std.proofs.lemmas.Bool.Decides.{nat_tests}
@@ -24,7 +24,7 @@ allowed_short now (set (hostname text)) a = short_text text a
 allowed_short now (set (description text)) a = short_text text a
 allowed_short now event a = tt
 
--- The configuration changes first, then the ports with the tx-interval in force.
+-- The configuration changes first, then the ports, with the new tx-interval.
 pub steps_to : (agent : AgentState) (event : Event) (c : Configuration) (n : ℕ) (ports new : List PortState) → c ≡ configured event agent.configuration → n ≡ c.interval → ports ≡ agent.ports → new ≡ ports_step (whose event) n 0 ports
     → (let a : AgentState = record { configuration = c; ports = new } in a) ≡ agent_after event agent
 steps_to agent event c n ports new a b d e = rw (e, d, b, a) refl
@@ -33,7 +33,7 @@ pub marks_to : (agent : AgentState) (event : Event) (c : Configuration) (n : ℕ
     → marks ≡ agent_marks event agent
 marks_to agent event c n ports marks a b d e = rw (e, d, b, a) refl
 
--- Each mark in the answer is of an existing port and is not Quiet.
+-- Each port in the answer exists and sends something.
 one_sent : (i m : ℕ) (mark : Mark) (others : List (ℕ × Mark)) → i < m → AllByRecursion (λ (x : ℕ × Mark). (x.0 < m) × IsSent x.1) others → AllByRecursion (λ (x : ℕ × Mark). (x.0 < m) × IsSent x.1) (sending i mark others)
 one_sent i m Quiet others lt h = h
 one_sent i m Ordinary others lt h = ((lt, tt), h)

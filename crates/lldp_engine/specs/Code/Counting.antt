@@ -31,15 +31,15 @@ none_counted = record {
   drops = 0;
 }
 
--- An LLDP frame was received.
+-- Counts a received LLDP frame.
 abbrev pub with_received : Counters → Counters
 with_received c = record c { received = wrapped (c.received + 1) }
 
--- An LLDPDU was refused, which is also an error.
+-- Counts a refused LLDPDU, which is also an error.
 abbrev pub with_refused : Counters → Counters
 with_refused c = record c { discarded = wrapped (c.discarded + 1); errors = wrapped (c.errors + 1) }
 
--- This many TLVs of an LLDPDU were discarded, and this many kept ones are unrecognized.
+-- Counts discarded and unrecognized TLVs of an LLDPDU, and an error if any was discarded.
 abbrev pub with_tlvs : Counters → ℕ → ℕ → Counters
 with_tlvs c discarded unrecognized =
     record c {
@@ -48,22 +48,22 @@ with_tlvs c discarded unrecognized =
       unrecognized = wrapped (c.unrecognized + unrecognized);
     }
 
--- An LLDPDU was dropped if the table answered so.
+-- Counts an LLDPDU that the table dropped.
 abbrev pub with_answer : Counters → Learned → Counters
 with_answer c Dropped = record c { drops = wrapped (c.drops + 1) }
 with_answer c answer = c
 
--- This many neighbors aged out.
+-- Counts n neighbors that aged out.
 abbrev pub with_aged_out : Counters → ℕ → Counters
 with_aged_out c n = record c { ageouts = wrapped (c.ageouts + n) }
 
--- This was sent.
+-- Counts a frame that was sent, if any.
 abbrev pub with_mark : Counters → Mark → Counters
 with_mark c Quiet = c
 with_mark c Ordinary = record c { sent = wrapped (c.sent + 1) }
 with_mark c Shutdown = record c { shutdowns = wrapped (c.shutdowns + 1) }
 
--- Counts what was heard, if anything; `answer` is the table's answer to an MSAP identifier.
+-- Counts a heard LLDPDU, if any; `answer` is the table's answer to an MSAP identifier.
 abbrev pub with_heard : (MsapId → Learned) → Counters → Option Heard → Counters
 with_heard answer c None = c
 with_heard answer c (Some refused) = with_refused (with_received c)
@@ -71,7 +71,7 @@ with_heard answer c (Some (leaves msap)) = with_received c
 with_heard answer c (Some (tells pdu)) =
     with_answer (with_tlvs (with_received c) (discarded_of pdu) (count_unrecognized (kept_of pdu))) (answer (msap_of pdu))
 
--- A tick counts the neighbors that age out, any other event what is heard.
+-- Counts the neighbors that age out at a tick, or the LLDPDU heard at any other event.
 abbrev pub with_event_counted : PortEvent → Status → Bool → Contents → Counters → Counters
 with_event_counted tick status up table c =
     with_aged_out c (length table.neighbors - length (after_tick table).neighbors)

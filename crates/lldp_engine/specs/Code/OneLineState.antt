@@ -1,4 +1,4 @@
--- What the sink of one line holds.
+-- The state of a one-line sink.
 use Rattle.std.specs.Prelude.{◌≡◌, ℕ, suc, zero, ◌-◌, ◌≤◌, List, length, take, Bool, true, false, Option, Some, None, if◌then◌else◌}
 use Rattle.lldp_engine.specs.declared.show.one_line.OneLine.{OneLine}
 use Rattle.lldp_text.specs.Text.{ended}
@@ -9,11 +9,11 @@ after_line before true kept line = record { before = before; came = true; line =
 after_line zero false kept line = record { before = 0; came = true; line = ended line }
 after_line (suc before) false kept line = record { before = before; came = false; line = kept }
 
--- The sink took a line, and holds at most a line with its line feed.
+-- The sink took this line. What it keeps never grows beyond 2,049 octets, line feed included.
 abbrev pub KeepsOne : OneLine → OneLine → List ℕ → Type 0
 KeepsOne old new line =
     (new ≡ after_line old.before old.came old.line line) × (length old.line ≤ 2049 → length new.line ≤ 2049)
 
--- Returns the wanted line without its line feed, if it came.
+-- Returns the wanted line without its line feed, if it was written.
 abbrev pub line_kept : OneLine → Option (List ℕ)
 line_kept sink = if sink.came then Some (take (length sink.line - 1) sink.line) else None

@@ -1,4 +1,4 @@
--- One event, applied to the present data of a port.
+-- An event applied to the current data of a port.
 use Rattle.std.specs.Prelude.{ℕ, List, Option, Some, None, option_and_then}
 use Rattle.lldp_table.specs.Events.{Call}
 use Rattle.lldp_table.specs.Contents.{Contents}
@@ -26,12 +26,12 @@ opened_port o name =
       counters = none_counted;
     }
 
--- Returns the table after this call, if there is one.
+-- Returns the table after this call, if there is a call.
 abbrev pub with_call : Contents → Option Call → Contents
 with_call table None = table
 with_call table (Some call) = table_after table call
 
--- Returns the port after it heard this, if it heard anything.
+-- Returns the port after it heard this LLDPDU, if any.
 abbrev pub hears_if : PortState → Option Heard → PortState
 hears_if p heard =
     record p {

@@ -1,4 +1,4 @@
--- The lengths of texts that the code requires of a setting and that a configuration has.
+-- The greatest lengths of texts in settings and in configurations.
 use Rattle.std.specs.Prelude.{◌≡◌, ◌≤◌, length, IfSome}
 use Rattle.lldp_engine.specs.Configuration.{Configuration}
 use Rattle.lldp_engine.specs.Event.{Event, set, hostname, description}
@@ -9,7 +9,7 @@ HasShortText (set (hostname text)) = length text ≤ 255
 HasShortText (set (description text)) = length text ≤ 255
 HasShortText event = Unit {0}
 
--- Both texts have at most 255 octets, and a management address has four.
+-- Both texts have at most 255 octets, and a management address has 4 octets.
 pub record HasShortTexts (c : Configuration) : Type 0 where
   pub hostname : length c.hostname ≤ 255
   pub description : length c.description ≤ 255

@@ -1,4 +1,4 @@
--- One event, applied to the present data of an agent.
+-- An event applied to the current data of an agent.
 use Rattle.std.specs.Prelude.{ℕ, ◌+◌, List, [], ◌∷◌}
 use Rattle.lldp_engine.specs.Event.{Event}
 use Rattle.lldp_engine.specs.Configuration.{configured}
@@ -17,7 +17,7 @@ abbrev pub marks_step : Whose → ℕ → ℕ → List PortState → List Sendin
 marks_step event n i [] = []
 marks_step event n i (p ∷ ps) = sending i (port_mark (for_port i event) n p) (marks_step event n (i + 1) ps)
 
--- The configuration changes first, then each port, with the tx-interval in force after that.
+-- The configuration changes first, then each port, with the new tx-interval.
 abbrev pub agent_after : Event → AgentState → AgentState
 agent_after event agent =
     let c = configured event agent.configuration in

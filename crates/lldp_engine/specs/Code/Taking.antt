@@ -6,16 +6,16 @@ use Rattle.lldp_table.specs.Contents.{Contents}
 use Rattle.lldp_engine.specs.AgentState.{PortState}
 use Rattle.lldp_engine.specs.Port.Event.{PortEvent, limit, Whose, one_port, each_port}
 
--- Holds if the event sets no limit, or one that this table may have.
+-- Holds if the event sets no limit, or a limit that is possible for this table.
 abbrev pub FitsLimit : PortEvent → Contents → Type 0
 FitsLimit (limit neighbors) table = IsNewLimit table neighbors
 FitsLimit event table = Unit {0}
 
--- Holds if the event sets no limit, or one that the table of each port may have.
+-- Holds if the event sets no limit, or a limit that is possible for the table of each port.
 abbrev pub AllFit : PortEvent → List PortState → Type 0
 AllFit event ports = AllByRecursion (λ port. FitsLimit event port.table) ports
 
--- Holds if the port of a one-port event exists, and each table may have a limit that it sets.
+-- Holds if a port that the event names exists, and a limit that it sets is possible for each table.
 abbrev pub CanTake : Whose → List PortState → Type 0
 CanTake (one_port port event) ports = (port < length ports) × AllFit event ports
 CanTake (each_port event) ports = AllFit event ports

@@ -11,8 +11,8 @@ use Rattle.lldp_engine.specs.Port.Past.{causes_after}
 abbrev pub causes_at : Past → ℕ → History
 causes_at past i = causes_after past.options (past_of past i)
 
--- The event means this to the transmit machine of port i, with a tx-interval of this many seconds:
--- the one that the last command set, this event included, or else 30.
+-- The event means `cause` to the transmit machine of port i. The tx-interval is `seconds`: the last
+-- that a command set, this event included, or else 30.
 pub record IsFor (past : Past) (event : Event) (i : ℕ) (cause : Cause) : Type 0 where
   pub seconds : ℕ
   pub is : causes_at (with_event past event) i ≡ caused cause seconds ∷ causes_at past i

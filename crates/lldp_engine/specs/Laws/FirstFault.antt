@@ -1,4 +1,4 @@
--- The fault of words that give no command: that of the first word that no command has in its place.
+-- The fault of words that are not a command: the first word that fits no command decides it.
 use Rattle.std.specs.Prelude.{◌≡◌, ℕ, false, List, [], ◌∷◌, ◌++◌, codes, Some, None, Err}
 use Rattle.std.specs.List.{AllByRecursion, Contains}
 use Rattle.lldp_text.specs.declared.fault.CommandFault.{CommandFault}
@@ -16,7 +16,7 @@ use Rattle.lldp_engine.specs.Laws.OnlyForms.{AreWordsOf, word_of}
 abbrev pub Choice : Type 0
 Choice = List (List ℕ) × List (List ℕ)
 
--- A fixed word must follow these first words.
+-- After these first words, one of these fixed words must follow.
 abbrev pub choices : List Choice
 choices =
     ([], codes "show" ∷ codes "configure" ∷ codes "update" ∷ [])
@@ -25,7 +25,7 @@ choices =
     ∷ (codes "configure" ∷ codes "system" ∷ [], codes "hostname" ∷ codes "description" ∷ [])
     ∷ (codes "configure" ∷ codes "lldp" ∷ [], codes "tx-interval" ∷ codes "tx-hold" ∷ codes "max-neighbors" ∷ []) ∷ []
 
--- The same after `configure ports` and the name of a port.
+-- After `configure ports` and the name of a port, these fixed words must follow.
 abbrev pub choices_behind : List ℕ → List Choice
 choices_behind name =
     (codes "configure" ∷ codes "ports" ∷ name ∷ [], codes "lldp" ∷ [])
@@ -46,14 +46,14 @@ before_arguments =
 abbrev pub WantsMore : AgentState → List (List ℕ) → Type 0
 WantsMore agent front = said_by agent front ≡ Err Unknown
 
--- If a word outside the choice follows the first words, the fault is Unknown, whatever follows it.
+-- After the first words, any word outside the choice has the fault Unknown, whatever follows it.
 abbrev pub TakesOnly : AgentState → List ℕ → List (List ℕ) → Choice → Type 0
 TakesOnly agent word behind choice =
     ¬ (Contains choice.1 word) → said_by agent (choice.0 ++ word ∷ behind) ≡ Err Unknown
 
--- The fault of a word that no command has in its place, whatever follows it: Unknown for a fixed
--- word; Text, the fault of the number, or NoSuchPort for an argument; Extra after a whole command.
--- The fault of a missing word is Unknown.
+-- The fault of a word that fits no command, whatever follows it: Unknown in place of a fixed word;
+-- Text, the fault of the number, or NoSuchPort in place of an argument; Extra after a whole
+-- command. A missing word has the fault Unknown.
 pub record TellsFirstFault (agent : AgentState) (word : List ℕ) (behind : List (List ℕ)) : Type 0 where
   pub fixed : AllByRecursion (TakesOnly agent word behind) choices
   pub fixed_behind : (name : List ℕ) (port : ℕ) → place_of (names_of agent) name ≡ Some port →

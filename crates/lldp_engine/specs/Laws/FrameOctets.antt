@@ -13,7 +13,7 @@ pub record HasLengths (c : Configuration) (name : List ℕ) : Type 0 where
   pub description : length c.description ≤ 255
   pub short : length name ≤ 15
 
--- A TLV whose body has at most 255 octets: twice its type, the length of the body, and the body.
+-- A TLV with a body of at most 255 octets: twice its type, the length of the body, the body.
 abbrev pub tlv_octets : ℕ → List ℕ → List ℕ
 tlv_octets twice body = twice ∷ length body ∷ body
 

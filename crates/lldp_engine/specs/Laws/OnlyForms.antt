@@ -1,4 +1,4 @@
--- Which words give which command: those of its form, and no others.
+-- The words from which each command is read.
 use Rattle.std.specs.Prelude.{◌≡◌, ℕ, true, List, [], ◌∷◌, codes, Some, Ok}
 use Rattle.lldp_engine.specs.declared.command.Show.TheVariants.{Neighbors, Statistics, Chassis, Configuration}
 use Rattle.lldp_engine.specs.declared.port.status.Status.{Status}
@@ -42,7 +42,7 @@ AreWordsOf agent (set (status port given)) words =
     × (words ≡ codes "configure" ∷ codes "ports" ∷ name ∷ codes "lldp" ∷ codes "status" ∷ word_of given ∷ [])
 AreWordsOf agent (set update) words = words ≡ codes "update" ∷ []
 
--- If the command sets a limit, every port holds at most this many neighbors.
+-- If the command sets a limit, every port holds at most that many neighbors.
 abbrev pub IsNotInUse : AgentState → Command → Type 0
 IsNotInUse agent (set (limit n)) = HoldAtMost agent n
 IsNotInUse agent command = Unit {0}

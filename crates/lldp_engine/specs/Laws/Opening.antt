@@ -1,4 +1,4 @@
--- When options open an agent, check by check, and what the opened agent is.
+-- The checks that options must pass to open an agent, and the agent that they open.
 use Rattle.std.specs.Prelude.{◌≡◌, ◌≢◌, ℕ, ◌<◌, ◌≤◌, true, false, List, length, codes}
 use Rattle.std.specs.List.{All, AllByRecursion, AllPass, AllPairs}
 use Rattle.lldp_engine.specs.declared.agent.open_fault.OpenFault.{OpenFault}
@@ -20,7 +20,7 @@ pub record IsText (text : List ℕ) : Type 0 where
   pub short : length text ≤ 255
   pub octets : All (λ octet. (32 ≤ octet) × (octet ≤ 126)) text
 
--- The options pass the check of this fault: at least one port; at most 64; each has a valid name;
+-- The options pass the check for this fault: at least one port; at most 64; each has a valid name;
 -- no two names are equal; the hostname is a text. Lack of memory is not a check.
 abbrev pub Passes : Options → OpenFault → Type 0
 Passes o Memory = Unit {0}
@@ -30,13 +30,13 @@ Passes o PortName = All IsName o.names
 Passes o SamePort = AllPairs (λ name other. name ≢ other) o.names
 Passes o Text = IsText o.hostname
 
--- The options fail this check, and pass each check with a smaller number.
+-- The options fail the check for this fault, and pass each check with a smaller number.
 pub record IsFirstFault (o : Options) (fault : OpenFault) : Type 0 where
   pub fails : Passes o fault → ⊥
   pub first : (other : OpenFault) → number_of_refusal other < number_of_refusal fault → Passes o other
 
--- Each part of the configuration is that of its option. The last four have no option of their own:
--- `lldpa`, a tx-interval of 30, a tx-hold of 4, and the limit, which is the greatest allowed.
+-- Each part has the value of its option. The last four have no option of their own: `lldpa`, a
+-- tx-interval of 30, a tx-hold of 4, and the greatest limit that is allowed.
 pub record IsConfiguredBy (o : Options) (c : Configuration) : Type 0 where
   pub mac : c.mac ≡ o.mac
   pub role : c.role ≡ o.role
@@ -51,7 +51,7 @@ pub record IsConfiguredBy (o : Options) (c : Configuration) : Type 0 where
   pub hold : c.hold ≡ 4
   pub limit : c.limit ≡ o.max_neighbors
 
--- A port is RxAndTx, or RxOnly if the options ask for that; its machine has their three numbers.
+-- A port is RxAndTx, or RxOnly if the options ask for that; its machine has three of their numbers.
 pub record IsPortOf (o : Options) (port : PortState) : Type 0 where
   pub both : o.receive_only ≡ false → port.status ≡ RxAndTx
   pub receives : o.receive_only ≡ true → port.status ≡ RxOnly

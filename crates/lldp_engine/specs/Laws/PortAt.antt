@@ -1,4 +1,4 @@
--- The ports of the agent that has a past, by number, and what an event leaves unchanged.
+-- The ports of the agent with a given past, and what an event leaves unchanged.
 use Rattle.std.specs.Prelude.{◌≡◌, ℕ, List, Option, slice_get}
 use Rattle.std.specs.List.{Contains}
 use Rattle.std.specs.Option.{option_map}
@@ -30,6 +30,6 @@ pub record LeavesPort (past : Past) (event : Event) (i : ℕ) : Type 0 where
   pub as_it_was : port_at (with_event past event) i ≡ port_at past i
   pub silent : (mark : Mark) → ¬ (Sends (with_event past event) i mark)
 
--- The event leaves the table of each port as it was.
+-- The event changes no port's table.
 abbrev pub LeavesTables : Past → Event → Type 0
 LeavesTables past event = (i : ℕ) → table_at (with_event past event) i ≡ table_at past i

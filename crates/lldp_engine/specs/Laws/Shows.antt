@@ -1,4 +1,4 @@
--- The whole of each show: these lines in this order, and no others.
+-- All lines of each show command, in order.
 use Rattle.std.specs.Prelude.{ℕ, nat_lt, if◌then◌else◌, List, [], ◌∷◌, ◌++◌, Option, Some, None, codes, length, map, decimal, sum_by}
 use Rattle.std.specs.List.{flat_map, enumerate_from}
 use Rattle.lldp_pdu.specs.Kept.{kept_of}
@@ -33,14 +33,14 @@ first_lines name number neighbor =
     ∷ line_of name (decimal number ++ codes ".ttl=" ++ decimal neighbor.ttl)
     ∷ line_of name (decimal number ++ codes ".expires=" ++ decimal neighbor.left) ∷ []
 
--- Returns the lines of its kept TLVs, in their order.
+-- Returns the lines of a neighbor's kept TLVs, in their order.
 abbrev pub lines_of_kept : List ℕ → ℕ → Neighbor → List (List ℕ)
 lines_of_kept name number neighbor = map (λ tlv. line_of name (decimal number ++ codes "." ++ tlv_text tlv)) (kept_of neighbor.octets)
 
 abbrev pub lines_of_neighbor : List ℕ → ℕ × Neighbor → List (List ℕ)
 lines_of_neighbor name numbered = first_lines name numbered.0 numbered.1 ++ lines_of_kept name numbered.0 numbered.1
 
--- The lines of a port: the counts, then those of each neighbor, numbered from 1 in table order.
+-- Returns the lines of a port: its counts, then each neighbor, numbered from 1 in table order.
 abbrev pub lines_of_port : PortState → List (List ℕ)
 lines_of_port port = lines_of_counts port ++ flat_map (lines_of_neighbor port.name) (enumerate_from 1 port.table.neighbors)
 

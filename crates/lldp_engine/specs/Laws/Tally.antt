@@ -1,4 +1,4 @@
--- How often a port sent something, and what an event adds to its counters.
+-- How often a port sent a kind of frame, and what an event adds to the counters of the port.
 use Rattle.std.specs.Prelude.{◌≡◌, ℕ, suc, ◌+◌, ◌-◌, ◌<◌, ◌≤◌, ◌%◌, ◌^◌, nat_le, false, List, [], ◌∷◌, length, filter, Some, None}
 use Rattle.lldp_pdu.specs.Frame.{lldpdu_of}
 use Rattle.lldp_pdu.specs.Fault.{fault_of}
@@ -13,13 +13,13 @@ use Rattle.lldp_engine.specs.Past.{Past, with_event}
 use Rattle.lldp_engine.specs.Laws.PortAt.{port_at, Sends}
 use Rattle.lldp_engine.specs.Laws.Deaf.{Hears}
 
--- P holds for this many of these events, each taken with the events before it.
+-- P holds at exactly this many of the events. It may depend on the events before each of them.
 pub data AreMany (P : List Event → Type 0) : List Event → ℕ → Type 0 where
   none : AreMany P [] 0
   one_more : {event : Event} {events : List Event} {n : ℕ} → P (event ∷ events) → AreMany P events n → AreMany P (event ∷ events) (suc n)
   no_more : {event : Event} {events : List Event} {n : ℕ} → ¬ (P (event ∷ events)) → AreMany P events n → AreMany P (event ∷ events) n
 
--- Port i sent this at this many events so far.
+-- Port i sent this at exactly n of the events so far.
 abbrev pub HasSent : Past → ℕ → Mark → ℕ → Type 0
 HasSent past i mark n = AreMany (λ events. Sends (record { options = past.options; events = events }) i mark) past.events n
 
@@ -31,7 +31,7 @@ pub record HaveRisen (before after : Counters) (faults faulty left_out unknown :
   pub tlvs_discarded : after.tlvs_discarded ≡ (before.tlvs_discarded + left_out) % 2 ^ 32
   pub unrecognized : after.unrecognized ≡ (before.unrecognized + unknown) % 2 ^ 32
 
--- If port i receives these octets, its counters of faults, errors and TLVs rise by these numbers.
+-- If port i receives these octets, its counters rise by these numbers, as in `HaveRisen`.
 abbrev pub Adds : Past → ℕ → List ℕ → ℕ → ℕ → ℕ → ℕ → Type 0
 Adds past i octets faults errors discarded unrecognized =
     (before after : PortState) → port_at past i ≡ Some before → port_at (with_event past (frame i octets)) i ≡ Some after →
@@ -46,7 +46,7 @@ abbrev pub Makes : Past → Event → ℕ → (PortState → PortState → Type 
 Makes past event i P =
     (before after : PortState) → port_at past i ≡ Some before → port_at (with_event past event) i ≡ Some after → P before after
 
--- `ageouts` has risen by the number of neighbors that are gone, modulo 2^32.
+-- `ageouts` has risen by the decrease in the number of neighbors, modulo 2^32.
 abbrev pub CountsAgedOut : PortState → PortState → Type 0
 CountsAgedOut before after =
     after.counters.ageouts
@@ -64,7 +64,7 @@ CountsDrop before after = after.counters.drops ≡ (before.counters.drops + 1) %
 abbrev pub KeepsDrops : PortState → PortState → Type 0
 KeepsDrops before after = after.counters.drops ≡ before.counters.drops
 
--- No counter of received frames has changed, and `drops` has not.
+-- The five counters of received frames and `drops` have not changed.
 pub record KeepsReceived (before after : PortState) : Type 0 where
   pub received : after.counters.received ≡ before.counters.received
   pub discarded : after.counters.discarded ≡ before.counters.discarded
@@ -73,8 +73,8 @@ pub record KeepsReceived (before after : PortState) : Type 0 where
   pub unrecognized : after.counters.unrecognized ≡ before.counters.unrecognized
   pub drops : after.counters.drops ≡ before.counters.drops
 
--- There is no room for these octets on port i: it hears them, their LLDPDU is sound with a TTL
--- above 0, no neighbor has its MSAP identifier, and the table has reached its limit.
+-- Port i has no room for these octets: it hears them, their LLDPDU has no fault and a TTL above 0,
+-- no neighbor has its MSAP identifier, and the table has reached its limit.
 pub record HasNoRoom (past : Past) (i : ℕ) (octets : List ℕ) : Type 0 where
   pub hears : Hears past i
   pub lldpdu : List ℕ

@@ -1,5 +1,5 @@
--- What an event does to a port: to its status and its link, to its table, and to its transmit
--- machine. The state before the event is given.
+-- What an event does to the status, the link, the table and the transmit machine of a port, given
+-- the state before the event.
 use Rattle.std.specs.Prelude.{◌&&◌, not, Bool, true, false, if◌then◌else◌, Option, Some, None, option_and_then}
 use Rattle.lldp_pdu.specs.Msap.{MsapId}
 use Rattle.lldp_pdu.specs.Lldpdu.{extent, ttl_of, msap_of}
@@ -13,7 +13,7 @@ use Rattle.lldp_engine.specs.Status.{receives, transmits}
 use Rattle.lldp_engine.specs.Heard.{Heard, refused, leaves, tells, heard_by}
 use Rattle.lldp_engine.specs.Port.Event.{PortEvent, tick, frame, link, status, limit, change, nothing}
 
--- ## Its status, its link, and what it hears
+-- ## Status, link and heard LLDPDUs
 
 -- A status event sets the status; other events leave it as it was.
 abbrev pub status_then : PortEvent → Status → Status
@@ -25,12 +25,12 @@ abbrev pub up_then : PortEvent → Bool → Bool
 up_then (link up) before = up
 up_then event before = before
 
--- A port hears only received octets.
+-- A port hears an LLDPDU only when it receives a frame.
 abbrev pub heard_at : PortEvent → Status → Bool → Option Heard
 heard_at (frame octets) before up = heard_by before up octets
 heard_at event before up = None
 
--- ## Its table
+-- ## Table
 
 -- At a TTL of 0 the table forgets the neighbor; at a TTL above 0 it learns the neighbor.
 abbrev pub call_of : Heard → Option Call
@@ -38,7 +38,7 @@ call_of refused = None
 call_of (leaves msap) = Some (forget msap)
 call_of (tells pdu) = Some (learn (msap_of pdu) (ttl_of pdu) (extent pdu))
 
--- Returns the call on the table. A status that ends receiving purges it, even with the link down.
+-- Returns the call on the table. A status that ends receiving purges it, even if the link is down.
 abbrev pub call_at : PortEvent → Status → Bool → Option Call
 call_at tick before up = Some tick_call
 call_at (frame octets) before up = option_and_then call_of (heard_by before up octets)
@@ -46,14 +46,14 @@ call_at (status given) before up = if receives before && not (receives given) th
 call_at (limit neighbors) before up = Some (set_limit neighbors)
 call_at event before up = None
 
--- ## Its transmit machine
+-- ## Transmit machine
 
--- A neighbor that was stored as new is a cause; any other answer of the table means nothing.
+-- Storing a new neighbor means the cause Neighbor. Any other answer of the table means Nothing.
 abbrev pub cause_of_answer : Learned → Cause
 cause_of_answer New = Neighbor
 cause_of_answer answer = Nothing
 
--- A heard LLDPDU means a new neighbor if the table answers so to its MSAP identifier.
+-- A heard LLDPDU means a new neighbor if the table's answer to its MSAP identifier is New.
 abbrev pub cause_of_heard : (MsapId → Learned) → Option Heard → Cause
 cause_of_heard answer (Some (tells pdu)) = cause_of_answer (answer (msap_of pdu))
 cause_of_heard answer heard = Nothing
@@ -72,7 +72,7 @@ cause_of_link false true = Up
 cause_of_link true true = Nothing
 cause_of_link false false = Nothing
 
--- Returns the cause that an event is; `answer` is the answer of the table to an MSAP identifier.
+-- Returns what an event means to the machine; `answer` is the table's answer to an MSAP identifier.
 abbrev pub cause_at : PortEvent → Status → Bool → (MsapId → Learned) → Cause
 cause_at tick before up answer = Tick
 cause_at (frame octets) before up answer = cause_of_heard answer (heard_by before up octets)

@@ -14,7 +14,7 @@ port_event_of (variant.Status given) = status given
 port_event_of (variant.Limit neighbors) = limit neighbors
 port_event_of variant.Change = change
 
--- Returns as plain data which ports an event of the program concerns.
+-- Returns as plain data the ports that an event of the program concerns, and their port event.
 abbrev pub whose_of : CodeWhose → Whose
 whose_of (OnePort port event) = one_port port (port_event_of event)
 whose_of (EachPort event) = each_port (port_event_of event)

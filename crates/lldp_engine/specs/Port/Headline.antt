@@ -13,9 +13,9 @@ use Rattle.lldp_engine.specs.Options.{Options}
 use Rattle.lldp_engine.specs.Status.{transmits}
 use Rattle.lldp_engine.specs.Port.Past.{Happened, status_after, up_after, table_events_after, settings_of, caused_at, causes_after, mark_after}
 
--- For each MSAP identifier the table holds the last stored frame, if it has not expired, and
--- nothing else. Each identifier occurs once, in the order in which they were last new. At most as
--- many neighbors are held as the limit in force, each with at most 1,500 octets.
+-- The table holds exactly the last stored frame of each MSAP identifier, unless it has expired. No
+-- identifier occurs twice, and the neighbors are in the order in which they were last new. The
+-- table holds at most as many neighbors as its limit, each with at most 1,500 octets.
 pub record HoldsLastStored (o : Options) (past : List Happened) (table : Contents) : Type 0 where
   pub exactly : (neighbor : Neighbor) → Contains table.neighbors neighbor ↔ IsLastStored (table_events_after o past) neighbor
   pub once : IsDistinct same_msap (names_of table.neighbors)
@@ -32,24 +32,24 @@ DueAndOpen o now earlier = IsDueAndOpen (settings_of o) (causes_after o earlier)
 abbrev pub Stops : Options → Happened → List Happened → Type 0
 Stops o now earlier = StopsAt (settings_of o) (causes_after o earlier) (caused_at o now earlier)
 
--- A port sends an ordinary frame exactly if one is due and the credit window is open: with this
--- frame no run of events that ends now holds more than txCreditMax plus the ticks after its first
--- event. It sends a shutdown frame exactly if it was active and may no longer transmit.
+-- A port sends an ordinary frame exactly if one is due and the credit window is open: with it, no
+-- run of events that ends now contains more ordinary frames than txCreditMax plus the ticks after
+-- its first event. It sends a shutdown frame exactly if it was active and may no longer send.
 pub record SendsExactly (o : Options) (now : Happened) (earlier : List Happened) : Type 0 where
   pub ordinary : (mark_after o (now ∷ earlier) ≡ Ordinary) ↔ DueAndOpen o now earlier
   pub shutdown : (mark_after o (now ∷ earlier) ≡ Shutdown) ↔ Stops o now earlier
 
--- After this past, as its transmit machine saw it, a port has the right to transmit exactly if its
--- status gives it, and its link is up exactly if the last link event, if there is one, says so.
+-- A port's transmit machine may transmit if and only if the port's status allows it. Its link is up
+-- if and only if the last link event says so, or if there was none.
 pub record FollowsStatus (o : Options) (past : List Happened) : Type 0 where
   pub right : is_allowed (settings_of o) (moments (settings_of o) (causes_after o past))
       ≡ transmits (status_after o past)
   pub link : is_up (moments (settings_of o) (causes_after o past)) ≡ up_after past
 
--- The port sent exactly this at each event so far, and its right to transmit followed its status.
--- No run of events holds more ordinary frames than txCreditMax plus the ticks after its first
--- event, nor more stops than one plus one for each reinitDelay ticks in it. No other choice of due
--- positions that keeps these windows has had more frames up to any event.
+-- At each event so far the port sent exactly what `SendsExactly` says, and its right to transmit
+-- followed its status. No run of events contains more ordinary frames than txCreditMax plus the
+-- ticks after its first event, or more stops than one plus one for each reinitDelay ticks in it. No
+-- other choice of due positions within these windows has had more frames up to any event.
 pub record HasSentExactly (o : Options) (past : List Happened) : Type 0 where
   pub exactly : (later earlier : List Happened) (now : Happened) → past ≡ later ++ now ∷ earlier →
       SendsExactly o now earlier

@@ -60,7 +60,7 @@ impl<'a> Setting<'a> {
         }
     }
 
-    /// Returns which ports the setting concerns, and which port event it is for them.
+    /// Returns the ports that the setting concerns, and the port event for them.
     fn whose(&self) -> Whose<'a>
         ensures { whose_of result ≡ whose_setting (setting_of self.now) }
     {
@@ -77,7 +77,7 @@ impl<'a> Setting<'a> {
 }
 
 impl<'a> Event<'a> {
-    /// Returns which ports the event concerns, and which port event it is for them.
+    /// Returns the ports that the event concerns, and the port event for them.
     pub(crate) fn whose(&self) -> Whose<'a>
         ensures value { whose_of result ≡ whose (event_of self.now) }
         ensures octets { HasOctets (event_of self.now) }

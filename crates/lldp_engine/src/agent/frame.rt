@@ -72,7 +72,7 @@ fn management(address: &[u8; 4]) -> ArrayVec<u8, 12>
     body
 }
 
-/// Writes the Ethernet header: nearest bridge, the agent's MAC address, LLDP's EtherType.
+/// Writes the Ethernet header: nearest bridge address, the agent's MAC address, EtherType.
 fn write_head(frame: &mut Frame, configuration: &Configuration)
     ensures value { frame.new.items ≡ nearest_bridge ++ configuration.now.mac ++ lldp_ethertype }
     ensures len { array_vec_len frame.new ≡ 14 }
@@ -83,7 +83,7 @@ fn write_head(frame: &mut Frame, configuration: &Configuration)
     let _ = frame.try_extend_from_slice(&[0x88, 0xcc]);
 }
 
-/// Adds the three mandatory TLVs.
+/// Adds the three mandatory TLVs: Chassis ID, Port ID and Time To Live.
 fn write_mandatory(frame: &mut Frame, configuration: &Configuration, name: &[u8], ttl: u16)
     requires short { length name.now ≤ 15 }
     requires room { array_vec_len frame.old ≤ 14 }
@@ -156,9 +156,9 @@ fn write_frame(frame: &mut Frame, configuration: &Configuration, name: &[u8], ma
 }
 
 impl<A: Allocator> Agent<A> {
-    /// Writes the frame that a port sends with the present configuration, replacing what `frame`
-    /// held. `examine` reads back the port's name and, from an ordinary frame, the TTL and the TLVs
-    /// of the configuration; from a shutdown frame, a TTL of 0.
+    /// Writes the frame that a port sends with the current configuration, replacing what `frame`
+    /// held. Examining it (`examine`) returns the port's name and, for an ordinary frame, the TTL
+    /// and the TLVs of the configuration, or, for a shutdown frame, a TTL of 0.
     pub fn write_frame(&self, port: u8, mark: Mark, frame: &mut Frame)
         requires port { IsPort self.now port }
         requires sent { IsSent mark }

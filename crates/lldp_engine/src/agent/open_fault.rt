@@ -13,7 +13,7 @@ pub enum OpenFault {
     NoPorts = 2,
     /// More than 64 ports were named.
     TooManyPorts = 3,
-    /// A port's name is not 1 to 15 letters, digits, `-`, `_`, `/` and `:`.
+    /// A port's name does not consist of 1 to 15 letters, digits, `-`, `_`, `/` or `:`.
     PortName = 4,
     /// Two ports have the same name.
     SamePort = 5,

@@ -8,7 +8,7 @@ use crate::agent::port_names::{all_port_names, names_repeat};
 use lldp_text::is_printable_text;
 pub use lldp_transmit::{MOST_CREDIT, MOST_FAST, MOST_REINIT};
 
-/// The greatest limit of neighbors per port at opening.
+/// The greatest number of neighbors per port that options may allow.
 pub const MOST_NEIGHBORS: u8 = lldp_table::MOST_NEIGHBORS as u8;
 
 /// The role of a host: the one system capability that its frames report.
@@ -53,7 +53,7 @@ impl<'a> Options<'a> {
             && (1..=MOST_FAST).contains(&self.fast_init)
             && (1..=MOST_REINIT).contains(&self.reinit)
     }
-    /// Returns the first fault of the names and the hostname, in the order of the faults' numbers.
+    /// Returns the fault of the first check of the names and the hostname that fails, if any.
     pub(crate) fn first_fault(&self) -> Option<OpenFault>
         ensures fault { result ≡ fault_of (options_of self.now) }
         ensures names { IfNone result (IsTrue (list_all is_port_name (map (λ n.

@@ -13,7 +13,7 @@ use crate::command::forms::{
 use lldp_text::{CommandFault, Words};
 use std::alloc::Allocator;
 
-/// Reads what follows `configure system`.
+/// Reads the words after `configure system`.
 fn read_system<'l, A: Allocator>(
     agent: &Agent<A>,
     words: &mut Words<'l>,
@@ -32,7 +32,7 @@ fn read_system<'l, A: Allocator>(
     }
 }
 
-/// Reads what follows `configure lldp`.
+/// Reads the words after `configure lldp`.
 fn read_lldp<'l, A: Allocator>(
     agent: &Agent<A>,
     words: &mut Words<'l>,
@@ -54,7 +54,7 @@ fn read_lldp<'l, A: Allocator>(
     }
 }
 
-/// Reads what follows `configure ports`.
+/// Reads the words after `configure ports`.
 fn read_ports<'l, A: Allocator>(
     agent: &Agent<A>,
     words: &mut Words<'l>,
@@ -70,7 +70,7 @@ fn read_ports<'l, A: Allocator>(
     Ok(Setting::Status { port, status })
 }
 
-/// Reads what follows `configure`.
+/// Reads the words after `configure`.
 pub(crate) fn read_setting<'l, A: Allocator>(
     agent: &Agent<A>,
     words: &mut Words<'l>,

@@ -23,9 +23,9 @@ pub fn ports_count_what_they_sent()
         (n : ℕ) × HasSent past i Shutdown n × (port.counters.shutdowns ≡ n % 2 ^ 32) }
 {}
 
-/// Each LLDPDU that a port hears is counted once. With a fault it counts as discarded and as an
-/// error. If it has no fault and a TTL above 0, its discarded TLVs and its unrecognized kept TLVs
-/// are added, and it is an error if any TLV is discarded.
+/// An LLDPDU with a fault that a port hears counts as discarded and as an error. If the LLDPDU has
+/// no fault and a TTL above 0, its discarded TLVs and its unrecognized kept TLVs are added, and it
+/// counts as an error if a TLV was discarded. Each LLDPDU is counted once.
 pub fn ports_count_each_lldpdu_once()
     ensures refused { (past : Past) (i : ℕ) (octets pdu : List ℕ) (fault : PduFault) →
         Hears past i → lldpdu_of octets ≡ Some pdu → fault_of pdu ≡ Some fault →
@@ -41,9 +41,9 @@ pub fn ports_count_each_lldpdu_once()
         0 < discarded_of pdu → Adds past i octets 0 1 (discarded_of pdu) (unknown_tlvs pdu) }
 {}
 
-/// A tick adds to `ageouts` of each port the neighbors that it removes; no other event changes
-/// `ageouts`. A frame adds one to `drops` of its port exactly if there is no room for it. Only
-/// frames that a port received change its counters of received frames.
+/// A tick adds to `ageouts` of each port the number of neighbors that it removes there; no other
+/// event changes `ageouts`. A frame adds one to `drops` of its port exactly if there is no room for
+/// it. Only frames that a port received change its counters of received frames.
 #[tactic(auto, using(crate::proofs::ForLaws::Losses::ports_count_what_they_lose))]
 pub fn ports_count_what_they_lose()
     ensures aged_out { (past : Past) (i : ℕ) → Makes past tick i CountsAgedOut }

@@ -9,9 +9,9 @@ ghost use Rattle.lldp_engine.specs.Past.{Past};
 ghost use Rattle.lldp_engine.specs.Laws.PortAt.{LeavesPort};
 ghost use Rattle.lldp_engine.specs.Laws.Deaf.{HasStatus};
 
-/// No frame changes a port, or makes it send, if its last status is TxOnly or Disabled or if its
-/// last link event says down. Octets that are not an LLDP frame change no port. The four numbers of
-/// the options must be in their ranges, as in every agent.
+/// A frame does not change a port, or make it send, if the port's last status is TxOnly or Disabled
+/// or its last link event says down. Octets that are not an LLDP frame change no port. The four
+/// numbers of the options must be in their ranges, as in every agent.
 pub fn deaf_ports_stay_as_they_were()
     ensures tx_only { (past : Past) (i : ℕ) (octets : List ℕ) → InRange past.options →
         HasStatus past i TxOnly → LeavesPort past (frame i octets) i }

@@ -8,8 +8,8 @@ ghost use Rattle.lldp_engine.specs.ChassisLines.{role_text};
 ghost use Rattle.lldp_engine.specs.Frames.{capabilities_of};
 ghost use Rattle.lldp_engine.specs.FixedNumbers.{AreConstants, MaySet};
 
-/// These are the greatest values of options and commands, the most lines of a show, the room of a
-/// line and of a writer, and the numbers of the faults of opening.
+/// The greatest values of options and commands, the most lines of a show, the sizes of a line and
+/// of a writer, and the numbers of the faults at opening are those of `AreConstants`.
 pub fn ranges_end_at_fixed_numbers()
     ensures constants { AreConstants }
     ensures settings { (agent : AgentState) (n : ℕ) → MaySet agent n }

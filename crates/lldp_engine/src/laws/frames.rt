@@ -5,8 +5,8 @@ ghost use Rattle.lldp_engine.specs.Configuration.{Configuration};
 ghost use Rattle.lldp_engine.specs.Frames.{frame_of};
 ghost use Rattle.lldp_engine.specs.Laws.FrameOctets.{HasLengths, ordinary_octets, shutdown_octets};
 
-/// Frames have exactly these octets, for every configuration and port's name with lengths that an
-/// agent allows.
+/// Frames have exactly these octets, for every configuration and every port name with lengths that
+/// an agent allows.
 #[tactic(auto, using(crate::proofs::ForLaws::FrameOctets::frames_have_these_octets))]
 pub fn frames_have_these_octets()
     ensures ordinary { (configuration : Configuration) (name : List ℕ) →

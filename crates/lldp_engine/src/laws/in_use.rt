@@ -7,8 +7,8 @@ ghost use Rattle.lldp_engine.specs.Given.{command_given};
 ghost use Rattle.lldp_engine.specs.Laws.InUse.{WouldLimitBelow, HoldAtMost};
 
 /// A line has the fault InUse exactly if its words would set a limit and some port holds more
-/// neighbors than that. A limit may be set exactly if it is from 1 to the limit at opening and no
-/// port holds more neighbors.
+/// neighbors than that limit. A limit may be set exactly if it is from 1 to the limit at opening
+/// and no port holds more neighbors.
 #[tactic(auto, using(crate::proofs::ForLaws::InUse::limits_below_what_ports_hold_are_in_use))]
 pub fn limits_below_what_ports_hold_are_in_use()
     ensures refused { (agent : AgentState) (line : List ℕ) →

@@ -9,7 +9,7 @@ ghost use Rattle.lldp_engine.specs.Laws.PortAt.{neighbors_at};
 ghost use Rattle.lldp_engine.specs.Laws.CauseOf.{IsFor};
 
 /// A tick means a tick to the transmit machine of each port. Each command except a status command
-/// means a local change to it.
+/// means a local change to each of these machines.
 #[tactic(auto, using(crate::proofs::ForLaws::Causes::is_for))]
 pub fn settings_are_local_changes()
     ensures tick { (past : Past) (i : ℕ) → IsFor past tick i Tick }
@@ -35,7 +35,7 @@ pub fn statuses_links_and_frames_are_no_changes()
         ¬ (IsFor past (frame port octets) i Change) }
 {}
 
-/// A frame means a new neighbor exactly if its port then holds one neighbor more. Every other
+/// A frame means a new neighbor exactly if its port then holds one more neighbor. Every other
 /// frame, such as a refresh or one that is dropped, means nothing to the transmit machine.
 #[tactic(auto, using(crate::proofs::ForLaws::Causes::new_neighbors_are_one_more))]
 pub fn new_neighbors_are_one_more()

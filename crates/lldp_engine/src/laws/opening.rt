@@ -6,9 +6,9 @@ ghost use Rattle.lldp_engine.specs.Options.{Options, fault_of, is_name_octet};
 ghost use Rattle.lldp_engine.specs.Past.{opened, agent_of};
 ghost use Rattle.lldp_engine.specs.Laws.Opening.{Passes, IsFirstFault, OpensWith};
 
-/// Options have a fault exactly if they fail its check and pass each check with a smaller number.
-/// They have no fault exactly if they pass every check. Each check is over all the ports. Exactly
-/// the listed octets may occur in names of ports.
+/// Options have a fault exactly if they fail the check for it and pass each check with a smaller
+/// number. They have no fault exactly if they pass every check. Each check is over all the ports.
+/// Exactly the listed octets may occur in names of ports.
 #[tactic(auto, using(crate::proofs::ForLaws::Opening::openings_tell_first_faults))]
 pub fn openings_tell_first_faults()
     ensures fault { (options : Options) (fault : OpenFault) →

@@ -13,9 +13,9 @@ ghost use Rattle.lldp_engine.specs.Laws.FirstFault.{TellsFirstFault};
 ghost use Rattle.lldp_engine.specs.Laws.OnlyForms.{AreWordsOf, IsNotInUse, IsLineOf, word_of};
 ghost use Rattle.lldp_engine.specs.Laws.Places.{IsFirstPlace};
 
-/// A command is read from the words of its form, and from no others. A line gives it exactly if the
-/// line has these words and a limit that the command sets is not in use. A word is read as a status
-/// exactly if it is the word of that status.
+/// A command is read from the words of its form, and from no others. A line gives the command
+/// exactly if it has these words and, if the command sets a limit, that limit is not in use. A word
+/// is read as a status exactly if it is the word of that status.
 pub fn only_forms_say_commands()
     ensures said { (agent : AgentState) (words : List (List ℕ)) (command : Command) →
         (said_by agent words ≡ Ok command) ↔ AreWordsOf agent command words }
@@ -28,8 +28,8 @@ pub fn only_forms_say_commands()
         (status_of word ≡ Some given) ↔ (word ≡ word_of given) }
 {}
 
-/// The first word that no command has in its place decides the fault, whatever follows it. A line
-/// with a bad quote has the fault Quote. With `only_forms_say_commands` this determines the command
+/// The first word that fits no command decides the fault, whatever follows it. A line with a bad
+/// quote has the fault Quote. Together with `only_forms_say_commands`, this determines the command
 /// or the fault of every list of words.
 pub fn first_faults_are_told()
     ensures words { (agent : AgentState) (word : List ℕ) (behind : List (List ℕ)) →

@@ -9,8 +9,8 @@ ghost use Rattle.lldp_engine.specs.Past.{Past};
 ghost use Rattle.lldp_engine.specs.Laws.PortAt.{Sends};
 ghost use Rattle.lldp_engine.specs.Laws.Deaf.{HasStatus};
 
-/// Only a port whose last status is RxAndTx or TxOnly sends an ordinary frame, and only one whose
-/// last status is RxOnly or Disabled sends a shutdown frame.
+/// Only a port whose last status is RxAndTx or TxOnly sends an ordinary frame, and only a port
+/// whose last status is RxOnly or Disabled sends a shutdown frame.
 pub fn ports_send_by_their_status()
     ensures ordinary { (past : Past) (i : ℕ) → Sends past i Ordinary →
         HasStatus past i RxAndTx ⊎ HasStatus past i TxOnly }

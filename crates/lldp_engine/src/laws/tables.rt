@@ -12,9 +12,9 @@ ghost use Rattle.lldp_engine.specs.Laws.PortAt.{table_at, neighbors_at, LeavesTa
 ghost use Rattle.lldp_engine.specs.Laws.Deaf.{HasStatus, Hears};
 ghost use Rattle.lldp_engine.specs.Laws.Neighbors.{others_than};
 
-/// An LLDPDU concerns only the neighbor with its own MSAP identifier: all others of its port stay,
-/// in their order. If the port hears it, its TTL is 0 and it has no fault, that neighbor is
-/// removed. If it has a fault, the table does not change.
+/// An LLDPDU concerns only the neighbor with the same MSAP identifier: all other neighbors of the
+/// port stay, in their order. If the port hears an LLDPDU without a fault and with a TTL of 0, that
+/// neighbor is removed. An LLDPDU with a fault does not change the table.
 #[tactic(auto, using(crate::proofs::ForLaws::Emptied::lldpdus_speak_of_one_neighbor))]
 pub fn lldpdus_speak_of_one_neighbor()
     ensures others { (past : Past) (i : ℕ) (octets pdu : List ℕ) → lldpdu_of octets ≡ Some pdu →

@@ -19,8 +19,8 @@ pub fn events_of_one_port_leave_the_others()
         other ≢ port → LeavesPort past (set (status port given)) other }
 {}
 
-/// A tick concerns each port: each neighbor has one tick less left, and those with none left are
-/// removed.
+/// A tick concerns each port: each neighbor has one tick less left, and neighbors with none left
+/// are removed.
 #[tactic(auto, using(crate::proofs::ForLaws::Whose::tick_ages))]
 pub fn ticks_come_to_each_port()
     ensures { (past : Past) (i : ℕ) →
@@ -39,8 +39,8 @@ pub fn links_and_updates_leave_tables()
         neighbors_at (with_event past (set (limit neighbors))) i ≡ neighbors_at past i }
 {}
 
-/// Whatever came before, each port's table has the configured limit, and room for as many neighbors
-/// as the options gave.
+/// After any past, each port's table has the configured limit, and room for as many neighbors as
+/// the options allow.
 #[tactic(auto, using(crate::proofs::ForLaws::Whose::ports_have_the_configured_limit))]
 pub fn ports_have_the_configured_limit()
     ensures limit { (past : Past) →

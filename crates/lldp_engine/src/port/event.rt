@@ -13,11 +13,11 @@ pub(crate) enum PortEvent<'a> {
     Tick,
     /// The port received these octets.
     Frame(&'a [u8]),
-    /// Its link came up (true) or went down (false).
+    /// The link came up (true) or went down (false).
     Link(bool),
-    /// Its status was set to this one.
+    /// The status was set to this one.
     Status(Status),
-    /// The limit of its neighbors was set to this number.
+    /// The limit of neighbors was set to this number.
     Limit(u8),
     /// A command made a local change.
     Change,
@@ -33,7 +33,7 @@ impl<'a> PortEvent<'a> {
     }
 }
 
-/// Which ports an event concerns, one by its number or each, and which port event it is for them.
+/// The ports that an event concerns (one by its number, or each), and the port event for them.
 #[derive(Clone, Copy)]
 pub(crate) enum Whose<'a> {
     OnePort(u8, PortEvent<'a>),

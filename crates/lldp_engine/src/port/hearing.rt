@@ -33,7 +33,7 @@ impl<A: Allocator> Port<A> {
         }
     }
 
-    /// Handles the LLDPDU of an LLDP frame. Returns what it means to the transmit machine.
+    /// Handles the LLDPDU of an LLDP frame. Returns what it means to the port's transmit machine.
     fn hear(&mut self, pdu: &[u8]) -> Cause
         requires { length pdu.now ≤ 1500 }
         ensures after { self.new ≡ hears_if self.old (Some (heard_of pdu.now)) }

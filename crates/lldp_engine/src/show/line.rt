@@ -1,4 +1,4 @@
-//! Writes a line of a show: its start, its key and its value, to a sink of lines.
+//! Writes a line of a show to a sink: its start, its key and its value.
 ghost use Rattle.std.specs.Prelude.{◌≡◌, ℕ, ◌+◌, ◌≤◌, ◌++◌, List, length, map, true, IfSome};
 ghost use Rattle.std.specs.Borrow.{sem, Bor};
 ghost use Rattle.std.specs.List.{AllByRecursion};
@@ -12,21 +12,21 @@ use arrayvec::ArrayVec;
 use lldp_pdu::Tlv;
 use lldp_text::{Writer, write_chassis, write_ipv4, write_kept_tlv, write_mac, write_port};
 
-/// A receiver of the lines of a show, one after another: it lends a writer for each line and takes
-/// what is written to it. A sink that can fail may store its error and report that it is done.
+/// Receives the lines of a show, one after another. A sink lends a writer for each line and takes
+/// what is written there. A sink that can fail may store its error and report that it is done.
 pub trait LineSink {
     /// Relates the sink before a line to the sink after it took that line.
     ghost takes: { Self → Self → List ℕ → Type 0 };
 
-    /// Lends a writer for the next line. The line is what is then appended to the writer: at most
-    /// 2,048 octets and a line feed. Returns None if the sink takes any line here without keeping
-    /// it, so that the line need not be written.
+    /// Lends a writer for the next line. What is then appended to the writer is the line: at most
+    /// 2,048 octets and a line feed. Returns None if the sink keeps no line here, so that the line
+    /// need not be written.
     fn begin_line(&mut self) -> Option<&mut Writer>
         ensures* takes_line { sem 𝓛 (LendsRoom Self.row takes self.entry result) }
         ensures room { IfSome result (λ writer. length writer.now + 2049 ≤ 8192) };
 
     /// Returns whether no further line changes the sink, so that the other lines can be left out.
-    /// Shows check this before each port and before each neighbor, though no clause says so.
+    /// Shows check this before each port and each neighbor, although no clause states it.
     fn is_done(&self) -> bool
         ensures { result ≡ true → (line : List ℕ) → takes self.now self.now line };
 }

@@ -18,16 +18,16 @@ use crate::show::statistics_lines::put_statistics;
 use lldp_text::Line;
 use std::alloc::Allocator;
 
-/// The most lines that a show can have: for each of 64 ports 3 lines, and for each of its 128
-/// neighbors 4 lines and one for each of 744 kept TLVs. The mandatory TLVs take at least 12 of the
-/// 1,500 octets of a neighbor, and a kept TLV at least 2.
+/// The most lines that a show can have: 3 for each of 64 ports, 4 for each of the 128 neighbors of
+/// a port, and 1 for each of the 744 kept TLVs of a neighbor. The mandatory TLVs take at least 12
+/// of the 1,500 octets of a neighbor, and a kept TLV at least 2.
 pub const MOST_LINES: u32 = 64 * (3 + 128 * (4 + 744));
 
 impl<A: Allocator> Agent<A> {
-    /// Writes the lines of a show to a sink, in order: exactly those, at most `MOST_LINES`
-    /// (6,127,808), none cut, each of at most 2,048 octets. Allocates no memory. No clause says so,
-    /// but if the sink is done, for instance after a failed write, the remaining ports and
-    /// neighbors are skipped.
+    /// Writes exactly the lines of a show to a sink, in order: at most `MOST_LINES` (6,127,808)
+    /// whole lines of at most 2,048 octets each. Allocates no memory. If the sink is done, for
+    /// instance after a failed write, the remaining ports and neighbors are skipped (no clause
+    /// states this).
     pub fn show_lines<S: LineSink>(&self, show: &Show, sink: &mut S)
         ensures value { Takes S.takes sink.old sink.new (lines_of show.now self.now) }
         ensures few { length (lines_of show.now self.now) ≤ 6127808 }
@@ -44,8 +44,8 @@ impl<A: Allocator> Agent<A> {
         }
     }
 
-    /// Keeps line `i` of a show, from 0, in this sink, if the show has it. No clause says so, but
-    /// it also goes through the lines before `i`, so use `show_lines` for several lines.
+    /// Keeps line `i` of a show, counted from 0, in this sink, if the show has that line. Goes
+    /// through all earlier lines (no clause states this); use `show_lines` for several lines.
     pub(crate) fn keep_line(&self, show: &Show, i: u32, sink: &mut OneLine)
         ensures line { line_kept sink.new ≡ slice_get (lines_of show.now self.now) i }
         ensures short { length sink.new.line ≤ 2049 }
@@ -57,8 +57,8 @@ impl<A: Allocator> Agent<A> {
         self.show_lines(show, sink);
     }
 
-    /// Returns line `i` of a show, from 0, without its line feed, or None if the show has no such
-    /// line. No clause says so, but it goes through all the lines before that one.
+    /// Returns line `i` of a show, counted from 0, without its line feed, or None if the show has
+    /// no such line. Goes through all earlier lines (no clause states this).
     pub fn show_line(&self, show: &Show, i: u32) -> Option<Line>
         ensures line { option_map octets_of result ≡ slice_get (lines_of show.now self.now) i }
         ensures few { IsSome result → i < 6127808 }

@@ -6,8 +6,8 @@ ghost use Rattle.lldp_engine.specs.Code.OneLineState.{KeepsOne, line_kept};
 use crate::show::line::LineSink;
 use lldp_text::Writer;
 
-/// A sink that keeps one line: how many lines come before the wanted one, whether that one came,
-/// and its text with its line feed.
+/// A sink that keeps one line. It holds how many lines are still to skip, whether the wanted line
+/// was written, and that line with its line feed.
 #[derive(Drop)]
 pub(crate) struct OneLine {
     before: u32,
@@ -25,7 +25,7 @@ impl OneLine {
         }
     }
 
-    /// Empties the sink. It will keep the line that comes after this many others.
+    /// Empties the sink. It will then keep the line after the next `before` lines.
     pub(crate) fn want(&mut self, before: u32)
         ensures { self.new ≡ record { before = before; came = false; line = [] } }
     {
@@ -34,7 +34,7 @@ impl OneLine {
         self.line.clear();
     }
 
-    /// Returns the wanted line without its line feed, if it came.
+    /// Returns the wanted line without its line feed, if it was written.
     pub(crate) fn line(&self) -> Option<&[u8]>
         ensures { option_map (λ line. line.now) result ≡ line_kept self.now }
     {

@@ -5,7 +5,7 @@ use Rattle.lldp_engine.specs.Code.Step.{marks_step}
 use Rattle.lldp_engine.proofs.AllPorts.EachPort.{so_far}
 use Rattle.lldp_engine.proofs.agent.ports.each_takes.Given as goal
 
--- The ports before this one have handled the event, and what they send is in the list.
+-- The ports before this one have handled the event, and `marks` lists what they send.
 abbrev pub invariant-loop-i : goal.invariant-loop-i
 invariant-loop-i g l = record {
   ports : l.ports ≡ so_far (port_event_of l.fn.event) l.fn.interval l.i l.fn.ports;

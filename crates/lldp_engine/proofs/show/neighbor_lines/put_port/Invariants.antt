@@ -3,7 +3,7 @@ use Rattle.lldp_engine.specs.NeighborLines.{numbered_lines, port_lines}
 use Rattle.lldp_engine.proofs.Lines.Taken.{TakesTo}
 use Rattle.lldp_engine.proofs.show.neighbor_lines.put_port.Given as goal
 
--- The sink has taken all lines except those of the remaining neighbors, from the next number on.
+-- The sink has taken all lines except those of the remaining neighbors.
 abbrev pub invariant-loop-entry : goal.invariant-loop-entry
 invariant-loop-entry g l = record {
   few : l.number + length l.entry-iterator ≤ 128;
