@@ -1,4 +1,4 @@
--- A Management Address body is well formed exactly if it is the spelling of an address.
+-- A Management Address body is well formed exactly if it encodes an address.
 use Rattle.std.proofs.Common.{◌≡◌, ℕ, suc, ◌+◌, ◌-◌, ◌^◌, ◌<◌, ◌≤◌, Bool, true, cond, ◌&&◌, leb, eqb, List, [], ◌∷◌, ◌++◌, length, take, drop, get_or, Option, Some, None, refl, sym, ap, subst, ◌∙◌, append_assoc, arith}
 use Rattle.std.specs.Int.{w32, from_be_bytes, to_be_bytes}
 use Rattle.std.proofs.lemmas.Bool.{and_parts, leb-true, le-leb, eq-eqb, eqb-true}
@@ -11,9 +11,9 @@ use Rattle.lldp_pdu.specs.ManagementAddress.{Address, IsSpelled, address_of}
 use Rattle.lldp_pdu.proofs.Cuts.{AreOctets-right}
 use Rattle.std.proofs.lemmas.Grind.{common_steps}
 
--- ---- the fields of an address, read at their places
+-- ---- the fields read from an encoded address
 
--- the octets after the address
+-- the octets after the address: numbering subtype, interface number, length of the OID, OID
 abbrev tail_of : ℕ → ℕ → ℕ → ℕ → ℕ → ℕ → List ℕ → List ℕ
 tail_of n a b c d o oid = n ∷ a ∷ b ∷ c ∷ d ∷ o ∷ oid
 
@@ -41,12 +41,12 @@ address_at m f n a b c d o address oid e =
         → ◌≡◌ {A = Option Address} (cond (fits m o len) (Some (record { family = f; address = x; numbering = n; interface = i; oid = y })) None) (cond (fits m o' len) (Some (record { family = f; address = x'; numbering = n'; interface = i'; oid = y' })) None)
     same len m f p q r s t = cc
 
--- ---- a spelling is well formed
+-- ---- the encoding of an address is well formed
 
 pub spelled_is_address : (body : List ℕ) (a : Address) → IsSpelled body a → address_of body ≡ Some a
 spelled_is_address body a h = grind (arith, common_steps, append_assoc, address_at, le-leb, eq-eqb, length-append, from_be_bytes-to_be_bytes_4)
 
--- ---- a well-formed body is a spelling
+-- ---- a well-formed body encodes an address
 
 record Fits (m o len : ℕ) : Type 0 where
   pub least : 2 ≤ m
@@ -88,7 +88,7 @@ two_octets [] h = absurd (omega (arith, h))
 two_octets (m ∷ []) h = absurd (omega (arith, h))
 two_octets (m ∷ f ∷ xs) h = (m, f, xs, refl)
 
--- the six octets after the address, and the OID
+-- the octets after the address, split into six octets and the OID
 record Tail (xs : List ℕ) : Type 0 where
   pub n : ℕ
   pub a : ℕ

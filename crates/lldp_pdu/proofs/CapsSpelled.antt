@@ -1,4 +1,4 @@
--- A System Capabilities body is well formed exactly if it is the spelling of capabilities.
+-- A System Capabilities body is well formed exactly if it encodes capabilities.
 use Rattle.std.proofs.Common.{◌≡◌, ℕ, zero, suc, Bool, ◌&&◌, ◌==◌, cond, eqb, List, length, Option, Some, None, refl, arith}
 use Rattle.std.specs.Prelude.{bit_and}
 use Rattle.std.specs.Int.{bit_at}
@@ -11,7 +11,7 @@ use Rattle.lldp_pdu.specs.Capabilities.{caps_fields, caps_of}
 use Rattle.lldp_pdu.specs.Laws.CapsSpelling.{AreSpelled}
 use Rattle.std.proofs.lemmas.Grind.{common_steps}
 
--- ---- bits
+-- ---- if every enabled bit is available, a bitwise AND with the available bits changes nothing
 
 and_from_among : (enabled available : ℕ) → ((bit : ℕ) → bit_at enabled bit ≡ 1 → bit_at available bit ≡ 1) → bit_and enabled available ≡ enabled
 and_from_among enabled available among = same_from_bits (bit_and enabled available) enabled (λ bit. by bit (bit_at enabled bit) refl)
@@ -23,7 +23,7 @@ and_from_among enabled available among = same_from_bits (bit_and enabled availab
         let one : bit_at enabled bit ≡ 1 = omega (arith, e, lt) in
         omega (arith, bit_at_and enabled available bit, one, among bit one)
 
--- ---- both directions
+-- ---- a well-formed body encodes capabilities, and an encoding is well formed
 
 is_right : List ℕ → Bool
 is_right body = (length body == 4) && (bit_and (caps_fields body).enabled (caps_fields body).available == (caps_fields body).enabled)

@@ -1,4 +1,4 @@
--- Each list of octets has exactly one cut, and `cut` computes it.
+-- Each list of octets has exactly one cut into TLVs and a rest, and `cut` computes it.
 use Rattle.std.proofs.Common.{◌≡◌, ℕ, zero, suc, ◌+◌, ◌/◌, ◌%◌, ◌<◌, ◌≤◌, cond, ltb, List, [], ◌∷◌, ◌++◌, length, take, drop, get_or, ◌⊎◌, Option, Some, None, refl, sym, ap, ◌∙◌, append_assoc, arith, inl, inr}
 use Rattle.std.specs.List.{AllByRecursion}
 use Rattle.std.proofs.lemmas.Bool.{ltb-false, le-ltb}
@@ -7,7 +7,7 @@ use Rattle.lldp_pdu.specs.Tlv.{TlvUnit, IsTlv, spelling, spellings, BeginsTlv, A
 use Rattle.lldp_pdu.specs.Cut.{Cut, IsCut, first_tlv, cut_after, cut_within, cut}
 use Rattle.std.proofs.lemmas.Grind.{common_steps}
 
--- ---- octets
+-- ---- lists of octets
 
 pub AreOctets-left : (xs ys : List ℕ) → AreOctets (xs ++ ys) → AreOctets xs
 AreOctets-left [] ys p = tt
@@ -24,7 +24,7 @@ AreOctets-from_index (x ∷ xs) h = (h 0, AreOctets-from_index xs (λ i. h (suc 
 
 -- ---- the first TLV
 
--- the TLV that a header announces
+-- the TLV with this header and the octets after it, or None if there are too few octets
 announced : ℕ → List ℕ → Option (TlvUnit × List ℕ)
 announced header octets = cond (ltb (length octets) (header % 512)) None (Some (record { kind = header / 512; body = take (header % 512) octets }, drop (header % 512) octets))
 
@@ -32,7 +32,7 @@ pub first_tlv-spelling : (u : TlvUnit) (others : List ℕ) → IsTlv u → first
 unfolding announced
 first_tlv-spelling u others h = grind (arith, common_steps, le-ltb, length-append, take_at, drop_at)
 
--- the octets begin with the spelling of this TLV, and the others follow
+-- the octets are the encoding of this TLV, followed by the others
 pub record Takes (octets : List ℕ) (u : TlvUnit) (others : List ℕ) : Type 0 where
   pub parts : octets ≡ spelling u ++ others
   pub tlv : IsTlv u
@@ -57,7 +57,7 @@ none_begins octets fits h =
       | inr (x, e) ↦ let t = first_takes octets x.0 x.1 fits e in absurd (h (x.0, x.1, t.tlv, t.parts))
     ]
 
--- the octets left are those after the first TLV
+-- `others` are the octets after the two header octets and the body of the first TLV
 pub first_left : (octets : List ℕ) (u : TlvUnit) (others : List ℕ) → first_tlv octets ≡ Some (u, others) → others ≡ drop (2 + length u.body) octets
 unfolding announced
 first_left octets u others h = grind (arith, common_steps, ltb-false, length-take)
@@ -68,7 +68,7 @@ first_shorter octets u others h = grind (arith, common_steps, length-drop)
 
 -- ---- the cut
 
--- any bound of at least the list's length gives the same cut
+-- `cut_within` returns the same cut for every bound of at least the length of the list
 enough : (n m : ℕ) (octets : List ℕ) → length octets ≤ n → length octets ≤ m → cut_within n octets ≡ cut_within m octets
 unfolding cut_within
 enough zero zero octets h k = refl
@@ -82,7 +82,7 @@ enough (suc n) (suc m) octets h k = after_same (first_tlv octets) (λ u others e
     after_same None same = refl
     after_same (Some x) same = ap (λ (c : Cut). record { tlvs = x.0 ∷ c.tlvs; rest = c.rest }) (same x.0 x.1 refl)
 
--- the cut is the first TLV, followed by the cut of the octets after it
+-- the cut of octets, depending on whether they begin with a TLV
 pub cut_none : (octets : List ℕ) → first_tlv octets ≡ None → cut octets ≡ record { tlvs = []; rest = octets }
 unfolding cut cut_within
 cut_none octets h = grind (arith, common_steps)
@@ -91,7 +91,7 @@ pub cut_some : (octets : List ℕ) (u : TlvUnit) (others : List ℕ) → first_t
 unfolding cut cut_within
 cut_some octets u others h = grind (arith, common_steps, enough, first_shorter)
 
--- TLVs that are spelled before some octets come before the TLVs of their cut
+-- the cut of encoded TLVs followed by octets has these TLVs and then those of the octets
 pub cut-spellings : (us : List TlvUnit) (octets : List ℕ) → AllByRecursion IsTlv us → cut (spellings us ++ octets) ≡ record { tlvs = us ++ (cut octets).tlvs; rest = (cut octets).rest }
 cut-spellings [] octets h = refl
 cut-spellings (u ∷ us) octets h =
@@ -123,7 +123,7 @@ cut_is_cut octets fits = is_cut_within (length octets) octets (omega arith) fits
 pub only_cut : (octets : List ℕ) (c : Cut) → AreOctets octets → IsCut octets c → c ≡ cut octets
 only_cut octets c fits h = grind (arith, common_steps, AreOctets-right, cut_none, none_begins, cut-spellings, append-nil)
 
--- ---- one call of `next`
+-- ---- one call of `Tlvs::next`
 
 pub gives_none : (octets left : List ℕ) → left ≡ octets → None ≡ first_tlv left → (cut octets ≡ record { tlvs = []; rest = octets }) × (octets ≡ octets)
 gives_none octets left same h = (cut_none octets (ap first_tlv (sym same) ∙ sym h), refl)

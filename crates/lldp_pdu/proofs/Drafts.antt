@@ -1,4 +1,4 @@
--- Drafts: a built LLDPDU is sound, and examining it returns what was begun and put.
+-- An LLDPDU built from a draft is sound, and examining it returns the contents of the draft.
 use Rattle.std.proofs.Common.{◌≡◌, ℕ, ◌+◌, ◌^◌, ◌<◌, ◌≤◌, Bool, true, false, cond, not, ◌&&◌, ◌||◌, ltb, leb, eqb, List, [], ◌∷◌, ◌++◌, length, drop, Option, Some, None, refl, sym, ap, subst, ◌∙◌, append_assoc, arith}
 use Rattle.std.specs.List.{list_any, AllByRecursion}
 use Rattle.std.specs.Int.{w16, to_be_bytes}
@@ -63,7 +63,7 @@ begins chassis port octets ttl h k l e =
     let len : length octets ≡ length a + length b + length c = ap length e ∙ (length-append (a ++ b) c ∙ ap (λ (n : ℕ). n + length c) (length-append a b)) in
     builds (begun chassis port ttl) octets none_seen (ltb 0 ttl) spelled (record { chassis = h; port = k; ttl = l; tlvs = tt; kept = tt }) (omega (arith, len, h.greatest, k.greatest)) flags_none refl
 
--- ---- putting a TLV
+-- ---- adding a TLV to a draft
 
 put_spells : (d : Draft) (u : TlvUnit) → spellings (all_tlvs d) ++ spelling u ≡ spellings (all_tlvs (with_tlv d u))
 put_spells d u = flat_map_more spelling [] (all_tlvs d) u
@@ -71,7 +71,7 @@ put_spells d u = flat_map_more spelling [] (all_tlvs d) u
 pub put_length : (d : Draft) (u : TlvUnit) → length (lldpdu_octets (with_tlv d u)) ≡ length (spellings (all_tlvs d)) + length u.body + 4
 put_length d u = grind (arith, common_steps, length-append, put_spells)
 
--- the fault, given the outcome of each check
+-- the fault of `put`, given the outcome of each check
 abbrev decided : Bool → Bool → Bool → Bool → Bool → Bool → Option BuildFault
 decided a b c d e f = cond (not a || b || c) (Some Kind) (cond (d || not e) (Some Body) (cond f (Some Full) None))
 
@@ -87,7 +87,7 @@ passes d u h = grind (arith, common_steps, put_fault_is, and_parts, leb-true, eq
 pub can_put : (d : Draft) (u : TlvUnit) → CanPut d u → put_fault d u ≡ None
 can_put d u h = grind (arith, common_steps, put_fault_is, ne_eqb, le-ltb, put_length, le-leb)
 
--- the length of the LLDPDU with one more TLV, from the number of the builder's octets
+-- the length of the LLDPDU with one more TLV, computed from the builder's octets
 pub long : (d : Draft) (u : TlvUnit) (octets : List ℕ) (met : List Bool) (lives : Bool) → draft_of octets ≡ d → Builds octets met lives → length (lldpdu_octets (with_tlv d u)) ≡ length octets + length u.body + 4
 long d u octets met lives v b = put_length d u ∙ ap (λ (n : ℕ). n + length u.body + 4) (sym (ap length (b.spelled ∙ ap (λ (d : Draft). spellings (all_tlvs d)) v)))
 
@@ -95,7 +95,7 @@ long d u octets met lives v b = put_length d u ∙ ap (λ (n : ℕ). n + length 
 pub tells_shutdown : (d : Draft) (octets : List ℕ) (met : List Bool) (lives : Bool) → Builds octets met lives → draft_of octets ≡ d → not lives ≡ eqb d.ttl 0
 tells_shutdown d octets met lives b v = grind (arith, common_steps, ne_eqb, eq-eqb, lt-ltb, le-ltb)
 
--- ---- one more TLV
+-- ---- a draft stays valid with one more TLV
 
 optional_more : (us : List TlvUnit) (u : TlvUnit) → AllByRecursion IsKeptTlv us → IsKeptTlv u → AllByRecursion IsKeptTlv (us ++ u ∷ [])
 optional_more [] u h k = (k, tt)
@@ -193,7 +193,7 @@ finished d octets h e =
         → ◌≡◌ {A = LldpInfo} (record { msap = m; ttl = t; octets = x; kept = k; discarded = l; unrecognized = u }) (record { msap = m'; ttl = t'; octets = x'; kept = k'; discarded = l'; unrecognized = u' })
     same p q r s t u = cc
 
--- ---- every draft that can be built
+-- ---- every draft that satisfies `CanBuild`
 
 -- the octets of the draft leave room for the End Of LLDPDU
 abbrev Fits : Draft → Type 0

@@ -1,4 +1,4 @@
--- A frame has an LLDPDU exactly if it is the three LLDP header fields and that LLDPDU.
+-- A frame has an LLDPDU exactly if it consists of the LLDP header fields and that LLDPDU.
 use Rattle.std.proofs.Common.{◌≡◌, ℕ, ◌≤◌, true, leb, List, [], ◌∷◌, ◌++◌, length, Some, arith, Bool, ◌&&◌, take, drop, sym, ap, ◌∙◌, append_assoc}
 use Rattle.std.proofs.lemmas.Bool.{le-leb, and_parts, leb-true}
 use Rattle.lldp_pdu.specs.Frame.{nearest_bridge, lldp_ethertype, is_lldp_frame, lldpdu_of}
@@ -19,7 +19,7 @@ pub has_lldpdu : (source lldpdu : List ℕ) → length source ≡ 6 → length l
 has_lldpdu (a ∷ b ∷ c ∷ d ∷ e ∷ f ∷ []) lldpdu l h = framed a b c d e f lldpdu h
 has_lldpdu other lldpdu l h = absurd (omega arith)
 
--- a frame of at least 14 octets has a source of six octets
+-- a frame of at least 14 octets has a source address of six octets
 six_octets : (frame : List ℕ) → 14 ≤ length frame → length (take 6 (drop 6 frame)) ≡ 6
 six_octets frame h = length-take-le 6 (drop 6 frame) (grind (arith, length-drop 6 frame))
 

@@ -1,4 +1,4 @@
--- The flags of the types that count once give the same result as a look at all earlier TLVs.
+-- With one flag for each of the types 4 to 7, the code keeps the same TLVs as the definition.
 use Rattle.std.proofs.Common.{◌≡◌, ℕ, ◌+◌, Bool, true, false, cond, not, ◌&&◌, ◌||◌, eqb, List, [], ◌∷◌, length, refl, sym, ap, ◌∙◌, arith}
 use Rattle.std.proofs.lemmas.Bool.{cases_eq, and_parts, leb-true, eq-eqb, ne_eqb, and_right, and_left, or_right, le-leb, true≢false}
 use Rattle.std.proofs.Math.Bool.{or-false}
@@ -10,28 +10,28 @@ use Rattle.lldp_pdu.specs.Code.Seen.{Flags, none_seen, has_flag, with_flag, is_k
 use Rattle.lldp_pdu.specs.Code.Survey.{count_lost}
 use Rattle.std.proofs.lemmas.Grind.{common_steps}
 
--- ---- flags
+-- ---- the flags of types
 
 pub flags_none : Flags none_seen (λ kind. false)
 flags_none = grind (arith, common_steps)
 
--- setting a flag adds exactly its type to the types that are met
+-- setting the flag of a type adds exactly this type to those for which `is_met` is true
 pub flags_more : (seen : List Bool) (is_met : ℕ → Bool) (met : ℕ) → Flags seen is_met → Flags (with_flag seen met) (λ kind. is_met kind || eqb met kind)
 unfolding with_flag
 flags_more seen is_met met f = grind (arith, common_steps, ne_eqb, or-false, true≢false, le-leb, and_parts, leb-true, length-set, cases_eq, get_or-set_same, or_right, eq-eqb, get_or-set_other)
 
--- `has_flag` is true exactly if the type counts once and is met
+-- `has_flag` is true exactly if the type is 4 to 7 and `is_met` is true for it
 pub flag_is : (seen : List Bool) (is_met : ℕ → Bool) (kind : ℕ) → Flags seen is_met → has_flag seen kind ≡ (is_single kind && is_met kind)
 unfolding has_flag
 flag_is seen is_met kind f = grind (arith, common_steps, and_parts, leb-true, and_left)
 
--- the flags also fit any equal test of which types are met
+-- `Flags` also holds for any other test that agrees with `is_met` on every type
 pub flags_as : (seen : List Bool) (is_met also : ℕ → Bool) → ((kind : ℕ) → is_met kind ≡ also kind) → Flags seen is_met → Flags seen also
 flags_as seen is_met also e f = record { four = f.four; set = λ kind low high. f.set kind low high ∙ e kind }
 
 -- ---- which TLVs are kept
 
--- the flags are set for the types of which an earlier TLV is well formed
+-- the flags are set for exactly the types of the earlier well-formed TLVs
 abbrev FlagsMet : List Bool → List TlvUnit → Type 0
 FlagsMet seen earlier = Flags seen (λ kind. has_well_formed kind earlier)
 
@@ -68,7 +68,7 @@ lost_all seen earlier (u ∷ us) f = grind (arith, common_steps, kept_same, flag
 pub count_lost-none : (us : List TlvUnit) → count_lost none_seen us ≡ length (others_after [] us)
 count_lost-none us = lost_all none_seen [] us flags_none
 
--- each TLV is either kept or not
+-- the numbers of kept TLVs and of the others add up to the number of all TLVs
 pub kept_and_others : (earlier us : List TlvUnit) → length (kept_after earlier us) + length (others_after earlier us) ≡ length us
 kept_and_others earlier [] = omega arith
 kept_and_others earlier (u ∷ us) = grind (arith, common_steps, kept_and_others (u ∷ earlier) us)

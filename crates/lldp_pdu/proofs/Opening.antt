@@ -13,7 +13,7 @@ use Rattle.lldp_pdu.specs.Fault.{checks, fault_of, is_mandatory}
 use Rattle.lldp_pdu.specs.Code.Survey.{OpensWith}
 use Rattle.std.proofs.lemmas.Grind.{common_steps}
 
--- the cut of octets that are the TLV u followed by the octets t
+-- the cut of the encoded TLV u followed by the octets t
 abbrev pub with_front : TlvUnit → List ℕ → Cut
 with_front u t = record { tlvs = u ∷ (cut t).tlvs; rest = (cut t).rest }
 
@@ -24,7 +24,7 @@ opened : (octets a t1 t2 t3 : List ℕ) (u1 u2 u3 : TlvUnit) → a ≡ octets �
     → cut octets ≡ record { tlvs = u1 ∷ u2 ∷ u3 ∷ (cut t3).tlvs; rest = (cut t3).rest }
 opened octets a t1 t2 t3 u1 u2 u3 e p q r = ap cut (sym e) ∙ p ∙ ap (after_front u1) (q ∙ ap (after_front u2) r)
 
--- if the mandatory TLVs are sound, only the last check can fail
+-- if the mandatory TLVs have the right types and lengths, only the last check can fail
 pub sound_checks : (chassis port body : List ℕ) (us : List TlvUnit) (ttl : ℕ) (later : List TlvUnit) → 2 ≤ length chassis → length chassis ≤ 256 → 2 ≤ length port → length port ≤ 256 → 2 ≤ length body
     → first_fault (checks (record { kind = 1; body = chassis } ∷ record { kind = 2; body = port } ∷ record { kind = 3; body = body } ∷ us) ttl later) ≡ cond (nat_lt 0 ttl && list_any is_mandatory later) (Some Repeated) None
 sound_checks chassis port body us ttl later h1 h2 h3 h4 h5 = grind (arith, common_steps, lt-leb, le-leb, le-ltb)

@@ -1,4 +1,4 @@
--- An LLDPDU is sound exactly if `IsSound` holds. Otherwise its first wrong part decides the fault.
+-- An LLDPDU is sound exactly if `IsSound` holds. If not, its first wrong TLV determines the fault.
 use Rattle.std.proofs.Common.{◌≡◌, ℕ, ◌<◌, ◌≤◌, ◌⊎◌, inl, inr, Bool, true, false, cond, ◌&&◌, List, [], ◌∷◌, length, Some, None, refl, sym, ap, ◌∙◌, eq-zero-or-pos, arith}
 use Rattle.std.specs.Prelude.{nat_lt}
 use Rattle.std.specs.List.{list_any, AllByRecursion}
@@ -33,7 +33,7 @@ no_mandatory : (us : List TlvUnit) → AllByRecursion (λ (u : TlvUnit). 4 ≤ u
 no_mandatory [] h = refl
 no_mandatory (u ∷ us) h = grind (arith, common_steps, h.0, no_mandatory us h.1)
 
--- ---- both directions
+-- ---- there is no fault exactly if `IsSound` holds
 
 pub sound_has_form : (octets : List ℕ) → fault_of octets ≡ None → IsSound octets
 sound_has_form octets h =
@@ -79,7 +79,7 @@ form_is_sound octets f =
     last (inl z) e = rw z refl
     last {later} (inr h) e = let none : list_any is_mandatory later ≡ false = ap (list_any is_mandatory) e ∙ no_mandatory (before_end f.others) h in neither (nat_lt 0 (seconds f.ttl)) none
 
--- ---- faults
+-- ---- the fault of an LLDPDU that is not sound
 
 named : (body : List ℕ) → IsIdentifier body → is_between 2 (length body) 256 ≡ true
 named body h = rw (le-leb 2 (length body) h.least, le-leb (length body) 256 h.greatest) refl

@@ -1,4 +1,4 @@
--- The loop over the TLVs after the mandatory ones.
+-- The loop of `optional_tlvs` over the TLVs after the mandatory ones.
 use Rattle.std.proofs.Common.{◌≡◌, ℕ, ◌+◌, ◌<◌, ◌≤◌, Bool, true, false, cond, ltb, List, [], ◌∷◌, ◌++◌, length, take, get_or, refl, sym, ap, ◌∙◌, append_assoc, add-zero, arith}
 use Rattle.std.specs.List.{list_any}
 use Rattle.std.proofs.lemmas.List.{length-append, take_at}
@@ -16,7 +16,7 @@ use Rattle.lldp_pdu.proofs.Opening.{with_front}
 abbrev pub extent_left : List ℕ → List TlvUnit
 extent_left octets = before_end (cut octets).tlvs
 
--- the counts so far and those of the octets left add up to the counts of all octets
+-- the loop invariant: the counts so far plus those of the octets still to be read are the totals
 pub record Surveys (after left : List ℕ) (seen : List Bool) (len lost unknown : ℕ) : Type 0 where
   pub length_is : len + length (spellings (extent_left left)) ≡ length (spellings (extent_left after))
   pub lost_are : lost + count_lost seen (extent_left left) ≡ count_lost none_seen (extent_left after)
@@ -33,7 +33,7 @@ starts after left seen e f = rw (e, f) (record { length_is = omega arith; lost_a
 extent_front : (left next : List ℕ) (u : TlvUnit) → cut left ≡ with_front u next → is_end u ≡ false → extent_left left ≡ u ∷ extent_left next
 extent_front left next u e k = ap (λ (c : Cut). before_end c.tlvs) e ∙ rw k refl
 
--- ---- bounds
+-- ---- bounds of the counters
 
 all_of_front : (us : List TlvUnit) → (more : List TlvUnit) × (us ≡ before_end us ++ more)
 all_of_front [] = ([], refl)
@@ -45,7 +45,7 @@ all_of_front (u ∷ us) =
     go true more e = (u ∷ us, refl)
     go false more e = (more, ap (λ (vs : List TlvUnit). u ∷ vs) e)
 
--- the extent is the front of the octets
+-- the octets begin with their extent
 pub extent_is_front : (octets : List ℕ) → AreOctets octets → (more : List ℕ) × (octets ≡ spellings (extent_left octets) ++ more) × (length (cut octets).rest ≤ length more)
 extent_is_front octets fits =
     let c = cut octets in
@@ -83,7 +83,7 @@ one_more left next u e k = rw (extent_front left next u e k) (omega (arith, leng
 
 -- ---- the end of the loop
 
--- the survey is complete if nothing is left of the extent
+-- `IsSurveyOf` holds once no TLV of the extent is left to read
 is_survey : (after left : List ℕ) (seen : List Bool) (len lost unknown more : ℕ) → ((i : ℕ) → get_or after i 0 < 256) → Surveys after left seen len lost unknown → extent_left left ≡ [] → more ≡ lost + cond (ended_incomplete after) 1 0
     → IsSurveyOf after (take len after) more unknown
 is_survey after left seen len lost unknown more fits s e m =
@@ -97,7 +97,7 @@ is_survey after left seen len lost unknown more fits s e m =
       unrecognized = unknowns;
     }
 
--- the loop ends at an End Of LLDPDU
+-- `IsSurveyOf` holds if the loop ends at an End Of LLDPDU
 pub survey_at_end : (after left next : List ℕ) (seen : List Bool) (len lost unknown : ℕ) (u : TlvUnit) → ((i : ℕ) → get_or after i 0 < 256) → Surveys after left seen len lost unknown → cut left ≡ with_front u next → is_end u ≡ true
     → IsSurveyOf after (take len after) lost unknown
 unfolding ended_incomplete
@@ -106,7 +106,7 @@ survey_at_end after left next seen len lost unknown u fits s e k =
     let ended : list_any is_end (cut after).tlvs ≡ true = sym s.ends ∙ ap (λ (c : Cut). list_any is_end c.tlvs) e ∙ rw k refl in
     is_survey after left seen len lost unknown lost fits s none (rw ended (omega arith))
 
--- the loop ends because no TLV is left
+-- `IsSurveyOf` holds if the loop ends because no complete TLV is left
 pub survey_at_rest : (after left : List ℕ) (seen : List Bool) (len lost unknown more : ℕ) → ((i : ℕ) → get_or after i 0 < 256) → Surveys after left seen len lost unknown → cut left ≡ record { tlvs = []; rest = left } → more ≡ lost + cond (ltb 0 (length left)) 1 0
     → IsSurveyOf after (take len after) more unknown
 unfolding ended_incomplete

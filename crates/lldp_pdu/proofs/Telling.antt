@@ -55,7 +55,7 @@ pub tlvs_before_end : (us : List TlvUnit) → AllByRecursion IsTlv us → AllByR
 tlvs_before_end [] h = tt
 tlvs_before_end (u ∷ us) h = grind (arith, common_steps, tlvs_before_end us h.1)
 
--- the cut of the spellings of some TLVs is these TLVs
+-- the cut of encoded TLVs has exactly these TLVs and no rest
 pub cut_alone : (us : List TlvUnit) → AllByRecursion IsTlv us → cut (spellings us) ≡ record { tlvs = us; rest = [] }
 unfolding cut cut_within
 cut_alone us h =
@@ -83,11 +83,11 @@ kept-again octets fits = ap (kept_after []) (later-again octets fits)
 opened_extent : (octets : List ℕ) (o : Opened (cut octets).tlvs) → extent_tlvs octets ≡ o.chassis ∷ o.port ∷ o.ttl ∷ before_end o.others
 opened_extent octets o = ap before_end o.parts ∙ rw (o.chassis_kind, o.port_kind, o.ttl_kind) refl
 
--- the checks use the TLVs after the third only as `later`
+-- the checks depend on the TLVs after the third only through `later`
 same_checks : (a b d : TlvUnit) (us vs : List TlvUnit) (ttl : ℕ) (later : List TlvUnit) → first_fault (checks (a ∷ b ∷ d ∷ us) ttl later) ≡ first_fault (checks (a ∷ b ∷ d ∷ vs) ttl later)
 same_checks a b d us vs ttl later = grind (arith, common_steps, lt-leb)
 
--- the definitions, unfolded
+-- equations that unfold the definitions
 pub ttl_tlvs : (octets : List ℕ) → ttl_of octets ≡ seconds (tlv_at (cut octets).tlvs 2).body
 unfolding ttl_of
 ttl_tlvs octets = refl
@@ -168,7 +168,7 @@ extent_octets : (octets : List ℕ) → AreOctets octets → AreOctets (extent o
 unfolding extent
 extent_octets octets fits = let f = extent_is_front octets fits in AreOctets-left (extent octets) f.0 (subst AreOctets f.1 fits)
 
--- ---- numbers of TLVs
+-- ---- bounds of the numbers of TLVs
 
 tlvs_fewer : (us : List TlvUnit) → 2 * length us ≤ length (spellings us)
 tlvs_fewer [] = omega arith

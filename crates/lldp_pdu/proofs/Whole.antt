@@ -38,7 +38,7 @@ module _ (octets after : List ℕ) (msap : MsapId) (ttl : ℕ) (o : OpensWith oc
   pub last_check : (r : Bool) → 0 < ttl → list_any is_mandatory (before_end (cut after).tlvs) ≡ r → fault_of octets ≡ cond r (Some Repeated) None
   last_check r p h = o.fault ∙ rw (later_is, h, lt-ltb 0 ttl p) refl
 
--- the places in the octets of the parts that the examination found
+-- the extent is the octets up to the end of `found`, which has the TLVs after the mandatory ones
 pub record Stands (octets after found : List ℕ) : Type 0 where
   pub within : length after ≤ length octets
   pub end : length octets - length after + length found ≤ length octets
@@ -54,7 +54,7 @@ pub extent_front : (octets : List ℕ) → AreOctets octets → (more : List ℕ
 unfolding extent
 extent_front octets fits = let f = extent_is_front octets fits in (f.0, f.1)
 
--- the length of three TLVs and the others is the sum of their lengths
+-- the length of four joined lists is the sum of their lengths
 three_lengths : (a b d e : List ℕ) → length (a ++ (b ++ (d ++ e))) ≡ length a + length b + length d + length e
 three_lengths a b d e = omega (arith, length-append a (b ++ (d ++ e)), length-append b (d ++ e), length-append d e)
 

@@ -1,4 +1,4 @@
--- The state that the code keeps to read and to build, and how contracts see an Info and a Builder.
+-- The code's state for reading and building LLDPDUs, and the values of `Info` and `Builder`.
 pub mod Seen
 pub mod Survey
 pub mod InfoView

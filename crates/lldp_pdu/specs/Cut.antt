@@ -8,7 +8,7 @@ pub record Cut : Type 0 where
   pub tlvs : List TlvUnit
   pub rest : List ℕ
 
--- Joined, the TLVs and the rest are the octets. The rest does not begin with a complete TLV.
+-- The octets are the encoded TLVs and then the rest, which does not begin with a complete TLV.
 pub record IsCut (octets : List ℕ) (c : Cut) : Type 0 where
   pub joined : octets ≡ spellings c.tlvs ++ c.rest
   pub complete : AllByRecursion IsTlv c.tlvs
@@ -25,16 +25,16 @@ first_tlv (high ∷ low ∷ octets) =
     if nat_lt (length octets) (header % 512) then None
     else Some (record { kind = header / 512; body = take (header % 512) octets }, drop (header % 512) octets)
 
--- the first TLV followed by the cut of the octets after it, or no TLV if there is no first one
+-- the first TLV, then the cut of the octets after it; without a first TLV, all octets are the rest
 abbrev pub cut_after : Option (TlvUnit × List ℕ) → (List ℕ → Cut) → List ℕ → Cut
 cut_after None after octets = record { tlvs = []; rest = octets }
 cut_after (Some x) after octets = record { tlvs = x.0 ∷ (after x.1).tlvs; rest = (after x.1).rest }
 
--- the cut of the octets, stopped after n TLVs
+-- the cut of the octets, stopped after at most n TLVs
 unfoldable pub cut_within : ℕ → List ℕ → Cut
 cut_within zero octets = record { tlvs = []; rest = octets }
 cut_within (suc n) octets = cut_after (first_tlv octets) (cut_within n) octets
 
--- the cut of the octets, which has no more TLVs than there are octets
+-- the cut of the octets; it cannot have more TLVs than there are octets
 unfoldable pub cut : List ℕ → Cut
 cut octets = cut_within (length octets) octets

@@ -15,7 +15,7 @@ use Rattle.lldp_pdu.specs.Lldpdu.{msap_of, ttl_of}
 use Rattle.lldp_pdu.specs.Kept.{is_single, count_unrecognized}
 use Rattle.lldp_pdu.specs.Info.{LldpInfo, info_of}
 
--- the MSAP identifier and the TTL that a draft was begun with, and the TLVs put since
+-- a draft: the MSAP identifier and the TTL given to `begin`, and the TLVs added with `put`
 pub record Draft : Type 0 where
   pub msap : MsapId
   pub ttl : ℕ
@@ -29,7 +29,7 @@ all_tlvs d =
     ∷ record { kind = time_to_live_type; body = to_be_bytes w16 d.ttl }
     ∷ d.tlvs
 
--- the End Of LLDPDU (8.5.1)
+-- the End Of LLDPDU TLV (IEEE 802.1AB-2009, 8.5.1)
 abbrev pub end_of_lldpdu : TlvUnit
 end_of_lldpdu = record { kind = end_of_lldpdu_type; body = [] }
 
@@ -37,15 +37,15 @@ end_of_lldpdu = record { kind = end_of_lldpdu_type; body = [] }
 abbrev pub lldpdu_octets : Draft → List ℕ
 lldpdu_octets d = spellings (all_tlvs d) ++ spelling end_of_lldpdu
 
--- the draft with one more TLV after those that were put
+-- the draft with one more TLV at the end
 abbrev pub with_tlv : Draft → TlvUnit → Draft
 with_tlv d u = record { msap = d.msap; ttl = d.ttl; tlvs = d.tlvs ++ u ∷ [] }
 
--- a TLV of that type was put
+-- a TLV of this type is in the list
 abbrev pub was_put : ℕ → List TlvUnit → Bool
 was_put kind us = list_any (λ u. u.kind == kind) us
 
--- the checks on a TLV that is to be put, in order
+-- the checks that `put` makes on a TLV, in order
 abbrev pub put_checks : Draft → TlvUnit → List (Check BuildFault)
 put_checks d u =
     record {
@@ -95,7 +95,7 @@ info_of_draft d =
       unrecognized = count_unrecognized d.tlvs;
     }
 
--- The LLDPDU is sound, and examining it returns what was begun and put.
+-- The LLDPDU is sound, and examining it returns the contents of the draft.
 pub record IsReadBack (d : Draft) (lldpdu : List ℕ) : Type 0 where
   pub sound : fault_of lldpdu ≡ None
   pub msap : msap_of lldpdu ≡ d.msap

@@ -6,7 +6,7 @@ use Rattle.lldp_pdu.specs.Lldpdu.{ttl_of, msap_of}
 use Rattle.lldp_pdu.specs.Info.{info_of}
 use Rattle.lldp_pdu.specs.View.{msap_view}
 
--- Shutdown with the MSAP identifier if the TTL is 0, and otherwise the contents of the octets
+-- the result is Shutdown with the MSAP identifier if the TTL is 0, and otherwise the contents
 abbrev pub Answers : List ℕ → Examined → Type 0
 Answers octets (Shutdown msap) = (ttl_of octets ≡ 0) × (msap_view msap ≡ msap_of octets)
 Answers octets (Info info) = (0 < ttl_of octets) × (info ≡ info_of octets)

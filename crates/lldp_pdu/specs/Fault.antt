@@ -1,4 +1,4 @@
--- What makes an LLDPDU unsound (IEEE 802.1AB-2009, 8.2 and 9.2.7.7).
+-- The checks that every sound LLDPDU passes (IEEE 802.1AB-2009, 8.2 and 9.2.7.7).
 use Rattle.std.specs.Prelude.{ℕ, Bool, not, ◌&&◌, List, [], ◌∷◌, length, Option, nat_le, nat_lt, ◌==◌}
 use Rattle.std.specs.List.{list_any}
 use Rattle.lldp_pdu.specs.declared.fault.PduFault.{PduFault}

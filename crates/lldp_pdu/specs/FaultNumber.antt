@@ -1,4 +1,4 @@
--- The numbers under which faults are reported to other programs.
+-- The numbers by which faults are reported to other programs.
 use Rattle.std.specs.Prelude.{ℕ}
 use Rattle.lldp_pdu.specs.declared.fault.PduFault.{PduFault}
 use Rattle.lldp_pdu.specs.declared.fault.PduFault.TheVariants.{Truncated, NoChassis, ChassisLength, NoPort, PortLength, NoTtl, TtlLength, Repeated}
@@ -16,7 +16,7 @@ pdu_fault_number NoTtl = 6
 pdu_fault_number TtlLength = 7
 pdu_fault_number Repeated = 8
 
--- the number of a fault of a TLV that is to be put
+-- the number of a fault of `Builder::put`
 abbrev pub build_fault_number : BuildFault → ℕ
 build_fault_number Full = 1
 build_fault_number Kind = 2

@@ -7,11 +7,12 @@ use Rattle.lldp_pdu.specs.Range.{is_between}
 abbrev pub nearest_bridge : List ℕ
 nearest_bridge = 0x01 ∷ 0x80 ∷ 0xc2 ∷ 0x00 ∷ 0x00 ∷ 0x0e ∷ []
 
--- LLDP's EtherType, 88-cc
+-- LLDP's EtherType, 88-CC
 abbrev pub lldp_ethertype : List ℕ
 lldp_ethertype = 0x88 ∷ 0xcc ∷ []
 
--- The frame has 14 to 1,514 octets, the nearest bridge as destination, and LLDP's EtherType.
+-- The frame has 14 to 1,514 octets, the nearest bridge address as destination, and LLDP's
+-- EtherType.
 unfoldable pub is_lldp_frame : List ℕ → Bool
 is_lldp_frame frame =
     is_between 14 (length frame) 1514 && starts_with nat_eq frame nearest_bridge

@@ -7,7 +7,7 @@ use Rattle.lldp_pdu.specs.TlvType.{port_description_type, system_capabilities_ty
 use Rattle.lldp_pdu.specs.WellFormed.{is_well_formed}
 use Rattle.lldp_pdu.specs.Lldpdu.{later_tlvs, ended_incomplete}
 
--- only one TLV of this type counts: Port Description to System Capabilities
+-- true for Port Description to System Capabilities: at most one TLV of each of these types is kept
 abbrev pub is_single : ℕ → Bool
 is_single kind = is_between port_description_type kind system_capabilities_type
 
@@ -15,8 +15,8 @@ is_single kind = is_between port_description_type kind system_capabilities_type
 abbrev pub has_well_formed : ℕ → List TlvUnit → Bool
 has_well_formed kind us = list_any (λ u. (u.kind == kind) && is_well_formed u) us
 
--- A TLV is kept if it is well formed and, for a type of which only one TLV counts, no earlier
--- well-formed TLV has that type.
+-- A well-formed TLV is kept, unless `is_single` is true for its type and an earlier well-formed TLV
+-- has the same type.
 abbrev pub is_kept : List TlvUnit → TlvUnit → Bool
 is_kept earlier u = is_well_formed u && not (is_single u.kind && has_well_formed u.kind earlier)
 
@@ -25,7 +25,7 @@ abbrev pub kept_after : List TlvUnit → List TlvUnit → List TlvUnit
 kept_after earlier [] = []
 kept_after earlier (u ∷ us) = if is_kept earlier u then u ∷ kept_after (u ∷ earlier) us else kept_after (u ∷ earlier) us
 
--- the TLVs of the second list that are not kept
+-- the TLVs of the second list that are not kept, if those of the first list precede them
 abbrev pub others_after : List TlvUnit → List TlvUnit → List TlvUnit
 others_after earlier [] = []
 others_after earlier (u ∷ us) =
@@ -43,7 +43,7 @@ discarded_of octets = length (others_after [] (later_tlvs octets)) + (if ended_i
 abbrev pub count_unrecognized : List TlvUnit → ℕ
 count_unrecognized us = length (filter (λ u. nat_le first_reserved_type u.kind) us)
 
--- what holds for each kept TLV
+-- each kept TLV has a type from 4 to 127 and a well-formed body of at most 511 octets
 pub record IsKeptTlv (u : TlvUnit) : Type 0 where
   pub least : port_description_type ≤ u.kind
   pub greatest : u.kind ≤ organizationally_specific_type

@@ -27,7 +27,7 @@ extent octets = spellings (extent_tlvs octets)
 unfoldable pub ended_incomplete : List ℕ → Bool
 ended_incomplete octets = not (list_any is_end (cut octets).tlvs) && nat_lt 0 (length (cut octets).rest)
 
--- the TLV at a place; past the last one, an empty End Of LLDPDU
+-- the TLV at place i, from 0, or an empty End Of LLDPDU if there is none
 abbrev pub tlv_at : List TlvUnit → ℕ → TlvUnit
 tlv_at us i = slice_index_or us i (record { kind = end_of_lldpdu_type; body = [] })
 

@@ -11,7 +11,7 @@ pub record Address : Type 0 where
   pub interface : ℕ
   pub oid : List ℕ
 
--- ---- the octets that spell a management address
+-- ---- the encoding of a management address
 
 -- in order: m, the number of octets of family and address together; the family; the address; the
 -- interface numbering subtype; the interface number, four octets, most significant first; the
@@ -27,12 +27,12 @@ pub record IsAddress (a : Address) : Type 0 where
   pub interface : a.interface < 2 ^ 32
   pub oid : length a.oid ≤ 128
 
--- the body is the spelling of that address
+-- the body encodes this address, which is in range
 pub record IsSpelled (body : List ℕ) (a : Address) : Type 0 where
   pub address : IsAddress a
   pub octets : body ≡ address_spelling a
 
--- ---- the fields read from the octets (the law `management_addresses_are_spelled` links both)
+-- ---- the fields, decoded from the octets (see the law `management_addresses_are_spelled`)
 
 -- the fields, if the family and the address have m octets together
 abbrev pub address_fields : List ℕ → ℕ → Address

@@ -1,4 +1,4 @@
--- A TLV and its spelling (IEEE 802.1AB-2009, 8.4).
+-- A TLV and its encoding (IEEE 802.1AB-2009, 8.4).
 use Rattle.std.specs.Prelude.{◌≡◌, ℕ, ◌+◌, ◌*◌, ◌<◌, List, ◌++◌, length}
 use Rattle.std.specs.List.{flat_map, AllByRecursion}
 use Rattle.std.specs.Int.{w16, to_be_bytes}
@@ -17,7 +17,7 @@ pub record IsTlv (u : TlvUnit) : Type 0 where
 abbrev pub spelling : TlvUnit → List ℕ
 spelling u = to_be_bytes w16 (512 * u.kind + length u.body) ++ u.body
 
--- the spellings of some TLVs, joined
+-- the encodings of some TLVs, joined
 abbrev pub spellings : List TlvUnit → List ℕ
 spellings us = flat_map spelling us
 

@@ -8,12 +8,12 @@ use Rattle.lldp_pdu.specs.Msap.{MsapId}
 use Rattle.lldp_pdu.specs.Tlv.{TlvUnit}
 use Rattle.lldp_pdu.specs.Cut.{cut}
 
--- the value of a TLV, without its place in memory
+-- a TLV as a value: its type and the octets of its body
 abbrev pub tlv_view : Tlv → TlvUnit
 tlv_view t = record { kind = t.kind; body = t.body.now }
 
 -- A call of `next` on these octets returns the first TLV of their cut. The cut of the octets that
--- are left has the other TLVs and the same rest. Without a first TLV, the octets stay as they are.
+-- are left has the other TLVs and the same rest. Without a first TLV, the octets do not change.
 abbrev pub GivesFirstTlv : List ℕ → Option Tlv → List ℕ → Type 0
 GivesFirstTlv octets given left =
     MatchOption given
@@ -21,7 +21,7 @@ GivesFirstTlv octets given left =
     (λ t. (cut octets ≡ record { tlvs = tlv_view t ∷ (cut left).tlvs; rest = (cut left).rest })
     × (left ≡ drop (2 + length t.body.now) octets))
 
--- the value of a management address
+-- a management address as a value
 abbrev pub address_view : Mgmt → Address
 address_view a = record {
   family = a.family;
@@ -31,6 +31,6 @@ address_view a = record {
   oid = a.oid.now;
 }
 
--- the value of an MSAP identifier
+-- an MSAP identifier as a value
 abbrev pub msap_view : Msap → MsapId
 msap_view m = record { chassis = m.chassis.now; port = m.port.now }

@@ -29,7 +29,7 @@ pub fn caps(body: &[u8]) -> Option<Caps>
 
 /// Reads the fields of a Management Address. Returns None exactly if the body is not well formed:
 /// its first octet `m` is not 2 to 32, the OID has more than 128 octets, or the body's length is
-/// not `m` + 7 + that of the OID (IEEE 802.1AB-2009, 8.5.9).
+/// not `m` + 7 plus the length of the OID (IEEE 802.1AB-2009, 8.5.9).
 pub fn mgmt(body: &[u8]) -> Option<Mgmt<'_>>
     ensures { option_map address_view result ≡ address_of body.now }
 {

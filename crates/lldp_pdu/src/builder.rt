@@ -120,11 +120,10 @@ impl Builder {
 
     /// Adds a TLV after those already put.
     ///
-    ///
-    /// Returns the first of these faults that applies, if any, and then changes nothing. Kind: the
-    /// type is not 4 to 127, or it is one of 4 to 7 and was put before, or the TTL is 0. Body: the
-    /// body has more than 511 octets or is not well formed for its type. Full: the TLV and the End
-    /// Of LLDPDU do not fit in 1,500 octets.
+    /// If one of these faults applies, returns the first and changes nothing. Kind: the type is not
+    /// 4 to 127, or it is one of 4 to 7 and was put before, or the TTL is 0. Body: the body has
+    /// more than 511 octets or is not well formed for its type. Full: the TLV and the End Of LLDPDU
+    /// do not fit in 1,500 octets.
     pub fn put(&mut self, kind: u8, body: &[u8]) -> Result<(), BuildFault>
         ensures fault { result_err result
             ≡ put_fault self.old (record { kind = kind; body = body.now }) }
@@ -140,9 +139,9 @@ impl Builder {
         Ok(())
     }
 
-    /// Returns the finished LLDPDU, with the End Of LLDPDU as its last TLV. Examining it returns
-    /// what was begun and put: the LLDPDU is sound, every TLV that was put is kept, and none is
-    /// discarded.
+    /// Returns the finished LLDPDU, with the End Of LLDPDU as its last TLV. The LLDPDU is sound.
+    /// Examining it returns the MSAP identifier and the TTL given to `begin` and every TLV that was
+    /// put; none is discarded.
     pub fn finish(self) -> ArrayVec<u8, MOST_OCTETS>
         ensures octets { result.items ≡ lldpdu_octets self }
         ensures sound { fault_of result.items ≡ None }

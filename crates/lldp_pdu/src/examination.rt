@@ -17,7 +17,7 @@ use crate::seen::Seen;
 use crate::tlv::Tlvs;
 use crate::tlv_type::{CHASSIS_ID, END_OF_LLDPDU, FIRST_RESERVED, PORT_ID, TIME_TO_LIVE};
 
-/// The contents of a sound LLDPDU, that is, one that passes every check.
+/// The result of examining a sound LLDPDU, that is, one that passes every check.
 #[derive(Debug, Drop)]
 pub enum Examined<'a> {
     /// The TTL is 0: the neighbor with this MSAP identifier has shut down.
@@ -84,7 +84,7 @@ fn mandatory_tlvs(pdu: &[u8]) -> Result<Mandatory<'_>, PduFault>
     })
 }
 
-/// Returns 1 if octets are left over, and else 0. They are an incomplete TLV, which is discarded.
+/// Returns the number of incomplete TLVs, which are discarded: 1 if octets are left, otherwise 0.
 fn incomplete_tlvs(rest: &[u8]) -> usize
     ensures { result ≡ (if nat_lt 0 (length rest.now) then 1 else 0) }
 {
@@ -128,13 +128,12 @@ fn optional_tlvs(after: &[u8]) -> Result<Optional<'_>, PduFault>
 }
 
 /// Examines an LLDPDU of any length. Returns Shutdown with the MSAP identifier if the TTL is 0, and
-/// otherwise an Info with the contents that the definition `info_of` gives. The result borrows from
-/// `pdu`, and the octets of an Info are the beginning of `pdu`.
+/// otherwise an Info with the contents that `info_of` defines. The result borrows from `pdu`, and
+/// the octets of an Info are the beginning of `pdu`.
 ///
-///
-/// The error is the first check that fails, in the order of `PduFault`, but Truncated is checked
-/// for before each of the three mandatory TLVs. If the TTL is 0, nothing after the third TLV is
-/// read (IEEE 802.1AB-2009, 8.2 and 9.2.7.7).
+/// Returns the fault of the first check that fails. The checks are in the order of `PduFault`,
+/// except that Truncated is checked before each of the three mandatory TLVs. If the TTL is 0,
+/// nothing after the third TLV is read (IEEE 802.1AB-2009, 8.2 and 9.2.7.7).
 pub fn examine(pdu: &[u8]) -> Result<Examined<'_>, PduFault>
     ensures fault { result_err result ≡ fault_of pdu.now }
     ensures answer { IfOk result (Answers pdu.now) }

@@ -1,4 +1,4 @@
-//! The faults for which an LLDPDU, or a TLV put into one, is refused.
+//! The faults for which an LLDPDU, or a TLV to be added to one, is refused.
 ghost use Rattle.std.specs.Prelude.{◌≡◌};
 ghost use Rattle.lldp_pdu.specs.FaultNumber.{pdu_fault_number, build_fault_number};
 

@@ -8,15 +8,15 @@ pub struct Msap<'a> {
     pub port: &'a [u8],
 }
 
-/// System Capabilities: a bit for each capability that a system has, and for each that is enabled.
+/// System Capabilities: the capabilities that a system has, and those that are enabled, as bits.
 #[derive(Clone, Copy, Debug, PartialEq, Eq)]
 pub struct Caps {
     pub available: u16,
     pub enabled: u16,
 }
 
-/// A Management Address: its family and the address, the interface numbering subtype and the
-/// interface number, and an object identifier (OID).
+/// A Management Address: the address family and the address, the interface numbering subtype and
+/// the interface number, and an object identifier (OID).
 #[derive(Clone, Copy, Debug, PartialEq, Eq)]
 pub struct Mgmt<'a> {
     pub family: u8,

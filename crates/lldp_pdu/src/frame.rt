@@ -3,7 +3,7 @@ ghost use Rattle.std.specs.Prelude.{◌≡◌, ◌≤◌, length, IfSome};
 ghost use Rattle.std.specs.Option.{option_copied};
 ghost use Rattle.lldp_pdu.specs.Frame.{lldpdu_of};
 
-/// The most octets that an LLDPDU has: as many as an Ethernet frame holds after its EtherType.
+/// The maximum number of octets in an LLDPDU: the maximum payload of an Ethernet frame.
 pub const MOST_OCTETS: usize = 1500;
 
 /// The nearest bridge group address.

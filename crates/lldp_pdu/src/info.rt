@@ -53,8 +53,8 @@ impl<'a> Info<'a> {
 
     /// Returns the kept TLVs, in order. Each has a type from 4 to 127 and a well-formed body of at
     /// most 511 octets, and none of the types 4 to 7 occurs twice. Their number is at most half the
-    /// number of octets in the extent after the first 12. They are read again from the octets, in
-    /// linear time, and nothing is stored.
+    /// number of octets in the extent after its first 12. They are not stored: the iterator reads
+    /// them again from the octets, in linear time.
     pub fn kept(&self) -> Kept<'a>
         ensures value { result ≡ self.now.kept }
         ensures each { AllByRecursion IsKeptTlv self.now.kept }
@@ -73,7 +73,7 @@ impl<'a> Info<'a> {
     }
 
     /// Returns how many TLVs were discarded, including an incomplete one: at most half the number
-    /// of octets in the extent after the first 10.
+    /// of octets in the extent after its first 10.
     pub fn discarded(&self) -> usize
         ensures value { result ≡ self.now.discarded }
         ensures few { 10 + 2 * result ≤ length self.now.octets }

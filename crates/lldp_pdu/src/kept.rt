@@ -32,7 +32,7 @@ impl<'a> Model for Kept<'a> {
     ghost view = { λ k. kept_seen k.seen.types (cut k.tlvs).tlvs };
 }
 
-/// Returns the octets after the first TLV.
+/// Returns the octets after the first TLV, or all of them if they do not begin with a TLV.
 fn behind_first(octets: &[u8]) -> &[u8]
     ensures { (cut result.now).tlvs ≡ drop 1 (cut octets.now).tlvs }
 {
@@ -44,9 +44,9 @@ fn behind_first(octets: &[u8]) -> &[u8]
 }
 
 impl<'a> Kept<'a> {
-    /// Returns the kept TLVs of an extent, as `Info::octets` returns it: octets that alone are a
-    /// sound LLDPDU with a TTL above 0, and that are its whole extent. The types, lengths and
-    /// number of these TLVs are as for `Info::kept`.
+    /// Returns the kept TLVs of an extent, such as `Info::octets` returns. `octets` must be a sound
+    /// LLDPDU with a TTL above 0 and equal to its own extent. The types, lengths and number of the
+    /// TLVs have the same bounds as for `Info::kept`.
     pub fn of_extent(octets: &'a [u8]) -> Kept<'a>
         requires sound { fault_of octets.now ≡ None }
         requires lives { 0 < ttl_of octets.now }

@@ -31,7 +31,7 @@ pub fn octets_have_one_cut()
         c ≡ cut octets }
 {}
 
-/// Calling `Tlvs::next` until it returns None returns the TLVs of the cut and leaves its rest.
+/// Calling `Tlvs::next` until it returns None yields the TLVs of the cut and leaves the cut's rest.
 pub fn tlvs_give_the_cut()
     ensures tlvs { (octets left : List ℕ) (given : List Tlv) →
         YieldsThen GivesFirstTlv octets given None left → map tlv_view given ≡ (cut octets).tlvs }
@@ -41,8 +41,8 @@ pub fn tlvs_give_the_cut()
 
 /// An LLDPDU is sound exactly if it begins with a Chassis ID and a Port ID of 2 to 256 octets each
 /// and a Time To Live of 2 or more octets and, unless its TTL is 0, no other TLV before its End Of
-/// LLDPDU has one of these types. The fault of any other LLDPDU is that of the first of these three
-/// TLVs that is wrong, and otherwise Repeated.
+/// LLDPDU has one of these types. Any other LLDPDU has the fault of the first of these three TLVs
+/// that is wrong, or Repeated if none is wrong.
 #[tactic(auto, using(crate::proofs::SoundForms::sound_has_form, crate::proofs::SoundForms::form_is_sound, crate::proofs::SoundForms::faults_are))]
 pub fn sound_lldpdus_have_their_form()
     ensures sound { (octets : List ℕ) → (fault_of octets ≡ None) ↔ IsSound octets }
@@ -75,7 +75,7 @@ pub fn lldpdus_begin_with_extents()
         (more : List ℕ) × (octets ≡ extent octets ++ more) }
 {}
 
-/// A frame of the three LLDP header fields and an LLDPDU of at most 1,500 octets has that LLDPDU.
+/// A frame made of an LLDP header and an LLDPDU of at most 1,500 octets has that LLDPDU.
 #[tactic(auto, using(crate::proofs::Framing::has_lldpdu))]
 pub fn frames_hold_lldpdus()
     ensures { (source lldpdu : List ℕ) → length source ≡ 6 → length lldpdu ≤ 1500 →
@@ -94,14 +94,14 @@ pub fn checked_tlvs_are_put()
     ensures { (draft : Draft) (tlv : TlvUnit) → CanPut draft tlv ↔ (put_fault draft tlv ≡ None) }
 {}
 
-/// An LLDPDU that a `Builder` can build has at most 1,500 octets, and examining it returns what was
-/// begun and put. This also holds if its octets were written without a `Builder`.
+/// An LLDPDU that a `Builder` can build has at most 1,500 octets, and examining it returns the
+/// contents that it was built from. This also holds if its octets were written without a `Builder`.
 pub fn drafts_are_read_back()
     ensures short { (draft : Draft) → CanBuild draft → length (lldpdu_octets draft) ≤ 1500 }
     ensures read_back { (draft : Draft) → CanBuild draft → IsReadBack draft (lldpdu_octets draft) }
 {}
 
-/// A body is a well-formed Management Address with these fields exactly if it spells these fields.
+/// A Management Address body is well formed with these fields exactly if it encodes these fields.
 pub fn management_addresses_are_spelled()
     ensures { (body : List ℕ) (address : Address) → AreOctets body →
         (address_of body ≡ Some address) ↔ IsSpelled body address }
@@ -124,8 +124,8 @@ pub fn tlv_types_are_the_standards()
         ≡ standard.organizationally_specific_type }
 {}
 
-/// A body is a well-formed System Capabilities with these fields exactly if it spells these fields:
-/// four octets, and every enabled bit is available.
+/// A System Capabilities body is well formed with these fields exactly if it encodes them in four
+/// octets and every enabled bit is available.
 pub fn capabilities_are_spelled()
     ensures { (body : List ℕ) (caps : Caps) → AreOctets body →
         (caps_of body ≡ Some caps) ↔ AreSpelled body caps }
@@ -133,7 +133,7 @@ pub fn capabilities_are_spelled()
 
 /// Exactly these bodies are well formed: 2 to 256 octets for a Chassis ID or a Port ID, 2 or more
 /// for a Time To Live, at most 255 for the three text types, 4 or more for an organizationally
-/// specific TLV, a spelling of System Capabilities or a Management Address (by their laws above),
+/// specific TLV, an encoding of System Capabilities or a Management Address (see their laws above),
 /// and any body for an End Of LLDPDU or a reserved type, 9 to 126.
 pub fn types_decide_which_bodies_are_well_formed()
     ensures end { (body : List ℕ) → is_well_formed (record { kind = 0; body = body }) ≡ true }

@@ -1,5 +1,5 @@
 //! LLDP data units: their TLVs, their validation, and a builder (IEEE 802.1AB-2009, clause 8). No
-//! call allocates memory, and a call fails only with one of the faults.
+//! call allocates memory, and the only errors are `PduFault` and `BuildFault`.
 #![tactic(auto)]
 
 mod bodies;

@@ -1,4 +1,4 @@
-//! Records the types of earlier TLVs, for types of which only the first well-formed TLV counts.
+//! Records the types of earlier TLVs, for types of which only the first well-formed TLV is kept.
 ghost use Rattle.std.specs.Prelude.{◌≡◌};
 ghost use Rattle.lldp_pdu.specs.Kept.{is_single};
 ghost use Rattle.lldp_pdu.specs.Code.Seen.{has_flag, with_flag, is_kept_seen, seen_after};
@@ -8,15 +8,15 @@ use crate::bodies::body_is_well_formed;
 use crate::tlv::Tlv;
 use crate::tlv_type::{PORT_DESCRIPTION, SYSTEM_CAPABILITIES};
 
-/// Returns whether only one TLV of the type counts: Port Description to System Capabilities.
+/// Returns whether the type is 4 to 7. At most one TLV of each of these types is kept.
 fn counts_once(kind: u8) -> bool
     ensures { result ≡ is_single kind }
 {
     (PORT_DESCRIPTION..=SYSTEM_CAPABILITIES).contains(&kind)
 }
 
-/// Records, for each type that counts once, whether a well-formed TLV of it has occurred. Code that
-/// reads the TLVs of an LLDPDU in parts, without a `Kept`, keeps this between the parts.
+/// Records, for each type of which at most one TLV is kept, whether a well-formed TLV has occurred.
+/// Code that reads an LLDPDU in parts, without a `Kept`, keeps this value between the parts.
 #[derive(Clone, Copy, Debug)]
 pub struct Seen {
     /// One flag for each type from Port Description to System Capabilities.
@@ -27,7 +27,7 @@ impl Seen {
     /// No type has occurred.
     pub const NONE: Seen = Seen { types: [false; 4] };
 
-    /// Returns whether the type counts once and has occurred.
+    /// Returns whether the type has a flag and the flag is set.
     #[tactic(auto, unfolding(crate::specs::Code::Seen::has_flag))]
     pub(crate) fn has(&self, kind: u8) -> bool
         ensures { result ≡ has_flag self.now.types kind }
@@ -35,7 +35,7 @@ impl Seen {
         counts_once(kind) && self.types[usize::from(kind - PORT_DESCRIPTION)]
     }
 
-    /// Records that a TLV of the type has occurred.
+    /// Records that a TLV of the type has occurred, if the type has a flag.
     #[tactic(auto, unfolding(crate::specs::Code::Seen::with_flag))]
     pub(crate) fn add(&mut self, kind: u8)
         ensures { self.new.types ≡ with_flag self.old.types kind }

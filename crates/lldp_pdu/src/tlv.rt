@@ -20,7 +20,7 @@ pub struct Tlv<'a> {
 }
 
 /// An iterator over the complete TLVs of some octets. It returns an End Of LLDPDU like any other
-/// TLV and goes on after it. `next` removes the TLV at the front of the octets that are left and
+/// TLV and continues after it. `next` removes the TLV at the front of the octets that are left and
 /// returns it. If no complete TLV is left, `next` returns None and changes nothing.
 #[derive(Debug, Drop)]
 pub struct Tlvs<'a> {

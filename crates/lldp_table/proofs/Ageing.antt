@@ -1,4 +1,4 @@
--- The queue of times, and what a tick removes from it.
+-- The queue of slots in the order of expiry, and how a tick removes slots from it.
 pub mod Timed
 pub mod Ticks
 pub mod Steps

@@ -1,4 +1,4 @@
--- The contents of the extent of a learned frame.
+-- The extents of learned frames can be stored.
 use Rattle.std.proofs.Common.{◌≡◌, ℕ, ◌+◌, ◌*◌, ◌<◌, ◌≤◌, List, length, length-append, None, ap, arith}
 use Rattle.lldp_pdu.specs.Tlv.{AreOctets}
 use Rattle.lldp_pdu.specs.Lldpdu.{extent, ttl_of, msap_of}
@@ -23,6 +23,6 @@ extent_within pdu o = let front = extent_front pdu o in omega (arith, length-app
 pub lldpdu_is_extent : (pdu : List ℕ) → AreOctets pdu → fault_of pdu ≡ None → 0 < ttl_of pdu → length pdu ≤ 1500 → IsExtent (msap_of pdu) (ttl_of pdu) (extent pdu)
 lldpdu_is_extent pdu o f l s = info_is_extent (info_of pdu) (tells_itself pdu o f l).1 l (omega (arith, extent_within pdu o))
 
--- a held neighbor's frame has few kept TLVs
+-- a held extent has at least 12 octets plus two for each kept TLV
 pub kept_is_short : (neighbor : Neighbor) → IsHeld neighbor → 12 + 2 * length (kept_of neighbor.octets) ≤ length neighbor.octets
 kept_is_short neighbor h = grind (arith, common_steps, tells_itself)

@@ -1,4 +1,4 @@
--- The live neighbors: which they are, what a call changes, and their order.
+-- Which neighbors are live, how a call changes them, and their order.
 pub mod Events
 pub mod LastStored
 pub mod Calls

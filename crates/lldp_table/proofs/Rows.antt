@@ -8,26 +8,26 @@ use Rattle.lldp_table.specs.Standing.{table_of}
 use Rattle.lldp_table.specs.declared.learned.Learned.{Learned}
 use Rattle.lldp_table.specs.declared.learned.Learned.TheVariants.{New, Refreshed, Dropped}
 
--- the Chassis ID with MAC 00:11:22:33:44:55, and the Port ID with the name `eth` and this octet
+-- an MSAP identifier: MAC 00:11:22:33:44:55, and the interface name `eth` followed by this octet
 abbrev name : ℕ → MsapId
 name port = record { chassis = 4 ∷ 0x00 ∷ 0x11 ∷ 0x22 ∷ 0x33 ∷ 0x44 ∷ 0x55 ∷ []; port = 5 ∷ 0x65 ∷ 0x74 ∷ 0x68 ∷ port ∷ [] }
 
--- the extent of its LLDPDU with this TTL
+-- the extent of an LLDPDU with this identifier and this TTL
 abbrev extent : ℕ → ℕ → List ℕ
 extent port ttl = 0x02 ∷ 0x07 ∷ 0x04 ∷ 0x00 ∷ 0x11 ∷ 0x22 ∷ 0x33 ∷ 0x44 ∷ 0x55 ∷ 0x04 ∷ 0x05 ∷ 0x05 ∷ 0x65 ∷ 0x74 ∷ 0x68 ∷ port ∷ 0x06 ∷ 0x02 ∷ 0x00 ∷ ttl ∷ []
 
 abbrev frame : ℕ → ℕ → Call
 frame port ttl = learn (name port) ttl (extent port ttl)
 
--- a neighbor with this port and TTL, and with this many ticks left
+-- a neighbor with this port, this TTL and this many ticks left
 abbrev held : ℕ → ℕ → ℕ → Neighbor
 held port ttl left = record { msap = name port; octets = extent port ttl; ttl = ttl; left = left }
 
--- a table opened for two neighbors
+-- the contents of a table that was opened for two neighbors
 abbrev table : ℕ → ℕ → List Neighbor → Contents
 table limit timer held = record { capacity = 2; limit = limit; neighbors = held; too_many_left = timer }
 
--- the answer to a learned frame
+-- the result of `learn`, or None for any other event
 abbrev answer_of : TableEvent → Option Learned
 answer_of (learned msap ttl octets answer) = Some answer
 answer_of _ = None
@@ -93,7 +93,7 @@ who_leaves_goes_alone = refl
 
 -- ## A full table
 
--- a new neighbor is dropped, a refresh is stored, and the longest TTL dropped sets the timer
+-- a new neighbor is dropped, a refresh is stored, and the longest dropped TTL sets the timer
 full_table : table_of 2 (tick ∷ frame 0x30 120 ∷ frame 0x33 5 ∷ frame 0x32 9 ∷ frame 0x31 120 ∷ frame 0x30 60 ∷ []) ≡ table 2 8 (held 0x30 120 119 ∷ held 0x31 120 119 ∷ [])
 unfolding neighbors live events_of too_many_left
 full_table = refl
@@ -106,7 +106,7 @@ the_timer_ends : table_of 2 (tick ∷ tick ∷ frame 0x32 2 ∷ frame 0x31 120 �
 unfolding neighbors live events_of too_many_left
 the_timer_ends = refl
 
--- a frame of a neighbor that aged out is dropped too
+-- a frame of a neighbor that has aged out is also dropped
 who_is_dropped_is_not_held : table_of 2 (frame 0x30 9 ∷ frame 0x32 60 ∷ tick ∷ frame 0x31 60 ∷ frame 0x30 1 ∷ []) ≡ table 2 9 (held 0x31 60 59 ∷ held 0x32 60 60 ∷ [])
 unfolding neighbors live events_of too_many_left
 who_is_dropped_is_not_held = refl
@@ -117,7 +117,7 @@ room_again = refl
 
 -- ## Limit and purge, while the timer runs
 
--- two neighbors are held, a frame was dropped, and a tick came; then a neighbor is forgotten
+-- two neighbors are held, a third is dropped, a tick passes, and one neighbor is forgotten
 abbrev crowded : List Call
 crowded = forget (name 0x31) ∷ tick ∷ frame 0x32 9 ∷ frame 0x31 120 ∷ frame 0x30 60 ∷ []
 

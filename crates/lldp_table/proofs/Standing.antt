@@ -1,4 +1,4 @@
--- Tables that stand for lists of calls.
+-- Tables that match lists of calls (`Stands`).
 pub mod Calls
 pub mod Sound
 pub mod Lists

@@ -1,5 +1,4 @@
--- How the code stores a table and its times, and what each call does to the contents of a table
--- (`Steps`), which callers compute with.
+-- How the code stores a table and its times, and what each call does to the contents (`Steps`).
 pub mod Steps
 pub mod Stored
 pub mod Queue

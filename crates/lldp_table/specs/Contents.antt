@@ -8,8 +8,8 @@ use Rattle.lldp_pdu.specs.Fault.{fault_of}
 use Rattle.lldp_table.specs.Msap.{same_msap}
 use Rattle.lldp_table.specs.Events.{Neighbor}
 
--- a table: the limit of opening, the limit in force, the neighbors in the order in which they were
--- last new, and the ticks left of the too-many timer
+-- a table: the limit given at opening, the current limit, the neighbors in the order in which they
+-- were last new, and the remaining ticks of the too-many timer (tooManyNeighborsTimer)
 pub record Contents : Type 0 where
   pub capacity : ℕ
   pub limit : ℕ
@@ -24,8 +24,8 @@ is_named name neighbor = same_msap name neighbor.msap
 abbrev pub holds_name : Contents → MsapId → Bool
 holds_name table name = list_any (is_named name) table.neighbors
 
--- An extent that can be stored: at most 1,500 octets that alone are a sound LLDPDU with this MSAP
--- identifier and this TTL, above 0, and that are its whole extent.
+-- An extent that can be stored: at most 1,500 octets that are a sound LLDPDU with this MSAP
+-- identifier and this TTL, above 0, and that equal their own extent.
 pub record IsExtent (msap : MsapId) (ttl : ℕ) (octets : List ℕ) : Type 0 where
   pub short : length octets ≤ 1500
   pub lives : 0 < ttl
@@ -37,7 +37,7 @@ pub record IsExtent (msap : MsapId) (ttl : ℕ) (octets : List ℕ) : Type 0 whe
   pub ttl_is : ttl_of octets ≡ ttl
   pub extent_is : extent octets ≡ octets
 
--- a neighbor as a table holds it: at least one tick is left, and at most as many as its TTL
+-- a neighbor as a table holds it: it has at least one tick left, and at most as many as its TTL
 pub record IsHeld (neighbor : Neighbor) : Type 0 where
   pub extent : IsExtent neighbor.msap neighbor.ttl neighbor.octets
   pub lives : 0 < neighbor.left

@@ -1,4 +1,4 @@
--- A value, and how often a stored time was read or written in it.
+-- A value, and the number of reads and writes of its stored times.
 use Rattle.std.specs.Prelude.{ℕ}
 
 -- in contracts, a table is such a pair

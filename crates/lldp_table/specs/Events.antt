@@ -1,5 +1,5 @@
 -- The calls that were made on a table, and which neighbors are live after them (IEEE 802.1AB-2009,
--- 9.2.7.7). Every list has the newest call first: what follows a call in a list came before it.
+-- 9.2.7.7). The newest call is first in every list, so the elements after a call are earlier calls.
 use Rattle.std.specs.Prelude.{ℕ, suc, ◌-◌, Bool, true, false, not, ◌&&◌, if◌then◌else◌, nat_lt, max, List, [], ◌∷◌, ◌++◌, length, filter, find, filter_map, Option, Some, None, is_some, option_and_then, count_by, is_none}
 use Rattle.lldp_pdu.specs.Msap.{MsapId}
 use Rattle.lldp_table.specs.Msap.{same_msap}
@@ -14,7 +14,7 @@ pub data Call : Type 0 where
   tick : Call
   set_limit : (limit : ℕ) → Call
 
--- a call that was made; for a `learn`, with its answer
+-- a call that was made; for a `learn`, with its result
 pub data TableEvent : Type 0 where
   learned : (msap : MsapId) (ttl : ℕ) (octets : List ℕ) (answer : Learned) → TableEvent
   forgot : (msap : MsapId) → TableEvent
@@ -22,14 +22,14 @@ pub data TableEvent : Type 0 where
   ticked : TableEvent
   limit_set : (limit : ℕ) → TableEvent
 
--- a live neighbor: MSAP identifier, octets and TTL of its last stored frame, and the ticks left
+-- a live neighbor: MSAP identifier, octets and TTL of its last stored frame, and remaining ticks
 pub record Neighbor : Type 0 where
   pub msap : MsapId
   pub octets : List ℕ
   pub ttl : ℕ
   pub left : ℕ
 
--- ## Last events, and ticks since
+-- ## Kinds of events, and the events since the last of a kind
 
 -- the event is a tick
 abbrev pub is_tick : TableEvent → Bool
@@ -65,7 +65,7 @@ decides_on name _ = false
 
 -- ## Which neighbors are live
 
--- the live neighbor, if the last event that decides on it is this one, n ticks ago
+-- the neighbor of a learned frame n ticks later; None after its TTL, and for any other event
 abbrev pub live_after : ℕ → TableEvent → Option Neighbor
 live_after n (learned msap ttl octets answer) =
     if nat_lt n ttl then Some (record { msap = msap; octets = octets; ttl = ttl; left = ttl - n }) else None
@@ -76,7 +76,7 @@ live_after n _ = None
 unfoldable pub live : MsapId → List TableEvent → Option Neighbor
 live name events = option_and_then (live_after (ticks (since (decides_on name) events))) (find (decides_on name) events)
 
--- the MSAP identifiers after an event: one that is new goes to the end
+-- the MSAP identifiers after an event: one that becomes new is moved to the end
 abbrev pub arrive : TableEvent → List MsapId → List MsapId
 arrive (learned name ttl octets New) names = filter (λ other. not (same_msap name other)) names ++ name ∷ []
 arrive _ names = names
@@ -92,14 +92,14 @@ neighbors events = filter_map (λ name. live name events) (arrivals events)
 
 -- ## Which frames are stored
 
--- the limit after these events: the last one that was set, or that of opening
+-- the limit after these events: the last one that was set, or the limit given at opening
 abbrev pub limit_after : ℕ → List TableEvent → ℕ
 limit_after opened [] = opened
 limit_after opened (limit_set limit ∷ past) = limit
 limit_after opened (event ∷ past) = limit_after opened past
 
--- The answer of a `learn`: Refreshed if this MSAP identifier is live; otherwise New if fewer
--- neighbors than the limit in force are live, and else Dropped.
+-- The result of `learn`: Refreshed if this MSAP identifier is live; otherwise New if the number of
+-- live neighbors is below the current limit, and else Dropped.
 abbrev pub answer : ℕ → MsapId → List TableEvent → Learned
 answer opened name past =
     if is_some (live name past) then Refreshed
@@ -113,7 +113,7 @@ event_of opened purge past = purged
 event_of opened tick past = ticked
 event_of opened (set_limit limit) past = limit_set limit
 
--- the calls with their answers, on a table that was opened with this limit
+-- the calls with their results, on a table that was opened with this limit
 unfoldable pub events_of : ℕ → List Call → List TableEvent
 events_of opened [] = []
 events_of opened (call ∷ calls) = let past = events_of opened calls in event_of opened call past ∷ past
@@ -124,13 +124,13 @@ aged_out past = count_by (λ (neighbor : Neighbor). is_none (live neighbor.msap 
 
 -- ## Too many neighbors
 
--- the most ticks left of any dropped frame among these events, n ticks after the last event
+-- the most ticks that a dropped frame among these events has left, n ticks after the last event
 abbrev pub most_left : ℕ → List TableEvent → ℕ
 most_left n [] = 0
 most_left n (learned msap ttl octets Dropped ∷ past) = max (ttl - n) (most_left n past)
 most_left n (ticked ∷ past) = most_left (suc n) past
 most_left n (event ∷ past) = most_left n past
 
--- The most ticks left of a frame dropped since the last purge. Above 0 means too many neighbors.
+-- The most ticks that a frame dropped since the last purge has left. Above 0 means `too_many`.
 unfoldable pub too_many_left : List TableEvent → ℕ
 too_many_left events = most_left 0 (since is_purge events)

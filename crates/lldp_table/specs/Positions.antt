@@ -1,5 +1,5 @@
--- Which neighbors are live, in which order, and whether there are too many, by position: a list of
--- events is split into a later part in front and an earlier part.
+-- Which neighbors are live, in which order, and whether there are too many. These definitions split
+-- a list of events into a later part, in front, and an earlier part.
 use Rattle.std.specs.Prelude.{◌≡◌, ℕ, ◌+◌, ◌<◌, Bool, false, List, ◌∷◌, ◌++◌, length, IsTrue}
 use Rattle.std.specs.List.{AllByRecursion, list_any}
 use Rattle.lldp_pdu.specs.Msap.{MsapId}
@@ -25,7 +25,7 @@ pub record IsLastStored (events : List TableEvent) (neighbor : Neighbor) : Type 
 abbrev pub IsLive : List TableEvent → MsapId → Type 0
 IsLive events name = (neighbor : Neighbor) × (neighbor.msap ≡ name) × IsLastStored events neighbor
 
--- fewer neighbors than the limit in force are live
+-- the number of live neighbors is below the current limit
 abbrev pub HasRoom : ℕ → List TableEvent → Type 0
 HasRoom opened events = length (neighbors events) < limit_after opened events
 

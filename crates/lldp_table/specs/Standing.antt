@@ -3,8 +3,8 @@ use Rattle.std.specs.Prelude.{◌≡◌, ℕ, ◌<◌, ◌≤◌, List, [], ◌�
 use Rattle.lldp_table.specs.Events.{Call, learn, forget, purge, tick, set_limit, events_of, neighbors, too_many_left, limit_after}
 use Rattle.lldp_table.specs.Contents.{Contents, IsExtent}
 
--- the contents after these calls, by the definitions alone: the limits, the live neighbors in the
--- order in which they were last new, and the too-many timer
+-- the contents that the definitions give for a table after these calls: the limits, the live
+-- neighbors in the order in which they were last new, and the too-many timer
 abbrev pub table_of : ℕ → List Call → Contents
 table_of opened calls =
     let past = events_of opened calls in
@@ -15,13 +15,13 @@ table_of opened calls =
       too_many_left = too_many_left past;
     }
 
--- a limit that can be set: 1 to the limit of opening, and no less than the neighbors held
+-- a limit that can be set: from 1 to the capacity, and at least the number of neighbors held
 pub record IsNewLimit (table : Contents) (limit : ℕ) : Type 0 where
   pub least : 0 < limit
   pub most : limit ≤ table.capacity
   pub held : length table.neighbors ≤ limit
 
--- the call is possible: a `learn` needs an extent, and a `set_limit` a limit that can be set
+-- the call is possible: `learn` needs a valid extent, and `set_limit` a limit that can be set
 abbrev pub IsPossible : Contents → Call → Type 0
 IsPossible table (learn msap ttl octets) = IsExtent msap ttl octets
 IsPossible table (forget msap) = Unit {0}
@@ -34,14 +34,14 @@ abbrev pub ArePossible : ℕ → List Call → Type 0
 ArePossible opened [] = Unit {0}
 ArePossible opened (call ∷ calls) = IsPossible (table_of opened calls) call × ArePossible opened calls
 
--- The table stands for a limit of opening, from 1 to 128, and a list of possible calls, the newest
--- first: its contents are those that the calls leave by the definitions.
+-- The table matches a limit given at opening, from 1 to 128, and a list of possible calls, the
+-- newest first: its contents are those that the definitions give for this limit and these calls.
 pub record Stands (opened : ℕ) (calls : List Call) (table : Contents) : Type 0 where
   pub least : 0 < opened
   pub most : opened ≤ 128
   pub allowed : ArePossible opened calls
   pub is : table ≡ table_of opened calls
 
--- P holds for each limit of opening and list of calls that the table stands for
+-- P holds for every opening limit and list of calls that the table matches
 abbrev pub ForEachCalls : Contents → (ℕ → List Call → Type 0) → Type 0
 ForEachCalls table P = (opened : ℕ) (calls : List Call) → Stands opened calls table → P opened calls

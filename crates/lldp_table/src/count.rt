@@ -15,8 +15,8 @@ impl Model for Count {
 }
 
 impl Count {
-    /// Begins at a number that no clause states. So code can't replace a counter by a new one to
-    /// claim that less was counted.
+    /// Returns a counter that starts at a number that no clause states. So code cannot replace a
+    /// counter by a new one to claim that less was counted.
     pub(crate) fn new() -> Count
         ensures { result ≡ result }
     {

@@ -12,7 +12,7 @@ pub struct Entries<'a> {
     pub(crate) slots: &'a [Slot],
     /// The indices of the slots whose neighbors have not been returned yet.
     pub(crate) order: &'a [u8],
-    /// The ticks left of each slot.
+    /// The remaining ticks of each slot.
     pub(crate) ticks: [u16; MOST_NEIGHBORS],
 }
 

@@ -58,7 +58,7 @@ impl<'a> Entry<'a> {
     }
 
     /// Returns the kept TLVs of the neighbor's frame, in order, read again from the stored octets.
-    /// Each is well formed, and their number is at most half that of the octets after the first 12.
+    /// Each is well formed. Their number is at most half the number of octets after the first 12.
     pub fn kept(&self) -> Kept<'a>
         ensures value { result ≡ kept_of self.now.octets }
         ensures each { AllByRecursion IsKeptTlv (kept_of self.now.octets) }

@@ -16,17 +16,18 @@ ghost use Rattle.lldp_table.specs.Standing.{Stands, ForEachCalls, IsPossible, Ar
 ghost use Rattle.lldp_table.specs.Positions.{IsLastStored, IsLive, HasRoom, IsNewBefore, WasDropped};
 ghost use Rattle.lldp_table.specs.declared.limits.TheConstants.{MOST_NEIGHBORS};
 
-/// If a table stands for a list of calls and one more call is possible (`IsPossible`), the table
-/// after that call stands for the list with that call.
+/// If a table matches a list of calls (`Stands`) and one more call is possible (`IsPossible`), the
+/// table after that call matches the list with that call.
 #[tactic(auto, using(crate::proofs::Standing::Calls::carries))]
 pub fn calls_carry_standing()
     ensures { (table : Contents) (call : Call) → IsPossible table call →
         ForEachCalls table (λ opened calls. Stands opened (call ∷ calls) (table_after table call)) }
 {}
 
-/// A table opened with a limit of 1 to 128 stands for the empty list of calls. A table that stands
-/// for a list of calls answers as the definitions say for the list. Each call adds one event. The
-/// neighbors that a tick ages out and those live after it are as many as those live before it.
+/// A table opened with a limit of 1 to 128 matches the empty list of calls. If a table matches a
+/// list of calls, its results are those that the definitions give for the list. Each call adds one
+/// event. The neighbors that a tick ages out and those that remain are together as many as before
+/// it.
 pub fn calls_tell_standing_tables()
     ensures opened { (opened : ℕ) → 0 < opened → opened ≤ 128 →
         Stands opened [] (newly_opened opened) }
@@ -40,8 +41,8 @@ pub fn calls_tell_standing_tables()
         aged_out past + length (neighbors (ticked ∷ past)) ≡ length (neighbors past) }
 {}
 
-/// A table opened with a limit of 1 to 128 is sound, and each possible call leaves a sound table
-/// sound.
+/// A table opened with a limit of 1 to 128 is sound, and a sound table is still sound after each
+/// possible call.
 pub fn calls_leave_sound_tables()
     ensures opened { (limit : ℕ) → 0 < limit → limit ≤ 128 →
         IsSound (newly_opened limit) }
@@ -64,8 +65,8 @@ pub fn extents_can_be_stored()
 /// that frame, no call stored another with this identifier, forgot it or purged the table, and
 /// fewer ticks than its TTL passed. The frames are in the order in which their identifiers were
 /// last new. If the table was opened with a limit of 1 to 128 and each call was possible, the
-/// resulting table stands for the list, as no other table does, and is sound: it holds at most as
-/// many neighbors as the limit, with at most 1,500 octets each.
+/// resulting table is the only one that matches the list, and it is sound: it holds at most as many
+/// neighbors as the limit, with at most 1,500 octets each.
 pub fn tables_hold_last_stored_frames()
     ensures held { (opened : ℕ) (calls : List Call) (neighbor : Neighbor) →
         Contains (neighbors (events_of opened calls)) neighbor
@@ -79,7 +80,7 @@ pub fn tables_hold_last_stored_frames()
 {}
 
 /// A frame is Refreshed exactly if a neighbor with its MSAP identifier is live, New exactly if none
-/// is and fewer neighbors than the limit in force are live, and otherwise Dropped.
+/// is and the number of live neighbors is below the current limit, and otherwise Dropped.
 #[tactic(auto, using(crate::proofs::Standing::Lists::refreshed_is, crate::proofs::Standing::Lists::new_is, crate::proofs::Standing::Lists::dropped_is))]
 pub fn live_neighbors_decide_answers()
     ensures refreshed { (opened : ℕ) (calls : List Call) (name : MsapId) →
@@ -94,8 +95,8 @@ pub fn live_neighbors_decide_answers()
         × (¬ (HasRoom opened (events_of opened calls)))) }
 {}
 
-/// The ticks left of the too-many timer are the most that any frame dropped since the last purge
-/// has left of its TTL, or 0 if no such frame has any left.
+/// The remaining ticks of the too-many timer are the maximum of the remaining ticks of the frames
+/// dropped since the last purge, or 0 if no such frame has any left.
 #[tactic(auto, using(crate::proofs::Live::Order::greatest_dropped, crate::proofs::Live::Order::none_dropped_above))]
 pub fn timers_keep_the_greatest_dropped()
     ensures one { (events : List TableEvent) → 0 < too_many_left events →
@@ -147,7 +148,7 @@ pub fn stored_frames_replace_their_name_alone()
         ≡ table_of opened calls }
 {}
 
-/// A dropped frame makes the too-many timer run at least as long as its TTL; nothing else changes.
+/// A dropped frame extends the too-many timer to at least the frame's TTL. Nothing else changes.
 #[tactic(auto, using(crate::proofs::Live::Calls::learn_dropped))]
 pub fn dropped_frames_change_the_timer_alone()
     ensures { (opened : ℕ) (calls : List Call) (name : MsapId) (ttl : ℕ) (octets : List ℕ) →
@@ -163,8 +164,8 @@ pub fn purges_end_timers_too()
         ≡ record (table_of opened calls) { neighbors = []; too_many_left = 0 } }
 {}
 
-/// A limit is in force from the call that sets it until the next such call, and the limit of
-/// opening until the first. A frame whose MSAP identifier is not live is dropped exactly if at
+/// A limit applies from the call that sets it until the next such call. The limit given at opening
+/// applies until the first one. A frame whose MSAP identifier is not live is dropped exactly if at
 /// least as many neighbors as the limit are held. Setting a limit changes nothing else.
 pub fn limits_last_until_the_next()
     ensures set { (opened limit : ℕ) (later calls : List Call) →

@@ -1,6 +1,6 @@
-//! What a table did with a frame.
+//! The result of `Table::learn`.
 
-/// What `Table::learn` did with a frame.
+/// The result of `Table::learn`: what it did with the frame.
 #[derive(Clone, Copy, Debug, PartialEq, Eq)]
 pub enum Learned {
     /// The frame's neighbor was not held, and now is.

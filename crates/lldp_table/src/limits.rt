@@ -1,4 +1,4 @@
-//! The greatest size of a table.
+//! The maximum size of a table.
 
 /// The most neighbors that a table can hold.
 pub const MOST_NEIGHBORS: usize = 128;

@@ -9,7 +9,7 @@ use arrayvec::ArrayVec;
 use memchr::memchr;
 use std::marker::Model;
 
-/// Returns the place of `slot` in `slots`. It must be there.
+/// Returns the place of `slot` in `slots`, which must contain it.
 pub(crate) fn place_in(slots: &[u8], slot: u8) -> usize
     requires { list_any (nat_eq slot) slots.now ≡ true }
     ensures within { result < length slots.now }
@@ -21,7 +21,7 @@ pub(crate) fn place_in(slots: &[u8], slot: u8) -> usize
     }
 }
 
-/// Returns where a neighbor with this many ticks left enters the queue, and its difference there.
+/// Returns the place to insert a slot with this many ticks left, and the gap of the inserted slot.
 #[tactic(auto, using(crate::proofs::Ageing::Due::enters_here, crate::proofs::Ageing::Due::enters_behind))]
 fn place_for(slots: &[u8], times: &mut Times, left: u16) -> (usize, u16)
     requires { AllByRecursion (λ i. i < MOST_NEIGHBORS) slots.now }
@@ -45,7 +45,7 @@ fn place_for(slots: &[u8], times: &mut Times, left: u16) -> (usize, u16)
     (slots.len(), rest)
 }
 
-/// Subtracts `less` from the difference at a place, if a slot is there.
+/// Subtracts `less` from the gap of the slot at place `at`, if there is one.
 #[tactic(auto, using(crate::proofs::Ageing::Due::lessened, crate::proofs::Ageing::Due::within_times))]
 fn lessen(times: &mut Times, slots: &[u8], at: usize, less: u16)
     requires queue { IsQueue times.old.shown slots.now }
@@ -63,7 +63,7 @@ fn lessen(times: &mut Times, slots: &[u8], at: usize, less: u16)
     times.set(slot, gap - less);
 }
 
-/// Adds `more` to the difference at a place, if a slot is there.
+/// Adds `more` to the gap of the slot at place `at`, if there is one.
 #[tactic(auto, using(crate::proofs::Ageing::Due::raised, crate::proofs::Ageing::Due::within_times))]
 fn raise(times: &mut Times, slots: &[u8], at: usize, more: u16)
     requires queue { IsQueue times.old.shown slots.now }
@@ -97,7 +97,7 @@ fn enter_into(slots: &mut ArrayVec<u8, MOST_NEIGHBORS>, times: &mut Times, slot:
     slots.insert(at, slot);
 }
 
-/// Appends a slot that expires `gap` ticks after the slot that was last.
+/// Appends a slot that expires `gap` ticks after the last slot.
 fn enter_last(slots: &mut ArrayVec<u8, MOST_NEIGHBORS>, times: &mut Times, slot: u8, gap: u16)
     requires queue { IsQueue times.old.shown slots.old.items }
     requires room { length slots.old.items < MOST_NEIGHBORS }
@@ -113,8 +113,8 @@ fn enter_last(slots: &mut ArrayVec<u8, MOST_NEIGHBORS>, times: &mut Times, slot:
     slots.push(slot);
 }
 
-/// Removes a slot, and adds its difference to that of the slot after it. Returns by how much the
-/// ticks left of the last slot decrease.
+/// Removes a slot, and adds its gap to that of the slot after it. Returns by how much the remaining
+/// ticks of the last slot decrease.
 fn leave_from(slots: &mut ArrayVec<u8, MOST_NEIGHBORS>, times: &mut Times, slot: u8) -> u16
     requires queue { IsQueue times.old.shown slots.old.items }
     requires there { holds slot (dues times.old.shown slots.old.items) ≡ true }
@@ -133,13 +133,13 @@ fn leave_from(slots: &mut ArrayVec<u8, MOST_NEIGHBORS>, times: &mut Times, slot:
     gap
 }
 
-/// The slots in use, in the order in which their neighbors expire. Each slot has the difference
-/// between its ticks left and those of the slot before it.
+/// The slots in use, in the order in which their neighbors expire. Each slot has a gap: its
+/// remaining ticks minus those of the slot before it.
 #[derive(Drop)]
 pub(crate) struct Queue {
     slots: ArrayVec<u8, MOST_NEIGHBORS>,
-    /// The ticks left of the last slot: the sum of the differences. A slot that expires no earlier
-    /// is appended without a search.
+    /// The remaining ticks of the last slot: the sum of the gaps. A slot that expires no earlier
+    /// than the last one is appended without a search.
     last: u16,
     times: Times,
 }
@@ -203,8 +203,8 @@ impl Queue {
         self.last -= leave_from(&mut self.slots, &mut self.times, slot);
     }
 
-    /// Processes a tick: subtracts one from the first difference, and so from the ticks left of
-    /// every slot. Returns whether the first slot has none left.
+    /// Processes a tick: subtracts one from the first gap, and so from the remaining ticks of every
+    /// slot. Returns whether the first slot has none left.
     pub(crate) fn pass(&mut self) -> bool
         requires { IsRunning self.old.shown }
         ensures after { self.new.shown ≡ less_first 1 self.old.shown }
@@ -243,7 +243,7 @@ impl Queue {
         self.times.get(self.slots[0]) == 0
     }
 
-    /// Returns the ticks left of each slot in the queue, by slot index.
+    /// Returns the remaining ticks of each slot in the queue, by slot index.
     pub(crate) fn lefts(&self) -> [u16; MOST_NEIGHBORS]
         ensures { (slot : ℕ) → holds slot self.now.shown ≡ true →
             slice_index result slot ≡ ticks_left self.now.shown slot }

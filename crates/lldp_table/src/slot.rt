@@ -14,8 +14,8 @@ use std::marker::Model;
 /// The memory for one neighbor. It stores the extent of the neighbor's frame.
 #[derive(Drop)]
 pub(crate) struct Slot {
-    /// The tag of the MSAP identifier, which decides most comparisons. It is before the octets,
-    /// which begin with the MSAP identifier, since both are read together.
+    /// The tag of the MSAP identifier, which decides most comparisons. It comes before the octets
+    /// because it is read together with the MSAP identifier at their start.
     tag: u32,
     ttl: u16,
     /// How many octets are stored.
@@ -79,7 +79,7 @@ fn pair(a: u8, b: u8) -> u32
     u32::from(a) * FACTOR + u32::from(b)
 }
 
-/// Mixes four octets into a tag. Only one of the multiplications needs the tag.
+/// Mixes four octets into a tag. Only one of the multiplications depends on the tag.
 fn mix_four(tag: u32, four: [u8; 4]) -> u32
     ensures { result ≡ mixed tag four }
 {

@@ -27,7 +27,6 @@ use std::marker::Model;
 /// calls keep the capacity and cannot allocate memory: `Room` gives no access to its allocator, and
 /// no other field has one.
 ///
-///
 /// A clause about lists of calls holds for every list of calls on a table that was opened with a
 /// limit of 1 to 128, if each call met its preconditions.
 #[derive(Drop)]
@@ -43,7 +42,7 @@ pub struct Table<A: Allocator> {
     /// The slots in use, in the order in which their neighbors expire.
     queue: Queue,
     limit: u8,
-    /// The ticks left of the too-many timer.
+    /// The remaining ticks of the too-many timer (tooManyNeighborsTimer in the standard).
     too_many: u16,
 }
 
@@ -67,8 +66,8 @@ impl<A: Allocator> Model for Table<A> {
 }
 
 impl<A: Allocator> Table<A> {
-    /// Opens an empty table, which stands for this limit and no calls. Allocates the memory for
-    /// `limit` neighbors, 1 to 128, of 1,500 octets each. Fails if there is not enough memory.
+    /// Opens an empty table, which matches (`Stands`) this limit and no calls. Allocates the memory
+    /// for `limit` neighbors, 1 to 128, of 1,500 octets each. Fails if there is not enough memory.
     pub fn open(alloc: A, limit: u8) -> Result<Table<A>, AllocError>
         requires least { 0 < limit }
         requires most { limit ≤ 128 }
@@ -87,8 +86,9 @@ impl<A: Allocator> Table<A> {
 
     /// Stores a frame, whose extent has at most 1,500 octets, if its neighbor is held or there is
     /// room. Returns Refreshed if its MSAP identifier is live, even if the table is full; otherwise
-    /// New if fewer neighbors are live than the limit in force, and else Dropped. The stored octets
-    /// have the kept TLVs of the frame. The table then stands for the list with this call.
+    /// New if the number of live neighbors is below the current limit, and else Dropped. The stored
+    /// octets have the kept TLVs of the frame. The table then matches the list of calls with this
+    /// call.
     pub fn learn(&mut self, info: &Info<'_>) -> Learned
         requires { length info.now.octets ≤ 1500 }
         ensures answer { result ≡ learn_answer self.old.shown info.now.msap }
@@ -116,7 +116,7 @@ impl<A: Allocator> Table<A> {
         Learned::Dropped
     }
 
-    /// Returns the place in the order of the neighbor with this MSAP identifier and this tag.
+    /// Returns the place in the order of the neighbor with this MSAP identifier, if it is held.
     fn place(&self, name: &Msap<'_>, tag: u32) -> Option<usize>
         requires { tag ≡ tag_of (msap_view name.now) }
         ensures { MatchOption result (holds_name self.now.shown (msap_view name.now) ≡ false)
@@ -126,7 +126,7 @@ impl<A: Allocator> Table<A> {
         place_of(self.slots.as_slice(), order, name, tag)
     }
 
-    /// Stores a frame and its TTL for the neighbor at this place, which has the same identifier.
+    /// Stores a frame and its TTL for the neighbor at this place, which has the frame's identifier.
     fn refresh(&mut self, at: usize, octets: &[u8], ttl: u16, tag: u32)
         requires extent { IsExtent (msap_of octets.now) ttl octets.now }
         requires tag { tag ≡ tag_of (msap_of octets.now) }
@@ -155,7 +155,7 @@ impl<A: Allocator> Table<A> {
         self.used += 1;
     }
 
-    /// Returns whether fewer neighbors are held than the limit in force.
+    /// Returns whether the number of neighbors held is below the current limit.
     fn has_room(&self) -> bool
         ensures { result ≡ nat_lt (length self.now.shown.neighbors) self.now.shown.limit }
     {
@@ -197,9 +197,9 @@ impl<A: Allocator> Table<A> {
 
     /// Processes a tick: a second has passed, so each neighbor and the too-many timer have one tick
     /// less. Returns how many neighbors aged out, that is, were live before and no longer are.
-    /// Reads and writes stored times at most twice for each of them, plus twice. This is inlined
-    /// into the caller's loop with all that it calls, since most ticks look only at the first
-    /// neighbor.
+    /// Makes at most 2 reads and writes of stored times, plus 2 for each neighbor that aged out.
+    /// This is inlined into the caller's loop with all that it calls, since most ticks look only at
+    /// the first neighbor.
     #[inline(always)]
     pub fn tick(&mut self) -> u8
         ensures answer { result + length self.new.shown.neighbors ≡ length self.old.shown.neighbors }
@@ -219,8 +219,8 @@ impl<A: Allocator> Table<A> {
         gone
     }
 
-    /// Sets the limit in force, from 1 to the limit of opening. It must be at least the number of
-    /// neighbors held, so no neighbor is removed.
+    /// Sets the current limit, from 1 to the capacity. It must be at least the number of neighbors
+    /// held, so no neighbor is removed.
     pub fn set_limit(&mut self, limit: u8)
         requires least { 0 < limit }
         requires most { limit ≤ self.old.shown.capacity }
@@ -240,7 +240,7 @@ impl<A: Allocator> Table<A> {
         self.used
     }
 
-    /// Returns how many neighbors may be held now: the limit in force.
+    /// Returns the current limit: how many neighbors may be held now.
     pub fn limit(&self) -> u8
         ensures value { result ≡ self.now.shown.limit }
         ensures sound { IsSound self.now.shown }
@@ -248,7 +248,7 @@ impl<A: Allocator> Table<A> {
         self.limit
     }
 
-    /// Returns how many neighbors may ever be held: the limit of opening.
+    /// Returns the limit given at opening: how many neighbors may ever be held.
     pub fn capacity(&self) -> u8
         ensures value { result ≡ self.now.shown.capacity }
         ensures sound { IsSound self.now.shown }

@@ -1,6 +1,6 @@
 //! The stored times. `get` reads a time and `set` writes one, and both count the access. `lefts_in`
-//! reads all times through a shared reference, so it cannot count. The sum of all differences,
-//! which the queue keeps, is not a stored time.
+//! reads all times through a shared reference, so it cannot count. The sum of all gaps, which the
+//! queue keeps, is not a stored time.
 ghost use Rattle.std.specs.Prelude.{◌≡◌, ℕ, ◌+◌, ◌<◌, length, slice_index, slice_set};
 ghost use Rattle.std.specs.List.{AllByRecursion};
 ghost use Rattle.lldp_table.specs.Code.Queue.{dues, ticks_left, IsQueue};
@@ -68,7 +68,7 @@ impl Times {
     }
 }
 
-/// Returns the ticks left of each of these slots. Only this function reads times uncounted.
+/// Returns the remaining ticks of each of these slots. Only this function reads times uncounted.
 pub(crate) fn lefts_in(slots: &[u8], times: &Times) -> [u16; MOST_NEIGHBORS]
     requires { IsQueue times.now.shown slots.now }
     ensures { AllByRecursion (λ i. slice_index result i

@@ -1,4 +1,4 @@
--- Literal frames: which are LLDP frames, and which LLDPDU they have.
+-- Literal frames: whether each is an LLDP frame, and its LLDPDU.
 use Rattle.std.proofs.Common.{ℕ, List, [], ◌∷◌, ◌++◌, take, Some, None, refl}
 use Rattle.std.specs.Prelude.{replicate}
 use Rattle.lldp_pdu.specs.Frame.{is_lldp_frame, lldpdu_of}

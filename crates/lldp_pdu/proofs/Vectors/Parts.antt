@@ -1,4 +1,4 @@
--- Properties of octets that the test vectors state.
+-- Definitions for the test vectors.
 use Rattle.std.proofs.Common.{◌≡◌, ℕ, List, [], ◌∷◌, map, take, Option, Some, None}
 use Rattle.lldp_pdu.specs.declared.fault.BuildFault.{BuildFault}
 use Rattle.lldp_pdu.specs.Tlv.{TlvUnit}
@@ -34,7 +34,7 @@ Tells octets msap ttl extent kept discarded unrecognized =
       unrecognized = unrecognized;
     })
 
--- a draft that was just begun
+-- a draft to which no TLV was added yet
 abbrev pub begun : MsapId → ℕ → Draft
 begun msap ttl = record { msap = msap; ttl = ttl; tlvs = [] }
 
@@ -43,17 +43,17 @@ abbrev pub answer : Option BuildFault → ℕ
 answer None = 0
 answer (Some fault) = build_fault_number fault
 
--- the draft after a TLV was put with this answer
+-- the draft after `put`: with the TLV if there was no fault, and otherwise unchanged
 abbrev pub behind : Draft → TlvUnit → Option BuildFault → Draft
 behind draft u None = with_tlv draft u
 behind draft u (Some fault) = draft
 
--- the answers if these TLVs are put one after another
+-- the fault number, or 0, of each TLV when `put` is called with one after another
 abbrev pub answers : Draft → List TlvUnit → List ℕ
 answers draft [] = []
 answers draft (u ∷ us) = answer (put_fault draft u) ∷ answers (behind draft u (put_fault draft u)) us
 
--- the draft after these TLVs were put
+-- the draft after `put` was called with each of these TLVs
 abbrev pub given : Draft → List TlvUnit → Draft
 given draft [] = draft
 given draft (u ∷ us) = given (behind draft u (put_fault draft u)) us

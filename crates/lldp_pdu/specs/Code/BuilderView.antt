@@ -10,14 +10,14 @@ use Rattle.lldp_pdu.specs.Kept.{is_kept, IsKeptTlv}
 use Rattle.lldp_pdu.specs.Draft.{Draft, all_tlvs, was_put}
 use Rattle.lldp_pdu.specs.Code.Seen.{Flags}
 
--- the draft that octets spell
+-- the draft that the octets encode
 unfoldable pub draft_of : List ℕ → Draft
 draft_of octets = record { msap = msap_of octets; ttl = ttl_of octets; tlvs = drop 3 (cut octets).tlvs }
 
 abbrev pub draft_view : Inside → Draft
 draft_view b = draft_of b.octets.items
 
--- each TLV is kept, given the TLVs before it
+-- each TLV of the second list is kept, given the TLVs before it
 abbrev pub AllKept : List TlvUnit → List TlvUnit → Type 0
 AllKept earlier [] = Unit {0}
 AllKept earlier (u ∷ us) = (is_kept earlier u ≡ true) × AllKept (u ∷ earlier) us
@@ -29,8 +29,8 @@ pub record IsDraft (d : Draft) : Type 0 where
   pub tlvs : AllByRecursion IsKeptTlv d.tlvs
   pub kept : AllKept [] d.tlvs
 
--- The octets spell a draft and leave room for the End Of LLDPDU. `met` has the flags of the types
--- that were put, and `lives` is set if the TTL is above 0.
+-- The octets encode a draft and leave room for the End Of LLDPDU. `met` has the flags of the types
+-- that were put, and `lives` is true exactly if the TTL is above 0.
 pub record Builds (octets : List ℕ) (met : List Bool) (lives : Bool) : Type 0 where
   pub spelled : octets ≡ spellings (all_tlvs (draft_of octets))
   pub draft : IsDraft (draft_of octets)

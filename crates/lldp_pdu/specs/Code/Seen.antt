@@ -1,5 +1,5 @@
--- The flags for the types that count once, from Port Description to System Capabilities. A flag is
--- set once a well-formed TLV of its type has occurred.
+-- One flag for each type from Port Description to System Capabilities. A flag is set after the
+-- first well-formed TLV of its type, and later TLVs of that type are not kept.
 use Rattle.std.specs.Prelude.{◌≡◌, ℕ, ◌-◌, ◌≤◌, Bool, true, false, not, ◌&&◌, List, [], ◌∷◌, length, slice_index_or, slice_set, if◌then◌else◌}
 use Rattle.lldp_pdu.specs.Tlv.{TlvUnit}
 use Rattle.lldp_pdu.specs.TlvType.{port_description_type, system_capabilities_type}
@@ -9,7 +9,7 @@ use Rattle.lldp_pdu.specs.Kept.{is_single}
 abbrev pub none_seen : List Bool
 none_seen = false ∷ false ∷ false ∷ false ∷ []
 
--- there are four flags, and a type's flag is set exactly if the type is met
+-- there are four flags, and the flag of a type is set exactly if `is_met` is true for the type
 pub record Flags (seen : List Bool) (is_met : ℕ → Bool) : Type 0 where
   pub four : length seen ≡ 4
   pub set : (kind : ℕ) → port_description_type ≤ kind → kind ≤ system_capabilities_type →
@@ -19,15 +19,15 @@ pub record Flags (seen : List Bool) (is_met : ℕ → Bool) : Type 0 where
 unfoldable pub has_flag : List Bool → ℕ → Bool
 has_flag seen kind = is_single kind && slice_index_or seen (kind - port_description_type) false
 
--- the flags, with that of this type set
+-- the flags after setting that of this type, if it has one
 unfoldable pub with_flag : List Bool → ℕ → List Bool
 with_flag seen kind = if is_single kind then slice_set seen (kind - port_description_type) true else seen
 
--- true if the next TLV is kept
+-- true if the next TLV, u, is kept
 abbrev pub is_kept_seen : List Bool → TlvUnit → Bool
 is_kept_seen seen u = is_well_formed u && not (has_flag seen u.kind)
 
--- the flags after the next TLV
+-- the flags after the next TLV, u
 abbrev pub seen_after : List Bool → TlvUnit → List Bool
 seen_after seen u = if is_well_formed u then with_flag seen u.kind else seen
 

@@ -11,8 +11,8 @@ use Rattle.lldp_pdu.specs.Kept.{count_unrecognized}
 use Rattle.lldp_pdu.specs.Fault.{is_mandatory, fault_of}
 use Rattle.lldp_pdu.specs.Code.Seen.{none_seen, is_kept_seen, seen_after, kept_seen}
 
--- The octets begin with mandatory TLVs that are sound and have this MSAP identifier and this TTL,
--- and `after` follows these TLVs.
+-- The octets begin with the three mandatory TLVs, which are valid and have this MSAP identifier and
+-- this TTL. `after` is the octets after these TLVs.
 pub record OpensWith (octets : List ℕ) (msap : MsapId) (ttl : ℕ) (after : List ℕ) : Type 0 where
   pub body : List ℕ
   pub seconds_are : seconds body ≡ ttl
@@ -33,7 +33,8 @@ abbrev pub count_lost : List Bool → List TlvUnit → ℕ
 count_lost seen [] = 0
 count_lost seen (u ∷ us) = (if is_kept_seen seen u then 0 else 1) + count_lost (seen_after seen u) us
 
--- the TLVs found in the octets after the mandatory ones, and how many are discarded or unrecognized
+-- The octets `found` encode the TLVs before the End Of LLDPDU. `lost` is the number of discarded
+-- TLVs, and `unknown` is the number of unrecognized ones.
 pub record IsSurveyOf (after found : List ℕ) (lost unknown : ℕ) : Type 0 where
   pub octets : found ≡ spellings (before_end (cut after).tlvs)
   pub discarded : lost ≡ count_lost none_seen (before_end (cut after).tlvs) + (if ended_incomplete after then 1 else 0)

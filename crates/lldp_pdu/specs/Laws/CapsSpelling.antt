@@ -1,4 +1,4 @@
--- How System Capabilities are spelled (IEEE 802.1AB-2009, 8.5.8).
+-- The encoding of System Capabilities (IEEE 802.1AB-2009, 8.5.8).
 use Rattle.std.specs.Prelude.{◌≡◌, ℕ, ◌<◌, ◌^◌, List, ◌++◌}
 use Rattle.std.specs.Int.{w16, to_be_bytes, bit_at}
 use Rattle.lldp_pdu.specs.declared.fields.Caps.{Caps}

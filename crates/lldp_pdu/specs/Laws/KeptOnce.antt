@@ -13,18 +13,18 @@ pub record IsFirst (earlier : List TlvUnit) (u : TlvUnit) : Type 0 where
   pub once : 4 ≤ u.kind → u.kind ≤ 7 →
       AllByRecursion (λ (e : TlvUnit). ¬ ((e.kind ≡ u.kind) × (is_well_formed e ≡ true))) earlier
 
--- With `earlier` before it, the TLV `u` is kept exactly if `IsFirst` holds. `us` come after it.
+-- After the TLVs `earlier` and before `us`, the TLV `u` is kept exactly if `IsFirst` holds.
 pub record AreKeptOnce (earlier : List TlvUnit) (u : TlvUnit) (us : List TlvUnit) : Type 0 where
   pub none : kept_after earlier [] ≡ []
   pub kept : IsFirst earlier u → kept_after earlier (u ∷ us) ≡ u ∷ kept_after (u ∷ earlier) us
   pub left : ¬ (IsFirst earlier u) → kept_after earlier (u ∷ us) ≡ kept_after (u ∷ earlier) us
 
--- No TLV of the cut is an End Of LLDPDU, and octets are left after its TLVs.
+-- No complete TLV is an End Of LLDPDU, and octets are left after the last complete TLV.
 pub record EndIncomplete (octets : List ℕ) : Type 0 where
   pub no_end : AllByRecursion (λ (u : TlvUnit). u.kind ≢ 0) (cut octets).tlvs
   pub rest : 0 < length (cut octets).rest
 
--- Each later TLV is kept or discarded. One more is discarded exactly if `EndIncomplete` holds.
+-- Each later TLV is kept or discarded. An incomplete TLV (`EndIncomplete`) is discarded too.
 pub record AreCounted (octets : List ℕ) : Type 0 where
   pub kept : kept_of octets ≡ kept_after [] (later_tlvs octets)
   pub incomplete : EndIncomplete octets → discarded_of octets + length (kept_of octets) ≡ length (later_tlvs octets) + 1

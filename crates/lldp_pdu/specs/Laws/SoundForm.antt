@@ -1,4 +1,4 @@
--- The form of a sound LLDPDU, and the faults of the others (IEEE 802.1AB-2009, 8.2 and 9.2.7.7).
+-- The form of a sound LLDPDU, and the faults of all others (IEEE 802.1AB-2009, 8.2 and 9.2.7.7).
 use Rattle.std.specs.Prelude.{◌≡◌, ℕ, ◌<◌, ◌≤◌, ◌⊎◌, List, [], ◌∷◌, length, Some}
 use Rattle.std.specs.List.{AllByRecursion}
 use Rattle.lldp_pdu.specs.declared.fault.PduFault.TheVariants.{Truncated, NoChassis, ChassisLength, NoPort, PortLength, NoTtl, TtlLength, Repeated}
@@ -15,8 +15,8 @@ of_kind kind body = record { kind = kind; body = body }
 abbrev pub AreOther : List TlvUnit → Type 0
 AreOther others = AllByRecursion (λ (u : TlvUnit). 4 ≤ u.kind) (before_end others)
 
--- The octets begin with a Chassis ID and a Port ID of 2 to 256 octets each and a Time To Live of 2
--- or more. Unless the TTL is 0, no other TLV before the End Of LLDPDU has one of these types.
+-- The octets begin with a Chassis ID and a Port ID of 2 to 256 octets and a Time To Live of 2 or
+-- more octets. Unless the TTL is 0, no other TLV before the End Of LLDPDU has one of these types.
 pub record IsSound (octets : List ℕ) : Type 0 where
   pub chassis : List ℕ
   pub port : List ℕ
@@ -34,7 +34,7 @@ pub record AreNamed (chassis port : List ℕ) : Type 0 where
   pub port_fits : IsIdentifier port
 
 -- The fault for each defect of the first three TLVs: missing, of another type, or of a wrong
--- length. The first defect decides. If there is none, a repeated mandatory TLV is the fault.
+-- length. The first defect determines it. If there is none, a repeated mandatory TLV is the fault.
 pub record HasFaults (octets chassis port ttl : List ℕ) (u : TlvUnit) (us : List TlvUnit) : Type 0 where
   pub nothing : (cut octets).tlvs ≡ [] → fault_of octets ≡ Some Truncated
   pub no_chassis : (cut octets).tlvs ≡ u ∷ us → ¬ (u.kind ≡ 1) → fault_of octets ≡ Some NoChassis

@@ -1,4 +1,4 @@
--- A queue as slots and stored times: the effects of writing a time, of entering and of leaving.
+-- The effects on a queue of writing a time, adding a slot and removing a slot.
 use Rattle.std.proofs.Common.{◌≡◌, ℕ, zero, suc, ◌+◌, ◌-◌, ◌^◌, ◌<◌, ◌≤◌, ◌||◌, true, false, cond, nat_eq, nat_le, List, [], ◌∷◌, ◌++◌, length, take, drop, set, get_or, refl, inl, inr, ap, ◌∙◌, sym, subst, arith, map, length-take-le}
 use Rattle.std.specs.List.{list_any, AllByRecursion, IsDistinct, remove, insert}
 use Rattle.std.specs.List.Sorted.{IsPermutation}
@@ -23,14 +23,14 @@ module _ (times : List ℕ) where
   holds-dues slot [] = refl
   holds-dues slot (i ∷ is) = ap (λ b. b || holds slot (dues times is)) (nat_eq_sym i slot) ∙ ap (λ b. nat_eq slot i || b) (holds-dues slot is)
 
-  -- ## A write to one time
+  -- ## Writing the time of a slot
 
-  -- writing the time of a slot that is not in the queue changes nothing
+  -- writing the time of a slot that is not in the queue does not change the queue
   pub dues-other : (s g : ℕ) (slots : List ℕ) → AllByRecursion (λ i. nat_eq s i ≡ false) slots → dues (set times s g) slots ≡ dues times slots
   dues-other s g [] a = refl
   dues-other s g (i ∷ is) a = ap (λ n. due i n ∷ dues (set times s g) is) (get_or-set_other times s i g 0 (λ e. eqb-false s i a.0 (sym e))) ∙ ap (λ q. due i (get_or times i 0) ∷ q) (dues-other s g is a.1)
 
-  -- writing the time of the slot at place k replaces its difference
+  -- writing the time of the slot at place k replaces the gap of that slot
   dues-set : (s g : ℕ) (slots : List ℕ) (k : ℕ) → k < length slots → get_or slots k 0 ≡ s → IsDistinct nat_eq slots → s < length times → dues (set times s g) slots ≡ take k (dues times slots) ++ due s g ∷ drop (suc k) (dues times slots)
   dues-set s g [] k l e d h = absurd (omega arith)
   dues-set s g (i ∷ is) zero l e d h =
@@ -74,14 +74,14 @@ module _ (times : List ℕ) where
       pub raised : (n to : ℕ) → to ≡ n + gap → dues (set times s to) slots ≡ take k queue ++ add_first n (drop k queue)
       raised n to e = ap (λ m. dues (set times s m) slots) e ∙ dues-set s (n + gap) slots k l refl d h ∙ ap (λ q. take k queue ++ q) (sym (ap (add_first n) (drop-dues slots k l)))
 
-    -- ## Where a slot enters
+    -- ## The place where a slot is inserted
 
     module _ (slot left rest : ℕ) (p : enter slot left queue ≡ take k queue ++ enter slot rest (drop k queue)) where
-      -- a slot enters before one that expires later
+      -- a slot is inserted before a slot that expires later
       pub enters_here : k < length slots → rest < gap → enter slot left queue ≡ take k queue ++ put slot rest (drop k queue)
       enters_here l m = grind (arith, common_steps, lt-leb, drop-dues)
 
-      -- a slot enters after one that expires no later
+      -- a slot is inserted after a slot that does not expire later
       pub enters_behind : k < length slots → gap ≤ rest → enter slot left queue ≡ take (k + 1) queue ++ enter slot (rest - gap) (drop (k + 1) queue)
       enters_behind l m =
           let t : nat_le gap rest ≡ true = le-leb gap rest m in
@@ -94,7 +94,7 @@ module _ (times : List ℕ) where
           ∙ ap (λ q. q ++ enter slot (rest - gap) others) (sym (take-dues slots k l))
           ∙ ap (λ n. take n queue ++ enter slot (rest - gap) (drop n queue)) one
 
--- ## A slot that enters
+-- ## Inserting a slot
 
 map-insert : {X Y : Type 0} (f : X → Y) (xs : List X) (k : ℕ) (x : X) → map f (insert xs k x) ≡ insert (map f xs) k (f x)
 map-insert f xs k x = map-append f (take k xs) (x ∷ drop k xs) ∙ ap (λ ys. ys ++ f x ∷ map f (drop k xs)) (sym (take-map f k xs)) ∙ ap (λ ys. take k (map f xs) ++ f x ∷ ys) (sym (drop-map f k xs))
@@ -105,7 +105,7 @@ seam_take k xs ys e = ap (λ n. take n (xs ++ ys)) (sym e) ∙ take-append_seam 
 seam_drop : (k : ℕ) (xs ys : List Due) → length xs ≡ k → drop k (xs ++ ys) ≡ ys
 seam_drop k xs ys e = ap (λ n. drop n (xs ++ ys)) (sym e) ∙ drop-append_seam xs ys
 
--- `times'` already has the difference at place k reduced by `rest`
+-- in `times'`, the gap at place k is already reduced by `rest`
 pub entered : (times times' slots : List ℕ) (k slot rest : ℕ) → k ≤ length slots → length times' ≡ 128 → slot < 128 → list_any (nat_eq slot) slots ≡ false
     → dues times' slots ≡ take k (dues times slots) ++ less_first rest (drop k (dues times slots))
     → dues (set times' slot rest) (insert slots k slot) ≡ take k (dues times slots) ++ put slot rest (drop k (dues times slots))
@@ -120,7 +120,7 @@ entered times times' slots k slot rest l n w u e =
     ∙ ap (λ q. q ++ due slot rest ∷ drop k (take k queue ++ others)) (seam_take k (take k queue) others front)
     ∙ ap (λ q. take k queue ++ due slot rest ∷ q) (seam_drop k (take k queue) others front)
 
--- a slot that enters as the last one
+-- inserting a slot at the end
 pub entered_last : (times slots : List ℕ) (slot gap : ℕ) → length times ≡ 128 → slot < 128 → list_any (nat_eq slot) slots ≡ false
     → dues (set times slot gap) (slots ++ slot ∷ []) ≡ enter slot (total (dues times slots) + gap) (dues times slots)
 entered_last times slots slot gap n w u =
@@ -129,7 +129,7 @@ entered_last times slots slot gap n w u =
     ∙ ap (λ q. q ++ due slot gap ∷ []) (dues-other times slot gap slots (unheld (nat_eq slot) slots u))
     ∙ sym (enter-last slot (total (dues times slots) + gap) (dues times slots) gap refl)
 
--- ## A slot that leaves
+-- ## Removing a slot
 
 pub leaves_at : (times slots : List ℕ) (k slot : ℕ) → k < length slots → get_or slots k 0 ≡ slot → IsDistinct nat_eq slots
     → leave slot (dues times slots) ≡ take k (dues times slots) ++ add_first (get_or times slot 0) (drop (suc k) (dues times slots))
@@ -140,7 +140,7 @@ leaves_at times (i ∷ is) (suc k) slot l e d =
     cond-false (nat_eq i slot) (add_first (get_or times i 0) (dues times is)) (due i (get_or times i 0) ∷ leave slot (dues times is)) differs
     ∙ ap (λ q. due i (get_or times i 0) ∷ q) (leaves_at times is k slot (omega arith) e (IsDistinct-tail nat_eq i is d))
 
--- removing place k from a queue whose entries after it were replaced
+-- removing the entry at place k, if the entries after it were replaced by `others`
 without : (k : ℕ) (queue others : List Due) → k < length queue → remove (take (suc k) queue ++ others) k ≡ take k queue ++ others
 without k [] others l = absurd (omega arith)
 without zero (e ∷ queue) others l = refl
@@ -151,7 +151,7 @@ pub left_at : (times times' slots : List ℕ) (k slot gap : ℕ) → k < length 
     → dues times' (remove slots k) ≡ leave slot (dues times slots)
 left_at times times' slots k slot gap l e d g a = grind (arith, common_steps, length-dues, map-remove, without, leaves_at)
 
--- two adjacent differences add up to at most the sum of all
+-- two adjacent gaps add up to at most the sum of all gaps
 two_of_total : (queue : List Due) (k : ℕ) (d : Due) → suc k < length queue → (get_or queue k d).gap + (get_or queue (suc k) d).gap ≤ total queue
 two_of_total [] k d h = absurd (omega arith)
 two_of_total (e ∷ []) k d h = absurd (omega arith)
@@ -170,7 +170,7 @@ two_fit times slots k slot l e =
     let next : (get_or (dues times slots) (suc k) (due 0 0)).gap ≡ get_or times (get_or slots (k + 1) 0) 0 = gap_at times slots (suc k) (omega arith) ∙ ap (λ n. get_or times (get_or slots n 0) 0) one in
     omega (arith, two_of_total (dues times slots) k (due 0 0) (omega (arith, length-dues times slots, l)), first, next)
 
--- the ticks left of the last slot, if another slot leaves, and if the last slot itself leaves
+-- the remaining ticks of the last slot after another slot, or the last slot itself, was removed
 module _ (times slots : List ℕ) (k slot : ℕ) (l : k < length slots) (e : get_or slots k 0 ≡ slot) (d : IsDistinct nat_eq slots) where
   abbrev front : List Due
   front = take k (dues times slots)
@@ -241,14 +241,14 @@ pub queue_popped : (times slots : List ℕ) → IsQueue times slots → IsQueue 
 queue_popped times [] h = h
 queue_popped times (i ∷ is) h = grind (arith, common_steps, IsDistinct-tail, total-cons)
 
--- the ticks left of the last slot, after the first leaves with none left, and after a tick
+-- the sum of all gaps after a first slot with no ticks left was removed, and after a tick
 pub total_popped : (times slots : List ℕ) → is_spent (dues times slots) ≡ true → total (dues times (remove slots 0)) ≡ total (dues times slots)
 total_popped times slots e = grind (arith, common_steps, eqb-true, total-cons)
 
 pub total_passed : (times slots : List ℕ) → 0 < length slots → IsRunning (dues times slots) → total (less_first 1 (dues times slots)) + 1 ≡ total (dues times slots)
 total_passed times slots l r = grind (arith, common_steps, total-pass)
 
--- ## The loop that computes the ticks left of each slot
+-- ## The loop that computes the remaining ticks of each slot
 
 module _ (times slots : List ℕ) (h : IsQueue times slots) (k left : ℕ) (l : k < length slots) where
   abbrev here : ℕ
@@ -293,7 +293,7 @@ module _ (times slots : List ℕ) (h : IsQueue times slots) (k left : ℕ) (l : 
 pub some_there : (slots : List ℕ) → false ≡ nat_eq (length slots) 0 → 0 < length slots
 some_there slots h = let n = eqb-false (length slots) 0 (sym h) in omega (arith, n)
 
--- a property of every index in a list holds for one of them
+-- if P holds for every index in a list, it holds for `slot` if the list contains `slot`
 all_of : (P : ℕ → Type 0) (slot : ℕ) (is : List ℕ) → AllByRecursion P is → list_any (nat_eq slot) is ≡ true → P slot
 all_of P slot [] a h = cc
 all_of P slot (i ∷ is) a h =

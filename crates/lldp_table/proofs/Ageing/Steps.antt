@@ -1,4 +1,4 @@
--- Each operation on the queue changes the ticks left of its slots as intended.
+-- The effect of each queue operation on the remaining ticks of the slots.
 use Rattle.std.proofs.Common.{◌≡◌, ℕ, ◌+◌, ◌-◌, ◌<◌, ◌≤◌, true, false, ◌||◌, cond, nat_eq, nat_le, List, [], ◌∷◌, ◌++◌, refl, inl, inr, ap, ◌∙◌, sym, arith, max, subst}
 use Rattle.std.proofs.lemmas.List.Sums.{sum_by-cons}
 use Rattle.std.proofs.lemmas.Bool.{cases_Bool, le-leb, leb-true, leb-false, or_parts, cond-true, cond-false, eqb-true, eqb-false, eq-eqb, ne_eqb}
@@ -7,9 +7,9 @@ use Rattle.std.proofs.lemmas.Grind.{common_steps}
 use Rattle.std.specs.List.Sorted.{IsPermutation}
 use Rattle.std.proofs.lemmas.List.Sorted.{IsPermutation-refl, IsPermutation-cons, IsPermutation-trans, IsPermutation-append_comm, IsPermutation-append_left}
 
--- ## The ticks left of one slot, by whether it is the first
+-- ## The remaining ticks of the first slot, and of any other slot
 
--- the first slot has its difference left; any other slot has the differences up to its own
+-- the first slot's remaining ticks are its gap; for any other slot, add the gaps up to its own
 pub at_first : (e : Due) (queue : List Due) (slot : ℕ) → nat_eq e.slot slot ≡ true → ticks_left (e ∷ queue) slot ≡ e.gap
 at_first e queue slot t = cond-true (nat_eq e.slot slot) e.gap (e.gap + ticks_left queue slot) t
 
@@ -19,9 +19,9 @@ behind e queue slot f = cond-false (nat_eq e.slot slot) e.gap (e.gap + ticks_lef
 holds_behind : (e : Due) (queue : List Due) (slot : ℕ) → nat_eq e.slot slot ≡ false → holds slot (e ∷ queue) ≡ true → holds slot queue ≡ true
 holds_behind e queue slot f h = ap (λ b. b || holds slot queue) (sym f) ∙ h
 
--- ## Entering
+-- ## Inserting a slot
 
--- a slot that enters has the ticks left that were given
+-- an inserted slot has the given number of ticks left
 pub left-enter_same : (slot left : ℕ) (queue : List Due) → holds slot queue ≡ false → ticks_left (enter slot left queue) slot ≡ left
 left-enter_same slot left [] h = at_first (due slot left) [] slot (eq-eqb slot slot refl)
 left-enter_same slot left (e ∷ queue) h =
@@ -37,11 +37,11 @@ left-enter_same slot left (e ∷ queue) h =
 same_front : (e : Due) (queue before : List Due) (slot : ℕ) → (nat_eq e.slot slot ≡ false → ticks_left queue slot ≡ ticks_left before slot) → ticks_left (e ∷ queue) slot ≡ ticks_left (e ∷ before) slot
 same_front e queue before slot h = grind (arith, common_steps, cases_Bool, at_first, behind)
 
--- splitting a difference in two leaves the ticks left of the other slots as they were
+-- splitting a gap in two does not change the remaining ticks of the other slots
 cut : (slot left other : ℕ) (e : Due) (queue : List Due) → left ≤ e.gap → nat_eq slot other ≡ false → ticks_left ((due slot left) ∷ (due e.slot (e.gap - left)) ∷ queue) other ≡ ticks_left (e ∷ queue) other
 cut slot left other e queue l d = grind (arith, common_steps, cases_Bool, at_first, behind)
 
--- if a slot enters, the others keep their ticks left
+-- inserting a slot does not change the remaining ticks of the others
 pub left-enter_other : (slot left other : ℕ) (queue : List Due) → nat_eq slot other ≡ false → holds other queue ≡ true → ticks_left (enter slot left queue) other ≡ ticks_left queue other
 left-enter_other slot left other [] d h = cc
 left-enter_other slot left other (e ∷ queue) d h =
@@ -54,12 +54,12 @@ left-enter_other slot left other (e ∷ queue) d h =
           ap (λ b. ticks_left (cond b (e ∷ enter slot (left - e.gap) queue) ((due slot left) ∷ (due e.slot (e.gap - left)) ∷ queue)) other) f ∙ cut slot left other e queue l d
     ]
 
--- ## Leaving
+-- ## Removing a slot
 
 left-add_first : (n slot : ℕ) (queue : List Due) → holds slot queue ≡ true → ticks_left (add_first n queue) slot ≡ n + ticks_left queue slot
 left-add_first n slot queue h = grind (arith, common_steps, cases_Bool, at_first, behind)
 
--- if a slot leaves, the others keep their ticks left
+-- removing a slot does not change the remaining ticks of the others
 pub left-leave : (slot other : ℕ) (queue : List Due) → nat_eq slot other ≡ false → holds other queue ≡ true → ticks_left (leave slot queue) other ≡ ticks_left queue other
 left-leave slot other [] d h = cc
 left-leave slot other (e ∷ queue) d h =
@@ -77,22 +77,22 @@ left-leave slot other (e ∷ queue) d h =
 pub running_first : (e : Due) (queue : List Due) → IsRunning (e ∷ queue) → 0 < e.gap
 running_first e queue r = let n = eqb-false e.gap 0 r in omega (arith, n)
 
--- a tick subtracts one from the ticks left of each slot
+-- a tick subtracts one from the remaining ticks of each slot
 pub left-pass : (slot : ℕ) (queue : List Due) → IsRunning queue → holds slot queue ≡ true → ticks_left (less_first 1 queue) slot ≡ ticks_left queue slot - 1
 left-pass slot queue r h = grind (arith, common_steps, cases_Bool, at_first, behind, running_first)
 
--- every slot has ticks left if the first has
+-- if the first slot has ticks left, every other slot does too
 pub left-positive : (slot : ℕ) (queue : List Due) → IsRunning queue → holds slot queue ≡ true → 0 < ticks_left queue slot
 left-positive slot queue r h = grind (arith, common_steps, running_first, cases_Bool, at_first, behind)
 
--- a first slot with none left, and the others, which do not change without it
+-- a first slot with gap 0 has no ticks left, and the others have as many as they would without it
 pub left-front_same : (slot : ℕ) (queue : List Due) → ticks_left ((due slot 0) ∷ queue) slot ≡ 0
 left-front_same slot queue = at_first (due slot 0) queue slot (eq-eqb slot slot refl)
 
 pub left-front_other : (slot other : ℕ) (queue : List Due) → nat_eq slot other ≡ false → ticks_left ((due slot 0) ∷ queue) other ≡ ticks_left queue other
 left-front_other slot other queue d = behind (due slot 0) queue other d ∙ omega arith
 
--- ## The sum of the differences
+-- ## The sum of the gaps
 
 pub total-cons : (e : Due) (queue : List Due) → total (e ∷ queue) ≡ e.gap + total queue
 total-cons e queue = sum_by-cons (λ (d : Due). d.gap) e queue
@@ -112,15 +112,15 @@ pub total-append : (queue others : List Due) → total (queue ++ others) ≡ tot
 total-append [] others = omega arith
 total-append (e ∷ queue) others = omega (arith, total-cons e (queue ++ others), total-cons e queue, total-append queue others)
 
--- adding to the first difference adds as much to the sum
+-- adding n to the first gap adds n to the sum
 pub total-added : (n : ℕ) (e : Due) (queue : List Due) → total (add_first n (e ∷ queue)) ≡ n + total (e ∷ queue)
 total-added n e queue = omega (arith, total-cons e queue, total-cons (due e.slot (n + e.gap)) queue)
 
--- a tick subtracts one from the sum
+-- a tick subtracts one from the sum of the gaps
 pub total-pass : (e : Due) (queue : List Due) → IsRunning (e ∷ queue) → total (less_first 1 (e ∷ queue)) + 1 ≡ total (e ∷ queue)
 total-pass e queue r = omega (arith, running_first e queue r, total-cons e queue, total-cons (due e.slot (e.gap - 1)) queue)
 
--- a slot that expires no earlier than the last enters at the end
+-- a slot that does not expire before the last one is inserted at the end
 pub enter-last : (slot left : ℕ) (queue : List Due) (gap : ℕ) → left ≡ total queue + gap → enter slot left queue ≡ queue ++ due slot gap ∷ []
 enter-last slot left [] gap e = ap (λ n. due slot n ∷ []) (omega arith)
 enter-last slot left (d ∷ queue) gap e =
@@ -128,16 +128,16 @@ enter-last slot left (d ∷ queue) gap e =
     let t : nat_le d.gap left ≡ true = le-leb d.gap left (omega arith) in
     rw t (ap (λ q. d ∷ q) (enter-last slot (left - d.gap) queue gap (omega arith)))
 
--- ## The slots of a queue, and that its first slot has ticks left
+-- ## Which slots are in the queue, and whether the first slot has ticks left
 
--- the first two elements, swapped
+-- swapping the first two elements of a list gives a permutation of it
 first_two : (a b : ℕ) (rest : List ℕ) → IsPermutation (a ∷ b ∷ rest) (b ∷ a ∷ rest)
 first_two a b rest = IsPermutation-append_left rest (a ∷ b ∷ []) (b ∷ a ∷ []) (IsPermutation-append_comm (a ∷ []) (b ∷ []))
 
 pub slots-less_first : (n : ℕ) (queue : List Due) → slots_of (less_first n queue) ≡ slots_of queue
 slots-less_first n queue = grind (arith, common_steps)
 
--- entering adds one slot
+-- inserting a slot adds exactly this slot
 pub slots-enter : (slot left : ℕ) (queue : List Due) → IsPermutation (slot ∷ slots_of queue) (slots_of (enter slot left queue))
 slots-enter slot left [] = IsPermutation-refl (slot ∷ [])
 slots-enter slot left (e ∷ queue) =
@@ -150,7 +150,7 @@ slots-enter slot left (e ∷ queue) =
 slots-add_first : (n : ℕ) (queue : List Due) → slots_of (add_first n queue) ≡ slots_of queue
 slots-add_first n queue = grind (arith, common_steps)
 
--- leaving removes one slot
+-- removing a slot removes exactly this slot
 pub slots-leave : (slot : ℕ) (queue : List Due) → holds slot queue ≡ true → IsPermutation (slots_of queue) (slot ∷ slots_of (leave slot queue))
 slots-leave slot [] h = cc
 slots-leave slot (e ∷ queue) h =

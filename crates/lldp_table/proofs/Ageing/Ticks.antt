@@ -1,5 +1,5 @@
--- A tick on the queue ages the neighbors as the definition says: the invariant of the loop that
--- removes expired slots from the queue and from the order, one by one.
+-- The loop of `age_out`, which removes expired slots from the queue and the order one by one, has
+-- the effect on the neighbors that the definition of a tick states.
 use Rattle.std.proofs.Common.{◌≡◌, ℕ, zero, suc, ◌-◌, ◌<◌, ◌≤◌, Bool, true, false, cond, nat_eq, nat_lt, List, [], ◌∷◌, ◌++◌, length, take, get_or, refl, ap, ◌∙◌, sym, subst, arith, map, length-take-le}
 use Rattle.std.specs.List.{list_any, filter, filter_map, cons_option, AllByRecursion, IsDistinct, remove}
 use Rattle.std.specs.List.Sorted.{IsPermutation}
@@ -29,32 +29,32 @@ lives x = nat_lt 0 x.left
 living_one : (x : Neighbor) (xs : List Neighbor) → cond (lives (older x)) (older x ∷ xs) xs ≡ cons_option (aged x) xs
 living_one x xs = grind (arith, common_steps, cases_Bool, ltb-true, cond-true, lt-ltb, ltb-false, cond-false, le-ltb)
 
--- subtracting one from each and dropping those with none left is ageing
+-- ageing subtracts one tick from each neighbor and drops those with none left
 living-older : (xs : List Neighbor) → filter lives (map older xs) ≡ filter_map aged xs
 living-older [] = refl
 living-older (x ∷ xs) = ap (λ ys. cond (lives (older x)) (older x ∷ ys) ys) (living-older xs) ∙ living_one x (filter_map aged xs)
 
--- ## The neighbors in slots
+-- ## The neighbors in the slots
 
 module _ (slots : List Stored) where
-  -- the neighbors in these slots, with the ticks left that the queue gives
+  -- the neighbors in these slots, with their remaining ticks according to the queue
   abbrev in_queue : List Due → List ℕ → List Neighbor
   in_queue queue indices = neighbors_at slots (ticks_left queue) indices
 
   abbrev with_left : ℕ → ℕ → Neighbor
   with_left i n = neighbor_of (get_or slots i blank) n
 
-  -- subtracting one from the first difference subtracts one tick from every neighbor
+  -- subtracting one from the first gap subtracts one tick from every neighbor
   neighbors-pass : (queue : List Due) → IsRunning queue → (order : List ℕ) → AllByRecursion (λ i. holds i queue ≡ true) order → in_queue (less_first 1 queue) order ≡ map older (in_queue queue order)
   neighbors-pass queue r [] a = refl
   neighbors-pass queue r (i ∷ order) a = grind (arith, common_steps, left-pass, neighbors-pass queue r order a.1)
 
-  -- removing a first slot with none left does not change the others
+  -- removing a first slot that has no ticks left does not change the other neighbors
   others_same : (slot : ℕ) (queue : List Due) (order : List ℕ) → AllByRecursion (λ i. nat_eq slot i ≡ false) order → in_queue (due slot 0 ∷ queue) order ≡ in_queue queue order
   others_same slot queue [] a = refl
   others_same slot queue (i ∷ order) a = grind (arith, common_steps, left-front_other, others_same slot queue order a.1)
 
-  -- removing it from the queue and from the order leaves the same living neighbors
+  -- removing that slot from the queue and the order leaves the same living neighbors
   living-expired : (slot : ℕ) (queue : List Due) (order : List ℕ) (at : ℕ) → at < length order → get_or order at 0 ≡ slot → IsDistinct nat_eq order → filter lives (in_queue (due slot 0 ∷ queue) order) ≡ filter lives (in_queue queue (remove order at))
   living-expired slot queue [] at h e u = absurd (omega arith)
   living-expired slot queue (i ∷ order) zero h e u =
@@ -68,14 +68,14 @@ module _ (slots : List Stored) where
       ap (λ n. cond (nat_lt 0 n) (with_left i n ∷ filter lives rest) (filter lives rest)) (left-front_other slot i queue differs)
       ∙ ap (λ xs. cond (nat_lt 0 (ticks_left queue i)) (with_left i (ticks_left queue i) ∷ xs) xs) (living-expired slot queue order at (omega arith) e (IsDistinct-tail nat_eq i order u))
 
-  -- once the first slot has ticks left, all neighbors live
+  -- if the first slot has ticks left, all neighbors live
   all_live : (queue : List Due) → IsRunning queue → (order : List ℕ) → AllByRecursion (λ i. holds i queue ≡ true) order → filter lives (in_queue queue order) ≡ in_queue queue order
   all_live queue r [] a = refl
   all_live queue r (i ∷ order) a = grind (arith, common_steps, cond-true, lt-ltb, left-positive, all_live queue r order a.1)
 
 -- ## The loop
 
--- The neighbors in the first `kept` slots with ticks left are those that live after the tick.
+-- The loop invariant: the first `kept` slots hold all neighbors that live on after the tick.
 pub record IsAging (queue0 : List Due) (order0 : List ℕ) (used : ℕ) (queue : List Due) (order : List ℕ) (kept : ℕ) (spent : Bool) : Type 0 where
   pub fewer : kept ≤ used
   pub moved : IsPermutation order0 order
@@ -109,7 +109,7 @@ module _ (queue0 : List Due) (order0 : List ℕ) (used : ℕ) (timed : IsTimed q
     short : length (take kept order) ≡ kept
     short = length-take-le kept order (omega (arith, h.fewer, within, length_permutation order0 order h.moved))
 
-    -- a slot that was removed from the queue
+    -- one step of the loop: a slot with no ticks left is removed
     module _ (slot : ℕ) (queue' : List Due) (e : queue ≡ due slot 0 ∷ queue') where
       pub kept_some : 0 < kept
       kept_some = omega (arith, short, h.queued.count, ap length e)
@@ -139,7 +139,7 @@ module _ (queue0 : List Due) (order0 : List ℕ) (used : ℕ) (timed : IsTimed q
             told = s;
           }
 
-    -- no slot is left to remove
+    -- the end of the loop: no slot is left to remove
     module _ (done : spent ≡ false) where
       runs : IsRunning queue
       runs = sym h.told ∙ done

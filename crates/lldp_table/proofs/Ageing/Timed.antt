@@ -1,4 +1,4 @@
--- The queue has exactly the slots in use, after every change.
+-- After every change, the queue has exactly the slots in use.
 use Rattle.std.proofs.Common.{◌≡◌, ℕ, ◌||◌, true, false, nat_eq, List, [], ◌∷◌, length, refl, inl, inr, ap, ◌∙◌, sym, arith}
 use Rattle.std.specs.List.{list_any, AllByRecursion, IsDistinct}
 use Rattle.std.specs.List.Sorted.{IsPermutation}
@@ -17,7 +17,7 @@ holds-slots slot (e ∷ queue) = ap (λ b. b || holds slot queue) (nat_eq_sym e.
 slots_count : (queue : List Due) → length (slots_of queue) ≡ length queue
 slots_count queue = length-map queue (λ (e : Due). e.slot)
 
--- adding a slot to the queue and to the slots in use
+-- `IsQueued` still holds if a slot is added both to the queue and to the slots in use
 pub queued_more : (queue queue' : List Due) (s : ℕ) (used used' : List ℕ) → IsQueued queue used → list_any (nat_eq s) used ≡ false → IsPermutation (s ∷ used) used' → IsPermutation (s ∷ slots_of queue) (slots_of queue') → IsQueued queue' used'
 queued_more queue queue' s used used' h u p q = record {
   same = λ i.
@@ -27,7 +27,7 @@ queued_more queue queue' s used used' h u p q = record {
   distinct = distinct-moved (s ∷ slots_of queue) (slots_of queue') q (IsDistinct-cons nat_eq s (slots_of queue) (unheld (nat_eq s) (slots_of queue) (sym (holds-slots s queue) ∙ h.same s ∙ u)) h.distinct);
 }
 
--- two lists with the same members have the same members without s
+-- if two lists that begin with s have the same members, so do the lists without s
 same_others : (i s : ℕ) (xs ys : List ℕ) → IsDistinct nat_eq (s ∷ xs) → IsDistinct nat_eq (s ∷ ys) → list_any (nat_eq i) (s ∷ xs) ≡ list_any (nat_eq i) (s ∷ ys) → list_any (nat_eq i) xs ≡ list_any (nat_eq i) ys
 same_others i s xs ys u v e =
     elim (cases_Bool (nat_eq i s)) [
@@ -37,7 +37,7 @@ same_others i s xs ys u v e =
       | inr f ↦ ap (λ b. b || list_any (nat_eq i) xs) (sym f) ∙ e ∙ ap (λ b. b || list_any (nat_eq i) ys) f
     ]
 
--- removing a slot from the queue and from the slots in use
+-- `IsQueued` still holds if a slot is removed both from the queue and from the slots in use
 pub queued_less : (queue queue' : List Due) (s : ℕ) (used used' : List ℕ) → IsQueued queue used → IsDistinct nat_eq used → IsPermutation used (s ∷ used') → IsPermutation (slots_of queue) (s ∷ slots_of queue') → IsQueued queue' used'
 queued_less queue queue' s used used' h u p q =
     let first = distinct-moved (slots_of queue) (s ∷ slots_of queue') q h.distinct in
@@ -55,7 +55,7 @@ pub all_queued : (queue : List Due) (used : List ℕ) → IsQueued queue used �
 all_queued queue used h = all-weaker (λ i. list_any (nat_eq i) used ≡ true) (λ i. holds i queue ≡ true) (λ i w. h.same i ∙ w) used (all-with used)
 
 module _ (queue : List Due) (used : List ℕ) (h : IsQueued queue used) (s : ℕ) where
-  -- ## A slot that enters
+  -- ## Inserting a slot
 
   module _ (left : ℕ) (u : list_any (nat_eq s) used ≡ false) where
     unqueued : holds s queue ≡ false
@@ -70,7 +70,7 @@ module _ (queue : List Due) (used : List ℕ) (h : IsQueued queue used) (s : ℕ
     pub enter_others : AllByRecursion (λ i. nat_eq s i ≡ false → ticks_left (enter s left queue) i ≡ ticks_left queue i) used
     enter_others = all-weaker (λ i. holds i queue ≡ true) (λ i. nat_eq s i ≡ false → ticks_left (enter s left queue) i ≡ ticks_left queue i) (λ i w d. left-enter_other s left i queue d w) used (all_queued queue used h)
 
-  -- ## A slot that leaves
+  -- ## Removing a slot
 
   module _ (u : IsDistinct nat_eq used) (used' : List ℕ) (p : IsPermutation used (s ∷ used')) where
     pub holds_it : holds s queue ≡ true
@@ -85,7 +85,7 @@ module _ (queue : List Due) (used : List ℕ) (h : IsQueued queue used) (s : ℕ
     pub leave_others : AllByRecursion (λ i. nat_eq s i ≡ false → ticks_left (leave s queue) i ≡ ticks_left queue i) used
     leave_others = all-weaker (λ i. holds i queue ≡ true) (λ i. nat_eq s i ≡ false → ticks_left (leave s queue) i ≡ ticks_left queue i) (λ i w d. left-leave s i queue d w) used (all_queued queue used h)
 
-    -- if the slot leaves and enters again, the others keep their ticks left
+    -- removing a slot and inserting it again does not change the remaining ticks of the others
     pub again_others : (left : ℕ) → AllByRecursion (λ i. nat_eq s i ≡ false → ticks_left (enter s left (leave s queue)) i ≡ ticks_left queue i) used
     again_others left =
         all-weaker (λ i. holds i queue ≡ true) (λ i. nat_eq s i ≡ false → ticks_left (enter s left (leave s queue)) i ≡ ticks_left queue i)

@@ -1,4 +1,4 @@
--- What each call changes among the live neighbors, neighbor by neighbor.
+-- The effect of each call on the live neighbors, neighbor by neighbor.
 use Rattle.std.proofs.Common.{◌≡◌, ℕ, ◌-◌, ◌<◌, ◌↔◌, max, true, false, cond, ◌⊎◌, List, [], ◌∷◌, ◌++◌, Some, None, refl, inl, inr, ap, ◌∙◌, sym, arith}
 use Rattle.std.specs.List.{Contains, AllByRecursion}
 use Rattle.std.specs.Option.{option_and_then}
@@ -25,7 +25,7 @@ module _ (opened : ℕ) (calls : List Call) (x : Neighbor) where
   pub held_from_live : live x.msap (events_of opened calls) ≡ Some x → Contains (neighbors (events_of opened calls)) x
   held_from_live e = held_from_last_stored opened calls x (last_from_live (events_of opened calls) x e)
 
--- ## An MSAP identifier that is forgotten
+-- ## Forgetting an MSAP identifier
 
 not_same : (name : MsapId) (x : Neighbor) → ¬ (x.msap ≡ name) → same_msap name x.msap ≡ false
 not_same name x n = elim (cases_Bool (same_msap name x.msap)) [ inl t ↦ absurd (n (sym (same_msap-true name x.msap t))) | inr d ↦ d ]
@@ -49,7 +49,7 @@ module _ (past : List TableEvent) (x : Neighbor) where
   pub live_a_tick_later : 0 < x.left → live x.msap past ≡ Some (a_tick_before x) → live x.msap (ticked ∷ past) ≡ Some x
   live_a_tick_later l h = live-ticked x.msap past ∙ ap (option_and_then aged) h ∙ is_left x l
 
--- ## A stored frame
+-- ## Storing a frame
 
 module _ (past : List TableEvent) (name : MsapId) (ttl : ℕ) (octets : List ℕ) (answer : Learned) (x : Neighbor) where
   pub live_stored : 0 < ttl → is_stored answer ≡ true → live x.msap (learned name ttl octets answer ∷ past) ≡ Some x → (x ≡ just_stored name ttl octets) ⊎ ((live x.msap past ≡ Some x) × (¬ (x.msap ≡ name)))

@@ -23,7 +23,7 @@ use Rattle.std.proofs.lemmas.Grind.{common_steps}
 after-more : (n : ℕ) (last : Option TableEvent) → option_and_then (live_after (suc n)) last ≡ option_and_then aged (option_and_then (live_after n) last)
 after-more n last = grind (arith, common_steps, nat_tests)
 
--- a tick ages the live neighbor with an MSAP identifier
+-- a tick ages the live neighbor with this MSAP identifier
 pub live-ticked : (name : MsapId) (past : List TableEvent) → live name (ticked ∷ past) ≡ option_and_then aged (live name past)
 unfolding live
 live-ticked name past = after-more (ticks (since (decides_on name) past)) (find (decides_on name) past)
@@ -31,7 +31,7 @@ live-ticked name past = after-more (ticks (since (decides_on name) past)) (find 
 settled : (b : Bool) (event : TableEvent) (rest : List TableEvent) (last : Option TableEvent) → is_tick event ≡ false → option_and_then (live_after (ticks (cond b [] (event ∷ rest)))) (cond b (Some event) last) ≡ cond b (live_after 0 event) (option_and_then (live_after (ticks rest)) last)
 settled b event rest last h = grind (arith, common_steps)
 
--- any other event decides on the MSAP identifier, or changes nothing for it
+-- any other event either determines the neighbor with this MSAP identifier or leaves it unchanged
 pub live-other : (name : MsapId) (event : TableEvent) (past : List TableEvent) → is_tick event ≡ false → live name (event ∷ past) ≡ cond (decides_on name event) (live_after 0 event) (live name past)
 unfolding live
 live-other name event past h = settled (decides_on name event) event (since (decides_on name) past) (find (decides_on name) past) h
@@ -40,7 +40,7 @@ find_passes : (test : TableEvent → Bool) (events : List TableEvent) (event : T
 find_passes test [] event h = cc
 find_passes test (e ∷ past) event h = elim (cases_Bool (test e)) [ inl t ↦ grind arith | inr f ↦ find_passes test past event (grind arith) ]
 
--- the live neighbor with an MSAP identifier has that identifier
+-- `live` returns a neighbor that has the requested MSAP identifier
 pub live-named : (name : MsapId) (past : List TableEvent) (x : Neighbor) → live name past ≡ Some x → x.msap ≡ name
 unfolding live
 live-named name past x h = grind (arith, common_steps, option_and_then_some, cond_some, same_msap-true, find_passes)
@@ -129,7 +129,7 @@ neighbors-refreshed name ttl octets past t held =
     ∙ refreshes name other ttl octets (live other past) (λ e. ap (λ n. is_some (live n past)) (sym (same_msap-true name other e)) ∙ held) (live-named other past)) (arrivals past)
     ∙ filter_map-map (λ other. live other past) (refreshed name ttl octets) (arrivals past)
 
--- the other neighbors, if an MSAP identifier is new
+-- a new MSAP identifier does not change the other neighbors
 others : (name : MsapId) (new : Neighbor) (f : MsapId → Option Neighbor) → f name ≡ None → (names : List MsapId)
     → filter_map (λ other. cond (same_msap name other) (Some new) (f other)) (filter (λ other. not (same_msap name other)) names) ≡ filter_map f names
 others name new f h [] = refl
@@ -149,9 +149,9 @@ neighbors-new name ttl octets past t gone =
     ∙ ap (λ xs. xs ++ filter_map after (name ∷ [])) (others name (fresh name ttl octets) (λ other. live other past) gone (arrivals past))
     ∙ ap (λ b. neighbors past ++ cons_option (cond b (Some (fresh name ttl octets)) (live name past)) []) (same_msap-refl name)
 
--- ## Each live MSAP identifier has arrived
+-- ## Live MSAP identifiers are among the arrivals
 
--- every MSAP identifier that is live is among the arrivals
+-- every live MSAP identifier is among the arrivals
 abbrev pub Arrived : List TableEvent → Type 0
 Arrived past = (name : MsapId) → is_some (live name past) ≡ true → list_any (same_msap name) (arrivals past) ≡ true
 
@@ -235,9 +235,9 @@ pub too_many-dropped : (name : MsapId) (ttl : ℕ) (octets : List ℕ) (past : L
 unfolding too_many_left
 too_many-dropped name ttl octets past = omega arith
 
--- ## Answers
+-- ## The results of `learn`
 
--- the answer, given whether the neighbor is held and whether there is room
+-- the result of `learn`, given whether the neighbor is held and whether there is room
 abbrev pub answer_by : Bool → Bool → Learned
 answer_by held room = cond held Refreshed (cond room New Dropped)
 

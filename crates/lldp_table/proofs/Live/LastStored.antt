@@ -1,4 +1,4 @@
--- The live neighbors are the last stored frames that have not expired.
+-- The live neighbors are those whose last stored frame has not expired.
 use Rattle.std.proofs.Common.{◌+◌, ◌≡◌, ℕ, suc, ◌-◌, ◌<◌, Bool, true, false, ◌||◌, cond, nat_lt, List, [], ◌∷◌, ◌++◌, Option, Some, None, refl, inl, inr, ap, ◌∙◌, sym, subst, arith, is_none, length, count_by}
 use Rattle.std.specs.List.{find, filter_map, cons_option, list_any, AllByRecursion, Contains}
 use Rattle.std.specs.Option.{option_and_then}
@@ -50,7 +50,7 @@ parted test (e ∷ past) event h =
           }
     ]
 
--- the converse: a list that is split at a passing event, with no passing event in front of it
+-- the converse: `since` returns the part in front of a passing event if no event in it passes
 since-parted : (test : TableEvent → Bool) (later earlier : List TableEvent) (event : TableEvent) → AllByRecursion (λ e. test e ≡ false) later → test event ≡ true → since test (later ++ event ∷ earlier) ≡ later
 since-parted test [] earlier event a t = ap (λ b. cond b [] (event ∷ since test earlier)) t
 since-parted test (e ∷ later) earlier event a t = ap (λ b. cond b [] (e ∷ since test (later ++ event ∷ earlier))) a.0 ∙ ap (λ xs. e ∷ xs) (since-parted test later earlier event a.1 t)
@@ -90,7 +90,7 @@ module _ (events : List TableEvent) (x : Neighbor) where
   unfolding live
   live_from_last h = grind (arith, common_steps, and_from, same_msap-refl, find-parted, since-parted, cond-true, lt-ltb)
 
--- ## The neighbors are the live ones
+-- ## The listed neighbors are exactly the live ones
 
 module _ (f : MsapId → Option Neighbor) (named : (name : MsapId) (x : Neighbor) → f name ≡ Some x → x.msap ≡ name) where
   each-cons : (name : MsapId) (o : Option Neighbor) (xs : List Neighbor) → f name ≡ o → AllByRecursion (λ x. f x.msap ≡ Some x) xs → AllByRecursion (λ x. f x.msap ≡ Some x) (cons_option o xs)
@@ -128,7 +128,7 @@ held_from_last_stored opened calls x h = grind (arith, common_steps, live_from_l
 abbrev one_if : Bool → ℕ
 one_if b = cond b 1 0
 
--- the neighbors that age out and those that live on are all neighbors
+-- the number that age out plus the number that live on is the number of all neighbors
 aged_and_left : (gone : Neighbor → Bool) (xs : List Neighbor) → AllByRecursion (λ x. gone x ≡ is_none (aged x)) xs → count_by gone xs + length (filter_map aged xs) ≡ length xs
 aged_and_left gone [] a = refl
 aged_and_left gone (x ∷ xs) a = grind (arith, common_steps, sum_by-cons, aged_and_left gone xs a.1)

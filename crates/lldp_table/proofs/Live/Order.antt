@@ -1,4 +1,4 @@
--- The order of the neighbors, and the ticks left of the too-many timer.
+-- The order of the neighbors, and the remaining ticks of the too-many timer.
 use Rattle.std.proofs.Common.{◌≡◌, ℕ, suc, ◌+◌, ◌-◌, ◌<◌, ◌≤◌, Bool, true, false, not, List, [], ◌∷◌, ◌++◌, Option, Some, None, refl, inl, inr, ap, ◌∙◌, arith, max}
 use Rattle.std.specs.List.{filter, filter_map, cons_option, list_any, All, AllByRecursion, AllPairs}
 use Rattle.std.proofs.lemmas.Bool.{or_left, or_right, or_from, cases_lt, not-true}
@@ -16,7 +16,7 @@ use Rattle.std.proofs.lemmas.Grind.{common_steps}
 
 -- ## The order
 
--- as `IsNewBefore`, for MSAP identifiers
+-- like `IsNewBefore`, but for MSAP identifiers instead of neighbors
 record Before (events : List TableEvent) (one other : MsapId) : Type 0 where
   later : List TableEvent
   earlier : List TableEvent
@@ -35,7 +35,7 @@ Before-more event past one other f h = record {
   one_not_later = or_from (makes_new one event) (list_any (makes_new one) h.later) f h.one_not_later;
 }
 
--- each MSAP identifier that arrived was new
+-- each MSAP identifier among the arrivals was made new by some event
 all_new : (events : List TableEvent) → All (λ n. list_any (makes_new n) events ≡ true) (arrivals events)
 all_new [] = All-nil (λ n. false ≡ true)
 all_new (learned name ttl octets New ∷ past) =
@@ -45,7 +45,7 @@ all_new (learned name ttl octets New ∷ past) =
     (or_left (same_msap name name) (list_any (makes_new name) past) (same_msap-refl name))
 all_new (event ∷ past) = all_new past
 
--- the MSAP identifiers that arrived are in the order in which each was last new
+-- the arrivals are in the order in which each was last new
 in_order : (events : List TableEvent) → AllPairs (Before events) (arrivals events)
 in_order [] = λ i j d l m. absurd (omega arith)
 in_order (learned name ttl octets New ∷ past) =
@@ -114,7 +114,7 @@ drop_tick n left past h = record {
   counts = omega (arith, h.counts);
 }
 
--- the most ticks left are those of a dropped frame
+-- some dropped frame has exactly the maximum of the remaining ticks
 greatest_is : (n : ℕ) (events : List TableEvent) → 0 < most_left n (since is_purge events) → WasDropped events (n + most_left n (since is_purge events))
 greatest_is n [] l = absurd (omega arith)
 greatest_is n (learned name ttl octets Dropped ∷ past) l =
@@ -129,7 +129,7 @@ greatest_is n (purged ∷ past) l = absurd (omega arith)
 greatest_is n (ticked ∷ past) l = drop_tick n _ past (greatest_is (suc n) past l)
 greatest_is n (event ∷ past) l = drop_more event past _ refl (λ later. refl) (greatest_is n past l)
 
--- no dropped frame has more ticks left
+-- no dropped frame has more ticks left than the maximum
 none_greater : (n left : ℕ) (later earlier : List TableEvent) (name : MsapId) (ttl : ℕ) (octets : List ℕ) → AllByRecursion (λ event. is_purge event ≡ false) later → ticks later + n + left ≡ ttl → left ≤ most_left n (since is_purge (later ++ learned name ttl octets Dropped ∷ earlier))
 none_greater n left [] earlier name ttl octets u c = omega arith
 none_greater n left (learned other t o Dropped ∷ later) earlier name ttl octets u c = omega (arith, none_greater n left later earlier name ttl octets u.1 c)

@@ -1,4 +1,4 @@
--- The effects on the neighbors of writing one slot and of moving one index.
+-- How the neighbors change if one slot is written or one index is moved.
 use Rattle.std.proofs.Common.{◌≡◌, ℕ, suc, ◌+◌, ◌-◌, ◌<◌, ◌≤◌, ◌||◌, true, false, nat_eq, List, [], ◌∷◌, ◌++◌, length, take, set, get_or, Option, Some, None, option_map, MatchOption, refl, ap, ◌∙◌, sym, subst, arith, map, length-set, length-append, length-take-le}
 use Rattle.std.specs.List.{list_any, remove, slice_get, AllByRecursion}
 use Rattle.std.proofs.lemmas.Bool.{cases_Bool, eqb-true, eqb-false}
@@ -19,12 +19,12 @@ use Rattle.std.proofs.lemmas.Grind.{common_steps}
 
 -- ## Slots
 
--- After a write, slot s has the neighbor x, and the other slots in use keep their ticks left.
+-- After a write, slot s has the neighbor x, and the other slots in use keep their remaining ticks.
 pub record IsStored (used : List ℕ) (left : ℕ → ℕ) (s : ℕ) (slot : Stored) (left' : ℕ → ℕ) (x : Neighbor) : Type 0 where
   pub here : neighbor_of slot (left' s) ≡ x
   pub others : AllByRecursion (λ i. nat_eq s i ≡ false → left' i ≡ left i) used
 
--- a slot with a new frame has the neighbor that just arrived
+-- a slot with a newly stored frame has the `fresh` neighbor of that frame
 pub fresh_in : (slot : Stored) (name : MsapId) (ttl : ℕ) (octets : List ℕ) → slot.octets ≡ octets → slot.ttl ≡ ttl → IsExtent name ttl octets → neighbor_of slot ttl ≡ fresh name ttl octets
 fresh_in slot name ttl octets o t e = grind (arith, common_steps)
 
@@ -42,7 +42,7 @@ any-msap slots left name (i ∷ is) = ap (λ b. same_msap name (msap_at slots i)
 
 -- ## Tables
 
--- a table whose parts are in range and whose contents are sound is laid out (`IsLaidOut`)
+-- a table whose parts are in range and whose contents are sound satisfies `IsLaidOut`
 pub laid_out : {capacity : ℕ} {slots : List Stored} {left : ℕ → ℕ} {order : List ℕ} {used limit too_many : ℕ} {table : Contents} → IsOrder (length slots) order → length slots ≤ capacity → used ≤ length slots → used ≤ limit → contents_of capacity slots left order used limit too_many ≡ table → IsSound table → IsLaidOut capacity slots left order used limit too_many
 laid_out o w f h e s = record { indices = o; written = w; fits = f; held = h; sound = subst IsSound (sym e) s }
 
@@ -50,7 +50,7 @@ module _ {capacity : ℕ} {slots : List Stored} {left : ℕ → ℕ} {order : Li
   abbrev held : List Neighbor
   held = neighbors_at slots left (take used order)
 
-  -- the contents with these neighbors
+  -- the table's contents, but with these neighbors
   abbrev with_held : List Neighbor → Contents
   with_held xs = record { capacity = capacity; limit = limit; neighbors = xs; too_many_left = too_many }
 
@@ -100,7 +100,7 @@ module _ {capacity : ℕ} {slots : List Stored} {left : ℕ → ℕ} {order : Li
   name_at : (at : ℕ) → at < used → slice_get (names_of held) at ≡ Some (msap_there at)
   name_at at l = slice_get-map (λ (x : Neighbor). x.msap) held at ∙ ap (option_map (λ (x : Neighbor). x.msap)) (get_at at l)
 
-  -- what `place_of` finds among the slots in use
+  -- the result of `place_of` for the slots in use
   pub place_of_name : (name : MsapId) (found : Option ℕ) → MatchOption found (list_any (same_msap name) (map (msap_at slots) (take used order)) ≡ false) (λ at. (at < length (take used order)) × (same_msap name (msap_at slots (get_or (take used order) at 0)) ≡ true))
       → {table : Contents} → shown ≡ table → MatchOption found (holds_name table name ≡ false) (λ at. slice_get (names_of table.neighbors) at ≡ Some name)
   place_of_name name None e is = ap (λ (t : Contents). holds_name t name) (sym is) ∙ sym (any-msap slots left name (take used order)) ∙ e
@@ -135,7 +135,7 @@ module _ {capacity : ℕ} {slots : List Stored} {left : ℕ → ℕ} {order : Li
           laid_out (subst (λ n. IsOrder n order) (sym same) h.indices)
           (omega (arith, same, h.written)) (omega (arith, same, h.fits)) h.held after_refreshed (sound_refreshed shown name ttl octets t h.sound)
 
-    -- ### `learn` of a new MSAP identifier, into a free slot
+    -- ### `learn` stores a new MSAP identifier in a free slot
 
     module _ (none : list_any (is_named name) held ≡ false) (l : used < limit) (free : used < length slots) where
       pub short : used < length order
@@ -195,7 +195,7 @@ module _ {capacity : ℕ} {slots : List Stored} {left : ℕ → ℕ} {order : Li
 
   -- ### One more slot
 
-  -- the slots and the order with a free slot: if all slots are in use, one more is created
+  -- these slots and this order have a free slot and the same contents as before
   pub record HasFree (slots' : List Stored) (order' : List ℕ) : Type 0 where
     pub laid : IsLaidOut capacity slots' left order' used limit too_many
     pub same : contents_of capacity slots' left order' used limit too_many ≡ shown

@@ -51,7 +51,7 @@ module _ {capacity : ℕ} {slots : List Stored} {queue : List Due} {order : List
     pub is_in : holds s queue ≡ true
     is_in = holds_it queue in_use h.timed.queued s apart others parted
 
-    -- after the slot has left, the queue has the others
+    -- after slot s was removed, the queue has the other slots in use
     left_queued : IsQueued (leave s queue) others
     left_queued = queued_leave queue in_use h.timed.queued s apart others parted
 
@@ -87,7 +87,7 @@ module _ {capacity : ℕ} {slots : List Stored} {queue : List Due} {order : List
         pub refreshed_table : IsTable capacity (set slots (get_or read at 0) slot) queue' order used limit too_many
         refreshed_table = rw (q, r, k) (record { laid = laid_refreshed h.laid name ttl octets slot _ at l e stored_again t; timed = timed_again })
 
-    -- ## An MSAP identifier that is forgotten
+    -- ## Forgetting an MSAP identifier
 
     module _ (name : MsapId) {x : ℕ} (e : same_msap name (msap_at slots s) ≡ true) (i : x ≡ get_or order at x) where
       is_s : x ≡ s
@@ -159,7 +159,7 @@ module _ {capacity : ℕ} {slots : List Stored} {queue : List Due} {order : List
 
   -- ## Reading the neighbors
 
-  -- `times` has the ticks left of each slot in the queue
+  -- `times` has the remaining ticks of each slot in the queue
   module _ (times : List ℕ) (told : (i : ℕ) → holds i queue ≡ true → get_or times i 0 ≡ ticks_left queue i) where
     pub entries_shown : neighbors_at slots (slice_index times) (take used order) ≡ neighbors_at slots (ticks_left queue) (take used order)
     entries_shown =

@@ -45,15 +45,15 @@ unheld test (x ∷ xs) h = let p = or_parts (test x) (list_any test xs) h in (p.
 
 -- ## Neighbors by MSAP identifier
 
--- if all MSAP identifiers differ, only one neighbor has this one
+-- if all MSAP identifiers differ, only one neighbor has the identifier `name`
 module _ (name : MsapId) where
-  -- a neighbor before the one with this MSAP identifier has another one
+  -- the neighbors before the one with this MSAP identifier have different identifiers
   other_before : (x : Neighbor) (xs : List Neighbor) (k : ℕ) (d : Neighbor) → k < length xs → AllByRecursion (λ n. same_msap x.msap n ≡ false) (names_of xs) → is_named name (get_or xs k d) ≡ true → is_named name x ≡ false
   other_before x (y ∷ xs) zero d h a e = same_msap-sym name x.msap ∙ ap (same_msap x.msap) (same_msap-true name y.msap e) ∙ a.0
   other_before x (y ∷ xs) (suc k) d h a e = other_before x xs k d (omega arith) a.1 e
   other_before x [] k d h a e = absurd (omega arith)
 
-  -- the neighbors after the one with this MSAP identifier have others
+  -- the neighbors after the one with this MSAP identifier have different identifiers
   others_behind : (x : Neighbor) (xs : List Neighbor) → AllByRecursion (λ n. same_msap x.msap n ≡ false) (names_of xs) → is_named name x ≡ true → AllByRecursion (λ y. is_named name y ≡ false) xs
   others_behind x [] a e = tt
   others_behind x (y ∷ xs) a e = (ap (λ n. same_msap n y.msap) (same_msap-true name x.msap e) ∙ a.0, others_behind x xs a.1 e)
@@ -66,7 +66,7 @@ module _ (name : MsapId) where
   refreshed-unnamed ttl octets [] a = refl
   refreshed-unnamed ttl octets (x ∷ xs) a = ap (λ b. cond b (fresh name ttl octets) x ∷ map (refreshed name ttl octets) xs) a.0 ∙ ap (λ ys. x ∷ ys) (refreshed-unnamed ttl octets xs a.1)
 
-  -- an MSAP identifier at some place is held
+  -- if an MSAP identifier is at some place of the list, a neighbor has it
   pub held_there : (xs : List Neighbor) (at : ℕ) → slice_get (names_of xs) at ≡ Some name → list_any (is_named name) xs ≡ true
   held_there (x ∷ xs) zero e = let same : x.msap ≡ name = cc e in or_left (is_named name x) (list_any (is_named name) xs) (ap (same_msap name) same ∙ same_msap-refl name)
   held_there (x ∷ xs) (suc at) e = or_right (is_named name x) (list_any (is_named name) xs) (held_there xs at e)
@@ -86,7 +86,7 @@ module _ (name : MsapId) where
       ap (λ b. cond (not b) (x ∷ filter (λ x. not (is_named name x)) xs) (filter (λ x. not (is_named name x)) xs)) (other_before x xs k d (omega arith) (IsDistinct-head same_msap x.msap (names_of xs) u) e)
       ∙ ap (λ ys. x ∷ ys) (forgets_place xs k d (omega arith) e (IsDistinct-tail same_msap x.msap (names_of xs) u))
 
-  -- refreshing an MSAP identifier replaces its neighbor
+  -- refreshing an MSAP identifier replaces its neighbor and no other
   pub refreshes_place : (ttl : ℕ) (octets : List ℕ) (xs : List Neighbor) (k : ℕ) (d : Neighbor) → k < length xs → is_named name (get_or xs k d) ≡ true → IsDistinct same_msap (names_of xs) → map (refreshed name ttl octets) xs ≡ set xs k (fresh name ttl octets)
   refreshes_place ttl octets [] k d h e u = absurd (omega arith)
   refreshes_place ttl octets (x ∷ xs) zero d h e u =
@@ -106,7 +106,7 @@ module _ (f g : ℕ → Neighbor) where
   map-agree [] a = refl
   map-agree (i ∷ is) a = ap (λ x. x ∷ map g is) a.0 ∙ ap (λ xs. f i ∷ xs) (map-agree is a.1)
 
-  -- a change of the neighbor with the index at place k
+  -- if g and f differ only for the index at place k, the mapped lists differ only at that place
   pub map-at_place : (s : ℕ) (is : List ℕ) → AllByRecursion (λ i. nat_eq s i ≡ false → g i ≡ f i) is → (k : ℕ) → k < length is → get_or is k 0 ≡ s → IsDistinct nat_eq is → map g is ≡ set (map f is) k (g s)
   map-at_place s [] same k h e u = absurd (omega arith)
   map-at_place s (i ∷ is) same zero h e u =
@@ -131,7 +131,7 @@ not_behind (i ∷ is) (suc k) h u = not_behind is k (omega arith) (IsDistinct-ta
 pub map-remove : {X Y : Type 0} (f : X → Y) (xs : List X) (k : ℕ) → map f (remove xs k) ≡ remove (map f xs) k
 map-remove f xs k = map-append f (take k xs) (drop (suc k) xs) ∙ ap (λ ys. ys ++ map f (drop (suc k) xs)) (sym (take-map f k xs)) ∙ ap (λ ys. take k (map f xs) ++ ys) (sym (drop-map f (suc k) xs))
 
--- the first places of a list in which an index was moved to the end
+-- the first u places of a list after the index at place k was removed and x was appended
 pub take-moved : (is : List ℕ) (x k u : ℕ) → k < suc u → suc u ≤ length is → take u (remove is k ++ x ∷ []) ≡ remove (take (suc u) is) k
 take-moved [] x k u h l = absurd (omega arith)
 take-moved (i ∷ is) x zero u h l = take-append-le u is (x ∷ []) (omega arith)
@@ -144,7 +144,7 @@ distinct-take zero is u = tt
 distinct-take (suc n) [] u = tt
 distinct-take (suc n) (i ∷ is) u = (all-take (λ j. nat_eq i j ≡ false) n is u.0, distinct-take n is u.1)
 
--- ## Orders of all slots
+-- ## Orders, which have every slot exactly once
 
 pub distinct-moved : (order moved : List ℕ) → IsPermutation order moved → IsDistinct nat_eq order → IsDistinct nat_eq moved
 distinct-moved order moved p u = IsDistinct-IsPermutation nat_eq nat_eq_sym order moved p u
@@ -160,7 +160,7 @@ pub IsOrder-forgotten : (size : ℕ) (order : List ℕ) (k x : ℕ) → k < leng
 IsOrder-forgotten size order k x h e = IsOrder-moved size order (remove order k ++ x ∷ [])
     (IsPermutation-trans order (x ∷ remove order k) (remove order k ++ x ∷ []) (IsPermutation-remove order k x h e) (IsPermutation-append_comm (x ∷ []) (remove order k)))
 
--- a number is not among numbers that are all below it
+-- a number is not in a list of numbers that are all below it
 below_apart : (n : ℕ) (is : List ℕ) → AllByRecursion (λ i. i < n) is → list_any (nat_eq n) is ≡ false
 below_apart n [] a = refl
 below_apart n (i ∷ is) a = or_from (nat_eq n i) (list_any (nat_eq n) is) (ne_eqb n i (λ e. omega arith)) (below_apart n is a.1)
@@ -172,7 +172,7 @@ pub IsOrder-none : IsOrder 0 []
 unfolding IsDistinct
 IsOrder-none = record { all = refl; within = tt; distinct = tt }
 
--- ## One index removed
+-- ## Removing one index
 
 pub one-out : (is : List ℕ) (k : ℕ) → k < length is → IsPermutation is (get_or is k 0 ∷ remove is k)
 one-out is k h = IsPermutation-remove is k (get_or is k 0) h (get_or_default is k 0 (get_or is k 0) h)
@@ -183,7 +183,7 @@ all-out P is k h a = (recursion_from_All P (get_or is k 0 ∷ remove is k) (All-
 pub others-out : (is : List ℕ) (k : ℕ) → k < length is → IsDistinct nat_eq is → AllByRecursion (λ i. nat_eq (get_or is k 0) i ≡ false) (remove is k)
 others-out is k h u = IsDistinct-head nat_eq (get_or is k 0) (remove is k) (distinct-moved is (get_or is k 0 ∷ remove is k) (one-out is k h) u)
 
--- each element of a list is in it
+-- each element of a list is found in the list
 pub all-with : (is : List ℕ) → AllByRecursion (λ i. list_any (nat_eq i) is ≡ true) is
 all-with [] = tt
 all-with (i ∷ is) = (or_left (nat_eq i i) (list_any (nat_eq i) is) (eq-eqb i i refl), all-weaker (λ j. list_any (nat_eq j) is ≡ true) (λ j. list_any (nat_eq j) (i ∷ is) ≡ true) (λ j h. or_right (nat_eq j i) (list_any (nat_eq j) is) h) is (all-with is))

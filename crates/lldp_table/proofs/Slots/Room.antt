@@ -1,4 +1,4 @@
--- A room whose items were all replaced.
+-- Replacing all items of a room gives exactly the new items.
 use Rattle.std.proofs.Common.{◌≡◌, List, length, drop, take_at}
 use Rattle.lldp_table.specs.Code.Room.{Reserved, with_items}
 

@@ -1,5 +1,5 @@
--- MSAP identifiers that differ in one octet have different tags. Mixing in an octet loses nothing:
--- the factor is odd, so it has an inverse modulo 2 ^ 32.
+-- MSAP identifiers that differ in one octet have different tags. Mixing in an octet loses no
+-- information: the factor is odd, so it has an inverse modulo 2 ^ 32.
 use Rattle.std.proofs.Common.{◌≡◌, ℕ, ◌+◌, ◌*◌, ◌%◌, ◌^◌, ◌<◌, List, [], ◌∷◌, ◌++◌, refl, ap, ◌∙◌, sym, arith, lit<, mod-lt, mod-eq_of_lt}
 use Rattle.std.proofs.Math.Nat.{add-mul-mod_self_right}
 use Rattle.std.proofs.lemmas.Nat.{mul-mod_first}
@@ -21,7 +21,7 @@ mixed-append : (tag : ℕ) (front back : List ℕ) → mixed tag (front ++ back)
 mixed-append tag [] back = refl
 mixed-append tag (octet ∷ front) back = mixed-append ((tag * 16777619 % 2 ^ 32 + octet) % 2 ^ 32) front back
 
--- the tag of an MSAP identifier, from all its octets
+-- the tag is a mix of all octets of the MSAP identifier, in order
 tag-mixed : (name : MsapId) (front back : List ℕ) (octet : ℕ) → name.chassis ++ name.port ≡ front ++ octet ∷ back → tag_of name ≡ mixed (mixed 0 front) (octet ∷ back)
 tag-mixed name front back octet e = sym (mixed-append 0 name.chassis name.port) ∙ ap (mixed 0) e ∙ mixed-append 0 front (octet ∷ back)
 

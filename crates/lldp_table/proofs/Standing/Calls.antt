@@ -1,4 +1,4 @@
--- After each call, a table that stood for a list of calls stands for the list with that call.
+-- If a table matches a list of calls, then after one more call it matches the list with that call.
 use Rattle.std.proofs.Common.{◌≡◌, ℕ, ◌<◌, ◌≤◌, List, [], ◌∷◌, refl, ap, sym, subst, is_some, arith}
 use Rattle.std.specs.List.{list_any}
 use Rattle.lldp_pdu.specs.Msap.{MsapId}
@@ -11,7 +11,7 @@ use Rattle.lldp_table.specs.declared.learned.Learned.TheVariants.{New, Refreshed
 use Rattle.lldp_table.proofs.Live.Events.{Arrived, Arrived-new, Arrived-refreshed, Arrived-dropped, Arrived-forgot, Arrived-purged, Arrived-ticked, Arrived-limit_set, neighbors-limit_set, has-live, answer_by, by_refreshed, by_new, neighbors-new, neighbors-refreshed, neighbors-dropped, neighbors-forgot, neighbors-purged, neighbors-ticked, too_many-dropped, too_many-ticked}
 use Rattle.std.proofs.lemmas.Grind.{common_steps}
 
--- ## Each live MSAP identifier has arrived
+-- ## Live MSAP identifiers are among the arrivals
 
 Arrived-learnt : (opened : ℕ) (name : MsapId) (ttl : ℕ) (octets : List ℕ) (past : List TableEvent) (a : Learned) → answer opened name past ≡ a → Arrived past → Arrived (learned name ttl octets a ∷ past)
 Arrived-learnt opened name ttl octets past New e h = Arrived-new name ttl octets past h
@@ -27,21 +27,21 @@ arrived opened (purge ∷ calls) = Arrived-purged (events_of opened calls)
 arrived opened (tick ∷ calls) = Arrived-ticked (events_of opened calls) (arrived opened calls)
 arrived opened (set_limit limit ∷ calls) = Arrived-limit_set limit (events_of opened calls) (arrived opened calls)
 
--- ## Answers
+-- ## The results of calls
 
--- the events of one more call
+-- the events after one more call
 pub events-more : (opened : ℕ) (call : Call) (calls : List Call) → events_of opened (call ∷ calls) ≡ event_of opened call (events_of opened calls) ∷ events_of opened calls
 unfolding events_of
 events-more opened call calls = refl
 
--- the limit and the neighbors of a table that stands for a list of calls
+-- the limit and the neighbors of a table that matches a list of calls
 pub stands_limit : (table : Contents) (opened : ℕ) (calls : List Call) → Stands opened calls table → table.limit ≡ limit_after opened (events_of opened calls)
 stands_limit table opened calls h = ap (λ (t : Contents). t.limit) h.is
 
 pub stands_neighbors : (table : Contents) (opened : ℕ) (calls : List Call) → Stands opened calls table → table.neighbors ≡ neighbors (events_of opened calls)
 stands_neighbors table opened calls h = ap (λ (t : Contents). t.neighbors) h.is
 
--- the list of calls that a table stands for decides what `learn` answers
+-- the list of calls that a table matches determines the result of `learn`
 answered : (opened : ℕ) (calls : List Call) (name : MsapId) → learn_answer (table_of opened calls) name ≡ answer opened name (events_of opened calls)
 answered opened calls name = grind (arith, common_steps, answer_by, has-live, arrived)
 
@@ -52,24 +52,24 @@ learn_answers table opened calls name h = rw h.is (answered opened calls name)
 pub held_is_live : (table : Contents) (opened : ℕ) (calls : List Call) (name : MsapId) → Stands opened calls table → list_any (is_named name) table.neighbors ≡ is_some (live name (events_of opened calls))
 held_is_live table opened calls name h = rw h.is (has-live (events_of opened calls) (arrived opened calls) name)
 
--- ## What each call leaves
+-- ## The table after each call
 
 -- the table after these events
 abbrev table_by : ℕ → List TableEvent → Contents
 table_by opened past = record { capacity = opened; limit = limit_after opened past; neighbors = neighbors past; too_many_left = too_many_left past }
 
--- the table after a call is the table that the list with the call leaves
+-- the table after a call is the table that the definitions give for the list with that call
 pub leaves : (opened : ℕ) (calls : List Call) (call : Call) → IsPossible (table_of opened calls) call → table_after (table_of opened calls) call ≡ table_of opened (call ∷ calls)
 unfolding events_of too_many_left
 leaves opened calls call t = grind (arith, common_steps, answered, neighbors-new, by_new, neighbors-refreshed, by_refreshed, neighbors-dropped, too_many-dropped, neighbors-forgot, neighbors-purged, neighbors-ticked, too_many-ticked, neighbors-limit_set)
 
--- ## Standing
+-- ## Matching a list of calls
 
 pub stands_open : (opened : ℕ) → 0 < opened → opened ≤ 128 → Stands opened [] (newly_opened opened)
 unfolding events_of neighbors too_many_left
 stands_open opened l m = record { least = l; most = m; allowed = tt; is = refl }
 
--- after a call, a table stands for the list with the call
+-- if a table matches a list of calls, the table after a call matches the list with that call
 pub carries : (table : Contents) (opened : ℕ) (calls : List Call) (call : Call) → Stands opened calls table → IsPossible table call → Stands opened (call ∷ calls) (table_after table call)
 carries table opened calls call h t = grind (arith, common_steps, leaves)
 

@@ -1,4 +1,4 @@
--- The table that a list of calls leaves.
+-- The table that the definitions give for a list of calls.
 use Rattle.std.proofs.Common.{◌≡◌, ℕ, ◌<◌, ◌≤◌, Bool, true, nat_lt, List, [], ◌∷◌, length, refl, ap, ◌∙◌, sym, subst, is_some, ◌↔◌, arith}
 use Rattle.std.proofs.lemmas.Bool.{ltb-true, ltb-false, lt-ltb, le-ltb, false_from_ne_true, false≢true}
 use Rattle.lldp_pdu.specs.Msap.{MsapId}
@@ -13,13 +13,13 @@ use Rattle.lldp_table.proofs.Standing.Sound.{sound_open, sound_after}
 use Rattle.lldp_table.proofs.Live.LastStored.{last_from_live, live_from_last}
 use Rattle.std.proofs.lemmas.Grind.{common_steps}
 
--- ## Standing and soundness
+-- ## The table matches the calls and is sound
 
--- the table that calls leave stands for them
+-- the table that the definitions give matches the list of calls
 pub stands_left : (opened : ℕ) (calls : List Call) → 0 < opened → opened ≤ 128 → ArePossible opened calls → Stands opened calls (table_of opened calls)
 stands_left opened calls l m t = record { least = l; most = m; allowed = t; is = refl }
 
--- the table that calls leave is sound
+-- the table that the definitions give is sound
 pub sound_left : (opened : ℕ) (calls : List Call) → 0 < opened → opened ≤ 128 → ArePossible opened calls → IsSound (table_of opened calls)
 sound_left opened [] l m t = subst IsSound (stands_open opened l m).is (sound_open opened l m)
 sound_left opened (call ∷ calls) l m t = subst IsSound (leaves opened calls call t.0) (sound_after (table_of opened calls) call (sound_left opened calls l m t.1) t.0)
@@ -27,7 +27,7 @@ sound_left opened (call ∷ calls) l m t = subst IsSound (leaves opened calls ca
 pub sound_from_stands : (table : Contents) (opened : ℕ) (calls : List Call) → Stands opened calls table → IsSound table
 sound_from_stands table opened calls h = subst IsSound (sym h.is) (sound_left opened calls h.least h.most h.allowed)
 
--- ## Answers
+-- ## The results of `learn`
 
 module _ (name : MsapId) (past : List TableEvent) where
   -- an MSAP identifier is live exactly if `IsLive` holds for it
@@ -56,6 +56,6 @@ module _ (opened : ℕ) (calls : List Call) (name : MsapId) where
   pub dropped_is : (answer opened name past ≡ Dropped) ↔ ((¬ (IsLive past name)) × (¬ (HasRoom opened past)))
   dropped_is = grind (arith, common_steps, by_dropped, last_is_live, false≢true, lt-ltb, answer_by, live_is_last, false_from_ne_true, ltb-true)
 
-  -- the same in terms of the number of neighbors
+  -- when the result is Dropped, in terms of the number of neighbors
   pub dropped_where_full : (answer opened name past ≡ Dropped) ↔ ((¬ (IsLive past name)) × (limit_after opened past ≤ length (neighbors past)))
   dropped_where_full = grind (arith, common_steps, by_dropped, false≢true, last_is_live, ltb-false, answer_by, false_from_ne_true, live_is_last, le-ltb)

@@ -1,4 +1,4 @@
--- Each call leaves a sound table sound.
+-- A sound table is still sound after each call.
 use Rattle.std.proofs.Common.{◌≡◌, ℕ, suc, ◌-◌, ◌<◌, ◌≤◌, Bool, false, not, nat_lt, List, [], ◌∷◌, length, Option, Some, None, refl, ap, ◌∙◌, sym, subst, arith, map, length-append}
 use Rattle.std.specs.List.{list_any, filter_map, cons_option, AllByRecursion, IsDistinct}
 use Rattle.std.proofs.lemmas.Bool.{ltb-true, or_parts, or_from, cond_both}
@@ -18,7 +18,7 @@ use Rattle.lldp_table.specs.declared.learned.Learned.{Learned}
 use Rattle.lldp_table.specs.declared.learned.Learned.TheVariants.{New, Refreshed}
 use Rattle.std.proofs.lemmas.Grind.{common_steps}
 
--- ## A part of the neighbors, with their MSAP identifiers unchanged
+-- ## Keeping some of the neighbors, with their MSAP identifiers unchanged
 
 module _ (g : Neighbor → Option Neighbor) (same : (x y : Neighbor) → g x ≡ Some y → y.msap ≡ x.msap) where
   all-cons : (P : MsapId → Type 0) (x : Neighbor) (o : Option Neighbor) (xs : List Neighbor) → ((y : Neighbor) → o ≡ Some y → y.msap ≡ x.msap) → P x.msap → AllByRecursion P (names_of xs) → AllByRecursion P (names_of (cons_option o xs))
@@ -61,7 +61,7 @@ aged_held x y k e = grind (arith, common_steps, cond_some, ltb-true)
 aged_named : (x y : Neighbor) → aged x ≡ Some y → y.msap ≡ x.msap
 aged_named x y e = sym (ap (λ (n : Neighbor). n.msap) (cond_some (nat_lt 1 x.left) _ y e).1)
 
--- a table stays sound with a part of its neighbors and another timer
+-- a table stays sound if some of its neighbors are removed and the timer is changed
 sound_part : (g : Neighbor → Option Neighbor) → ((x y : Neighbor) → IsHeld x → g x ≡ Some y → IsHeld y) → ((x y : Neighbor) → g x ≡ Some y → y.msap ≡ x.msap) → (table : Contents) (left : ℕ) → IsSound table → IsSound (record table { neighbors = filter_map g table.neighbors; too_many_left = left })
 sound_part g held named table left h = grind (arith, common_steps, length-part, held-part, distinct-part)
 

@@ -24,7 +24,7 @@ msap_at slots i = msap_of (octets_at slots i)
 abbrev pub neighbor_of : Stored → ℕ → Neighbor
 neighbor_of slot left = record { msap = msap_of slot.octets; octets = slot.octets; ttl = slot.ttl; left = left }
 
--- the neighbor in the slot with this index, given the ticks left of each slot
+-- the neighbor in the slot with this index, given the remaining ticks of each slot
 abbrev pub neighbor_at : List Stored → (ℕ → ℕ) → ℕ → Neighbor
 neighbor_at slots left i = neighbor_of (slice_index_or slots i blank) (left i)
 
@@ -32,13 +32,13 @@ neighbor_at slots left i = neighbor_of (slice_index_or slots i blank) (left i)
 abbrev pub neighbors_at : List Stored → (ℕ → ℕ) → List ℕ → List Neighbor
 neighbors_at slots left indices = map (neighbor_at slots left) indices
 
--- The entries still to be returned: each index has a slot that holds a neighbor, and a time.
+-- Each index is within the slots and the stored times, and its slot holds a valid neighbor.
 pub record AreEntries (slots : List Stored) (left : ℕ → ℕ) (indices : List ℕ) : Type 0 where
   pub written : AllByRecursion (λ i. i < length slots) indices
   pub within : AllByRecursion (λ i. i < MOST_NEIGHBORS) indices
   pub held : AllByRecursion IsHeld (neighbors_at slots left indices)
 
--- the list with one more item if it has n items, and otherwise unchanged
+-- the list with x added at the end if it has n items, and otherwise unchanged
 abbrev pub with_next : {X : Type 0} → ℕ → X → List X → List X
 with_next n x xs = if length xs == n then xs ++ x ∷ [] else xs
 
@@ -57,7 +57,7 @@ contents_of capacity slots left order used limit too_many = record {
   too_many_left = too_many;
 }
 
--- the invariant of a table's parts, however its times are stored
+-- the invariant of a table's parts, except that of the queue
 pub record IsLaidOut (capacity : ℕ) (slots : List Stored) (left : ℕ → ℕ) (order : List ℕ) (used limit too_many : ℕ) :
     Type 0 where
   pub indices : IsOrder (length slots) order
@@ -66,7 +66,7 @@ pub record IsLaidOut (capacity : ℕ) (slots : List Stored) (left : ℕ → ℕ)
   pub held : used ≤ limit
   pub sound : IsSound (contents_of capacity slots left order used limit too_many)
 
--- the invariant of a table's parts
+-- the invariant of a table's parts, including the queue
 pub record IsTable (capacity : ℕ) (slots : List Stored) (queue : List Due) (order : List ℕ) (used limit too_many : ℕ) :
     Type 0 where
   pub laid : IsLaidOut capacity slots (ticks_left queue) order used limit too_many

@@ -1,10 +1,10 @@
--- A queue of differences: the slots in use in the order in which their neighbors expire. Each slot
--- has the difference between its ticks left and those of the slot before it.
+-- A queue of the slots in use, in the order in which their neighbors expire. Each slot has a gap:
+-- its remaining ticks minus those of the slot before it.
 use Rattle.std.specs.Prelude.{◌≡◌, ℕ, ◌+◌, ◌-◌, ◌<◌, ◌^◌, Bool, false, if◌then◌else◌, ◌==◌, nat_le, nat_eq, List, [], ◌∷◌, length, map, slice_index}
 use Rattle.std.specs.List.{list_any, sum_by, AllByRecursion, IsDistinct}
 use Rattle.lldp_table.specs.declared.limits.TheConstants.{MOST_NEIGHBORS}
 
--- a slot in the queue, and its difference
+-- a slot in the queue, and its gap
 pub record Due : Type 0 where
   pub slot : ℕ
   pub gap : ℕ
@@ -18,32 +18,32 @@ slots_of queue = map (λ (e : Due). e.slot) queue
 abbrev pub holds : ℕ → List Due → Bool
 holds slot queue = list_any (λ (e : Due). e.slot == slot) queue
 
--- the ticks left of a slot: the sum of the differences up to its own
+-- the remaining ticks of a slot: the sum of the gaps up to its own
 abbrev pub ticks_left : List Due → ℕ → ℕ
 ticks_left [] slot = 0
 ticks_left (e ∷ queue) slot = if e.slot == slot then e.gap else e.gap + ticks_left queue slot
 
--- the queue with n subtracted from the first difference
+-- the queue with n subtracted from the first gap
 abbrev pub less_first : ℕ → List Due → List Due
 less_first n [] = []
 less_first n (e ∷ queue) = due e.slot (e.gap - n) ∷ queue
 
--- the queue with n added to the first difference
+-- the queue with n added to the first gap
 abbrev pub add_first : ℕ → List Due → List Due
 add_first n [] = []
 add_first n (e ∷ queue) = due e.slot (n + e.gap) ∷ queue
 
--- this slot in front of the queue; its ticks left are subtracted from the first difference
+-- the queue with this slot in front; its ticks are subtracted from the gap of the slot after it
 abbrev pub put : ℕ → ℕ → List Due → List Due
 put slot left queue = due slot left ∷ less_first left queue
 
--- the queue with this slot inserted, after those that expire no later
+-- the queue with this slot inserted after those that expire no later
 abbrev pub enter : ℕ → ℕ → List Due → List Due
 enter slot left [] = put slot left []
 enter slot left (e ∷ queue) =
     if nat_le e.gap left then e ∷ enter slot (left - e.gap) queue else put slot left (e ∷ queue)
 
--- the queue without this slot, whose difference is added to that of the next slot
+-- the queue without this slot; its gap is added to that of the slot after it
 abbrev pub leave : ℕ → List Due → List Due
 leave slot [] = []
 leave slot (e ∷ queue) = if e.slot == slot then add_first e.gap queue else e ∷ leave slot queue
@@ -53,26 +53,26 @@ abbrev pub is_spent : List Due → Bool
 is_spent [] = false
 is_spent (e ∷ queue) = e.gap == 0
 
--- the first slot has ticks left, and so have all others
+-- the queue is empty, or its first slot, and so every slot, has ticks left
 abbrev pub IsRunning : List Due → Type 0
 IsRunning queue = is_spent queue ≡ false
 
--- the ticks left of the last slot
+-- the sum of all gaps, which is the remaining ticks of the last slot
 abbrev pub total : List Due → ℕ
 total queue = sum_by (λ (e : Due). e.gap) queue
 
--- the queue of these slots, with the stored differences
+-- the queue of these slots, with the gaps stored in `times`
 abbrev pub dues : List ℕ → List ℕ → List Due
 dues times slots = map (λ i. due i (slice_index times i)) slots
 
--- the invariant of a queue: no slot is in it twice, and the sum of the differences fits in 16 bits
+-- the invariant of a queue: no slot is in it twice, and the sum of the gaps fits in 16 bits
 pub record IsQueue (times slots : List ℕ) : Type 0 where
   pub all : length times ≡ MOST_NEIGHBORS
   pub within : AllByRecursion (λ i. i < MOST_NEIGHBORS) slots
   pub distinct : IsDistinct nat_eq slots
   pub fits : total (dues times slots) < 2 ^ 16
 
--- the same, and `last` is the ticks left of the last slot
+-- the same invariant, and `last` is the remaining ticks of the last slot
 pub record IsQueueTo (times slots : List ℕ) (last : ℕ) : Type 0 where
   pub queue : IsQueue times slots
   pub last_is : last ≡ total (dues times slots)

@@ -1,5 +1,5 @@
--- What each call does to the contents of a table, and what it answers. Callers compute with this,
--- and `Standing` says what it means.
+-- The effect of each call on the contents of a table, and the result of `learn`. `Standing` relates
+-- these definitions to lists of calls.
 use Rattle.std.specs.Prelude.{ℕ, ◌-◌, not, if◌then◌else◌, nat_lt, max, List, [], ◌∷◌, ◌++◌, length, filter, map, filter_map, Option, Some, None}
 use Rattle.lldp_pdu.specs.Msap.{MsapId}
 use Rattle.lldp_table.specs.Events.{Neighbor, Call, learn, forget, purge, tick, set_limit}
@@ -7,7 +7,7 @@ use Rattle.lldp_table.specs.Contents.{Contents, is_named, holds_name}
 use Rattle.lldp_table.specs.declared.learned.Learned.{Learned}
 use Rattle.lldp_table.specs.declared.learned.Learned.TheVariants.{New, Refreshed, Dropped}
 
--- what `learn` answers
+-- the result of `learn`
 abbrev pub learn_answer : Contents → MsapId → Learned
 learn_answer table name =
     if holds_name table name then Refreshed else (if nat_lt (length table.neighbors) table.limit then New else Dropped)
@@ -30,7 +30,7 @@ learned_as Refreshed table name ttl octets =
 learned_as Dropped table name ttl octets =
     record table { too_many_left = max table.too_many_left ttl }
 
--- the table after a frame
+-- the table after `learn`
 abbrev pub after_learn : Contents → MsapId → ℕ → List ℕ → Contents
 after_learn table name ttl octets = learned_as (learn_answer table name) table name ttl octets
 
@@ -45,17 +45,17 @@ after_forget table name =
 abbrev pub after_purge : Contents → Contents
 after_purge table = record table { neighbors = []; too_many_left = 0 }
 
--- the neighbor after a tick, if it has any ticks left then
+-- the neighbor after a tick, or None if it then has no ticks left
 abbrev pub aged : Neighbor → Option Neighbor
 aged neighbor =
     if nat_lt 1 neighbor.left then Some (record neighbor { left = neighbor.left - 1 }) else None
 
--- each neighbor has one tick less, and those that have none left are removed
+-- neighbors and the too-many timer have one tick less; neighbors with none left are removed
 abbrev pub after_tick : Contents → Contents
 after_tick table =
     record table { neighbors = filter_map aged table.neighbors; too_many_left = table.too_many_left - 1 }
 
--- the table with another limit in force
+-- the table with this limit instead of the current one
 abbrev pub after_set_limit : Contents → ℕ → Contents
 after_set_limit table limit = record table { limit = limit }
 

@@ -4,12 +4,12 @@ use Rattle.lldp_pdu.specs.Msap.{MsapId}
 use Rattle.lldp_pdu.specs.Lldpdu.{msap_of}
 use Rattle.lldp_pdu.specs.declared.frame.TheConstants.{MOST_OCTETS}
 
--- the octets of a frame's extent and its TTL
+-- the octets of a frame's extent, and the frame's TTL
 pub record Stored : Type 0 where
   pub octets : List ℕ
   pub ttl : ℕ
 
--- these octets mixed into a tag, one after the other
+-- the tag after these octets were mixed into it, one after the other
 abbrev pub mixed : ℕ → List ℕ → ℕ
 mixed tag [] = tag
 mixed tag (octet ∷ octets) = mixed ((tag * 16777619 % 2 ^ 32 + octet) % 2 ^ 32) octets

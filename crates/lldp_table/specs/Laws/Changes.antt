@@ -1,4 +1,4 @@
--- What a call changes in a table, neighbor by neighbor.
+-- The changes that a call makes in a table, neighbor by neighbor.
 use Rattle.std.specs.Prelude.{ℕ, ◌+◌, Bool, true, false, List}
 use Rattle.lldp_pdu.specs.Msap.{MsapId}
 use Rattle.lldp_table.specs.Events.{Call, set_limit, Neighbor}

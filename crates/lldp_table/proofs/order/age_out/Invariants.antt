@@ -1,4 +1,4 @@
--- The slots removed so far are those that expired first.
+-- The slots not removed so far hold all neighbors that live on after the tick.
 use Rattle.std.proofs.Common.{◌≤◌, ◌+◌}
 use Rattle.lldp_table.proofs.Ageing.Ticks.{IsAging}
 use Rattle.lldp_table.proofs.order.age_out.Given as goal

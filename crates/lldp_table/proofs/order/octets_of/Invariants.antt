@@ -1,4 +1,4 @@
--- The sum so far.
+-- `octets` is the number of octets in the slots before this one.
 use Rattle.std.proofs.Common.{◌≡◌, ◌≤◌, ◌*◌, length, take}
 use Rattle.std.specs.List.{sum_by}
 use Rattle.lldp_table.specs.Code.Layout.{octets_at}

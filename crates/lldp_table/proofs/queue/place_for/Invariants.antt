@@ -1,4 +1,4 @@
--- The slot enters after the places passed so far, with `rest` as its ticks left from there.
+-- The slot belongs after the places passed so far, and `rest` is its ticks minus their gaps.
 use Rattle.std.proofs.Common.{◌≡◌, ◌≤◌, ℕ, ◌++◌, take, drop}
 use Rattle.lldp_table.specs.Code.Queue.{enter, dues}
 use Rattle.lldp_table.proofs.queue.place_for.Given as goal

@@ -3,7 +3,7 @@ use Rattle.std.proofs.lemmas.List.Folds.{list_any_none}
 use Rattle.std.proofs.lemmas.List.Elements.{All-from_get_or}
 use Rattle.lldp_table.proofs.queue.place_in.Goals as goal
 
--- no element is the slot, which contradicts the precondition
+-- `slot` was not found, which contradicts the precondition
 pub unreachable-requires : goal.unreachable-requires
 unreachable-requires c =
     let none = list_any_none (nat_eq c.args.slot) c.args.slots.now

@@ -1,4 +1,4 @@
--- The octets before the rest are mixed in.
+-- The octets before `rest` are already mixed in.
 use Rattle.std.proofs.Common.{◌≡◌, length}
 use Rattle.lldp_table.specs.Code.Stored.{mixed}
 use Rattle.lldp_table.proofs.slot.mix_octets.Given as goal

@@ -1,4 +1,4 @@
--- The octets before this one are mixed in.
+-- The octets before this one are already mixed in.
 use Rattle.std.proofs.Common.{◌≡◌, drop}
 use Rattle.lldp_table.specs.Code.Stored.{mixed}
 use Rattle.lldp_table.proofs.slot.mix_singly.Given as goal

@@ -6,7 +6,7 @@ use Rattle.lldp_table.proofs.Msap.{same_parts}
 use Rattle.lldp_table.proofs.slot.msap_in.Goals as goal
 use Rattle.std.proofs.lemmas.Grind.{common_steps}
 
--- the bodies of the first two TLVs, one after the other
+-- the MSAP identifier consists of the bodies of the first two TLVs
 parts : (octets start rest chassis port : List ℕ) → start ≡ octets → chassis ≡ (tlv_at (cut start).tlvs 0).body → tlv_at (cut rest).tlvs 0 ≡ tlv_at (cut start).tlvs 1 → port ≡ (tlv_at (cut rest).tlvs 0).body
     → (let msap : MsapId = record { chassis = chassis; port = port } in msap ≡ msap_of octets)
 unfolding msap_of

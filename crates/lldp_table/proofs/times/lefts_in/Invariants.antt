@@ -1,4 +1,4 @@
--- The slots before this one have their ticks left. For the others, counting goes on from `left`.
+-- `lefts` is filled in for the slots before this one, and `left` is the sum of their gaps.
 use Rattle.std.proofs.Common.{◌≡◌, ◌+◌, take, drop, length, get_or}
 use Rattle.std.specs.List.{AllByRecursion}
 use Rattle.lldp_table.specs.Code.Queue.{ticks_left, total, dues}

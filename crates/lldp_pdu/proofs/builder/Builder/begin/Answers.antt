@@ -5,7 +5,7 @@ use Rattle.lldp_pdu.proofs.Drafts.{begins}
 use Rattle.lldp_pdu.proofs.builder.Builder.begin.Goals as goal
 use Rattle.std.proofs.lemmas.Grind.{common_steps}
 
--- the three TLVs, one after the other
+-- the octets are the encodings of the three TLVs, one after the other
 spelled : (c : goal.After-append_tlv-3) → c.append_tlv-3.new.octets.items ≡ spelling (record { kind = 1; body = c.args.chassis.now }) ++ spelling (record { kind = 2; body = c.args.port.now }) ++ spelling (record { kind = 3; body = to_be_bytes w16 c.args.ttl })
 spelled c = grind (arith, common_steps)
 

@@ -11,7 +11,7 @@ use Rattle.lldp_pdu.proofs.Drafts.{put_fault_is, long}
 use Rattle.lldp_pdu.proofs.builder.Builder.refusal.Goals as goal
 use Rattle.std.proofs.lemmas.Grind.{common_steps}
 
--- the flag of a type is set exactly if the type counts once and was put
+-- `has_flag` is true for a type exactly if the type is 4 to 7 and was put
 flagged : (d : Draft) (u : TlvUnit) (octets : List ℕ) (met : List Bool) (lives r : Bool) → draft_of octets ≡ d → Builds octets met lives → r ≡ has_flag met u.kind → (is_single u.kind && was_put u.kind d.tlvs) ≡ r
 flagged d u octets met lives r v b h = sym (h ∙ flag_is met (λ kind. was_put kind d.tlvs) u.kind (subst (λ (d : Draft). Flags met (λ kind. was_put kind d.tlvs)) v b.flags))
 

@@ -3,7 +3,7 @@ use Rattle.lldp_pdu.specs.Cut.{cut}
 use Rattle.lldp_pdu.specs.Code.Seen.{kept_seen}
 use Rattle.lldp_pdu.proofs.kept.KeptIterator.next.Given as goal
 
--- no kept TLV was skipped: those still to be returned are the same as at the start
+-- no kept TLV was skipped: those still to be returned are the same as when `next` was called
 abbrev pub invariant-loop-tlv : goal.invariant-loop-tlv
 invariant-loop-tlv l = kept_seen l.self-inside.seen.types (cut l.self-inside.tlvs).tlvs ≡ kept_seen l.initial.self-inside.seen.types (cut l.initial.self-inside.tlvs).tlvs
 

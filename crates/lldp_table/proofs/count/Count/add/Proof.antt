@@ -1,4 +1,4 @@
--- The body is empty. The borrow is opened, and closed with a number that is one higher.
+-- The body is empty. The proof opens the borrow and closes it with a number that is higher by one.
 use Rattle.std.proofs.Common.{◌+◌, [], ◌∷◌, refl}
 use Rattle.std.proofs.raw_atomic.Walks.{proved}
 use base.Logic.{id⊢}

@@ -1,4 +1,4 @@
--- The empty struct is made, with the number 0.
+-- The empty struct is created, with the number 0.
 use Rattle.std.proofs.Common.{[], ◌∷◌, refl}
 use Rattle.std.proofs.raw_atomic.Walks.{proved}
 use base.Fml.{ftrue}
