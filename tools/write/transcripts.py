@@ -55,7 +55,7 @@ use Rattle.lldp_program.specs.Trace.Items.{items_of, items_of_lines, after_all, 
 use Rattle.lldp_program.specs.CommandLine.Usage.{Asks, program}
 use Rattle.lldp_program.proofs.Runs.Items.{text_of_all-append}
 
--- the text of each line, each read after all before it
+-- the text of each line, read after all lines before it
 abbrev texts_of : Past → List (List ℕ) → List (List ℕ)
 texts_of past [] = []
 texts_of past (line ∷ lines) =
@@ -65,7 +65,7 @@ texts_of past (line ∷ lines) =
 abbrev texts : Past → List ℕ → List (List ℕ)
 texts past input = texts_of past (lines_of input)
 
--- texts, one after another
+-- the texts joined in order
 abbrev in_order : List (List ℕ) → List ℕ
 in_order [] = []
 in_order (line ∷ lines) = line ++ in_order lines
@@ -76,7 +76,7 @@ joined_lines past (line ∷ lines) =
     text_of_all-append past (items_of past line) (items_of_lines (after_all past (items_of past line)) lines)
     ∙ ap (λ t. text_of_all past (items_of past line) ++ t) (joined_lines (after_all past (items_of past line)) lines)
 
--- the text of an input is the texts of its lines in order
+-- the text of an input is the texts of its lines, joined in order
 text_in_order : (past : Past) (input : List ℕ) → text past input ≡ in_order (texts past input)
 text_in_order past input = joined_lines past (lines_of input)
 
@@ -85,25 +85,25 @@ abbrev has : List ℕ → List ℕ → Bool
 has sought [] = false
 has sought (octet ∷ line) = starts_with nat_eq (octet ∷ line) sought || has sought line
 
--- the lines that contain one of these texts, or all lines if there is no text
+-- the lines that contain one of these texts, or all lines if the list is empty
 abbrev lines_with : List Text → List ℕ → List ℕ
 lines_with [] written = written
 lines_with (sought ∷ more) written =
     flat_map ended (filter (λ line. list_any (λ one. has one line) (sought ∷ more)) (ended_lines written))
 
--- The words ask for these options without a fault.
+-- The arguments ask for these options.
 abbrev AsksFor : List Text → Options → Type 0
 AsksFor words options = (roles : Bor (List (Bor Text))) → Asks (matches_of (program roles) words) options
 
--- The words ask for options without a fault. For each line of the input, an agent with these
--- options writes these lines, among those that contain one of the texts sought.
+-- The arguments ask for options without a fault. For each line of the input, an agent with these
+-- options writes these lines. Only lines that contain one of the sought texts are compared.
 record Shows (sought : List Text) (words : List Text) (input : List ℕ) (lines : List (List ℕ)) : Type 0 where
   options : Options
   asked : AsksFor words options
   sound : opening_fault options ≡ None
   written : map (lines_with sought) (texts (opened options) input) ≡ lines
 
--- the same, with all lines compared
+-- `Shows` with all lines compared
 abbrev Writes : List Text → List ℕ → List (List ℕ) → Type 0
 Writes words input lines = Shows [] words input lines
 
@@ -123,7 +123,7 @@ usual =
       receive_only = false;
     }
 
--- the definitions that a transcript unfolds to compute, each of which has to be named
+-- names all definitions that the computation of a transcript unfolds
 computed : Unit {0}
 unfolding digits encode_with decode_pairs
     cut_within cut is_lldp_frame extent ended_incomplete ttl_of msap_of later_tlvs fault_of is_well_formed

@@ -1,4 +1,4 @@
--- Proofs for the laws alone.
+-- Proofs that only the laws use.
 pub mod Sayings
 pub mod Lines
 pub mod OnlyLines

@@ -1,4 +1,4 @@
--- Lines of an input.
+-- The lines of an input.
 pub mod Plain
 pub mod Held
 pub mod Pieces

@@ -30,7 +30,7 @@ pub logged_then : {C : Type 0} → (first next : List (Call C)) (told : Option (
 logged_then first next None = refl
 logged_then first next (Some earlier) = ap Some (sym (append_assoc next first earlier))
 
--- one more connection was accepted and then run over
+-- accepting one more connection and running its trace adds these two calls
 pub logged_visit : {C : Type 0} → (visits : List (Visit C)) (visit : Visit C) (first told accepting running : Option (List (Call C)))
     → told ≡ logged (calls_of visits) first → accepting ≡ logged (accepted visit.connection ∷ []) told → running ≡ logged (ran visit ∷ []) accepting
     → running ≡ logged (calls_of (visit ∷ visits)) first

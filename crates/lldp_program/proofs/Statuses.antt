@@ -1,4 +1,4 @@
--- Runs that are flushed, agents that were just opened, and how the program ends.
+-- A flush after a run, a run of a newly opened agent, and how the program ends.
 use Rattle.std.proofs.Common.{◌≡◌, ◌∙◌, ap, subst, Bool, true, false, refl, sym, arith, Some, None, ◌⊎◌, ℕ, List, ◌++◌, Option, Result, Ok, Err, inl, inr}
 use Rattle.std.specs.Prelude.{◌≢◌, is_ok}
 use Rattle.clap.specs.Walk.{Text}
@@ -53,7 +53,7 @@ ends_kept past input left old mid new agent (Err Read) k e = done_kept past (ite
 ends_kept past input left old mid new agent (Err Write) k e = stopped_kept past input left old mid new agent k e
 ends_kept past input left old mid new agent (Err InputTooLong) k e = done_kept past (items_of_lines past (ended_lines input)) old mid new agent k e
 
--- a run after which the writer was flushed
+-- a flush after a run does not change what the run did
 pub run_kept : {T : Type 0} → (to_come left old mid new : Option (List ℕ)) (before after : AgentState) (r : Result T RunFault)
     → HasRun to_come left old mid before after r → Keeps mid new → HasRun to_come left old new before after r
 run_kept to_come left old mid new before after r h k =
@@ -64,7 +64,7 @@ run_kept to_come left old mid new before after r h k =
       ends = λ past stands. ends_kept past h.input left old mid new after r k (h.ends past stands);
     }
 
--- an agent that was just opened ran the trace from the streams
+-- `RanBy` holds for the options if `RanStreams` holds and the agent was just opened with them
 pub opened_ran : (options : Options) (to_come left old new : Option (List ℕ)) (told_before told_after : Stream) (before after : AgentState) (status : ℕ)
     → Stands (opened options) before → RanStreams to_come left old new told_before told_after before after status → RanBy options to_come left old new told_before told_after status
 opened_ran options to_come left old new told_before told_after before after status stands ran =
@@ -82,32 +82,32 @@ opened_ran options to_come left old new told_before told_after before after stat
       ended = ran.ended;
     }
 
--- a fault is reported by what was written of its line
+-- a fault is reported if its line was written, or a part of the line before a write failed
 pub told_by : (fault : ProgramFault) (answer : Result (Unit {0}) DeviceFault) (line : List ℕ) (old new : Option (List ℕ)) (before after : ℕ) → line ≡ line_of fault → WrittenBy answer line old new
     → after ≡ failures_after before answer → IsTold fault (stream old before) (stream new after)
 told_by fault (Ok done) line old new before after is written failures = inl (rw is at written, failures)
 told_by fault (Err _) line old new before after is written failures = let cut = rw is at written in inr (cut.0, cut.1, cut.2, failures)
 
--- what an adapter reports holds of its stream, with some number of failed writes
+-- what is true of the counts of an adapter is true of its stream, with some number of failures
 pub told_through : (P : Stream → Stream → Type 0) (old taken left new : Option (List ℕ)) (none failed : ℕ) → taken ≡ old → none ≡ 0 → left ≡ new → P (stream taken none) (stream left failed)
     → (n : ℕ) × P (stream old 0) (stream new n)
 told_through P old taken left new none failed o z n h =
     (failed, subst (λ s. P (stream s 0) (stream new failed)) o (subst (λ k. P (stream taken k) (stream new failed)) z (subst (λ s. P (stream taken none) (stream s failed)) n h)))
 
--- the run failed, and its fault was reported
+-- if the run failed and its fault was reported, the program ended with that fault
 pub failed_end : (r : Result (Unit {0}) RunFault) (fault : RunFault) (told : ProgramFault) (flushed : Result (Unit {0}) DeviceFault) (old new : Stream) (status : ℕ)
     → r ≡ Err fault → told ≡ fault_of_run fault → status ≡ status_of told → IsTold told old new → EndsBy (ended_by r flushed) old new status
 failed_end r fault told flushed old new status e is answered t = rw e record { ends = answered ∙ ap status_of is; told = subst (λ f. IsTold f old new) is t }
 
--- the run had no fault, and the flush decides
+-- if the run had no fault, the flush decides how the program ended
 pub flushed_end : (r : Result (Unit {0}) RunFault) (flushed : Result (Unit {0}) DeviceFault) (passed : Bool) (old new : Stream) (status : ℕ)
     → r ≡ Ok tt → passed ≡ is_ok flushed → (passed ≡ true → EndsBy (Ok tt) old new status) → (passed ≡ false → EndsBy (Err ending.Write) old new status) → EndsBy (ended_by r flushed) old new status
 flushed_end r (Ok done) passed old new status e is well failed = rw e (well is)
 flushed_end r (Err fault) passed old new status e is well failed = rw e (failed is)
 
--- ## Words that are refused
+-- ## Refused arguments
 
--- an error asks for help or the version, or does not
+-- an error is a request for help or for the version, or it is neither
 pub asked_for : (kind : ErrorKind) → ((kind ≡ DisplayHelp) ⊎ (kind ≡ DisplayVersion)) ⊎ ((kind ≢ DisplayHelp) × (kind ≢ DisplayVersion))
 asked_for DisplayHelp = inl (inl refl)
 asked_for DisplayVersion = inl (inr refl)

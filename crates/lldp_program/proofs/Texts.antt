@@ -1,4 +1,4 @@
--- How an output gathers text and passes it to its sink.
+-- How an output buffers text and writes it to its sink.
 pub mod Written
 pub mod Taken
 pub mod Sent

@@ -1,4 +1,4 @@
--- The words of the program.
+-- The arguments of the program.
 pub mod Addresses
 pub mod Parsed
 pub mod Usage

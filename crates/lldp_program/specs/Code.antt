@@ -1,4 +1,4 @@
--- The state of the code while it runs: text that waits, and a part of a run. Contracts of public
+-- The state of the code during a run: the buffer, and the items done so far. Contracts of public
 -- calls use other definitions.
 pub mod Output
 pub mod Parts

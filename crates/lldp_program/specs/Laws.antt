@@ -1,4 +1,4 @@
--- What only the laws state: the definitions in other words, by octets, positions and counts.
+-- Definitions that only the laws use. They restate others by octets, positions and counts.
 pub mod FixedNumbers
 pub mod Sayings
 pub mod Lines

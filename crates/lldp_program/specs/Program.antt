@@ -1,4 +1,4 @@
--- What a run of the program does to its streams, or why it is refused.
+-- What a run of the program does to its streams, or why the program refuses to run.
 use Rattle.std.specs.Prelude.{◌≡◌, ◌≢◌, ◌<◌, ◌≤◌, ◌⊎◌, ℕ, List, true, Option, Some, None, Result, is_ok, codes}
 use Rattle.std.specs.Io.KnownBytes.{Consumes, Keeps}
 use Rattle.clap.specs.Walk.{Row, Text, one_of}
@@ -17,9 +17,9 @@ use Rattle.lldp_program.specs.declared.device.DeviceFault.{DeviceFault}
 use Rattle.lldp_program.specs.declared.fault.ProgramFault.TheVariants as program
 use Rattle.lldp_program.specs.declared.trace.RunFault.{RunFault}
 
--- The agent ran the trace that was read, and the output was flushed. With status 0 it ran all of
--- it; with another status it may have stopped at a fault. The status is that of the run's fault, or
--- else of the flush's, and that fault was reported.
+-- The agent ran the trace that was read, and the output was flushed. With status 0 it ran the whole
+-- trace. Another status is that of the run's fault or, if the run had none, of the flush's fault.
+-- That fault was reported.
 pub record RanStreams (to_come left old new : Option (List ℕ)) (told_before told_after : Stream)
     (before after : AgentState) (status : ℕ) : Type 0 where
   pub result : Result (Unit {0}) RunFault
@@ -28,11 +28,11 @@ pub record RanStreams (to_come left old new : Option (List ℕ)) (told_before to
   pub flushed : Result (Unit {0}) DeviceFault
   pub ended : EndsBy (ended_by result flushed) told_before told_after status
 
--- a read failed, or a write or flush failed, or the run made as many reads as it may
+-- a read failed, or a write or flush failed, or the run made all the reads that it may make
 abbrev pub FailedBy : ℕ → ℕ → ℕ → Type 0
 FailedBy reads writes calls = 0 < reads ⊎ (0 < writes ⊎ 4294967295 ≤ calls)
 
--- An agent opened with these options ran the trace: what was read, and what was written for it.
+-- An agent opened with these options ran the trace that was read, with this result.
 pub record Ran (options : Options) (to_come left old new : Option (List ℕ)) (result : Result (Unit {0}) RunFault) :
     Type 0 where
   pub input : List ℕ
@@ -41,7 +41,7 @@ pub record Ran (options : Options) (to_come left old new : Option (List ℕ)) (r
   pub agent : AgentState
   pub ends : Ends (opened options) input left old new agent result
 
--- the same, with the status of the program and the line that it reported
+-- the run of `Ran`, with the status of the program and the fault that it reported, if any
 pub record RanBy (options : Options) (to_come left old new : Option (List ℕ)) (told_before told_after : Stream)
     (status : ℕ) : Type 0 where
   pub result : Result (Unit {0}) RunFault
@@ -50,8 +50,8 @@ pub record RanBy (options : Options) (to_come left old new : Option (List ℕ)) 
   pub flushed : Result (Unit {0}) DeviceFault
   pub ended : EndsBy (ended_by result flushed) told_before told_after status
 
--- What the program did. Without a text of `--listen` it ran the trace of the reader. With one it
--- read and wrote nothing, and the status is 0 or that of a socket fault, which was reported.
+-- Without `--listen` the program ran the trace of the reader. With `--listen` it read and wrote
+-- nothing, and the status is 0 or that of a socket fault, which was reported.
 abbrev pub RanBut : Option Text → Options → Option (List ℕ) → Option (List ℕ) → Option (List ℕ) → Option (List ℕ) →
     Stream → Stream → ℕ → Type 0
 RanBut None options to_come left old new told_before told_after status =
@@ -59,14 +59,14 @@ RanBut None options to_come left old new told_before told_after status =
 RanBut (Some port) options to_come left old new told_before told_after status =
     Keeps to_come left × Keeps old new × EndsWellOr program.Socket told_before told_after status
 
--- the same, for the text of `--listen` in these rows
+-- `RanBut` for the text of `--listen` in these rows
 abbrev pub RanAs : List Row → Options → Option (List ℕ) → Option (List ℕ) → Option (List ℕ) → Option (List ℕ) →
     Stream → Stream → ℕ → Type 0
 RanAs rows options to_come left old new told_before told_after status =
     RanBut (one_of (codes "listen") rows) options to_come left old new told_before told_after status
 
--- The words have no fault by `clap`'s own specification. Their options, each with the value of its
--- words, have no fault either. The program did as they ask.
+-- The arguments have no fault by `clap`'s own specification. The options, each with the value of
+-- its argument or its default, have no fault. The program did what the options ask for.
 pub record HasRunWords (words : List Text) (to_come left old new : Option (List ℕ)) (told_before told_after : Stream)
     (status : ℕ) : Type 0 where
   pub rows : List Row
@@ -76,32 +76,32 @@ pub record HasRunWords (words : List Text) (to_come left old new : Option (List 
   pub sound : fault_of options ≡ None
   pub ran : RanAs rows options to_come left old new told_before told_after status
 
--- What a status other than 2 means. Either the words ask for help or the version, nothing was read,
--- and the status is 0 or that of a failed write, which was reported; or they were run
--- (`HasRunWords`).
+-- A status other than 2: either the arguments ask for help or the version, nothing was read, and
+-- the status is 0 or that of a failed write, which was reported; or the arguments have no fault,
+-- and the program ran with them (`HasRunWords`).
 abbrev pub HasAnswered : List Text → Option (List ℕ) → Option (List ℕ) → Option (List ℕ) → Option (List ℕ) →
     Stream → Stream → ℕ → Type 0
 HasAnswered words to_come left old new told_before told_after status =
     (AskForHelp words × Keeps to_come left × EndsWellOr program.Write told_before told_after status)
     ⊎ HasRunWords words to_come left old new told_before told_after status
 
--- An address among the words cannot be read, and that was reported.
+-- An address among the arguments cannot be read, and this fault was reported.
 abbrev pub RefusesAddress : List Row → Stream → Stream → Type 0
 RefusesAddress rows told_before told_after =
     (fault : AddressFault) × HasBadAddress rows fault × IsTold (fault_of_address fault) told_before told_after
 
--- Opening refuses the options, at the first failed check or for lack of memory. That was reported.
+-- Opening refused the options, by the first failed check or for lack of memory. It was reported.
 abbrev pub RefusesOpening : List Row → Stream → Stream → Type 0
 RefusesOpening rows told_before told_after =
     (options : Options) × (fault : OpenFault) × Asks rows options × IsRefusal options fault
     × IsTold (fault_of_opening fault) told_before told_after
 
--- The words have a fault for `clap` that is not a request for help or the version.
+-- `clap` rejects the arguments, for a fault that is not a request for help or the version.
 abbrev pub AreWrong : List Text → Type 0
 AreWrong words = (kind : ErrorKind) × MayFail words kind × (kind ≢ DisplayHelp) × (kind ≢ DisplayVersion)
 
--- What status 2 means: the words are wrong; there was no memory to read them, and that was reported; or they were read,
--- and an address or the opening was refused.
+-- Status 2: the arguments are wrong; or there was no memory to parse them, and that was reported;
+-- or they were parsed, and an address or the opening was refused.
 abbrev pub HasRefused : List Text → Stream → Stream → Type 0
 HasRefused words told_before told_after =
     AreWrong words

@@ -28,12 +28,12 @@ abbrev pub results_of : {C : Type 0} → List (Visit C) → List (Result (Unit {
 results_of [] = []
 results_of (visit ∷ earlier) = visit.result ∷ results_of earlier
 
--- The calls, the last one first: each connection was accepted and run over, one after another.
+-- The calls, newest first: each connection was accepted, and then its trace was run.
 abbrev pub calls_of : {C : Type 0} → List (Visit C) → List (Call C)
 calls_of [] = []
 calls_of (visit ∷ earlier) = ran visit ∷ accepted visit.connection ∷ calls_of earlier
 
--- the same calls, and after them a refused one if the answer is Err
+-- the same calls, and after them a failed accept if the answer is Err
 abbrev pub calls_with : {C : Type 0} → List (Visit C) → Result ℕ ServeFault → List (Call C)
 calls_with visits (Ok faulty) = calls_of visits
 calls_with visits (Err fault) = refused ∷ calls_of visits
@@ -46,8 +46,8 @@ AreRun to_come taken (visit ∷ earlier) before after =
     (between : AgentState) × AreRun to_come taken earlier before between
     × HasRun (to_come visit.connection) visit.left (taken visit.connection) visit.new between after visit.result
 
--- The calls, if the acceptor reports them. Either this many connections were accepted, each was run
--- over once, and the answer counts those with a fault; or fewer were, and then accepting failed.
+-- The calls, if the acceptor reports them. Either this many connections were accepted, the trace of
+-- each was run once, and the answer counts the runs with a fault; or accepting failed earlier.
 pub record HasAsked {C : Type 0} (to_come taken : C → Option (List ℕ)) (old new : Option (List (Call C)))
     (connections : ℕ) (before after : AgentState) (result : Result ℕ ServeFault) : Type 0 where
   pub visits : List (Visit C)
@@ -59,13 +59,13 @@ pub record HasAsked {C : Type 0} (to_come taken : C → Option (List ℕ)) (old 
 abbrev pub this_host : List ℕ
 this_host = 127 ∷ 0 ∷ 0 ∷ 1 ∷ []
 
--- Ok if serving ended without a fault and no run ended with one
+-- Ok if serving returned Ok and no run ended with a fault
 abbrev pub without_fault : Result ℕ ServeFault → Result (Unit {0}) DeviceFault
 without_fault (Ok faulty) = if faulty == 0 then Ok tt else Err Failed
 without_fault (Err fault) = Err Failed
 
--- The port of 127.0.0.1 was bound first, and then this many connections were served, with a fault
--- or without. Or binding failed, which is a fault, and no other call was made.
+-- Either the port of 127.0.0.1 was bound, and then serving did what `HasAsked` states; or binding
+-- failed, no other call was made, and the answer is a fault.
 abbrev pub HasListened : {C : Type 0} → (C → Option (List ℕ)) → (C → Option (List ℕ)) → Option (List (Call C)) → Option (List (Call C)) →
     Listening → AgentState → AgentState → Result (Unit {0}) DeviceFault → Type 0
 HasListened to_come taken old new listening before after result =

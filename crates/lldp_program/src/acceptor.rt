@@ -32,15 +32,15 @@ pub trait Acceptor {
         ensures headline { (past : Past) → Stands past agent.old → KeepsOn past agent.new };
 }
 
-/// An acceptor that is bound before it accepts.
+/// An acceptor that must be bound to a port before it accepts connections.
 pub trait Bind: Acceptor {
-    /// Binds a port of an address. Connections are accepted there from then on.
+    /// Binds this port of this address. Connections are accepted there from then on.
     fn bind(&mut self, address: [u8; 4], port: u16) -> Result<(), DeviceFault>
         ensures asked { Self.asked self.new
             ≡ logged (binding address port result ∷ []) (Self.asked self.old) };
 }
 
-/// An acceptor over a borrowed listener.
+/// An acceptor that accepts from a borrowed listener.
 #[derive(Drop)]
 pub struct AtListener<'a> {
     pub listener: &'a TcpListener,
@@ -67,7 +67,7 @@ impl Acceptor for AtListener<'_> {
     }
 }
 
-/// An acceptor that binds a port of a network, and accepts connections there.
+/// An acceptor that binds a port through a network, and accepts connections there.
 #[derive(Drop)]
 pub struct AtPort<'a, N> {
     pub network: &'a N,
@@ -107,7 +107,7 @@ impl<N: Net<Listener = TcpListener, Stream = TcpStream>> Bind for AtPort<'_, N> 
     }
 }
 
-/// Runs the trace that arrives over a system connection, which does not report its octets.
+/// Runs the trace that arrives over a TCP connection. The connection does not report its octets.
 fn run_connection(connection: TcpStream, agent: &mut Agent) -> Result<(), RunFault>
     ensures run { HasRun Option.None Option.None Option.None Option.None
         agent.old agent.new result }

@@ -1,4 +1,4 @@
-//! What the program's arguments ask for.
+//! The program's arguments, and what they ask for.
 ghost use Rattle.std.specs.Prelude.{◌≡◌, ◌≤◌, ◌⊎◌, ℕ, List, IfOk, IfErr, Some, None, false, codes, map, option_map};
 ghost use Rattle.std.specs.Borrow.{Bor};
 ghost use Rattle.clap.specs.Words.{app_of, first_value, found_of, kind_of, one_text, rows_of, rule_of};
@@ -55,15 +55,15 @@ const CONNECTIONS_HELP: &str = "Exit after N connections, 1 to 65535";
 
 const ROLES: &[&str] = &["station", "bridge", "router"];
 
-/// Where to listen for connections that bring traces: a TCP port of 127.0.0.1, and how many
-/// connections to serve. Both are at least 1.
+/// Where to listen for connections, each of which brings a trace: a TCP port of 127.0.0.1, and how
+/// many connections to serve. Both numbers are at least 1.
 #[derive(Clone, Copy, Debug, PartialEq, Eq)]
 pub struct Listening {
     pub port: u16,
     pub connections: u16,
 }
 
-/// An address that cannot be read.
+/// The option whose address cannot be read.
 #[derive(Clone, Copy, Debug, PartialEq, Eq)]
 pub enum AddressFault {
     Mac,
@@ -99,7 +99,7 @@ fn text<'a>(
     valued(alloc, name, default).value_name(value).help(help)
 }
 
-/// Declares an option with a value, which is `default` if the words give none.
+/// Declares an option with a value, which is `default` if the arguments do not set the option.
 fn valued<'a>(alloc: Global, name: &'a str, default: &'a str) -> Arg<'a>
     ensures { rule_of result ≡ valued_rule name.entry.now default.entry.now }
 {
@@ -153,8 +153,8 @@ fn ports<'a>(alloc: Global) -> Arg<'a>
     Arg::new(alloc, PORT).num_args(0..).hide(true)
 }
 
-/// Parses the words, the first of which is the program's name, by `clap`'s own specification. Fails
-/// with one of the kinds of errors that it names, or for lack of memory. A request for help or the
+/// Parses the arguments by `clap`'s own specification. The first is the program's name. Fails with
+/// an error that the specification allows, or for lack of memory. A request for help or for the
 /// version is such an error too.
 pub fn parse<'a, S: AsStr>(alloc: Global, words: &'a [S]) -> Result<ArgMatches<'a>, Error>
     ensures options { IfOk result IsProgramParse }
@@ -165,7 +165,7 @@ pub fn parse<'a, S: AsStr>(alloc: Global, words: &'a [S]) -> Result<ArgMatches<'
     command(alloc)?.try_get_matches_from(words)
 }
 
-/// Declares the program's options and ports.
+/// Declares the options of the program, and the ports as its other arguments.
 fn command<'a>(alloc: Global) -> Result<Command<'a>, AllocError>
     ensures { IfOk result (λ c. (roles : Bor (List (Bor (List ℕ)))) × AreRoles roles
         × (app_of c ≡ program roles)) }
@@ -214,8 +214,8 @@ fn command<'a>(alloc: Global) -> Result<Command<'a>, AllocError>
         .arg(ports(alloc))
 }
 
-/// Reads the options from the parsed words, each number in its range. The fault is Mac exactly if
-/// the MAC cannot be read, and Management exactly if only the management address cannot be read.
+/// Reads the options from the parsed arguments, each number in its range. Fails with Mac exactly if
+/// the MAC cannot be read, and with Management exactly if only the management address cannot.
 pub fn read_options<'m>(matches: &'m ArgMatches<'_>) -> Result<Options<'m>, AddressFault>
     requires parse { IsProgramParse matches.now }
     ensures range { IfOk result (λ options. InRange (options_of options)) }
@@ -240,8 +240,8 @@ pub fn read_options<'m>(matches: &'m ArgMatches<'_>) -> Result<Options<'m>, Addr
     })
 }
 
-/// Returns the port and the number of connections that the words give, or None if they do not ask
-/// to listen.
+/// Returns the port and the number of connections from the arguments, or None if they do not ask to
+/// listen.
 pub fn listening_of(matches: &ArgMatches<'_>) -> Option<Listening>
     requires parse { IsProgramParse matches.now }
     ensures { AsksListening (one_text (found_of matches.now) (codes "listen"))

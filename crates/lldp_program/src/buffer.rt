@@ -5,7 +5,7 @@ ghost use Rattle.lldp_program.specs.Devices.Counts.{one_more, failures_after, en
 use crate::device::{DeviceFault, Source};
 use crate::line::LONGEST;
 
-/// Reads more octets into the buffer, after those that are held.
+/// Reads more octets into the buffer, after the first `held` ones, and returns how many.
 pub fn read_more<S: Source>(
     source: &mut S,
     buffer: &mut [u8],
@@ -24,8 +24,8 @@ pub fn read_more<S: Source>(
     source.read(&mut buffer[held..])
 }
 
-/// Moves the octets from `start` to `end` to the front, and returns how many are held there: at
-/// most 4,097, one more than the longest line has. That is enough to see that a line is too long.
+/// Moves the octets from `start` to `end` to the front of the buffer, at most 4,097 of them, and
+/// returns how many. 4,097 octets of a line are enough to see that the line is too long.
 pub fn hold(buffer: &mut [u8], start: usize, end: usize) -> usize
     requires order { start ≤ end }
     requires within { end ≤ length buffer.old }

@@ -23,12 +23,12 @@ pub trait Source {
     ghost failures: { Self → ℕ };
     /// How many reads returned the end, that is, 0 octets.
     ghost ends: { Self → ℕ };
-    /// Where it reads from, which no call changes. For an adapter this is the reference to its
-    /// reader.
+    /// The place that the source reads from. No call changes it. For an adapter it is the reference
+    /// to its reader.
     ghost place: { Self → GName };
 
-    /// Reads octets into the front of the room, and returns how many; 0 means the end. A read that
-    /// fails reads none.
+    /// Reads octets into the front of `room`, and returns how many; 0 means the end. A failed read
+    /// reads none.
     fn read(&mut self, room: &mut [u8]) -> Result<usize, DeviceFault>
         requires { 0 < length room.old }
         ensures fits { IfOk result (λ n. n ≤ length room.new) }
@@ -46,12 +46,12 @@ pub trait Sink {
     ghost taken: { Self → Option (List ℕ) };
     /// How many writes failed.
     ghost failures: { Self → ℕ };
-    /// Where it writes to, which no call changes. For an adapter this is the reference to its
-    /// writer.
+    /// The place that the sink writes to. No call changes it. For an adapter it is the reference to
+    /// its writer.
     ghost place: { Self → GName };
 
-    /// Writes octets from the front, at least one, and returns how many. A write that fails writes
-    /// none.
+    /// Writes at least one octet from the front of `octets`, and returns how many. A failed write
+    /// writes none.
     fn write(&mut self, octets: &[u8]) -> Result<usize, DeviceFault>
         requires { 0 < length octets.now }
         ensures some { IfOk result (λ n. 0 < n) }
@@ -66,7 +66,7 @@ pub trait Flush: Sink {
     /// True if `flush` was called after the last write.
     ghost is_flushed: { Self → Bool };
 
-    /// Passes on all octets that were written. A flush that fails counts as a failed write.
+    /// Flushes all octets that were written. A failed flush counts as a failed write.
     fn flush(&mut self) -> Result<(), DeviceFault>
         ensures flushed { is_flushed self.new ≡ true }
         ensures octets { Keeps (Self.taken self.old) (Self.taken self.new) }
@@ -87,7 +87,7 @@ impl<'a, R: Read> FromReader<'a, R> {
     ghost use Rattle.std.specs.Prelude.{◌≡◌};
     ghost use Rattle.lldp_program.specs.Devices.Adapters.{source_to_come, source_calls, source_failures, source_ends, source_place};
 
-    /// Returns a source with the octets that the reader reports, and no read, failure or end yet.
+    /// Returns a source with the octets that the reader reports, and with all counts at 0.
     pub fn new(reader: &'a mut R) -> Self
         ensures octets { source_to_come R.remaining result ≡ R.remaining reader.old }
         ensures calls { source_calls result ≡ 0 }
@@ -143,7 +143,7 @@ impl<'a, W: Write> ToWriter<'a, W> {
     ghost use Rattle.std.specs.Prelude.{◌≡◌};
     ghost use Rattle.lldp_program.specs.Devices.Adapters.{sink_taken, sink_failures, sink_place};
 
-    /// Returns a sink with the octets that the writer reports, and no failure yet.
+    /// Returns a sink with the octets that the writer reports, and with its count at 0.
     pub fn new(writer: &'a mut W) -> Self
         ensures octets { sink_taken W.contents result ≡ W.contents writer.old }
         ensures failures { sink_failures result ≡ 0 }

@@ -17,7 +17,7 @@ pub enum ProgramFault {
     InputTooLong,
     /// The port could not be bound, accepting failed, or a connection ended with a fault.
     Socket,
-    /// There was no memory for the words or for opening the agent.
+    /// There was no memory for the arguments or for opening the agent.
     Memory,
     /// No port was named.
     NoPorts,
@@ -27,7 +27,7 @@ pub enum ProgramFault {
     PortName,
     /// Two ports have the same name.
     SamePort,
-    /// The hostname is not an allowed text.
+    /// The hostname has more than 255 octets, or one that is not printable.
     Text,
     /// The value of `--mac` is not a MAC address.
     Mac,

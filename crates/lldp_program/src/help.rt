@@ -1,4 +1,4 @@
-//! The texts of the program's help, except those of its options. No line has over 80 columns.
+//! The texts of the program's help, except those of its options. No line is longer than 80 columns.
 
 pub const VERSION: &str = "1.0.0";
 

@@ -1,4 +1,4 @@
-//! Laws of command lines, of lines of traces, and of what is written and served.
+//! Laws about command lines, about lines of traces, and about what is written and served.
 
 pub mod command_line;
 pub mod fixed;

@@ -1,4 +1,4 @@
-//! The program without its `main`: it reads words and a trace, and writes frames and shows.
+//! The program without its `main`: it reads arguments and a trace, and writes frames and shows.
 #![tactic(auto)]
 
 pub mod acceptor;

@@ -19,7 +19,7 @@ pub const LONGEST: usize = 4096;
 /// Why a line is refused.
 #[derive(Clone, Copy, Debug, PartialEq, Eq)]
 pub enum LineFault {
-    /// It has more than 4,096 octets.
+    /// The line has more than 4,096 octets.
     TooLong,
     /// A frame is not written in pairs of hexadecimal digits.
     Hex,
@@ -89,7 +89,7 @@ fn is_skipped_line(line: &[u8]) -> bool
     true
 }
 
-/// Reads `tick` or `tick N`, after its first word.
+/// Reads the words after `tick`: none, or a number of ticks.
 #[tactic(auto, unfolding(crate::specs::Trace::Forms::tick_form))]
 fn read_tick<'l>(mut words: Words<'_>) -> Result<Work<'l>, LineFault>
     ensures read { on_ok work_of result ≡ tick_form words.entry }
@@ -104,7 +104,7 @@ fn read_tick<'l>(mut words: Words<'_>) -> Result<Work<'l>, LineFault>
     Ok(Work::Ticks(ticks))
 }
 
-/// Decodes hexadecimal digits into the front of the room, and returns these octets.
+/// Decodes hexadecimal digits into the front of `room`, and returns the octets.
 fn decode<'l>(digits: &[u8], room: &'l mut [u8]) -> Result<&'l [u8], LineFault>
     requires { length digits.now ≤ 2 * length room.old }
     ensures octets { IfOk result (λ octets. or_hex (decode_of digits.now) ≡ Ok octets.now) }
@@ -114,14 +114,14 @@ fn decode<'l>(digits: &[u8], room: &'l mut [u8]) -> Result<&'l [u8], LineFault>
     if digits.len() % 2 == 0 && decode_digits(digits, octets) {
         return Ok(octets);
     }
-    // There are few digits or an odd number of them, or one is bad.
+    // There are fewer than 32 digits, or an odd number of them, or a digit is bad.
     match hex::decode_to_slice(digits, octets) {
         Ok(()) => Ok(octets),
         Err(_) => Err(LineFault::Hex),
     }
 }
 
-/// Reads `rx PORT HEX`, after its first word. The octets are written into the room.
+/// Reads the words after `rx`: a port and a frame. The octets of the frame are written into `room`.
 #[tactic(auto, unfolding(crate::specs::Trace::Forms::frame_form))]
 fn read_frame<'l>(
     agent: &Agent,
@@ -139,7 +139,7 @@ fn read_frame<'l>(
     Ok(Work::Frame { port, octets })
 }
 
-/// Reads `up PORT` or `down PORT`, after its first word.
+/// Reads the word after `up` or `down`: a port.
 #[tactic(auto, unfolding(crate::specs::Trace::Forms::link_form))]
 fn read_link<'l>(agent: &Agent, mut words: Words<'_>, up: bool) -> Result<Work<'l>, LineFault>
     ensures read { on_ok work_of result ≡ link_form agent.now up words.entry }
@@ -150,7 +150,7 @@ fn read_link<'l>(agent: &Agent, mut words: Words<'_>, up: bool) -> Result<Work<'
     Ok(Work::Link { port, up })
 }
 
-/// Returns the text after this front, or None if the text does not begin with it.
+/// Returns the text after `front`, or None if the text does not begin with `front`.
 fn behind<'l>(text: &'l [u8], front: &[u8]) -> Option<&'l [u8]>
     ensures { MatchOption result
         ((rest : List ℕ) → text.now ≢ front.now ++ rest)
@@ -159,8 +159,8 @@ fn behind<'l>(text: &'l [u8], front: &[u8]) -> Option<&'l [u8]>
     text.strip_prefix(front)
 }
 
-/// Reads the port and the digits of `rx PORT HEX` in its usual form, with one space between words
-/// and no quotes. Returns None for a line in another form, which is then read word by word.
+/// Reads the port and the digits of `rx PORT HEX` if the line has one space between words and no
+/// quotes. Returns None for other lines and for most faults; such lines are read word by word.
 fn plain_frame<'l>(agent: &Agent, line: &'l [u8]) -> Option<(u8, &'l [u8])>
     requires { length line.now ≤ 4096 }
     ensures reads { IfSome result (λ x. (octets : List ℕ) → decode_of x.1.now ≡ Ok octets →
@@ -185,9 +185,9 @@ fn plain_frame<'l>(agent: &Agent, line: &'l [u8]) -> Option<(u8, &'l [u8])>
     }
 }
 
-/// Reads what a line, without its LF, asks of the agent, or its first fault. The agent accepts the
-/// events of the work that is returned. The octets of a frame are in the room; for other lines
-/// nothing is promised about the room.
+/// Reads what a line asks of the agent. `line` is without its LF. Returns the work, whose events
+/// the agent accepts, or the first fault of the line. The octets of a frame are in `room`; after
+/// any other line the contents of `room` are not specified.
 #[tactic(auto, unfolding(crate::specs::Trace::Forms::work_given, crate::specs::Trace::Forms::form_of))]
 pub fn read_line<'l>(
     agent: &Agent,
@@ -200,7 +200,7 @@ pub fn read_line<'l>(
     if line.len() > LONGEST {
         return Err(LineFault::TooLong);
     }
-    // Most lines are frames in the usual form. Those with a bad digit are refused below.
+    // Most lines are frames in this form. Those with a bad digit are read again and refused below.
     if let Some((port, digits)) = plain_frame(agent, line) {
         let count = digits.len() / 2;
         if decode_digits(digits, &mut room[..count]) {

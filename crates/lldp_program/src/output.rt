@@ -1,4 +1,4 @@
-//! Gathers text for a sink, and writes it in large pieces.
+//! Buffers text for a sink, and writes it in large pieces.
 ghost use Rattle.std.specs.Prelude.{◌≡◌, ◌≤◌, ◌<◌, ◌+◌, ◌*◌, [], length, OnOk};
 ghost use Rattle.std.specs.List.{flat_map, AllByRecursion};
 ghost use Rattle.lldp_engine.specs.AgentState.{names_of, IsPort};
@@ -27,7 +27,7 @@ pub fn send<W: Sink>(sink: &mut W, octets: &[u8]) -> Result<(), DeviceFault>
     Ok(())
 }
 
-/// Writes text to a borrowed sink. Each text is gathered; when it ends, all of it is written.
+/// Writes text to a borrowed sink through a buffer. The end of each text flushes the buffer.
 #[derive(Drop)]
 pub struct Output<'w, W> {
     sink: &'w mut W,
@@ -36,7 +36,7 @@ pub struct Output<'w, W> {
 }
 
 impl<'w, W: Sink> Output<'w, W> {
-    /// Returns an output to this sink, with no text that waits.
+    /// Returns an output to this sink, with an empty buffer.
     pub fn new(sink: &'w mut W) -> Self
         ensures taken { W.taken result.sink.now ≡ W.taken sink.old }
         ensures failures { W.failures result.sink.now ≡ W.failures sink.old }
@@ -52,7 +52,7 @@ impl<'w, W: Sink> Output<'w, W> {
 }
 
 impl<W: Sink> Output<'_, W> {
-    /// Begins a text. What a failed write left over is dropped.
+    /// Begins a text. Clears the buffer of what a failed write left there.
     fn begin(&mut self)
         ensures { output_state W.taken W.failures W.place self.new
             ≡ begun (output_state W.taken W.failures W.place self.old) }
@@ -61,7 +61,7 @@ impl<W: Sink> Output<'_, W> {
         self.answer = Ok(());
     }
 
-    /// Writes all that waits.
+    /// Writes the buffer to the sink, unless a write has failed.
     fn flush(&mut self)
         ensures { Between W.taken W.failures W.place self.old self.new Flushes }
     {
@@ -71,7 +71,7 @@ impl<W: Sink> Output<'_, W> {
         }
     }
 
-    /// Writes what waits if there is no room left for this many octets.
+    /// Writes the buffer to the sink if it has no room for this many more octets.
     fn make_room(&mut self, octets: usize)
         requires { octets ≤ ROOM }
         ensures puts { Between W.taken W.failures W.place self.old self.new (Puts []) }
@@ -82,7 +82,7 @@ impl<W: Sink> Output<'_, W> {
         }
     }
 
-    /// Ends a text: writes all that waits.
+    /// Ends a text: writes the buffer to the sink, and returns whether all writes succeeded.
     fn end(&mut self) -> Result<(), DeviceFault>
         ensures flushed { Between W.taken W.failures W.place self.old self.new Flushes }
         ensures answer { result ≡ self.new.answer }
@@ -91,7 +91,7 @@ impl<W: Sink> Output<'_, W> {
         self.answer
     }
 
-    /// Appends the line for a frame of a port to the text that waits.
+    /// Appends the line for a frame of a port to the buffer.
     fn put_frame(&mut self, name: &[u8], frame: &[u8])
         requires name { length name.now ≤ 15 }
         requires frame { length frame.now ≤ 1514 }
@@ -108,7 +108,7 @@ impl<W: Sink> Output<'_, W> {
         }
     }
 
-    /// Appends the lines for the frames that ports send to the text that waits.
+    /// Appends the lines for the frames that ports send to the buffer.
     fn put_frames(&mut self, agent: &Agent, marks: &Marks)
         requires { AllByRecursion (λ mark. IsPort agent.now mark.0
             × IsSent mark.1) marks.now.items }
@@ -123,7 +123,7 @@ impl<W: Sink> Output<'_, W> {
         }
     }
 
-    /// Appends a line and its LF to the text that waits.
+    /// Appends a line and its LF to the buffer.
     fn put_line(&mut self, line: &[u8])
         requires { length line.now ≤ 2048 }
         ensures { Between W.taken W.failures W.place self.old self.new (Puts (ended line.now)) }
@@ -164,7 +164,7 @@ impl<W: Sink> Output<'_, W> {
             (Writes (flat_map (mark_line (names_of agent.now) agent.now.configuration)
             marks.now.items) result) }
     {
-        // Most events send nothing, so nothing is written.
+        // At most events no port sends, so there is nothing to write.
         if marks.is_empty() {
             return Ok(());
         }
@@ -178,7 +178,7 @@ impl<W: Sink> LineSink for Output<'_, W> {
     ghost takes = { λ old new line.
         Between W.taken W.failures W.place old new (Puts (ended line)) };
 
-    /// Lends the text that waits, so that the next line is appended to it.
+    /// Lends the buffer for the next line. Returns None if a write has failed.
     fn begin_line(&mut self) -> Option<&mut Writer> {
         self.make_room(LINE_ROOM);
         if self.answer.is_err() {

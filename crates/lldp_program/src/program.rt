@@ -25,31 +25,33 @@ use std::convert::AsStr;
 use std::io::{Read, Write};
 use std::net::{Net, TcpListener, TcpStream};
 
-/// All went well.
+/// The status if no fault occurred.
 const DONE: u8 = 0;
 
-/// The words are wrong, opening the agent was refused, or there was no memory.
+/// The status if the arguments are wrong, opening was refused, or there was no memory.
 const REFUSED: u8 = 2;
 
 /// Runs the program on its arguments, the first of which is its name, and returns its status: 0, 1
-/// or 2. Only this call and `arguments::parse`, which it calls, allocate memory in this crate: for
+/// or 2. In this crate only this call and `arguments::parse`, which it calls, allocate memory: for
 /// the arguments and for opening the agent.
 ///
-/// The clauses say the following. With status 2 nothing was read and nothing was written. Either
-/// the arguments are wrong by `clap`'s own specification of the command line, or there was no
-/// memory for them, or an address cannot be read, or opening refuses the options, for the first
-/// check that fails or for lack of memory. The line of that fault was written to `faults`; for
-/// wrong arguments the text is `clap`'s. With another status either the arguments ask for help or
-/// the version, and nothing was read; or they have no fault, each option (also the MAC and the
-/// management address) is the value of its argument or its default and is in its range, and opening
-/// accepts the options. Then, without `--listen`, the trace from the reader was run over an agent
-/// with these options, as `run_trace` says, and all of it if the status is 0. With `--listen`
-/// nothing was read or written; the program listens at that port for as many connections as
-/// `--connections` says, 1 by default. Either the status is 0 and nothing was written to `faults`,
-/// or it is the status of the fault whose line was written: of the run, or else of the flush after
-/// it; of the socket with `--listen`; or of writing help or the version.
+/// Status 2: nothing was read, and nothing was written to `writer`. Either the arguments are wrong
+/// by `clap`'s own specification of the command line; or there was no memory for them; or an
+/// address cannot be read; or opening refused the options, by the first check that failed or for
+/// lack of memory. The line of that fault was written to `faults`; for wrong arguments the text is
+/// `clap`'s.
 ///
-/// The line of a fault is written whole, or up to a write that failed.
+/// Status 0 or 1: either the arguments ask for help or the version, and nothing was read; or they
+/// have no fault. Then each option (also the MAC and the management address) has the value of its
+/// argument or its default and is in its range, and opening accepted the options. Without
+/// `--listen` the trace from the reader was run over an agent with these options, as `run_trace`
+/// says; with status 0 all of it was run. With `--listen` nothing was read or written, and the
+/// program listened at that port for as many connections as `--connections` says, 1 by default.
+///
+/// With status 0 nothing was written to `faults`. With status 1 one fault was reported there: that
+/// of the run or, if the run had none, of the flush after it; that of the socket with `--listen`;
+/// or that of writing help or the version. The line of a fault is written whole, or up to a write
+/// that failed.
 ///
 /// Tests show what no clause says: that a reported fault of a write, a flush, a socket or memory
 /// did occur; the texts of help, of the version and of wrong arguments; and that with `--listen`
@@ -63,13 +65,13 @@ pub fn run_program<S: AsStr, R: Read, W: Write, E: Write>(
     faults: &mut E,
 ) -> u8
     ensures status { result ≤ 2 }
-    // The words ask for help or the version, or they have no fault and the trace was run with their
-    // options.
+    // The arguments ask for help or the version; or they have no fault, and the program ran with
+    // their options.
     ensures answered { result ≢ 2 → (failed : ℕ) × HasAnswered (map S.text words.now)
         (R.remaining reader.old) (R.remaining reader.new)
         (W.contents writer.old) (W.contents writer.new)
         (stream (E.contents faults.old) 0) (stream (E.contents faults.new) failed) result }
-    // If it refuses, it has reported why, and has read nothing and written nothing.
+    // Status 2: the arguments or the opening were refused. `HasRefused` has the reasons.
     ensures refused { result ≡ 2 → (failed : ℕ) × HasRefused (map S.text words.now)
         (stream (E.contents faults.old) 0) (stream (E.contents faults.new) failed) }
     ensures silent { result ≡ 2 →
@@ -85,7 +87,7 @@ pub fn run_program<S: AsStr, R: Read, W: Write, E: Write>(
     }
 }
 
-/// Runs the program with the options that its words give.
+/// Runs the program with the options that the parsed arguments ask for.
 fn run_matches<R: Read, W: Write, E: Sink>(
     rt: &impl Net<Listener = TcpListener, Stream = TcpStream>,
     alloc: Global,
@@ -129,7 +131,7 @@ fn run_matches<R: Read, W: Write, E: Sink>(
     }
 }
 
-/// Reports what is wrong with the words, or writes the help or version that was asked for.
+/// Reports a fault of the arguments, or writes the help or version that was asked for.
 fn answer_words<W: Write, E: Write>(error: &Error, writer: &mut W, faults: &mut E) -> u8
     ensures refused { (kind_of error.now ≢ ErrorKind.DisplayHelp) →
         (kind_of error.now ≢ ErrorKind.DisplayVersion) →
@@ -188,8 +190,8 @@ fn run_streams<R: Read, W: Write, E: Sink>(
 }
 
 /// Runs the trace from a source, and flushes the sink after the last write, even if the run failed.
-/// Status 0 means that no read, write or flush failed, status 1 that one did or that the trace was
-/// too long.
+/// Status 0 means that no read, write or flush failed. Status 1 means that one of them failed, or
+/// that the trace was too long.
 fn run_devices<S: Source, W: Flush, E: Sink>(
     agent: &mut Agent,
     source: &mut S,
@@ -201,8 +203,8 @@ fn run_devices<S: Source, W: Flush, E: Sink>(
         (W.taken sink.old) (W.taken sink.new)
         (stream (E.taken faults.old) (E.failures faults.old))
         (stream (E.taken faults.new) (E.failures faults.new)) agent.old agent.new result }
-    // Status 0 means that no read, write or flush failed, and status 1 that one did or that the
-    // trace was too long.
+    // Status 0: no read, write or flush failed. Status 1: one of them failed, or the trace was too
+    // long.
     ensures done { result ≡ 0 → (S.failures source.new ≡ S.failures source.old)
         × (W.failures sink.new ≡ W.failures sink.old) }
     ensures failed { result ≡ 1 → S.failures source.old ≡ 0 → W.failures sink.old ≡ 0 →
@@ -222,7 +224,7 @@ fn run_devices<S: Source, W: Flush, E: Sink>(
     }
 }
 
-/// Runs the traces that arrive over connections to a port of this host.
+/// Runs the traces that arrive over connections to a port of 127.0.0.1.
 fn run_sockets<E: Sink>(
     rt: &impl Net<Listener = TcpListener, Stream = TcpStream>,
     agent: &mut Agent,
@@ -245,7 +247,7 @@ fn run_sockets<E: Sink>(
     }
 }
 
-/// Returns the status after a flush at the end. If the flush failed, writes the line of that fault.
+/// Returns 0 if the flush at the end succeeded. Otherwise reports a failed write and returns 1.
 fn finish<E: Sink>(flushed: bool, faults: &mut E) -> u8
     ensures status { result ≡ (if flushed then 0 else 1) }
     ensures well { flushed ≡ true → EndsBy (Ok tt)

@@ -42,22 +42,22 @@ fn count_fault(ran: Result<(), RunFault>) -> u16
 }
 
 /// Accepts this many connections, one after another, and runs the trace that arrives over each
-/// before it accepts the next, even after a fault. Returns how many of them ended with a fault. The
-/// agent keeps its state from one connection to the next. If accepting fails, it returns that
-/// fault, and the agent has run the traces before it. An acceptor that reports its calls reports no
-/// others. In every case the promise holds for the agent, after its past and some more allowed
-/// events.
+/// before it accepts the next, even after a fault. Returns how many of these runs ended with a
+/// fault. The agent keeps its state from one connection to the next. Fails if accepting fails; the
+/// traces of the earlier connections were then run. An acceptor that reports its calls reports only
+/// these. In every case `KeepsOn` holds: the agent has the state after its past and some more
+/// allowed events.
 pub fn serve_connections<D: Acceptor>(
     agent: &mut Agent,
     acceptor: &mut D,
     connections: u16,
 ) -> Result<u16, ServeFault>
-    // The calls of the acceptor: each connection was accepted and run over once, or accepting
-    // failed before the last.
+    // The calls of the acceptor: each connection was accepted and its trace was run once, or
+    // accepting failed before the last connection.
     ensures asked { HasAsked D.to_come D.taken (D.asked acceptor.old) (D.asked acceptor.new) connections
         agent.old agent.new result }
     ensures few { IfOk result (λ faulty. faulty ≤ connections) }
-    // This holds whatever came over the connections, even if accepting failed.
+    // This holds for all octets that connections bring, even if accepting failed.
     ensures headline { (past : Past) → Stands past agent.old → KeepsOn past agent.new }
 {
     let mut faulty = 0;
@@ -70,9 +70,9 @@ pub fn serve_connections<D: Acceptor>(
     Ok(faulty)
 }
 
-/// Binds a port of 127.0.0.1 first, and then serves this many connections there. Ok exactly if all
-/// were served and none ended with a fault. Fails if binding fails, with no further call of the
-/// acceptor; if accepting fails; or if a connection ends with a fault. The promise holds for the
+/// Binds a port of 127.0.0.1, and then serves this many connections there. Returns Ok exactly if
+/// all were served and no run had a fault. Fails if binding fails (then no further call of the
+/// acceptor is made), if accepting fails, or if a run ends with a fault. `KeepsOn` holds for the
 /// agent in every case.
 pub fn listen<D: Bind>(
     agent: &mut Agent,
@@ -97,7 +97,7 @@ pub fn listen<D: Bind>(
 /// not report its calls, so no clause says that any client is served.
 pub fn serve(agent: &mut Agent, listener: &TcpListener, connections: u16) -> Result<u16, ServeFault>
     ensures few { IfOk result (λ faulty. faulty ≤ connections) }
-    // This holds whatever came over the connections, even if accepting failed.
+    // This holds for all octets that connections bring, even if accepting failed.
     ensures headline { (past : Past) → Stands past agent.old → KeepsOn past agent.new }
 {
     serve_connections(agent, &mut AtListener { listener }, connections)

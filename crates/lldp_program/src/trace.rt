@@ -1,4 +1,4 @@
-//! Runs a trace over an agent.
+//! Runs an agent over a trace.
 ghost use Rattle.std.specs.Prelude.{◌≡◌, ◌<◌, ◌≤◌, ◌+◌, ◌^◌, [], ◌∷◌, length, take, drop, replicate, IfOk};
 ghost use Rattle.lldp_engine.specs.AgentState.{Allows};
 ghost use Rattle.lldp_text.specs.Answer.{on_ok};
@@ -22,10 +22,10 @@ use thiserror::Error;
 
 const LF: u8 = b'\n';
 
-/// How many octets of the trace the buffer holds.
+/// The size of the buffer for the trace, in octets.
 const BUFFER: usize = 16384;
 
-/// The most reads of a run.
+/// The most reads that a run may make.
 pub const MOST_READS: u32 = 4_294_967_295;
 
 /// Why a run ended before the end of its trace.
@@ -51,7 +51,7 @@ impl RunFault {
     }
 }
 
-/// Runs an event that the agent allows, and writes what ports send.
+/// Applies an event that the agent allows, and writes the lines for what ports send.
 fn run_event<W: Sink>(
     agent: &mut Agent,
     output: &mut Output<'_, W>,
@@ -65,7 +65,7 @@ fn run_event<W: Sink>(
     output.write_marks(agent, &marks)
 }
 
-/// Runs this many ticks.
+/// Applies this many ticks, and writes the lines for what ports send.
 fn run_ticks<W: Sink>(
     agent: &mut Agent,
     output: &mut Output<'_, W>,
@@ -114,7 +114,7 @@ struct Run<'a, 'w, W> {
 impl<W: Sink> Run<'_, '_, W> {
     ghost use Rattle.lldp_program.specs.Code.Parts.{Performs};
 
-    /// Does what one line asks for.
+    /// Does what the line asks for.
     fn line(&mut self, line: &[u8]) -> Result<(), DeviceFault>
         ensures { Performs W.taken W.failures W.place self.old self.new (λ past.
             items_of past line.now) result }
@@ -123,8 +123,8 @@ impl<W: Sink> Run<'_, '_, W> {
         run_work(self.agent, &mut self.output, read)
     }
 
-    /// Does what each line asks for, if its LF is among the octets. The first `searched` octets
-    /// have no LF. Returns where the unfinished line begins.
+    /// Does what each line in `octets` asks for, if the line ends with LF. The first `searched`
+    /// octets have no LF. Returns where the unfinished line begins.
     fn lines(&mut self, octets: &[u8], searched: usize) -> Result<usize, DeviceFault>
         requires within { searched ≤ length octets.now }
         requires no_line { ended_lines (take searched octets.now) ≡ [] }
@@ -156,48 +156,46 @@ impl<W: Sink> Run<'_, '_, W> {
     }
 }
 
-/// Runs a trace over the agent. It reads the trace to its end, does what each line asks for as soon
-/// as its LF was read, and writes the answers, however the octets are split over reads. It does not
+/// Runs a trace over the agent. Reads the trace to its end, does what each line asks for as soon as
+/// its LF was read, and writes the answers, however the octets are split over reads. Does not
 /// flush. The first failed read or write ends the run. A last line without LF is a line too. A line
 /// over 4,096 octets is refused, and does nothing.
 ///
-/// For every past that the agent stood for: Ok means that the end was reached, the text of the
-/// trace was written, and the agent stands for the past plus the events of the input. Read and
-/// InputTooLong mean that each line whose LF was read was done, and nothing else was written. Write
-/// means that the agent stands for the events up to and including the item whose output failed; the
-/// text of the items before it was written, and a part of its own text, but not all. In each case
-/// the promise holds for the agent after these events. What was read, that the end was reached, and
-/// how many octets there were do not depend on a past. `headline` holds over any devices, even
-/// those that report no octets.
+/// For every past that led to the agent's state: Ok means that the end was reached, the text of the
+/// trace was written, and the agent has the state after the past and the events of the input. Read
+/// and InputTooLong mean that each line whose LF was read was done, and nothing else was written.
+/// Write means that the agent has the state after the item whose output failed; the text of the
+/// items before that item was written, and only a part of its own text. In each case `Promised`
+/// holds for the agent. What was read, whether the end was reached, and the number of octets do not
+/// depend on a past. `headline` holds for all devices, even those that report no octets.
 ///
-/// It reads at most 4,294,967,295 times. If it returns InputTooLong, and the source was read fewer
-/// than 2^63 times before, it has made exactly this many reads, and read at least this many octets.
-/// Failed reads rise by one exactly if the answer is Read, failed writes exactly if it is Write; a
-/// count stops at 2^64 - 1. With Ok one read returned the end, with Read and InputTooLong none did.
-/// The devices are still those that the caller passed.
+/// A run reads at most 4,294,967,295 times. If it returns InputTooLong, and the source was read
+/// fewer than 2^63 times before, it has made exactly this many reads, and read at least this many
+/// octets. The count of failed reads rises by one exactly if the answer is Read, that of failed
+/// writes exactly if it is Write; a count stops at 2^64 - 1. With Ok one read returned the end,
+/// with Read and InputTooLong none did. The devices are still those that the caller passed.
 ///
-/// It allocates no memory: neither it nor any call that it makes is given an allocator, and its
-/// buffers have fixed sizes: 16,384 octets for reading, 8,192 for writing, 2,048 for a received
-/// frame, 1,514 for a sent one.
+/// A run allocates no memory: neither this function nor any function that it calls has an
+/// allocator, and the buffers have fixed sizes: 16,384 octets for reading, 8,192 for writing, 2,048
+/// for a received frame, 1,514 for a sent one.
 pub fn run_trace<S: Source, W: Sink>(
     agent: &mut Agent,
     reader: &mut S,
     writer: &mut W,
 ) -> Result<(), RunFault>
-    // What was read, what was written for it, and for which past the promise then holds.
+    // What was read, what was written, and the state of the agent after the run.
     ensures run { HasRun (S.to_come reader.old) (S.to_come reader.new)
         (W.taken writer.old) (W.taken writer.new) agent.old agent.new result }
-    // For any devices, even those that report no octets: the agent stands for its past and some
+    // For all devices, even those that report no octets: the agent has the state after its past and
     // more events. Each table holds the last stored frames that have not expired. Each port has
-    // sent exactly what was due while its credit window was open. No sequence of events has more
-    // frames, nor more stops, than its bound. No other choice would have sent more up to any event.
+    // sent exactly what was due while its credit window was open. No run of events has more frames
+    // or stops than its bound. No other choice would have sent more frames up to any event.
     ensures headline { (past : Past) → Stands past agent.old → KeepsOn past agent.new }
-    // The answer is Read exactly if a read failed, and Write exactly if a write did; that was the
-    // only failed call, and the last. With any other answer, also InputTooLong, no device failed.
+    // The answer is Read exactly if a read failed, and Write exactly if a write failed. Only that
+    // call failed, and it was the last. With Ok or InputTooLong no device failed.
     ensures reads { S.failures reader.new ≡ read_failures_after (S.failures reader.old) result }
     ensures writes { W.failures writer.new ≡ write_failures_after (W.failures writer.old) result }
-    // If the answer is Ok, the last read returned the end. If it is Read or InputTooLong, no read
-    // did.
+    // Ok: the last read returned the end. Read and InputTooLong: no read returned the end.
     ensures ends { EndsTold (S.ends reader.old) (S.ends reader.new) result }
     // The devices are still those that the caller passed.
     ensures places { (S.place reader.new ≡ S.place reader.old)

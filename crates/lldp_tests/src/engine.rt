@@ -1,4 +1,4 @@
-//! Tests of `lldp_engine` for what no clause says: that opening works if there is memory, and the
+//! Tests what no clause of `lldp_engine` states: that opening succeeds if there is memory, and the
 //! answers to calls that the program does not make.
 mod embedded;
 mod memory;
@@ -17,7 +17,7 @@ const NAMES: [&str; 64] = [
     "p52", "p53", "p54", "p55", "p56", "p57", "p58", "p59", "p60", "p61", "p62", "p63",
 ];
 
-/// Returns the program's default options with these ports, this limit, and `receive_only`.
+/// Returns the program's default options, but with these ports, this limit and `receive_only`.
 pub fn only_receiving<'a>(ports: &'a [&'a str], max_neighbors: u8) -> Options<'a> {
     Options {
         ports,

@@ -1,5 +1,5 @@
-//! Tests what no transcript of `examples/` can show: devices that read and write little at a time
-//! and fail, and connections.
+//! Tests what no transcript of `examples/` can show: connections, and devices that fail or that
+//! read and write few octets at a time.
 
 mod devices;
 mod failing;

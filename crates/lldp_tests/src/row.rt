@@ -3,7 +3,7 @@ use crate::rows::ROWS;
 use std::alloc::{AllocError, Global};
 use std::test::Fail;
 
-/// A row without its kind: its name, its first field, and the others with tabs between them.
+/// A row without its kind: its name, its first field, and the other fields with tabs between them.
 #[derive(Clone, Copy)]
 pub struct Row {
     pub name: &'static str,
@@ -27,12 +27,12 @@ pub fn rows_of(alloc: Global, kind: &str) -> Result<Vec<Row>, AllocError> {
     Ok(rows)
 }
 
-/// Returns the octets that a field spells; `-` is none.
+/// Returns the octets that a field spells; `-` means that there are none.
 pub fn octets(alloc: Global, field: &str) -> Result<Vec<u8>, Fail> {
     Ok(hex::decode(alloc, field.trim_matches('-'))?)
 }
 
-/// Spells octets as a field.
+/// Returns the field that spells these octets, which is `-` for none.
 pub fn field(alloc: Global, octets: &[u8]) -> Result<String, Fail> {
     if octets.is_empty() {
         return Ok(String::from_str(alloc, "-")?);

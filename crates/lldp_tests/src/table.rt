@@ -1,4 +1,4 @@
-//! Tests the worked examples of a table, call by call, and the memory that a table needs.
+//! Tests the worked examples of a table, call by call, and how much memory a table needs.
 ghost use Rattle.std.specs.Prelude.{◌≤◌, length};
 
 use linked_list_allocator::LocalHeap;
@@ -51,14 +51,14 @@ fn forgets<A: Allocator>(rt: &impl Abort, table: &mut Table<A>, pdu: &[u8; 22], 
     assert_eq!(rt; table.forget(&told(rt, pdu).msap()), held);
 }
 
-/// Passes this many ticks to the table, and checks that this many neighbors age out at each.
+/// Passes this many ticks to the table, and checks that this many neighbors age out at each tick.
 fn ticks<A: Allocator>(rt: &impl Abort, table: &mut Table<A>, count: u8, gone: u8) {
     for _ in 0..count {
         assert_eq!(rt; table.tick(), gone);
     }
 }
 
-/// Checks how many neighbors and octets the table holds, and whether too many came.
+/// Checks how many neighbors and octets the table holds, and whether it reports too many neighbors.
 fn expect_held<A: Allocator>(rt: &impl Abort, table: &Table<A>, held: (u8, u32, bool)) {
     assert_eq!(rt; (table.len(), table.octets(), table.too_many()), held);
 }
@@ -114,7 +114,7 @@ fn equal_expiries(rt: HostRuntime) -> Result<(), Fail> {
     Ok(())
 }
 
-/// Checks that there is one allocation, for all neighbors; that it is refused if there is less
+/// Checks that a table makes one allocation, for all neighbors; that opening fails if there is less
 /// room; and that no later call needs memory.
 #[test]
 fn memory(rt: HostRuntime) -> Result<(), Fail> {

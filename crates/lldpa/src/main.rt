@@ -13,7 +13,7 @@ fn main(rt: HostRuntime) -> ExitCode {
     ExitCode::from(status)
 }
 
-/// Runs the program on its own words and the standard streams. Fails if it cannot get the words.
+/// Runs the program on its arguments and standard streams. Fails if the arguments cannot be read.
 fn run(rt: &HostRuntime) -> io::Result<u8> {
     let words: Vec<String> = env::args(rt)?.collect(rt.alloc())?;
     let status = program::run_program(

@@ -1,4 +1,4 @@
--- The items of work, and the line of each port that sends.
+-- Which items each line asks for, and which line is written for each port that sends.
 use Rattle.std.proofs.Common.{◌≡◌, ℕ, zero, suc, List, [], ◌∷◌, ◌++◌, length, replicate, Ok, refl, ap, ◌∙◌, append_assoc, codes, get_or}
 use Rattle.std.specs.List.{AllByRecursion, flat_map}
 use Rattle.hex.specs.Hex.{encode_lower}
@@ -38,7 +38,7 @@ asks_its_items past line = record {
   fault = λ fault e. ap items_of_work e;
 }
 
--- the line of a port, and the text after it
+-- the line of a port and the text after that line, written octet by octet
 line_whole : (name hex rest : List ℕ) → ended (codes "tx " ++ name ++ codes " " ++ hex) ++ rest ≡ (0x74 ∷ 0x78 ∷ 0x20 ∷ name) ++ (0x20 ∷ hex) ++ 0x0a ∷ rest
 line_whole name hex rest =
     ap (λ (t : List ℕ). 0x74 ∷ 0x78 ∷ 0x20 ∷ t) (append_assoc (name ++ (0x20 ∷ []) ++ hex) (0x0a ∷ []) rest ∙ ap (λ (t : List ℕ). t ++ 0x0a ∷ rest) (append_assoc name (0x20 ∷ []) hex))

@@ -31,7 +31,7 @@ role_read Router = refl
 pub has_roles : (roles : Bor (List (Bor Text))) → HasRoles roles
 has_roles roles = record { all = (λ e. e, λ e. e); each = role_read }
 
--- a number in the range of an option is in every equal range
+-- if the parsers of two ranges are equal, a number in one range is also in the other
 taken_to : (n most greatest : ℕ) → number_to most ≡ number_to greatest → 1 ≤ n → n ≤ greatest → (1 ≤ n) × (n ≤ most)
 taken_to n most greatest e low high = let same : most ≡ greatest = cc in (low, rw same high)
 

@@ -1,4 +1,4 @@
--- An input is cut at each LF, and in no other way.
+-- An input is cut into lines at each LF, and nowhere else.
 use Rattle.std.proofs.Common.{◌≡◌, ℕ, List, [], ◌∷◌, ◌++◌, refl, ap, ◌∙◌, inl, inr, append_assoc, append-nil}
 use Rattle.std.specs.Prelude.{◌≢◌}
 use Rattle.std.proofs.lemmas.Bool.{cases_eq}
@@ -19,7 +19,7 @@ is_cut (octet ∷ octets) =
       | inr ne ↦ rw (ended_lines-other octet octets ne, unfinished-other octet octets ne) (onto octet (ended_lines octets) (unfinished octets) octets ne c)
     ]
 
--- the octets before an LF are a line
+-- the octets before the first LF are the first line
 front : (line octets : List ℕ) → HasNoLf line → (ended_lines (line ++ 10 ∷ octets) ≡ line ∷ ended_lines octets) × (unfinished (line ++ 10 ∷ octets) ≡ unfinished octets)
 front [] octets clear = (refl, refl)
 front (octet ∷ line) octets clear =

@@ -1,4 +1,4 @@
--- What the options ask to listen to: for all texts, and for worked command lines by computation.
+-- What `--listen` and `--connections` ask for: for all texts, and for example command lines.
 use Rattle.std.proofs.Common.{◌≡◌, ℕ, List, Option, Some, None, refl, codes, Bor}
 use Rattle.clap.specs.Walk.{Text}
 use Rattle.clap.proofs.OnLiterals.{clap_on_literals}

@@ -1,4 +1,4 @@
--- A line says what its words say, and each work is said only by its own words.
+-- A line asks for some work exactly if it has the words of that work.
 use Rattle.std.proofs.Common.{◌≡◌, ℕ, ◌≤◌, ◌<◌, Bool, true, false, inl, inr, List, [], ◌∷◌, length, Option, Some, None, Result, Ok, Err, refl, sym, ap, subst, ◌∙◌}
 use Rattle.std.specs.Prelude.{◌↔◌, if◌then◌else◌, is_ok}
 use Rattle.std.specs.Bool.{Decides}
@@ -36,7 +36,7 @@ not_skipped line read = elim (cases_Bool (is_skipped line)) [
   | inr not_one ↦ not_one
 ]
 
--- what a line that is neither too long nor passed over says, by its words
+-- what the words of a line ask for, or the fault Quote if the line does not split into words
 abbrev by_words : AgentState → Option (List (List ℕ)) → Result Work LineFault
 by_words agent (Some words) = form_of agent words
 by_words agent None = Err (Command Quote)
@@ -64,7 +64,7 @@ says_its_words agent line = record {
   long = too_long agent line;
 }
 
--- ## Work is said only by its words
+-- ## If a line asks for work, it has the words of that work
 
 module _ (agent : AgentState) where
   ok_same : (P : Work → Type 0) (a b : Work) → ◌≡◌ {A = Result Work LineFault} (Ok a) (Ok b) → P a → P b
@@ -153,7 +153,7 @@ module _ (agent : AgentState) where
           (record { short = short; read = λ passed. (let bad : true ≡ false = sym (passed_is_skipped line passed) ∙ read in cc); are = (words_spelled line words).0 e })
           (words_only words work (sym (given_by_words agent line (Some words) short read e) ∙ h))
 
-  -- ## The words of work say it
+  -- ## If a line has the words of work, it asks for that work
 
   begins_command : (given : Asked) (words : List (List ℕ)) → AreWordsOf agent given words → form_of agent words ≡ command_form agent words
   unfolding form_of

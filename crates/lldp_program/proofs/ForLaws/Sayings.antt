@@ -1,4 +1,4 @@
--- What first words decide, and which lines are skipped.
+-- Which form the first word of a line begins, and which lines are skipped.
 use Rattle.std.proofs.Common.{◌≡◌, ℕ, ◌≤◌, ◌⊎◌, true, false, Bool, List, [], ◌∷◌, ◌++◌, length, Result, Ok, Err, refl, ap, inl, inr}
 use Rattle.std.specs.Prelude.{◌≢◌, ◌==◌, if◌then◌else◌}
 use Rattle.std.proofs.lemmas.Bool.{cases_Bool, cases_lt, lt-ltb, le-ltb, eqb-true, or_cases}
@@ -31,7 +31,7 @@ pub command_begins : (agent : AgentState) (words : List (List ℕ)) (word : List
 unfolding form_of
 command_begins agent words word a b c d = rw (differs word tick_word a, differs word rx_word b, differs word up_word c, differs word down_word d) refl
 
--- two steps never skip if the second never does, whatever the first answers
+-- a sequence of two steps never returns skip if the second step never does
 then_never : {A : Type 0} (r : Result A LineFault) (next : A → Result Work LineFault) → ((a : A) → next a ≡ Ok skip → ⊥) → (r >>= next) ≡ Ok skip → ⊥
 then_never (Ok a) next never h = never a h
 then_never (Err fault) next never h = cc
@@ -41,7 +41,7 @@ unfolding tick_form
 ticks_never [] h = cc
 ticks_never (word ∷ words) h = then_never (of_command (number_of word 1 65535)) _ (λ n. then_never (of_command (end_said words)) _ (λ _ k. cc)) h
 
--- `tick` with one word after it
+-- `tick` with one word after it asks for that number of ticks, or has the fault of that word
 pub counted : (r : Result ℕ LineFault) → (r >>= (λ n. of_command (end_said []) >>= (λ _. Ok (ticks n)))) ≡ on_ok ticks r
 counted (Ok n) = refl
 counted (Err fault) = refl
@@ -61,7 +61,7 @@ asked_never : (r : Result Asked CommandFault) → on_ok command (of_command r) �
 asked_never (Ok asked) h = cc
 asked_never (Err fault) h = cc
 
--- a choice never skips if neither side does
+-- an `if` never returns skip if neither branch does
 either_never : (b : Bool) (x y : Result Work LineFault) → (x ≡ Ok skip → ⊥) → (y ≡ Ok skip → ⊥) → (if b then x else y) ≡ Ok skip → ⊥
 either_never true x y p q h = p h
 either_never false x y p q h = q h

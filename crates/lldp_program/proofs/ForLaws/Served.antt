@@ -1,4 +1,4 @@
--- Serving without a fault serves all connections that were asked for.
+-- If serving ends without a fault, all requested connections were served.
 use Rattle.std.proofs.Common.{◌≡◌, ℕ, suc, List, [], ◌∷◌, length, Option, Ok, Err, refl, sym, ap, ◌∙◌, inl, inr, subst}
 use Rattle.std.specs.Prelude.{is_err, ◌==◌}
 use Rattle.std.specs.List.{filter}

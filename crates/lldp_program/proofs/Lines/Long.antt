@@ -1,4 +1,4 @@
--- What a line says does not matter if it is too long.
+-- All lines over 4,096 octets are refused in the same way, whatever their octets are.
 use Rattle.std.proofs.Common.{◌≡◌, ℕ, ◌<◌, true, nat_lt, List, [], ◌∷◌, ◌++◌, length, take, refl, sym, ap, ◌∙◌, inl, inr, arith, length-append, length-take}
 use Rattle.std.proofs.lemmas.Bool.{cases_lt, lt-ltb}
 use Rattle.std.proofs.lemmas.List.{take_all}
@@ -21,7 +21,7 @@ same_onto past p q [] h k = refl
 same_onto past p q (l ∷ ls) h k =
     same_first past (p ++ l) (q ++ l) ls (too_long past (p ++ l) (omega (arith, length-append p l)) ∙ sym (too_long past (q ++ l) (omega (arith, length-append q l))))
 
--- The next lines ask for the same if only 4,097 octets of the unfinished line are held.
+-- the next lines ask for the same items if only 4,097 octets of the unfinished line are kept
 pub same_items : (past : Past) (xs ys : List ℕ) → items_of_lines past (ended_lines (take 4097 (unfinished xs) ++ ys)) ≡ items_of_lines past (ended_lines (unfinished xs ++ ys))
 same_items past xs ys =
     let p = unfinished xs in
@@ -33,7 +33,7 @@ same_items past xs ys =
       | inr le ↦ ap (λ t. items_of_lines past (ended_lines (t ++ ys))) (take_all 4097 p le)
     ]
 
--- the last line asks for the same too
+-- the last line asks for the same items if only its first 4,097 octets are kept
 pub same_last : (past : Past) (p : List ℕ) → items_of_lines past (if_any (take 4097 p)) ≡ items_of_lines past (if_any p)
 same_last past [] = refl
 same_last past (b ∷ p) = elim (cases_lt 4097 (length (b ∷ p))) [

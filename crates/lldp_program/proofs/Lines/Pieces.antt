@@ -1,4 +1,4 @@
--- The lines of an input that comes in pieces.
+-- The lines of an input that arrives in pieces.
 use Rattle.std.proofs.Common.{◌≡◌, ℕ, suc, ◌+◌, ◌-◌, ◌<◌, ◌≤◌, false, eqb, List, [], ◌∷◌, ◌++◌, length, take, drop, refl, sym, ap, ◌∙◌, inl, inr, append_assoc, arith, Some, None, get_or, length-drop, length-take}
 use Rattle.std.proofs.lemmas.Bool.{cases_lt, cases_eq, ne_eqb, eqb-true, eq-eqb}
 use Rattle.std.proofs.lemmas.List.{get_or-drop, append-nil, take-append-drop, drop_more, drop-drop, get_or-take, take_all, take-take, take-append-le}
@@ -20,7 +20,7 @@ rest_step : (b : ℕ) (ls : List (List ℕ)) (r q : List ℕ) → (b ≡ 10 → 
 rest_step b [] r q ne = sym (unfinished-other b (r ++ q) ne)
 rest_step b (l ∷ ls) r q ne = refl
 
--- the lines of two pieces: the unfinished line of the first piece goes on in the second
+-- the lines of two pieces: the unfinished line of the first piece continues in the second
 pub ended_lines-append : (xs ys : List ℕ) → ended_lines (xs ++ ys) ≡ ended_lines xs ++ ended_lines (unfinished xs ++ ys)
 ended_lines-append [] ys = refl
 ended_lines-append (b ∷ xs) ys = elim (cases_eq b 10) [
@@ -54,7 +54,7 @@ not_lf b xs h e = let k : [] ∷ ended_lines xs ≡ [] = ap (λ t. ended_lines (
 no_lf_tail : (b : ℕ) (xs : List ℕ) → ended_lines (b ∷ xs) ≡ [] → ended_lines xs ≡ []
 no_lf_tail b xs h = nil_under b _ (sym (ended_lines-other b xs (not_lf b xs h)) ∙ h)
 
--- if no line is ended, all octets are unfinished
+-- if no line has ended, all octets are the unfinished line
 pub no_lf-unfinished : (xs : List ℕ) → ended_lines xs ≡ [] → unfinished xs ≡ xs
 no_lf-unfinished [] h = refl
 no_lf-unfinished (b ∷ xs) h =
@@ -65,7 +65,7 @@ rest_no_lf : (b : ℕ) (ls : List (List ℕ)) (r : List ℕ) → (b ≡ 10 → �
 rest_no_lf b [] r ne h = ended_lines-other b r ne ∙ ap (onto_lines b) h
 rest_no_lf b (l ∷ ls) r ne h = h
 
--- the unfinished octets have no LF
+-- the unfinished line contains no LF
 pub unfinished_no_lf : (xs : List ℕ) → ended_lines (unfinished xs) ≡ []
 unfinished_no_lf [] = refl
 unfinished_no_lf (b ∷ xs) = elim (cases_eq b 10) [
@@ -93,19 +93,19 @@ no_lf-append (b ∷ xs) ys h k =
 pub no_lf-take : (n : ℕ) (xs : List ℕ) → ended_lines xs ≡ [] → ended_lines (take n xs) ≡ []
 no_lf-take n xs h = nil_front _ _ (sym (ended_lines-append (take n xs) (drop n xs)) ∙ ap ended_lines (take-append-drop n xs) ∙ h)
 
--- if no LF is found, no line is ended
+-- if no LF is found, no line has ended
 pub none_found : (xs : List ℕ) → Nowhere (Passes (is_byte 10) xs) 0 (length xs) → ended_lines xs ≡ []
 none_found [] h = refl
 none_found (b ∷ xs) h =
     let ne : b ≡ 10 → ⊥ = λ e. h 0 (omega arith) (omega arith) (eq-eqb b 10 e) in
     ended_lines-other b xs ne ∙ ap (onto_lines b) (none_found xs (λ k low high. h (suc k) (omega arith) (omega arith)))
 
--- if the first LF is found at k, no line is ended before it
+-- if the first LF is at k, no line ends before k
 pub none_before : (xs : List ℕ) (k : ℕ) → k < length xs → Nowhere (Passes (is_byte 10) xs) 0 k → ended_lines (take k xs) ≡ []
 none_before xs k within h =
     none_found (take k xs) (λ j low high. let lt : j < k = omega (arith, length-take k xs) in λ found. h j low lt (rw (get_or-take k xs j 0 lt) at found))
 
--- the octets up to `end` end one more line than those up to `start`
+-- exactly one line ends between `start` and `end`, and its LF is at `end`
 pub record OneMore (xs : List ℕ) (start end : ℕ) : Type 0 where
   pub within : end < length xs
   pub lines : ended_lines (take (end + 1) xs) ≡ ended_lines (take start xs) ++ take (end - start) (drop start xs) ∷ []
@@ -144,7 +144,7 @@ one_more_line xs start from at low within none whole found =
           ap unfinished whole_front ∙ unfinished-append (take start xs) (line ++ 10 ∷ []) ∙ ap (λ t. unfinished (t ++ (line ++ 10 ∷ []))) whole ∙ rest_begins line [] clear;
     }
 
--- no further line is ended in the octets
+-- if no further LF is found, no further line ends
 pub no_lf_left : (xs : List ℕ) (start from : ℕ) → start ≤ from → ended_lines (take (from - start) (drop start xs)) ≡ [] → IsFirstByte (is_byte 10) (drop from xs) None → ended_lines (drop start xs) ≡ []
 no_lf_left xs start from low none found =
     let back : start + (from - start) ≡ from = omega arith in
@@ -161,7 +161,7 @@ pub the_rest : (xs : List ℕ) (start : ℕ) → unfinished (take start xs) ≡ 
 the_rest xs start whole none =
     ap unfinished (sym (take-append-drop start xs)) ∙ unfinished-append (take start xs) (drop start xs) ∙ ap (λ t. unfinished (t ++ drop start xs)) whole ∙ no_lf-unfinished (drop start xs) none
 
--- puts an unfinished line in front of the first of these lines
+-- puts an unfinished line at the front of the first of these lines
 abbrev pub onto_all : List ℕ → List (List ℕ) → List (List ℕ)
 onto_all p [] = []
 onto_all p (l ∷ ls) = (p ++ l) ∷ ls
@@ -207,8 +207,8 @@ take_rest_all : (n : ℕ) (p : List ℕ) (ls : List (List ℕ)) (r : List ℕ) �
 take_rest_all n p [] r = take_front n p r
 take_rest_all n p (l ∷ ls) r = refl
 
--- If only the first n unfinished octets are held when more octets come, the first n that are
--- unfinished then are the same.
+-- If only n octets of the unfinished line are kept before ys is appended, the new unfinished line
+-- has the same first n octets as if all had been kept.
 pub held_more : (n : ℕ) (xs ys : List ℕ) → take n (unfinished (take n (unfinished xs) ++ ys)) ≡ take n (unfinished (xs ++ ys))
 held_more n xs ys =
     let p = unfinished xs in

@@ -1,4 +1,4 @@
--- What the line of a frame says if it has no quotes, and one space between words.
+-- How `rx PORT HEX` is read if it has no quotes and one space between words.
 use Rattle.std.proofs.Common.{◌≡◌, ℕ, ◌<◌, ◌≤◌, true, false, List, [], ◌∷◌, ◌++◌, length, Some, Ok, refl, ap, sym, arith, inl, append-nil, nat_lt, get_or}
 use Rattle.std.specs.List.{AllPass}
 use Rattle.std.proofs.lemmas.Bool.{le-ltb}
@@ -12,7 +12,7 @@ use Rattle.lldp_text.proofs.WordsGrammar.{read_from_spelled}
 use Rattle.lldp_program.specs.Trace.Forms.{work_given, form_of, frame_form}
 use Rattle.lldp_program.specs.Trace.Work.{frame}
 
--- a digit is neither a separator nor a quote
+-- a hexadecimal digit is neither a separator nor a quote
 digit_is_bare : (c : ℕ) → is_hex_digit c ≡ true → is_bare c ≡ true
 digit_is_bare c h = grind (arith)
 
@@ -20,7 +20,7 @@ digit_is_bare c h = grind (arith)
 space : AllPass is_separator (32 ∷ [])
 space = All-cons (λ c. is_separator c ≡ true) 32 [] refl (All-nil (λ c. is_separator c ≡ true))
 
--- the words of such a line
+-- `rx NAME DIGITS` has these three words if it has single spaces and no quotes
 pub plain_words : (name digits : List ℕ) → 0 < length name → AllPass is_bare name → 0 < length digits → AllPass is_bare digits
     → words_of (114 ∷ 120 ∷ 32 ∷ name ++ 32 ∷ digits) ≡ Some ((114 ∷ 120 ∷ []) ∷ name ∷ digits ∷ [])
 plain_words name digits n nb d db =
@@ -31,7 +31,7 @@ plain_words name digits n nb d db =
     ([], 114 ∷ 120 ∷ [], 32 ∷ name ++ 32 ∷ digits, All-nil (λ c. is_separator c ≡ true), inl (omega arith, rx, refl), refl, refl, second) in
     read_from_spelled ((114 ∷ 120 ∷ []) ∷ name ∷ digits ∷ []) (114 ∷ 120 ∷ 32 ∷ name ++ 32 ∷ digits) first
 
--- what such a line says
+-- `rx NAME DIGITS` asks for this frame on the port of that name
 pub plain_reading : (agent : AgentState) (line name digits octets : List ℕ) (port : ℕ) → line ≡ 114 ∷ 120 ∷ 32 ∷ name ++ 32 ∷ digits → length line ≤ 4096
     → 0 < length name → AllPass is_bare name → 0 < length digits → place_of (names_of agent) name ≡ Some port → decode_of digits ≡ Ok octets
     → work_given agent line ≡ Ok (frame port octets)

@@ -1,4 +1,4 @@
--- Two lists of items, one after the other.
+-- The text of two lists of items in a row, and the past after them.
 use Rattle.std.proofs.Common.{◌≡◌, ℕ, List, [], ◌∷◌, ◌++◌, refl, sym, ap, ◌∙◌, append_assoc}
 use Rattle.lldp_engine.specs.Past.{Past}
 use Rattle.lldp_program.specs.Trace.Items.{Item, after, after_all, text_of, text_of_all, items_of, items_of_lines}

@@ -53,7 +53,7 @@ done_then past xs ys a b c agent h k = record {
   promised = rw after_all-append k.promised;
 }
 
--- if a list of items failed, it also fails with more items after it
+-- if an item of xs failed, it also failed as an item of xs ++ ys
 pub failed_early : (past : Past) (xs ys : List Item) (a b : Option (List ℕ)) (agent : AgentState) → Failed past xs a b agent → Failed past (xs ++ ys) a b agent
 failed_early past xs ys a b agent h = record {
   before = h.before;
@@ -67,7 +67,7 @@ failed_early past xs ys a b agent h = record {
   promised = h.promised;
 }
 
--- if a list of items failed, it also fails after items that were done
+-- if xs was done and then an item of ys failed, that item failed as one of xs ++ ys
 pub failed_later : (past : Past) (xs ys : List Item) (a b c : Option (List ℕ)) (agent : AgentState) → Appends a b (text_of_all past xs) → Failed (after_all past xs) ys b c agent → Failed past (xs ++ ys) a c agent
 failed_later past xs ys a b c agent h k = record {
   before = xs ++ k.before;
@@ -97,14 +97,14 @@ item_ended past item (Ok done) a b agent text is h k = done_one past item a b ag
 item_ended past item (Err fault) a b agent text is h k =
     failed_one past item a b agent (subst (λ (t : List ℕ). IsWritten (IsCutOff t) a b) is h) k
 
--- a run of one item, if its text was written
+-- if the text of an item was written, the item was run; if a write failed, the item failed
 pub one_item : (item : Item) (before agent : AgentState) (r : Result (Unit {0}) DeviceFault) (o p : Output) (text : List ℕ) → ((past : Past) → Stands past before → Stands (after past item) agent × (text ≡ text_of past item)) → Writes text r o p → RunsItems (λ _. item ∷ []) r before agent o p
 one_item item before agent r o p text gives h = record {
   ended = λ past stands. let given = gives past stands in item_ended past item r _ _ agent text given.1 h.written given.0;
   same = h.same;
 }
 
--- a run of a show: the lines that the agent gives are those of its past
+-- a show is run by writing the lines that the agent returns
 pub show_runs : (items : List Item) (show : Show) (agent : AgentState) (r : Result (Unit {0}) DeviceFault) (o p : Output) → items ≡ shows show ∷ [] → Writes (flat_map ended (lines_of show agent)) r o p → RunsItems (λ _. items) r agent agent o p
 show_runs items show agent r o p is h =
     rw is (one_item (shows show) agent agent r o p _ (λ past stands. (stands, ap (λ seen. flat_map ended (lines_of show seen)) stands.is)) h)
@@ -123,7 +123,7 @@ pub ended_then : {T : Type 0} (past : Past) (xs ys : List Item) (r : Result T De
 ended_then past xs ys (Ok done) a b c agent h k = done_then past xs ys a b c agent h k
 ended_then past xs ys (Err fault) a b c agent h k = failed_later past xs ys a b c agent h k
 
--- two parts of a run, if the first was done
+-- if the first part of a run was done, the run ends as its second part does
 pub runs_then : {T : Type 0} (xs ys zs : Past → List Item) (r : Result T DeviceFault) (before between agent : AgentState) (o p q : Output) (done : Unit {0}) → ((past : Past) → xs past ++ ys (after_all past (xs past)) ≡ zs past)
     → RunsItems {T = Unit {0}} xs (Ok done) before between o p → RunsItems ys r between agent p q → RunsItems zs r before agent o q
 runs_then xs ys zs r before between agent o p q done is h k = record {
@@ -133,7 +133,7 @@ runs_then xs ys zs r before between agent o p q done is h k = record {
   same = same_then o p q done r h.same k.same;
 }
 
--- two parts of a run, if the first failed
+-- if the first part of a run failed, the run failed
 pub runs_cut_off : {T X : Type 0} (xs ys zs : Past → List Item) (fault other : DeviceFault) (before agent : AgentState) (o p : Output) → ((past : Past) → xs past ++ ys past ≡ zs past) → RunsItems {T = T} xs (Err fault) before agent o p → RunsItems {T = X} zs (Err other) before agent o p
 runs_cut_off xs ys zs fault other before agent o p is h = record {
   ended = λ past stands. subst (λ (items : List Item). Failed past items o.taken p.taken agent) (is past) (failed_early past (xs past) (ys past) _ _ agent (h.ended past stands));
@@ -149,7 +149,7 @@ ticks_left (suc i) (suc n) lt = let left = ticks_left i n (omega arith) in (left
 
 -- ## Lines
 
--- the items of one more line
+-- one more line adds its items after those of the lines before it
 pub line_more : (ls : List (List ℕ)) (line : List ℕ) (past : Past) → items_of_lines past ls ++ items_of (after_all past (items_of_lines past ls)) line ≡ items_of_lines past (ls ++ line ∷ [])
 line_more ls line past =
     ap (λ t. items_of_lines past ls ++ t) (sym (append-nil (items_of (after_all past (items_of_lines past ls)) line))) ∙ sym (items_of_lines-append past ls (line ∷ []))

@@ -1,4 +1,4 @@
--- After more items an agent stands for more events, and keeps the promise for them.
+-- `KeepsOn` holds after items that were done, and after an item whose output failed.
 use Rattle.std.proofs.Common.{inl, inr, ◌≡◌, ℕ, List, [], ◌∷◌, ◌++◌, refl, sym, ap, ◌∙◌, append_assoc, Option}
 use Rattle.lldp_engine.specs.Event.{Event}
 use Rattle.lldp_engine.specs.Past.{Past, with_event}

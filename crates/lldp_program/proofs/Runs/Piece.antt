@@ -1,4 +1,4 @@
--- One more piece of a trace.
+-- A run that reads one more piece of its trace.
 use Rattle.std.proofs.Common.{◌≡◌, ℕ, ◌+◌, List, [], ◌++◌, take, drop, sym, ap, subst, ◌∙◌, arith, Option}
 use Rattle.std.specs.Io.KnownBytes.{Appends, Consumes}
 use Rattle.std.proofs.lemmas.List.{append-nil, take-take}
@@ -18,11 +18,11 @@ use Rattle.lldp_program.proofs.Lines.Pieces.{ended_lines-append, unfinished_no_l
 use Rattle.lldp_program.proofs.Lines.Long.{same_items, same_last}
 use Rattle.lldp_program.proofs.Runs.Joined.{ended_then}
 
--- what is held, and the piece after it
+-- the buffer has the kept octets at its front, and then the new piece
 pub held_and_piece : (old new : List ℕ) (held n : ℕ) (p : List ℕ) → take held new ≡ take held old → take held old ≡ take 4097 p → take (held + n) new ≡ take 4097 p ++ take n (drop held new)
 held_and_piece old new held n p kept is = take-add held n new ∙ ap (λ t. t ++ take n (drop held new)) (kept ∙ is)
 
--- the held octets have no LF
+-- the octets kept at the front of the buffer contain no LF
 pub held_no_lf : (old new : List ℕ) (held n : ℕ) (xs : List ℕ) → take held new ≡ take held old → take held old ≡ take 4097 (unfinished xs) → ended_lines (take held (take (held + n) new)) ≡ []
 held_no_lf old new held n xs kept is =
     ap ended_lines (take-take held (held + n) new (omega arith) ∙ kept ∙ is) ∙ no_lf-take 4097 (unfinished xs) (unfinished_no_lf xs)
@@ -34,7 +34,7 @@ consumes_end a b c xs ys n h zero k =
     let joined : xs ++ take n ys ≡ xs = ap (λ t. xs ++ t) none ∙ append-nil xs in
     rw joined at (consumes_then a b c xs (take n ys) h k)
 
--- how a run over lines ends if the lines before them were done, for any answer
+-- how a run ends, for each answer, if the lines before were done
 module _ {T : Type 0} (r : Result T DeviceFault) (past : Past) (a b c : Option (List ℕ)) (agent : AgentState) where
   lines_end : (ls ms : List (List ℕ)) → Appends a b (text_of_all past (items_of_lines past ls))
       → Ended r (after_all past (items_of_lines past ls)) (items_of_lines (after_all past (items_of_lines past ls)) ms) b c agent
@@ -42,7 +42,7 @@ module _ {T : Type 0} (r : Result T DeviceFault) (past : Past) (a b c : Option (
   lines_end ls ms h k =
       subst (λ (items : List Item). Ended r past items a c agent) (sym (items_of_lines-append past ls ms)) (ended_then past _ _ r a b c agent h k)
 
-  -- the lines of a piece
+  -- the lines that end in the new piece
   pub piece_ends : (xs ys octets : List ℕ) → octets ≡ take 4097 (unfinished xs) ++ ys → Appends a b (text_of_all past (items_of_lines past (ended_lines xs)))
       → Ended r (after_all past (items_of_lines past (ended_lines xs))) (items_of_lines (after_all past (items_of_lines past (ended_lines xs))) (ended_lines octets)) b c agent
       → Ended r past (items_of_lines past (ended_lines (xs ++ ys))) a c agent
@@ -52,7 +52,7 @@ module _ {T : Type 0} (r : Result T DeviceFault) (past : Past) (a b c : Option (
       subst (λ (ls : List (List ℕ)). Ended r past (items_of_lines past ls) a c agent) (sym (ended_lines-append xs ys))
       (lines_end (ended_lines xs) (ended_lines (unfinished xs ++ ys)) h (subst (λ (items : List Item). Ended r now items b c agent) same k))
 
-  -- the last line
+  -- the last line, which has no LF
   pub last_ends : (xs rest : List ℕ) → rest ≡ take 4097 (unfinished xs) → Appends a b (text_of_all past (items_of_lines past (ended_lines xs)))
       → Ended r (after_all past (items_of_lines past (ended_lines xs))) (items_of_lines (after_all past (items_of_lines past (ended_lines xs))) (if_any rest)) b c agent
       → Ended r past (items_of_lines past (lines_of xs)) a c agent
@@ -61,7 +61,7 @@ module _ {T : Type 0} (r : Result T DeviceFault) (past : Past) (a b c : Option (
       let same = ap (λ t. items_of_lines now (if_any t)) is ∙ same_last now (unfinished xs) in
       lines_end (ended_lines xs) (if_any (unfinished xs)) h (subst (λ (items : List Item). Ended r now items b c agent) same k)
 
--- the same run, with other names for the sink's octets and for the agent
+-- `HasRun` still holds if the sink's octets and the agent are replaced by equal ones
 pub same_run : {T : Type 0} {to_come left old : Option (List ℕ)} {before : AgentState} {result : Result T RunFault} (new kept : Option (List ℕ)) (agent after : AgentState) → kept ≡ new → after ≡ agent
     → HasRun to_come left old new before agent result → HasRun to_come left old kept before after result
 same_run new kept agent after same is h = rw (same, is) h

@@ -8,8 +8,8 @@ use Rattle.lldp_program.specs.Trace.Lines.{ended_lines, unfinished}
 use Rattle.lldp_program.specs.Trace.Items.{items_of_lines}
 use Rattle.lldp_program.specs.Trace.Runs.{Done}
 
--- This many reads returned some input. Each line whose LF was read is done, and the first 4,097
--- octets of the unfinished line are held.
+-- Each of `reads` reads returned at least one octet. Each line whose LF was read is done, and
+-- `held` is the first 4,097 octets of the unfinished line.
 pub record Progress (to_come left old new : Option (List ℕ)) (before after : AgentState) (reads : ℕ) (held : List ℕ) : Type 0 where
   pub input : List ℕ
   pub consumed : Consumes to_come left input

@@ -1,4 +1,4 @@
--- The lines for the frames that ports send.
+-- The lines that report the frames that ports send.
 use Rattle.std.proofs.Common.{◌≡◌, ℕ, ◌+◌, ◌<◌, List, [], ◌∷◌, ◌++◌, length, get_or, take, sym, ap, ◌∙◌, add-one, subst}
 use Rattle.std.specs.Prelude.{Result, codes}
 use Rattle.std.specs.List.{flat_map}
@@ -27,7 +27,7 @@ use Rattle.lldp_program.proofs.Runs.Joined.{one_item}
 abbrev lines_of : List (List ℕ) → Configuration → List Sending → List ℕ
 lines_of names c marks = flat_map (mark_line names c) marks
 
--- the parts of the line of a frame, one after another
+-- appending the parts of a frame's line one after another appends the whole line
 pub sent_waits : (w a b c d e name hex : List ℕ) → a ≡ w ++ codes "tx " → b ≡ a ++ name → c ≡ b ++ codes " " → d ≡ c ++ hex → e ≡ d ++ codes "\n" → e ≡ w ++ ended (codes "tx " ++ name ++ codes " " ++ hex)
 sent_waits w a b c d e name hex tx named space digits end =
     let front = in_parts w a b (codes "tx ") name tx named in
@@ -39,7 +39,7 @@ one_more : (names : List (List ℕ)) (c : Configuration) (marks : List Sending) 
 one_more names c marks mark =
     ap (λ t. lines_of names c marks ++ t) (sym (append-nil (mark_line names c mark))) ∙ sym (flat_map-append (mark_line names c) marks (mark ∷ []))
 
--- the line of one more port was put
+-- the lines of the first i ports and then the next line are the lines of i + 1 ports
 pub mark_next : (names : List (List ℕ)) (c : Configuration) (marks : List Sending) (i : ℕ) (d : Sending) (name octets : List ℕ) (x y z : Output) → i < length marks
     → name ≡ get_or names (get_or marks i d).0 [] → octets ≡ frame_of c (get_or names (get_or marks i d).0 []) (get_or marks i d).1
     → Puts (lines_of names c (take i marks)) x y → Puts (sent_line name octets) y z → Puts (lines_of names c (take (i + 1) marks)) x z
@@ -50,7 +50,7 @@ mark_next names c marks i d name octets x y z lt n o h k =
 
 -- ## An event
 
--- the lines that the agent gives are those of its past
+-- the lines made from the agent's state are those that the definitions give for its past
 sent_is : (past : Past) (event : Event) (agent : AgentState) (marks : List Sending) → Stands (with_event past event) agent → marks ≡ marks_of (with_event past event)
     → lines_of (names_of agent) agent.configuration marks ≡ sent_text (with_event past event)
 sent_is past event agent marks h m =
@@ -60,7 +60,7 @@ sent_is past event agent marks h m =
     ∙ ap (λ (ns : List (List ℕ)). lines_of ns agent.configuration (marks_of (with_event past event))) names
     ∙ ap (λ (k : Configuration). lines_of past.options.names k (marks_of (with_event past event))) c
 
--- a run of one event, if its text was written
+-- one event is run by writing the lines for what ports send
 pub event_runs : (items : List Item) (event : Event) (before after : AgentState) (marks : List Sending) (r : Result (Unit {0}) DeviceFault) (o p : Output) → items ≡ happens event ∷ []
     → ((past : Past) → Stands past before → Stands (with_event past event) after) → ((past : Past) → Stands past before → marks ≡ marks_of (with_event past event))
     → Writes (lines_of (names_of after) after.configuration marks) r o p → RunsItems (λ _. items) r before after o p

@@ -1,4 +1,4 @@
--- Text that is put to an output: what the sink took, and what waits after it.
+-- Text that is added to an output: a part that the sink took, and a part in the buffer.
 use Rattle.std.proofs.Common.{◌≡◌, ◌≢◌, ℕ, true, false, List, [], ◌∷◌, ◌++◌, refl, sym, ap, ◌∙◌, append_assoc, subst, Option, Some, rules}
 use Rattle.std.specs.Prelude.{Result, Ok, Err, is_ok, is_err, OnOk}
 use Rattle.std.specs.Borrow.{MutBor}
@@ -16,9 +16,9 @@ use Rattle.lldp_program.proofs.Texts.Written.{appends_then, appends_nothing, app
 abbrev Answer : Type 0
 Answer = Result (Unit {0}) DeviceFault
 
--- ## What went out
+-- ## Text that was written or buffered
 
--- two texts, one after the other
+-- two texts that were added one after the other were added as one text
 goes_out_then : (a b c : Option (List ℕ)) (w v u t s : List ℕ) → GoesOut a w b v t → GoesOut b v c u s → GoesOut a w c u (t ++ s)
 goes_out_then a b c w v u t s h k = record {
   sent = h.sent ++ k.sent;
@@ -26,16 +26,16 @@ goes_out_then a b c w v u t s h k = record {
   taken = appends_then a b c h.sent k.sent h.taken k.taken;
 }
 
--- if nothing waits before and after, the text was written
+-- if the buffer is empty before and after, the text was written
 goes_out_whole : (a b : Option (List ℕ)) (v t : List ℕ) → v ≡ [] → GoesOut a [] b v t → Appends a b t
 goes_out_whole a b v t none h = appends_same a b _ _ (sym (h.in_order ∙ ap (λ x. h.sent ++ x) none ∙ append-nil h.sent)) h.taken
 
--- a list is not empty if its front is not
+-- a list is not empty if a part of it is not empty
 longer_missing : (xs ys : List ℕ) → xs ≢ [] → xs ++ ys ≢ []
 longer_missing [] ys h e = h refl
 longer_missing (x ∷ xs) ys h e = cc
 
--- a part of a text, but not all, is also a part of a longer text
+-- if only a part of a text was written, only a part of every longer text was written
 cut_off_longer : (a b : Option (List ℕ)) (w s : List ℕ) → IsWritten (IsCutOff w) a b → IsWritten (IsCutOff (w ++ s)) a b
 cut_off_longer a b w s k = (
   k.0,
@@ -47,7 +47,7 @@ cut_off_longer a b w s k = (
   k.2,
 )
 
--- if one text was put and a part of the next was written, only a part of both was written
+-- if only a part of the second text was written, only a part of both together was written
 cut_off_after : (a b c : Option (List ℕ)) (w v t s : List ℕ) → GoesOut a w b v t → IsWritten (IsCutOff (v ++ s)) b c → IsWritten (IsCutOff (w ++ (t ++ s))) a c
 cut_off_after a b c w v t s h k = (
   h.sent ++ k.0,
@@ -107,11 +107,11 @@ behind_nothing a (Err fault) is = refl
 pub puts_nothing : (a : Output) → Puts [] a a
 puts_nothing a = behind_nothing a a.answer refl
 
--- one part after another
+-- appending x and then y is the same as appending x ++ y
 pub in_parts : (w v u x y : List ℕ) → v ≡ w ++ x → u ≡ v ++ y → u ≡ w ++ (x ++ y)
 in_parts w v u x y h k = k ∙ ap (λ t. t ++ y) h ∙ append_assoc w x y
 
--- octets were appended to what waits
+-- a text that is appended to the buffer was added to the output
 behind_waits : (a : Output) (waits text : List ℕ) (r : Answer) → a.answer ≡ r → is_ok r ≡ true → waits ≡ a.waits ++ text → GoesBehind r text a (record a { waits = waits })
 behind_waits a waits text (Ok done) is ok e = record {
   went = rw is record { sent = []; in_order = sym e; taken = appends_nothing _ };
@@ -131,7 +131,7 @@ pub a_fault : (r : Answer) → is_err r ≡ true → is_ok r ≡ false
 a_fault (Ok done) h = cc
 a_fault (Err fault) h = refl
 
--- if two references are to the same writer, a line is appended to the text of both
+-- if two references are to the same writer, a line appended through one is appended for both
 pub behind_lent : (x y : MutBor (List ℕ)) (text line : List ℕ) → Some x ≡ Some y → text ≡ y.now ++ line → text ≡ x.now ++ line
 behind_lent x y text line is e =
     let same : x ≡ y = cc in
@@ -152,9 +152,9 @@ unfolding Takes
 lines_put f a b [] h = subst (λ x. Puts [] (f a) (f x)) h (puts_nothing (f a))
 lines_put f a b (line ∷ lines) h = puts_then (f a) (f h.0) (f b) (ended line) (flat_map ended lines) h.1 (lines_put f h.0 b lines h.2)
 
--- ## What waited is written
+-- ## The buffer is written
 
--- all that waited was written, or a part of it
+-- writing the buffer, or a part of it, adds no new text
 behind_sent : (a b : Output) (r q : Answer) → a.answer ≡ r → is_ok r ≡ true → b.answer ≡ q → b.waits ≡ [] → WrittenBy q a.waits a.taken b.taken → SameSink q a b → GoesBehind r [] a b
 behind_sent a b (Ok done) (Ok end) is ok last none h k = record {
   went = rw last record { sent = a.waits; in_order = ap (λ x. a.waits ++ x) (sym none); taken = h };
@@ -169,7 +169,7 @@ behind_sent a b (Err fault) q is ok last none h k = cc
 pub flushed : (a b : Output) → is_ok a.answer ≡ true → b.waits ≡ [] → WrittenBy b.answer a.waits a.taken b.taken → SameSink b.answer a b → Flushes a b
 flushed a b ok none h k = record { puts = behind_sent a b a.answer b.answer refl ok refl none h k; none = search (rules, none) }
 
--- If nothing waited, a text was put, and all that waited was flushed, the text was written.
+-- A text that is added to an empty buffer, and then flushed, was written.
 written : (a c : Output) (text : List ℕ) (r : Answer) → c.answer ≡ r → a.waits ≡ [] → Went r (text ++ []) a c → OnOk r (c.waits ≡ []) → WrittenBy r text a.taken c.taken
 written a c text (Ok done) is none h end = goes_out_whole _ _ _ text end (rw (none, append-nil) at h)
 written a c text (Err fault) is none h end = rw (none, append-nil) at h

@@ -1,4 +1,4 @@
--- What a device holds after two writes.
+-- The octets of a device after two calls.
 use Rattle.std.proofs.Common.{◌≡◌, ℕ, ◌+◌, ◌<◌, List, [], ◌++◌, length, take, drop, refl, sym, ap, ◌∙◌, append_assoc, arith, Option, Some, None, length-drop}
 use Rattle.std.specs.Io.KnownBytes.{Appends, Keeps, Consumes}
 use Rattle.std.proofs.lemmas.List.{append-nil, take-append-drop}
@@ -40,14 +40,14 @@ pub consumes_nothing : (a : Option (List ℕ)) → Consumes a a []
 consumes_nothing None = tt
 consumes_nothing (Some xs) = refl
 
--- a read that failed consumed nothing
+-- a failed read after other reads consumes nothing more
 pub consumes_kept : (a b c : Option (List ℕ)) (x : List ℕ) → Consumes a b x → Keeps b c → Consumes a c x
 consumes_kept None b c x h k = tt
 consumes_kept (Some xs) None c x h k = absurd h
 consumes_kept (Some xs) (Some ys) None x h k = absurd k
 consumes_kept (Some xs) (Some ys) (Some zs) x h k = h ∙ ap (λ t. x ++ t) (sym k)
 
--- the rest of a list was not written
+-- a text was cut off if only its first octets were written
 pub cut_off_at : (a b c : Option (List ℕ)) (xs : List ℕ) (i : ℕ) → i < length xs → Appends a b (take i xs) → Keeps b c → IsWritten (IsCutOff xs) a c
 cut_off_at a b c xs i within h k = (
   take i xs,

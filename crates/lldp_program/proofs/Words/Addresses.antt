@@ -1,4 +1,4 @@
--- What the answer of a decoder says, and that four octets are an address.
+-- How MAC and IPv4 addresses are read.
 use Rattle.std.proofs.Common.{◌≡◌, ℕ, List, Result, Ok, Err, true, false, sym, ap, ◌∙◌, MatchResult}
 use Rattle.std.specs.Prelude.{is_ok}
 use Rattle.std.specs.Net.Grammar.{IsDotted, IsIpv4Text, Parses}
@@ -14,7 +14,7 @@ pub not_decoded : {E : Type 0} (r : Result (List ℕ) E) (answer : Result (Unit 
 not_decoded (Ok got) answer out octets h e same = let bad : true ≡ false = sym (ap is_ok h.0) ∙ e in cc
 not_decoded (Err fault) answer out octets h e same = cc
 
--- if no address was read, the text is not four numbers with dots
+-- if no address was read, the text is not four numbers with dots between them
 pub not_address : {E : Type 0} (text octets : List ℕ) (answer : Result Ipv4Addr E) → Parses IsIpv4Text text answer → is_ok answer ≡ false → IsDotted text octets → ⊥
 not_address text octets (Ok address) h e is = cc
 not_address text octets (Err fault) h e is = h (record { octets = octets }) is

@@ -1,4 +1,4 @@
--- What a parse of the program's words yields for its options.
+-- The values that a parse of the program's arguments yields for the options.
 use Rattle.std.proofs.Common.{zero, suc, ◌≡◌, ◌⊎◌, ◌∙◌, ◌<◌, ◌≤◌, ℕ, Bool, true, false, List, [], ◌∷◌, length, Option, Some, None, refl, sym, ap, ap₂, subst, inl, inr, arith, codes, slice_index_or, Bor, map}
 use Rattle.std.specs.Prelude.{drop, find, get_or, is_some, not, option_map, pos}
 use Rattle.std.specs.List.{All, Any, filter, list_all, list_any}
@@ -42,22 +42,22 @@ local a e =
     let w = both (not a.require_equals) _ v.1 in
     is_false _ (both (not a.last) _ w.1).1
 
--- each argument that is added adds one rule
+-- adding an argument to the command line adds the rule of this argument
 pub one_more : {old new : Command} {a : Arg} {line : App} {rule : Rule} → AddsArg old a new → app_of old ≡ line → rule_of a ≡ rule → rule.is_simple ≡ true → app_of new ≡ with_rule line rule
 one_more {old} {new} {a} added before is simple = added.shape (local a (ap (λ r. r.is_simple) is ∙ simple)) ∙ ap₂ with_rule before is
 
 -- ## The options of a parse
 
--- the names of the arguments that `clap` adds, and of its entries for other commands
+-- the ids of `clap` itself: help, version, and the empty id of entries for other commands
 abbrev pub own_names : List Text
 own_names = [] ∷ codes "help" ∷ codes "version" ∷ []
 
--- the command line has one option of this name, with this rule; the name is not one of `clap`'s own
+-- exactly one option has this name, and it has this rule; the name is not one of `clap`'s own
 abbrev pub HasOption : Bor (List (Bor Text)) → Text → Rule → Type 0
 HasOption roles name rule =
     (filter (λ r. bytes_eq r.id name) (program roles).top.rules ≡ rule ∷ []) × (list_any (λ x. bytes_eq x name) own_names ≡ false)
 
--- an element passes the test, and this is the value of each that does
+-- at least one element passes the test, and each element that passes has the value y
 record IsSole {X Y : Type 0} (value : X → Y) (test : Y → Bool) (y : Y) (xs : List X) : Type 0 where
   there : Any (λ x. test (value x) ≡ true) xs
   only : All (λ x. test (value x) ≡ true → value x ≡ y) xs
@@ -89,7 +89,7 @@ sole f p y (x ∷ xs) e = go (p (f x)) refl (λ h. sole f p y xs h)
           only = All-cons (λ z. p (f z) ≡ true → f z ≡ y) x xs (λ h. let bad : false ≡ true = sym t ∙ h in cc) more.only;
         }
 
--- an id that is among the entries is found
+-- if an id is among the entries, its entry is found
 entry_found : (xs : List Entry) (id : Text) → HasIn xs id → (x : MatchedArg) × (option_map (λ e. e.1) (find (λ e. bytes_eq e.0.now id) xs) ≡ Some x)
 entry_found [] id h = absurd (omega (arith, h.1))
 entry_found (x ∷ xs) id h = go (bytes_eq x.0.now id) refl h.0 h.1 h.2 (λ later. entry_found xs id later)
@@ -123,7 +123,7 @@ module _ {m : ArgMatches} (g : IsProgramParse m) where
     not_own : (id : Text) → name ≡ id → list_any (λ x. bytes_eq x id) own_names ≡ true → ⊥
     not_own id e own = let bad : false ≡ true = sym has.1 ∙ ap (λ n. list_any (λ x. bytes_eq x n) own_names) e ∙ own in cc
 
-    -- an argument of the built command with this name comes from one with this rule
+    -- an argument of this name in the built command comes from an argument with this rule
     kept : (P : Arg → Type 0) → Any (λ a. (bytes_eq a.id.now name ≡ true) × P a) (args_of g.parsed.built)
         → (o : Arg) × (a : Arg) × (rule_of o ≡ rule) × IsSimpleArg o × SameRules o a × P a
     kept P any = elim (cases_lt any.0 (length (args_of g.command))) [
@@ -139,7 +139,7 @@ module _ {m : ArgMatches} (g : IsProgramParse m) where
           ])
     ]
 
-    -- what is known about the entry of the option
+    -- what a parse ensures about the entry of the option
     record IsHeld (x : MatchedArg) : Type 0 where
       passes : All (λ v. PassesArg g.parsed.built name v.now) x.vals.items
       reads : HasReading g.parsed.built name x.reading
@@ -171,7 +171,7 @@ module _ {m : ArgMatches} (g : IsProgramParse m) where
           ];
         })
 
-    -- an option with a default, and with one value for each use, has a value
+    -- an option that has a default and one value per use always has a value
     valued : rule.action ≡ Some Set → rule.range ≡ None → is_empty rule.defaults ≡ false
         → (x : MatchedArg) × (matched_of (found_of m) name ≡ Some x) × (v : Bor Text) × (vs : List (Bor Text)) × (x.vals.items ≡ v ∷ vs)
     valued set single default =
@@ -201,7 +201,7 @@ module _ {m : ArgMatches} (g : IsProgramParse m) where
         let vs = split_first x.0.vals.items full in
         (x.0, x.1, vs.0, vs.1, vs.2)
 
-    -- the first value of an option for a number is in its range, and is read without a minus
+    -- the first value of a number option is in its range, and is read without a minus sign
     number_at : (greatest : ℕ) → rule.parser ≡ Some (Signed (pos 1) (pos greatest)) → (x : MatchedArg) → matched_of (found_of m) name ≡ Some x
         → (v : Bor Text) (vs : List (Bor Text)) → x.vals.items ≡ v ∷ vs → GivesNumber greatest name m
     number_at greatest takes x found v vs is =
@@ -214,7 +214,7 @@ module _ {m : ArgMatches} (g : IsProgramParse m) where
         let read : x.reading ≡ WithoutMinus = sym r.5 ∙ ap reading_of (parser r.0 r.1 r.2 r.4) in
         (v.now, rw (found, is, read) refl, subst (λ (q : ValueParser). Accepts p.1.ignore_case q v.now) (parser p.0 p.1 p.2 p.4) p.5)
 
-    -- an option for a number has no value, or a number in its range
+    -- a number option has no value, or a number in its range
     pub may_give_number : (greatest : ℕ) → rule.parser ≡ Some (Signed (pos 1) (pos greatest)) → (one_text (found_of m) name ≡ None) ⊎ GivesNumber greatest name m
     may_give_number greatest takes = at (matched_of (found_of m) name) refl
       where
@@ -226,10 +226,10 @@ module _ {m : ArgMatches} (g : IsProgramParse m) where
         at None found = inl (rw found refl)
         at (Some x) found = valued_at x found x.vals.items refl
 
-  -- an option that has a default has a text
+  -- a text option with a default always has a text
   pub gives_text : (name default : Text) (parser : Option ValueParser) → HasOption g.roles name (record (text_rule name default) { parser = parser }) → GivesText name m
   gives_text name default parser has = let x = valued name _ has refl refl refl in rw (x.1, x.4) refl
 
-  -- an option for a number that has a default has a number
+  -- a number option with a default always has a number in its range
   pub gives_number : (name : Text) (greatest : ℕ) (default : Text) → HasOption g.roles name (number_rule name greatest default) → GivesNumber greatest name m
   gives_number name greatest default has = let x = valued name _ has refl refl refl in number_at name _ has greatest refl x.0 x.1 x.2 x.3 x.4

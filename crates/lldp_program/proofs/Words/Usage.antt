@@ -33,7 +33,7 @@ pub ports_named : (r : Option (Bor (List (Bor (List ℕ))))) (d got : Bor (List 
 ports_named (Some s) d got x y empty is same rows = rw (is, ← rows, ← same) refl
 ports_named None d got x y empty is same rows = rw (is, ← rows, ← same, empty) refl
 
--- the command line is one whose matches `clap`'s specification states
+-- the command line is simple enough that `clap`'s specification states its matches
 is_plain : (roles : Bor (List (Bor Text))) → is_simple (program roles) ≡ true
 unfolding clap_on_literals
 is_plain roles = refl
@@ -68,7 +68,7 @@ role_ruled q roles r e named is = (roles, named, is ∙ ap (λ (p : ValueParser)
 
 -- ## Listening
 
--- the number that was read from a text is the one that it spells
+-- a number that was read from a text is the number that the text spells
 pub number_written : (E : Type 0) (G : List ℕ → Result ℕ E → Type 0) (t : List ℕ) (r : Option ℕ) → ReadsOne G t r
     → ((u : List ℕ) (x : Result ℕ E) → G u x → ParsesUnsigned 16 10 u x) → (v : ℕ) → r ≡ Some v → WritesNumber (Some t) v
 number_written E G t (Some w) read only v e =
@@ -76,13 +76,13 @@ number_written E G t (Some w) read only v e =
     subst (λ (n : ℕ). WritesNumber (Some t) n) same (only t (Ok w) read)
 number_written E G t None read only v e = cc
 
--- if a port was read, there is a text that spells it
+-- if a port number was read, the options ask to listen there
 pub listens : (E : Type 0) (G : List ℕ → Result ℕ E → Type 0) (port connections : Option Text) (r : Option ℕ) (n many : ℕ) → (port ≡ None → r ≡ None) → ((t : List ℕ) → port ≡ Some t → ReadsOne G t r)
     → ((u : List ℕ) (x : Result ℕ E) → G u x → ParsesUnsigned 16 10 u x) → WritesNumber connections many → r ≡ Some n → AsksListening port connections (Some (record { port = n; connections = many }))
 listens E G None connections r n many none read only counted is = let bad = none refl in cc
 listens E G (Some t) connections r n many none read only counted is = (number_written E G t r (read t refl) only n is, counted)
 
--- if no port was read, there is no text, since every text of the option has a number
+-- if no port number was read, `--listen` was not used, since its text is always a number
 pub listens_not : (E : Type 0) (G : List ℕ → Result ℕ E → Type 0) (m : ArgMatches) (connections : Option Text) (r : Option ℕ) → (one_text (found_of m) (codes "listen") ≡ None) ⊎ GivesNumber 65535 (codes "listen") m
     → ((t : List ℕ) → one_text (found_of m) (codes "listen") ≡ Some t → ReadsOne G t r) → ((u : List ℕ) (x : Result ℕ E) → G u x → ParsesUnsigned 16 10 u x) → r ≡ None
     → AsksListening (one_text (found_of m) (codes "listen")) connections None
@@ -92,13 +92,13 @@ listens_not E G m connections r (inr given) read only is =
     let bad : None ≡ Some got.0 = sym is ∙ got.1 in
     cc
 
--- if nothing was asked for, there is no text
+-- if the options do not ask to listen, `--listen` was not used
 pub not_asked : (port connections : Option Text) (asked : Option Listening) → AsksListening port connections asked → asked ≡ None → port ≡ None
 not_asked None connections asked h is = refl
 not_asked (Some t) connections None h is = absurd h
 not_asked (Some t) connections (Some listening) h is = cc
 
--- if listening was asked for, there is a text
+-- if the options ask to listen, `--listen` has a text
 pub was_asked : (port connections : Option Text) (asked : Option Listening) (listening : Listening) → AsksListening port connections asked → asked ≡ Some listening → (t : Text) × (port ≡ Some t)
 was_asked None connections asked listening h is = let bad : None ≡ Some listening = sym h ∙ is in cc
 was_asked (Some t) connections asked listening h is = (t, refl)

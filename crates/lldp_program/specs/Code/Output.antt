@@ -1,4 +1,4 @@
--- How an output gathers text and passes it to its sink.
+-- How an output buffers text and writes it to its sink.
 use Rattle.std.specs.Prelude.{◌≡◌, ℕ, List, [], ◌++◌, Option, Result, Ok, Err, OnOk}
 use Rattle.std.specs.Borrow.{GName}
 use Rattle.std.specs.Io.KnownBytes.{Appends}
@@ -15,7 +15,7 @@ abbrev pub WrittenBy : Result (Unit {0}) DeviceFault → List ℕ → Option (Li
 WrittenBy (Ok done) text old new = Appends old new text
 WrittenBy (Err fault) text old new = IsWritten (IsCutOff text) old new
 
--- the text was put after what waited: the sink took the first octets, and the rest waits
+-- text was added after the buffered text: the sink took the first octets, `waits` has the rest
 pub record GoesOut (old : Option (List ℕ)) (waited : List ℕ) (new : Option (List ℕ)) (waits : List ℕ) (text : List ℕ) :
     Type 0 where
   pub sent : List ℕ
@@ -23,7 +23,7 @@ pub record GoesOut (old : Option (List ℕ)) (waited : List ℕ) (new : Option (
   pub taken : Appends old new sent
 
 -- The state of an output: the octets that its sink took, how many writes failed, where the sink
--- writes to, the reference to the sink, the text that waits, and the answer so far.
+-- writes to, the reference to the sink, the buffered text (`waits`), and the answer so far.
 pub record Output : Type 0 where
   pub taken : Option (List ℕ)
   pub failures : ℕ
@@ -32,37 +32,37 @@ pub record Output : Type 0 where
   pub waits : List ℕ
   pub answer : Result (Unit {0}) DeviceFault
 
--- the sink is the same, and counts one failure more if this answer is a fault
+-- the sink is the same, and has counted one more failure if this answer is a fault
 pub record SameSink {T : Type 0} (answer : Result T DeviceFault) (old new : Output) : Type 0 where
   pub failures : new.failures ≡ failures_after old.failures answer
   pub place : new.place ≡ old.place
   pub sink : new.sink ≡ old.sink
 
--- Ok: the text was put after what waited. Err: only a part of both together was written.
+-- Ok: the text was added to the buffered text. Err: only a part of the two was written.
 abbrev pub Went : Result (Unit {0}) DeviceFault → List ℕ → Output → Output → Type 0
 Went (Ok done) text old new = GoesOut old.taken old.waits new.taken new.waits text
 Went (Err fault) text old new = IsWritten (IsCutOff (old.waits ++ text)) old.taken new.taken
 
--- what putting a text does if no write has failed before
+-- the effect of adding a text if no write has failed before
 pub record Goes (text : List ℕ) (old new : Output) : Type 0 where
   pub went : Went new.answer text old new
   pub same : SameSink new.answer old new
 
--- what putting a text does: nothing if a write has failed before
+-- the effect of adding a text: nothing changes if a write has failed before
 abbrev pub GoesBehind : Result (Unit {0}) DeviceFault → List ℕ → Output → Output → Type 0
 GoesBehind (Ok done) text old new = Goes text old new
 GoesBehind (Err fault) text old new = new ≡ old
 
--- A text was put, or a write failed. After a failed write nothing changes.
+-- A text was added, or a write failed. If a write had failed before, nothing changed.
 abbrev pub Puts : List ℕ → Output → Output → Type 0
 Puts text old new = GoesBehind old.answer text old new
 
--- all that waited was written, or a write failed
+-- all buffered text was written, or a write failed
 pub record Flushes (old new : Output) : Type 0 where
   pub puts : Puts [] old new
   pub none : OnOk new.answer (new.waits ≡ [])
 
--- the output when a text begins: nothing waits, and no write has failed
+-- the output at the beginning of a text: the buffer is empty, and no write has failed
 abbrev pub begun : Output → Output
 begun output = record output { waits = []; answer = Ok tt }
 

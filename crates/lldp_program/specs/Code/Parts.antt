@@ -22,7 +22,7 @@ output_state taken failures place output = record {
   answer = output.answer;
 }
 
--- this relation holds between the states of an output before and after
+-- the relation holds between the states of an output before and after a call
 abbrev pub Between : {W : Type 0} → (W → Option (List ℕ)) → (W → ℕ) → (W → GName) → OwnOutput W → OwnOutput W →
     (Output → Output → Type 0) → Type 0
 Between taken failures place old new Relation = Relation (output_state taken failures place old) (output_state taken failures place new)
@@ -33,13 +33,13 @@ abbrev pub Ended : {T : Type 0} → Result T DeviceFault → Past → List Item 
 Ended (Ok done) past items old new agent = Done past items old new agent
 Ended (Err fault) past items old new agent = Failed past items old new agent
 
--- For every past that the agent stood for, it did the items for that past, or failed at one.
+-- For every past that led to the agent's state, the items were done, or one of them failed.
 pub record RunsItems {T : Type 0} (items : Past → List Item) (answer : Result T DeviceFault) (before after : AgentState)
     (old new : Output) : Type 0 where
   pub ended : (past : Past) → Stands past before → Ended answer past (items past) old.taken new.taken after
   pub same : SameSink answer old new
 
--- A run did these items, or failed at one, with the agent that was passed to it.
+-- The run did these items, or one of them failed. The run still has the agent passed to it.
 pub record Performs {W T : Type 0} (taken : W → Option (List ℕ)) (failures : W → ℕ) (place : W → GName)
     (old new : Run W) (items : Past → List Item) (answer : Result T DeviceFault) : Type 0 where
   pub agent : new.agent.ghost_name ≡ old.agent.ghost_name

@@ -6,8 +6,8 @@ use Rattle.hex.specs.Hex.{decode_of}
 abbrev pub at_places : List ℕ → List ℕ → List ℕ
 at_places text places = map (slice_index text) places
 
--- A MAC address has 17 octets: a `:` at every third place, and elsewhere the hexadecimal digits of
--- its six octets, in either case.
+-- The text of a MAC address has 17 octets: a `:` at every third place, and elsewhere hexadecimal
+-- digits, in either case, that spell the six octets of the address.
 pub record IsMac (text mac : List ℕ) : Type 0 where
   pub long : length text ≡ 17
   pub colons : at_places text (2 ∷ 5 ∷ 8 ∷ 11 ∷ 14 ∷ []) ≡ codes ":::::"

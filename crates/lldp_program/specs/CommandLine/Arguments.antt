@@ -1,4 +1,4 @@
--- What a parse of the program's words yields for its options.
+-- The values that a parse of the program's arguments yields for the options.
 use Rattle.std.specs.Prelude.{◌≡◌, ℕ, List, Some, is_some, pos, true}
 use Rattle.std.specs.Borrow.{Bor}
 use Rattle.clap.specs.Simple.{app_of}
@@ -8,14 +8,14 @@ use Rattle.clap.specs.declared.builder.command.Command.{Command}
 use Rattle.clap.specs.declared.parser.matches.ArgMatches.{ArgMatches}
 use Rattle.lldp_program.specs.CommandLine.Usage.{program}
 
--- the matches come from a parse by the program's command line
+-- the matches are the result of a parse with the program's command line
 pub record IsProgramParse (m : ArgMatches) : Type 0 where
   pub command : Command
   pub roles : Bor (List (Bor Text))
   pub line : app_of command ≡ program roles
   pub parsed : IsParsedFrom command m
 
--- the option of this name has a text, from the words or by default
+-- the option of this name has a text: that of its argument, or its default
 abbrev pub GivesText : Text → ArgMatches → Type 0
 GivesText name m = is_some (first_value (found_of m) name) ≡ true
 

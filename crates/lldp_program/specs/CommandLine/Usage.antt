@@ -1,4 +1,4 @@
--- The command line of the program as `clap` reads it, and what its words ask for.
+-- The program's command line as `clap` reads it, and what its arguments ask for.
 use Rattle.std.specs.Prelude.{◌≡◌, ◌⊎◌, ℕ, true, false, if◌then◌else◌, List, [], ◌∷◌, Option, Some, None, Ok, map, option_map, unwrap_or, codes, pos}
 use Rattle.std.specs.Str.{bytes_eq}
 use Rattle.std.specs.Borrow.{Bor}
@@ -21,15 +21,15 @@ use Rattle.lldp_program.specs.declared.arguments.Listening.{Listening}
 use Rattle.lldp_program.specs.declared.arguments.AddressFault.{AddressFault}
 use Rattle.lldp_program.specs.declared.arguments.AddressFault.TheVariants.{Mac, Management}
 
--- an option with a value and this default
+-- an option that has a value, with this default
 abbrev pub valued_rule : Text → Text → Rule
 valued_rule name default = record (new_rule name) { long = Some name; action = Some Set; defaults = default ∷ [] }
 
--- such an option, whose value has a name in the help
+-- an option with this default, whose value has a name in the help
 abbrev pub text_rule : Text → Text → Rule
 text_rule name default = record (valued_rule name default) { value_names = 1 }
 
--- such an option, whose value is a whole number from 1 to `greatest`
+-- an option with this default, whose value is a whole number from 1 to `greatest`
 abbrev pub number_rule : Text → ℕ → Text → Rule
 number_rule name greatest default = record (text_rule name default) { parser = Some (Signed (pos 1) (pos greatest)) }
 
@@ -37,11 +37,11 @@ number_rule name greatest default = record (text_rule name default) { parser = S
 abbrev pub management_rule : Rule
 management_rule = record (new_rule (codes "management")) { long = Some (codes "management"); value_names = 1 }
 
--- a reference to the names of the roles
+-- the names of the roles are these three, in this order
 abbrev pub AreRoles : Bor (List (Bor Text)) → Type 0
 AreRoles roles = map (λ (s : Bor Text). s.now) roles.now ≡ codes "station" ∷ codes "bridge" ∷ codes "router" ∷ []
 
--- the option for the role: one of these names, `station` by default
+-- the option for the role: one of the role names, `station` by default
 abbrev pub role_rule : Bor (List (Bor Text)) → Rule
 role_rule roles = record (text_rule (codes "role") (codes "station")) { parser = Some (Names roles) }
 
@@ -50,7 +50,7 @@ abbrev pub receive_only_rule : Rule
 receive_only_rule = record
     (new_rule (codes "receive-only")) { long = Some (codes "receive-only"); action = Some SetTrue }
 
--- the option for a TCP port, 1 to 65535
+-- the option `--listen`, whose value is a TCP port from 1 to 65535
 abbrev pub listen_rule : Rule
 listen_rule =
     record (new_rule (codes "listen")) {
@@ -59,7 +59,7 @@ listen_rule =
       parser = Some (Signed (pos 1) (pos 65535));
     }
 
--- the names of the ports, any number of them
+-- the arguments that are not options: the names of any number of ports
 abbrev pub ports_rule : Rule
 ports_rule =
     record (new_rule (codes "PORT")) { range = Some (record { start_inclusive = 0; end_inclusive = usize_max }) }
@@ -92,7 +92,7 @@ abbrev pub role_named : Text → Role
 role_named name = if bytes_eq name (codes "bridge") then Bridge else if bytes_eq name (codes "router") then Router
     else Station
 
--- no text: no management address; a text: the address that it spells
+-- without a text there is no address, otherwise it is the address that the text spells
 abbrev pub AsksManagement : Option Text → Option (List ℕ) → Type 0
 AsksManagement None given = given ≡ None
 AsksManagement (Some text) given = (octets : List ℕ) × (given ≡ Some octets) × IsDotted text octets
@@ -112,13 +112,13 @@ abbrev pub WritesNoIpv4 : Option Text → Type 0
 WritesNoIpv4 None = ⊥
 WritesNoIpv4 (Some text) = (octets : List ℕ) → ¬ IsDotted text octets
 
--- the first address that cannot be read: Mac for `--mac`, Management if only `--management` cannot
+-- Mac: the value of `--mac` cannot be read. Management: only that of `--management` cannot.
 abbrev pub HasBadAddress : List Row → AddressFault → Type 0
 HasBadAddress rows Mac = WritesNoMac (first_of (codes "mac") rows)
 HasBadAddress rows Management =
     ((mac : List ℕ) × AsksMac (first_of (codes "mac") rows) mac) × WritesNoIpv4 (first_of (codes "management") rows)
 
--- Each option is the value that its words give, or its default.
+-- Each option has the value of its argument, or its default.
 pub record Asks (rows : List Row) (o : Options) : Type 0 where
   pub names : o.names ≡ unwrap_or (all_of (codes "PORT") rows) []
   pub mac : AsksMac (first_of (codes "mac") rows) o.mac
@@ -137,27 +137,27 @@ abbrev pub WritesNumber : Option Text → ℕ → Type 0
 WritesNumber None n = ⊥
 WritesNumber (Some text) n = ParsesUnsigned {E = Unit {0}} 16 10 text (Ok n)
 
--- What the texts of `--listen` and `--connections` ask for: nothing without the first, else the
--- port and the number of connections that they spell.
+-- Without `--listen`, the options do not ask to listen. With it, they ask for the port and the
+-- number of connections that the texts of `--listen` and `--connections` spell.
 abbrev pub AsksListening : Option Text → Option Text → Option Listening → Type 0
 AsksListening None connections listening = listening ≡ None
 AsksListening (Some port) connections None = ⊥
 AsksListening (Some port) connections (Some listening) =
     WritesNumber (Some port) listening.port × WritesNumber connections listening.connections
 
--- a parse accepts the words, and yields these rows
+-- a parse accepts these arguments, and yields these rows
 pub record IsParse (words : List Text) (rows : List Row) : Type 0 where
   pub roles : Bor (List (Bor Text))
   pub named : AreRoles roles
   pub taken : fault_of (program roles) words ≡ []
   pub rows_are : rows ≡ matches_of (program roles) words
 
--- a parse of the words may fail with an error of this kind
+-- a parse of these arguments may fail with an error of this kind
 pub record MayFail (words : List Text) (kind : ErrorKind) : Type 0 where
   pub roles : Bor (List (Bor Text))
   pub named : AreRoles roles
   pub among : IsAmong kind (fault_of (program roles) words)
 
--- the words ask for help or the version
+-- the arguments ask for help or the version
 abbrev pub AskForHelp : List Text → Type 0
 AskForHelp words = MayFail words DisplayHelp ⊎ MayFail words DisplayVersion

@@ -5,7 +5,7 @@ use Rattle.lldp_program.specs.Trace.Runs.{HasRun}
 use Rattle.lldp_program.specs.declared.trace.RunFault.{RunFault}
 use Rattle.lldp_program.specs.declared.device.DeviceFault.{DeviceFault}
 
--- a run over a connection: what is left to come after it, what was written by then, and the result
+-- a run over a connection: the octets left to read, the octets written, and the result
 pub record Visit (C : Type 0) : Type 0 where
   pub connection : C
   pub left : Option (List ℕ)
@@ -20,17 +20,17 @@ pub data Call (C : Type 0) : Type 0 where
   bound : (address : List ℕ) (port : ℕ) → Call C
   unbound : (address : List ℕ) (port : ℕ) → Call C
 
--- what an acceptor reports after these further calls, the last one first, or None
+-- the calls that an acceptor reports after these calls, newest first; None if it reports none
 abbrev pub logged : {C : Type 0} → List (Call C) → Option (List (Call C)) → Option (List (Call C))
 logged calls None = None
 logged calls (Some earlier) = Some (calls ++ earlier)
 
--- the call that an acceptor reports after accepting with this answer
+-- the call that an acceptor reports if accepting returned this answer
 abbrev pub accepting : {C : Type 0} → Result C DeviceFault → Call C
 accepting (Ok connection) = accepted connection
 accepting (Err fault) = refused
 
--- the call that an acceptor reports after binding with this answer
+-- the call that an acceptor reports if binding returned this answer
 abbrev pub binding : {C : Type 0} → List ℕ → ℕ → Result (Unit {0}) DeviceFault → Call C
 binding address port (Ok done) = bound address port
 binding address port (Err fault) = unbound address port

@@ -6,16 +6,16 @@ use Rattle.std.specs.Io.KnownBytes.{Consumes, Keeps, IsAtEnd}
 abbrev pub one_more : ℕ → ℕ
 one_more n = min (n + 1) (2 ^ 64 - 1)
 
--- the failures after a call with this answer
+-- the number of failed calls after a call with this answer
 abbrev pub failures_after : {X E : Type 0} → ℕ → Result X E → ℕ
 failures_after failures answer = if is_ok answer then failures else one_more failures
 
--- how many reads returned the end (0 octets), after a read with this answer
+-- the number of reads that returned the end (0 octets) after a read with this answer
 abbrev pub ends_after : {E : Type 0} → ℕ → Result ℕ E → ℕ
 ends_after ends (Ok n) = if n == 0 then one_more ends else ends
 ends_after ends (Err fault) = ends
 
--- A read put this many octets at the front of `octets`, 0 only at the end, or it failed.
+-- n octets were read to the front of `octets`, and n is 0 only at the end; or the read failed.
 abbrev pub ReadsMore : {E : Type 0} → Option (List ℕ) → Option (List ℕ) → List ℕ → Result ℕ E → Type 0
 ReadsMore old new octets (Ok n) = Consumes old new (take n octets) × (n ≡ 0 → IsAtEnd new)
 ReadsMore old new octets (Err fault) = Keeps old new

@@ -25,7 +25,7 @@ line_of Text = codes "lldpa: bad text\n"
 line_of Mac = codes "lldpa: bad --mac\n"
 line_of Management = codes "lldpa: bad --management\n"
 
--- the status of a fault: 1 for a device, a socket or a trace that is too long; 2 if no run began
+-- the status of a fault: 1 for a device, a socket or a trace that is too long, else 2
 abbrev pub status_of : ProgramFault → ℕ
 status_of Read = 1
 status_of Write = 1
@@ -62,7 +62,7 @@ abbrev pub fault_of_address : AddressFault → ProgramFault
 fault_of_address address.Mac = Mac
 fault_of_address address.Management = Management
 
--- how the program ends, by its run and the flush after it; a fault of the run comes first
+-- how the program ends after a run and the flush; a fault of the run is the one reported
 abbrev pub ended_by : Result (Unit {0}) RunFault → Result (Unit {0}) DeviceFault → Result (Unit {0}) ProgramFault
 ended_by (Ok done) (Ok flushed) = Ok tt
 ended_by (Ok done) (Err fault) = Err Write

@@ -14,19 +14,19 @@ pub record Stream : Type 0 where
 abbrev pub stream : Option (List ℕ) → ℕ → Stream
 stream taken failures = record { taken = taken; failures = failures }
 
--- The whole line of the fault was written, or a write failed and only a part of the line was.
+-- The whole line of the fault was written, or a write failed after a part of the line.
 abbrev pub IsTold : ProgramFault → Stream → Stream → Type 0
 IsTold fault old new =
     (Appends old.taken new.taken (line_of fault) × (new.failures ≡ old.failures))
     ⊎ ((part : List ℕ) × IsCutOff (line_of fault) part × Appends old.taken new.taken part
     × (new.failures ≡ one_more old.failures))
 
--- without a fault nothing is written, and with one its line
+-- nothing was written if there was no fault, otherwise the line of the fault was written
 abbrev pub TellsEnd : Result (Unit {0}) ProgramFault → Stream → Stream → Type 0
 TellsEnd (Ok done) old new = Keeps old.taken new.taken × (new.failures ≡ old.failures)
 TellsEnd (Err fault) old new = IsTold fault old new
 
--- The program ended in this way: with the status of the end, and its fault, if any, reported.
+-- The program ended in this way: it returned the right status, and reported the fault, if any.
 pub record EndsBy (ended : Result (Unit {0}) ProgramFault) (old new : Stream) (status : ℕ) : Type 0 where
   pub ends : status ≡ status_after ended
   pub told : TellsEnd ended old new

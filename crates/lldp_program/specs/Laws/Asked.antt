@@ -1,4 +1,4 @@
--- The items that lines ask for, and the text of each: lines of frames or of a show, or a fault.
+-- The items that lines ask for, and the text of each item: lines of frames or a show, or a fault.
 use Rattle.std.specs.Prelude.{◌≡◌, ℕ, List, [], ◌∷◌, ◌++◌, length, get_or, Err}
 use Rattle.std.specs.List.{AllByRecursion}
 use Rattle.hex.specs.Hex.{encode_lower}
@@ -17,7 +17,7 @@ use Rattle.lldp_program.specs.Trace.Items.{Item, happens, shows, refused, items_
 use Rattle.lldp_program.specs.Trace.Sent.{sent_text}
 use Rattle.lldp_program.specs.Trace.Work.{Work, skip, ticks, frame, link, command}
 
--- The items of work: n ticks; one event; one show; none if the line is skipped.
+-- The items that work asks for: n ticks; one event; one show; none if the line is skipped.
 abbrev pub AreItemsOf : Work → List Item → Type 0
 AreItemsOf skip items = items ≡ []
 AreItemsOf (ticks n) items = (length items ≡ n) × AllByRecursion (λ item. item ≡ happens tick) items
@@ -31,7 +31,7 @@ pub record AsksItsItems (past : Past) (line : List ℕ) : Type 0 where
   pub work : (work : Work) → IsLineOfWork (agent_of past) work line → AreItemsOf work (items_of past line)
   pub fault : (fault : LineFault) → work_given (agent_of past) line ≡ Err fault → items_of past line ≡ refused fault ∷ []
 
--- The text has one line for each port that sends, in order, and nothing else: `tx`, a space, the
+-- The text has one line for each port that sends, in order, and no other line: `tx`, a space, the
 -- name of the port, a space, the octets of its frame in lower case hexadecimal, LF.
 abbrev pub AreLinesOf : List (List ℕ) → Configuration → List Sending → List ℕ → Type 0
 AreLinesOf names configuration [] text = text ≡ []
@@ -46,8 +46,8 @@ abbrev pub TellsEachPort : Past → Type 0
 TellsEachPort past =
     AreLinesOf past.options.names (configuration_after past.options past.events) (marks_of past) (sent_text past)
 
--- The text of an event is what was sent at it, that of a show its lines, that of a refused line its
--- fault. Each line ends with LF, and there is nothing else.
+-- The text of an event is the lines for what was sent, the text of a show is its lines, and the
+-- text of a refused line is its fault. Each line ends with LF, and nothing else is written.
 abbrev pub TellsItem : Past → Item → Type 0
 TellsItem past (happens event) = text_of past (happens event) ≡ sent_text (with_event past event)
 TellsItem past (shows what) = text_of past (shows what) ≡ joined (show_lines what (agent_of past))

@@ -1,4 +1,4 @@
--- What the command line accepts, no more and no less, and what each option asks for.
+-- Exactly which options the command line accepts, and what each option asks for.
 use Rattle.std.specs.Prelude.{codes, ◌≡◌, ◌<◌, ◌≤◌, ◌↔◌, ℕ, true, false, List, [], ◌∷◌, Option, Some, None, map, option_and_then, pos, find}
 use Rattle.std.specs.Net.Text.{dotted_text}
 use Rattle.std.specs.Str.{bytes_eq}
@@ -36,9 +36,9 @@ pub record IsPlain (rule : Rule) : Type 0 where
   pub case : rule.ignore_case ≡ false
   pub required : rule.required ≡ false
 
--- Eleven options and the ports, and nothing else: no short form, no alias, no subcommand. Each
--- option is written as its own name after `--`; `--help` and `--version` are `clap`'s own. The
--- other fields state what each option accepts and its default.
+-- The command line has eleven options and the ports, and no short form, alias or subcommand. Each
+-- option is written as `--` and its name; `clap` adds `--help` and `--version`. The other fields
+-- state what each option accepts, and its default.
 pub record HasOptions (roles : Bor (List (Bor Text))) : Type 0 where
   pub names : map (λ r. r.id) (rules roles)
       ≡ codes "max-neighbors" ∷ codes "mac" ∷ codes "hostname" ∷ codes "management" ∷ codes "role" ∷ codes "tx-credit-max" ∷ codes "tx-fast-init"
@@ -51,20 +51,20 @@ pub record HasOptions (roles : Bor (List (Bor Text))) : Type 0 where
   pub takes : map (λ r. r.parser) (rules roles)
       ≡ number_to 128 ∷ None ∷ None ∷ None ∷ Some (Names roles) ∷ number_to 10 ∷ number_to 8 ∷ number_to 10 ∷ None
       ∷ number_to 65535 ∷ number_to 65535 ∷ None ∷ []
-  -- 32; 02:00:00:00:00:01; localhost; none; station; 5; 4; 2; none; none; 1; none
+  -- in order: 32; 02:00:00:00:00:01; localhost; none; station; 5; 4; 2; none; none; 1; none
   pub defaults : map (λ r. r.defaults) (rules roles)
       ≡ ((codes "32") ∷ [])
       ∷ ((codes "02:00:00:00:00:01") ∷ [])
       ∷ ((codes "localhost") ∷ [])
       ∷ [] ∷ (codes "station" ∷ []) ∷ ((0x35 ∷ []) ∷ []) ∷ ((0x34 ∷ []) ∷ []) ∷ ((0x32 ∷ []) ∷ []) ∷ [] ∷ [] ∷ ((0x31 ∷ []) ∷ []) ∷ [] ∷ []
-  -- `--receive-only` has no value, each other option has one, and there may be any number of ports
+  -- `--receive-only` has no value, every other option has one, and there may be any number of ports
   pub actions : map (λ r. r.action) (rules roles)
       ≡ Some Set ∷ Some Set ∷ Some Set ∷ None ∷ Some Set ∷ Some Set ∷ Some Set ∷ Some Set ∷ Some SetTrue ∷ None
       ∷ Some Set ∷ None ∷ []
   pub counts : map (λ r. r.range) (rules roles)
       ≡ None ∷ None ∷ None ∷ None ∷ None ∷ None ∷ None ∷ None ∷ None ∷ None ∷ None
       ∷ Some (record { start_inclusive = 0; end_inclusive = usize_max }) ∷ []
-  -- besides the arguments there is only `--version`
+  -- apart from these arguments, the command line has only `--version`
   pub top : record ((program roles).top) { rules = [] } ≡ record (new_shape (codes "lldpa")) { has_version = true }
   pub subcommands : (program roles).subs ≡ []
 
@@ -85,25 +85,25 @@ TakesNumber roles name n =
     × (option_and_then (λ r. r.parser) (find (λ r. bytes_eq r.id name) (rules roles)) ≡ number_to greatest) × (1 ≤ n)
     × (n ≤ greatest)
 
--- Options are in their ranges exactly if the option of each of the four numbers accepts it.
+-- The four numbers are in their ranges exactly if their options accept them.
 abbrev pub TakesRange : Bor (List (Bor Text)) → Options → Type 0
 TakesRange roles o =
     InRange o
     ↔ (TakesNumber roles (codes "max-neighbors") o.max_neighbors × TakesNumber roles (codes "tx-credit-max") o.credit_max
     × TakesNumber roles (codes "tx-fast-init") o.fast_init × TakesNumber roles (codes "reinit-delay") o.reinit)
 
--- if the text of this option is a number below 256, it is n
+-- if the text of this option spells a number below 256, n is that number
 abbrev pub SaysNumber : Text → List Row → ℕ → Type 0
 SaysNumber name rows n = (text : Text) (m : ℕ) → one_of name rows ≡ Some text → IsNumberIn text m → m < 256 → n ≡ m
 
--- the text is four decimal numbers below 256 with dots between them, and this is the address
+-- the text is four decimal numbers below 256 with dots between them, and they are the address
 abbrev pub SaysAddress : Text → Option (List ℕ) → Type 0
 SaysAddress text given =
     (a b c d : ℕ) × (a < 256) × (b < 256) × (c < 256) × (d < 256) × (text ≡ dotted_text a b c d)
     × (given ≡ Some (a ∷ b ∷ c ∷ d ∷ []))
 
--- Each option is what its own word says, whatever the others say; `HasOptions` has the defaults.
--- Without words there is no port and no management address. No options fit a bad address.
+-- Each option has the value of its own argument; `HasOptions` states the defaults. Without such
+-- arguments there are no ports and no management address. No options fit a bad address.
 pub record AreAsked (rows : List Row) (o : Options) : Type 0 where
   pub ports : (names : List Text) → all_of (codes "PORT") rows ≡ Some names → o.names ≡ names
   pub no_port : all_of (codes "PORT") rows ≡ None → o.names ≡ []

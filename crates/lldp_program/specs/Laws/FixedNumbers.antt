@@ -1,4 +1,4 @@
--- The numbers of statuses, bounds and faults, how a fault ends the program, and where it listens.
+-- The numbers of statuses, bounds and faults, how the program ends, and where it listens.
 use Rattle.std.specs.Prelude.{codes, ◌≡◌, [], ◌∷◌, map, Result, Ok, Err}
 use Rattle.lldp_engine.specs.declared.agent.open_fault.OpenFault.TheVariants as opening
 use Rattle.lldp_text.specs.declared.fault.CommandFault.{CommandFault}
@@ -16,8 +16,8 @@ use Rattle.lldp_program.specs.Faults.ProgramFault.{ended_by, fault_of_address, f
 use Rattle.lldp_program.specs.Serving.{this_host}
 use Rattle.lldp_program.specs.Faults.FaultNumber.{number_of_run_fault, number_of_serve_fault, number_of_line_fault}
 
--- The statuses; the most octets of a line and the most reads of a run; the numbers of faults; the
--- status of each fault, 1 for the first four and 2 for the others; 127.0.0.1.
+-- The statuses 0 and 2; the most octets of a line; the most reads of a run; the numbers of faults;
+-- the status of each fault, 1 for the first four and 2 for the others; the octets of 127.0.0.1.
 pub record AreNumbers : Type 0 where
   pub statuses : DONE ∷ REFUSED ∷ [] ≡ 0 ∷ 2 ∷ []
   pub longest : LONGEST ≡ 4096
@@ -32,8 +32,8 @@ pub record AreNumbers : Type 0 where
       ≡ 1 ∷ 1 ∷ 1 ∷ 1 ∷ 2 ∷ 2 ∷ 2 ∷ 2 ∷ 2 ∷ 2 ∷ 2 ∷ 2 ∷ []
   pub host : this_host ≡ 127 ∷ 0 ∷ 0 ∷ 1 ∷ []
 
--- How the program ends, case by case: the line of each fault, and the program's fault for one of a
--- run, an opening or an address. A fault of the run comes before one of the flush after it.
+-- How the program ends: the line of each fault, and the program's fault for each fault of a run, an
+-- opening or an address. If both the run and the flush fail, the run's fault counts.
 pub record AreEnds : Type 0 where
   pub lines : map line_of
       (program.Read ∷ program.Write ∷ program.InputTooLong ∷ program.Socket

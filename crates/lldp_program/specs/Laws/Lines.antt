@@ -18,7 +18,8 @@ pub record IsCut (input : List ℕ) (lines : List (List ℕ)) (rest : List ℕ) 
   pub each : AllByRecursion HasNoLf lines
   pub last : HasNoLf rest
 
--- The ended lines and the rest are those of the cut. A rest that is not empty is the last line.
+-- `ended_lines` and `unfinished` return these lines and this rest exactly if `IsCut` holds for
+-- them. A rest that is not empty is the last line.
 pub record CutsLines (input : List ℕ) : Type 0 where
   pub cut : (lines : List (List ℕ)) (rest : List ℕ) →
       ((ended_lines input ≡ lines) × (unfinished input ≡ rest)) ↔ IsCut input lines rest

@@ -1,4 +1,4 @@
--- What the options ask to listen to, for all texts of both, and for worked command lines.
+-- What `--listen` and `--connections` ask for: for all texts, and for example command lines.
 use Rattle.std.specs.Prelude.{◌≡◌, ◌<◌, ◌↔◌, ℕ, List, [], ◌∷◌, Option, Some, None, codes}
 use Rattle.std.specs.Str.Parse.{IsNumeral, digits_value, without_leading_plus}
 use Rattle.std.specs.Borrow.{Bor}
@@ -7,14 +7,14 @@ use Rattle.clap.specs.Walk.{Text, one_of}
 use Rattle.lldp_program.specs.declared.arguments.Listening.{Listening}
 use Rattle.lldp_program.specs.CommandLine.Usage.{AsksListening, program}
 
--- the text has only decimal digits, after a `+` at most, and n is the number that they spell
+-- the text is decimal digits, possibly after a `+`, and n is the number that they spell
 pub record IsNumberIn (text : Text) (n : ℕ) : Type 0 where
   pub digits : IsNumeral 10 (without_leading_plus text)
   pub value : n ≡ digits_value 10 (without_leading_plus text)
   pub small : n < 65536
 
--- Without a text of `--listen` nothing; with one, the port that it spells, and as many connections
--- as that of `--connections` spells.
+-- Without `--listen` the options do not ask to listen. With it, its text spells the port, and the
+-- text of `--connections` spells the number of connections.
 abbrev pub IsAskedBy : Option Text → Option Text → Option Listening → Type 0
 IsAskedBy None connections asked = asked ≡ None
 IsAskedBy (Some port) None asked = ⊥
@@ -22,19 +22,19 @@ IsAskedBy (Some port) (Some connections) asked =
     (listening : Listening) × (asked ≡ Some listening) × IsNumberIn port listening.port
     × IsNumberIn connections listening.connections
 
--- Both definitions of what these texts ask to listen to agree.
+-- The two definitions of what these texts ask for agree.
 abbrev pub AskByTexts : Option Text → Option Text → Option Listening → Type 0
 AskByTexts port connections asked = AsksListening port connections asked ↔ IsAskedBy port connections asked
 
--- whatever `--listen` and `--connections` in these words ask for, it is this
+-- `listening` is what `--listen` and `--connections` in these arguments ask for
 abbrev pub AskFor : Bor (List (Bor Text)) → List Text → Option Listening → Type 0
 AskFor roles words listening =
     (asked : Option Listening)
     → AsksListening (one_of (codes "listen") (matches_of (program roles) words)) (one_of (codes "connections") (matches_of (program roles) words)) asked
     → asked ≡ listening
 
--- Without `--listen` nothing; with it its port and 1 connection, or as many as `--connections`
--- says.
+-- Without `--listen` nothing is asked for. With it, the port is that of `--listen`, and the number
+-- of connections is that of `--connections`, or 1.
 pub record AskByWords (roles : Bor (List (Bor Text))) : Type 0 where
   pub nothing : AskFor roles (codes "lldpa" ∷ codes "--connections" ∷ codes "7" ∷ codes "eth0" ∷ []) None
   pub one : AskFor roles (codes "lldpa" ∷ codes "--listen" ∷ codes "4711" ∷ codes "eth0" ∷ [])

@@ -1,4 +1,4 @@
--- What the lines of a trace say, by the octets of their words.
+-- What the lines of a trace ask for, by the octets of their words.
 use Rattle.std.specs.Prelude.{codes, ◌≡◌, ◌≢◌, ◌≤◌, ◌⊎◌, ◌↔◌, ℕ, true, false, List, [], ◌∷◌, ◌++◌, length, Ok, Err}
 use Rattle.std.specs.List.{AllByRecursion}
 use Rattle.lldp_text.specs.declared.fault.CommandFault.TheVariants.{Unknown, Range}
@@ -32,7 +32,7 @@ pub record BeginForms (agent : AgentState) (words : List (List ℕ)) : Type 0 wh
       form_of agent (word ∷ words) ≡ on_ok command (of_command (command_said agent (word ∷ words)))
   pub none : form_of agent [] ≡ Err (Command Unknown)
 
--- `tick` without a number is one tick, and with a number from 1 to 65535 as many as it says.
+-- `tick` without a number is one tick. `tick` with a number from 1 to 65535 is that many ticks.
 pub record CountTicks : Type 0 where
   pub alone : tick_form [] ≡ Ok (ticks 1)
   pub numbered : (word : List ℕ) → tick_form (word ∷ []) ≡ on_ok ticks (of_command (number_of word 1 65535))
@@ -43,15 +43,15 @@ pub record CountTicks : Type 0 where
   pub above : tick_form ((codes "65536") ∷ []) ≡ Err (Command Range)
   pub below : tick_form ((0x30 ∷ []) ∷ []) ≡ Err (Command Range)
 
--- spaces and tabs
+-- all octets are spaces and tabs
 abbrev pub AreBlanks : List ℕ → Type 0
 AreBlanks octets = AllByRecursion (λ octet. (octet ≡ 0x20) ⊎ (octet ≡ 0x09)) octets
 
--- the line has only spaces and tabs, or these and then `#`
+-- the line has only spaces and tabs, or its first other octet is `#`
 abbrev pub IsPassedOver : List ℕ → Type 0
 IsPassedOver line =
     AreBlanks line ⊎ ((blanks : List ℕ) × (rest : List ℕ) × AreBlanks blanks × (line ≡ blanks ++ 0x23 ∷ rest))
 
--- A line asks for nothing exactly if it is passed over and has at most 4,096 octets.
+-- A line is skipped exactly if it is blank or a comment, and has at most 4,096 octets.
 abbrev pub SkipsLines : AgentState → List ℕ → Type 0
 SkipsLines agent line = (work_given agent line ≡ Ok skip) ↔ ((length line ≤ 4096) × IsPassedOver line)

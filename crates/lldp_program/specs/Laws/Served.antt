@@ -1,4 +1,4 @@
--- Serving without a fault serves as many connections as were asked for, at a port of 127.0.0.1.
+-- If serving ends without a fault, all requested connections were served, at 127.0.0.1.
 use Rattle.std.specs.Prelude.{◌≡◌, ℕ, List, [], ◌∷◌, length, Option, Ok, is_err}
 use Rattle.std.specs.List.{filter, flat_map}
 use Rattle.lldp_engine.specs.AgentState.{AgentState}
@@ -6,7 +6,7 @@ use Rattle.lldp_program.specs.declared.arguments.Listening.{Listening}
 use Rattle.lldp_program.specs.Devices.Acceptors.{Call, accepted, bound, ran, Visit, logged}
 use Rattle.lldp_program.specs.Serving.{HasAsked, HasListened}
 
--- the calls if each connection was accepted and then run over, the last call first
+-- the calls if each connection was accepted and its trace was then run, newest call first
 abbrev pub asked_in_turn : {C : Type 0} → List (Visit C) → List (Call C)
 asked_in_turn visits = flat_map (λ visit. ran visit ∷ accepted visit.connection ∷ []) visits
 
@@ -14,16 +14,16 @@ asked_in_turn visits = flat_map (λ visit. ran visit ∷ accepted visit.connecti
 abbrev pub faulty_among : {C : Type 0} → List (Visit C) → ℕ
 faulty_among visits = length (filter (λ visit. is_err visit.result) visits)
 
--- This many connections were accepted, and each was run over once. This many of the runs ended with
--- a fault. No other call was made.
+-- This many connections were accepted, and the trace of each was run once. This many of the runs
+-- ended with a fault. No other call was made.
 pub record AreServed {C : Type 0} (old new : Option (List (Call C))) (connections faulty : ℕ) : Type 0 where
   pub visits : List (Visit C)
   pub many : length visits ≡ connections
   pub faults : faulty_among visits ≡ faulty
   pub asked : new ≡ logged (asked_in_turn visits) old
 
--- If the answer counts faults, all connections asked for were served. If it is without a fault, the
--- port of 127.0.0.1 was bound before, they were served there, and no run had a fault.
+-- If serving returned Ok, all requested connections were served. If listening returned Ok, the port
+-- of 127.0.0.1 was bound first, they were all served there, and no run had a fault.
 pub record ServesAll {C : Type 0} (to_come taken : C → Option (List ℕ)) (old new : Option (List (Call C)))
     (before after : AgentState) : Type 0 where
   pub counted : (connections faulty : ℕ) → HasAsked to_come taken old new connections before after (Ok faulty) →

@@ -1,4 +1,4 @@
--- What one line of a trace says, checked from left to right.
+-- What one line of a trace asks for. Each line is checked from left to right.
 use Rattle.std.specs.Prelude.{ℕ, List, [], ◌∷◌, length, codes, Result, Ok, Err, nat_lt, ◌==◌, Bool, true, false, if◌then◌else◌}
 use Rattle.std.specs.Str.{bytes_eq}
 use Rattle.hex.specs.Hex.{decode_of}
@@ -15,7 +15,7 @@ use Rattle.lldp_program.specs.declared.line.LineFault.{LineFault}
 use Rattle.lldp_program.specs.declared.line.LineFault.TheVariants.{TooLong, Hex, Command}
 use Rattle.lldp_program.specs.Trace.Work.{Work, skip, ticks, frame, link, command}
 
--- the fault of a command, as a fault of its line
+-- turns the fault of a command into a fault of its line
 abbrev pub of_command : {A : Type 0} → Result A CommandFault → Result A LineFault
 of_command (Ok x) = Ok x
 of_command (Err fault) = Err (Command fault)
@@ -49,7 +49,7 @@ link_form agent up words = do
   end ← of_command (end_said port.1)
   Ok (link port.0 up)
 
--- a command, or its fault
+-- the command that these words spell, or its fault
 abbrev pub command_form : AgentState → List (List ℕ) → Result Work LineFault
 command_form agent words = on_ok command (of_command (command_said agent words))
 
@@ -63,13 +63,13 @@ form_of agent (word ∷ words) =
     else if bytes_eq word (codes "down") then link_form agent false words
     else command_form agent (word ∷ words)
 
--- only spaces and tabs, or `#` as the first other octet
+-- true if the line has only spaces and tabs, or `#` as the first other octet
 abbrev pub is_skipped : List ℕ → Bool
 is_skipped [] = true
 is_skipped (octet ∷ octets) = if is_separator octet then is_skipped octets else octet == 35
 
--- What a line says to an agent, or its fault. The checks in order: its length, at most 4,096
--- octets; whether it is skipped; its quotes; its form.
+-- What a line asks of an agent, or the fault of the line. The checks in order: its length, at most
+-- 4,096 octets; whether it is skipped; its quotes; its form.
 unfoldable pub work_given : AgentState → List ℕ → Result Work LineFault
 work_given agent line =
     if nat_lt 4096 (length line) then Err TooLong

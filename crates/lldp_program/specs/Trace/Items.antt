@@ -19,7 +19,7 @@ pub data Item : Type 0 where
   shows : Show → Item
   refused : LineFault → Item
 
--- what work asks for: nothing, N ticks, one other event, one show, or one fault
+-- the items that work asks for: none, n ticks, one other event, one show, or one fault
 abbrev pub items_of_work : Result Work LineFault → List Item
 items_of_work (Ok skip) = []
 items_of_work (Ok (ticks n)) = replicate n (happens tick)
@@ -29,22 +29,22 @@ items_of_work (Ok (command (set setting))) = happens (event.set setting) ∷ []
 items_of_work (Ok (command (show what))) = shows what ∷ []
 items_of_work (Err fault) = refused fault ∷ []
 
--- what a line asks for after this past
+-- the items that a line asks for after this past
 abbrev pub items_of : Past → List ℕ → List Item
 items_of past line = items_of_work (work_given (agent_of past) line)
 
--- the past after an item: only an event changes it
+-- the past after an item; only an event changes the past
 abbrev pub after : Past → Item → Past
 after past (happens event) = with_event past event
 after past (shows what) = past
 after past (refused fault) = past
 
--- the past after items in order
+-- the past after these items, done in order
 abbrev pub after_all : Past → List Item → Past
 after_all past [] = past
 after_all past (item ∷ items) = after_all (after past item) items
 
--- the text of an item: the lines of what ports send at the event; the lines of the show; the line of the fault
+-- the text of an item: the lines of sent frames, the lines of a show, or the line of a fault
 abbrev pub text_of : Past → Item → List ℕ
 text_of past (happens event) = sent_text (with_event past event)
 text_of past (shows what) = flat_map ended (show_lines what (agent_of past))
@@ -55,7 +55,7 @@ abbrev pub text_of_all : Past → List Item → List ℕ
 text_of_all past [] = []
 text_of_all past (item ∷ items) = text_of past item ++ text_of_all (after past item) items
 
--- what lines ask for in order, each read after the items before it
+-- the items that lines ask for, each line read after the items of the lines before it
 abbrev pub items_of_lines : Past → List (List ℕ) → List Item
 items_of_lines past [] = []
 items_of_lines past (line ∷ lines) = items_of past line ++ items_of_lines (after_all past (items_of past line)) lines
@@ -64,6 +64,6 @@ items_of_lines past (line ∷ lines) = items_of past line ++ items_of_lines (aft
 abbrev pub text : Past → List ℕ → List ℕ
 text past input = text_of_all past (items_of_lines past (lines_of input))
 
--- the past after an input
+-- the past after a run over an input
 abbrev pub after_input : Past → List ℕ → Past
 after_input past input = after_all past (items_of_lines past (lines_of input))

@@ -18,16 +18,15 @@ pub record IsCutOff (whole part : List ℕ) : Type 0 where
   pub joined : whole ≡ part ++ rest
   pub missing : rest ≢ []
 
--- All items were done: their text was written, and the agent stands for the past after them and
--- keeps the promise for it: tables hold the last stored frames, and ports sent exactly what was
--- due.
+-- All items were done. Their text was written, and the agent has the state after them. `Promised`
+-- holds for the agent: tables hold the last stored frames, and ports sent exactly what was due.
 pub record Done (past : Past) (items : List Item) (old new : Option (List ℕ)) (agent : AgentState) : Type 0 where
   pub written : Appends old new (text_of_all past items)
   pub stands : Stands (after_all past items) agent
   pub promised : Promised (after_all past items) agent
 
--- The output of an item failed. The agent stands for the past after that item and keeps the promise
--- for it. The text of the items before it was written, and a part of its own text, but not all.
+-- The output of an item failed. The agent has the state after that item, and `Promised` holds for
+-- it. The text of the items before was written, and only a part of the item's own text.
 pub record Failed (past : Past) (items : List Item) (old new : Option (List ℕ)) (agent : AgentState) : Type 0 where
   pub before : List Item
   pub item : Item
@@ -39,8 +38,8 @@ pub record Failed (past : Past) (items : List Item) (old new : Option (List ℕ)
   pub stands : Stands (after_all past (before ++ item ∷ [])) agent
   pub promised : Promised (after_all past (before ++ item ∷ [])) agent
 
--- The run stopped at an item whose output failed. Its line is one whose LF was read or, if the end
--- was reached, the last line.
+-- The run stopped at an item whose output failed. The LF of its line was read, or its line is the
+-- last one and the end was reached.
 abbrev pub StoppedAt : Past → List ℕ → Option (List ℕ) → Option (List ℕ) → Option (List ℕ) → AgentState → Type 0
 StoppedAt past input left old new agent =
     Failed past (items_of_lines past (ended_lines input)) old new agent
@@ -56,7 +55,7 @@ Ends past input left old new agent (Err Write) = StoppedAt past input left old n
 Ends past input left old new agent (Err InputTooLong) =
     Done past (items_of_lines past (ended_lines input)) old new agent
 
--- what the answer says about what was read: Ok, that it is all; InputTooLong, its least length
+-- Ok: all of the input was read. InputTooLong: at least 4,294,967,295 octets were read.
 abbrev pub HasRead : {T : Type 0} → Option (List ℕ) → List ℕ → Result T RunFault → Type 0
 HasRead left input (Ok done) = IsAtEnd left
 HasRead left input (Err Read) = Unit {0}
@@ -64,8 +63,8 @@ HasRead left input (Err Write) = Unit {0}
 HasRead left input (Err InputTooLong) = 4294967295 ≤ length input
 
 -- A run: the octets that it read, what its answer says about them, and what it did for every past
--- that the agent stood for. Octets of the source: `to_come`, then `left`; of the sink: `old`, then
--- `new`.
+-- that led to the agent's state. The source had `to_come` before the run and has `left` after it;
+-- the octets of the sink were `old` and are `new`.
 pub record HasRun {T : Type 0} (to_come left old new : Option (List ℕ)) (before after : AgentState)
     (result : Result T RunFault) : Type 0 where
   pub input : List ℕ
@@ -73,18 +72,18 @@ pub record HasRun {T : Type 0} (to_come left old new : Option (List ℕ)) (befor
   pub read : HasRead left input result
   pub ends : (past : Past) → Stands past before → Ends past input left old new after result
 
--- the failed reads after a run: one more if it answers Read, else as many as before
+-- the number of failed reads after a run: one more if it returns Read, else the same as before
 abbrev pub read_failures_after : {T : Type 0} → ℕ → Result T RunFault → ℕ
 read_failures_after failures (Err Read) = one_more failures
 read_failures_after failures _ = failures
 
--- the failed writes after a run: one more if it answers Write, else as many as before
+-- the number of failed writes after a run: one more if it returns Write, else the same as before
 abbrev pub write_failures_after : {T : Type 0} → ℕ → Result T RunFault → ℕ
 write_failures_after failures (Err Write) = one_more failures
 write_failures_after failures _ = failures
 
--- How many reads returned the end, before and after a run: one more if it answers Ok, as many as
--- before if it answers Read or InputTooLong, and at most one more if it answers Write.
+-- How many reads returned the end, before and after a run: one more if it returns Ok, the same if
+-- it returns Read or InputTooLong, and at most one more if it returns Write.
 abbrev pub EndsTold : {T : Type 0} → ℕ → ℕ → Result T RunFault → Type 0
 EndsTold before after (Ok done) = after ≡ one_more before
 EndsTold before after (Err Read) = after ≡ before
@@ -95,7 +94,7 @@ EndsTold before after (Err InputTooLong) = after ≡ before
 abbrev pub followed : Past → List Event → Past
 followed past events = record { options = past.options; events = events ++ past.events }
 
--- The agent stands for the past and some more events, all of them allowed, and keeps the promise
--- for it: its tables hold the last stored frames, and its ports have sent exactly what was due.
+-- The agent has the state after the past and some more allowed events, and `Promised` holds for it:
+-- its tables hold the last stored frames, and its ports have sent exactly what was due.
 abbrev pub KeepsOn : Past → AgentState → Type 0
 KeepsOn past agent = (events : List Event) × Stands (followed past events) agent × Promised (followed past events) agent

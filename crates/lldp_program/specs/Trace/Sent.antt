@@ -7,16 +7,16 @@ use Rattle.lldp_engine.specs.Frames.{frame_of}
 use Rattle.lldp_engine.specs.Past.{Past, Sending, configuration_after, marks_of}
 use Rattle.lldp_program.specs.Trace.Lines.{ended}
 
--- `tx`, the name of the port and the frame in lower case hexadecimal, with spaces between, and LF
+-- the line `tx NAME HEX` for a frame of a port, in lower case hexadecimal and with its LF
 abbrev pub sent_line : List ℕ → List ℕ → List ℕ
 sent_line name frame = ended (codes "tx " ++ name ++ codes " " ++ encode_lower frame)
 
--- the line of a port that sends, with the names of the ports and the configuration
+-- the line for what a port sends, by the names of the ports and the configuration
 abbrev pub mark_line : List (List ℕ) → Configuration → Sending → List ℕ
 mark_line names configuration mark =
     let name = get_or names mark.0 [] in
     sent_line name (frame_of configuration name mark.1)
 
--- the lines of what was sent at the last event, by ports, with the configuration after the event
+-- the lines for what ports sent at the last event, with the configuration after that event
 abbrev pub sent_text : Past → List ℕ
 sent_text past = flat_map (mark_line past.options.names (configuration_after past.options past.events)) (marks_of past)

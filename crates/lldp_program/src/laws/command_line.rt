@@ -21,16 +21,15 @@ pub fn options_are_these_alone()
         TakesRange roles options }
 {}
 
-/// Each option that the words ask for is what its own word says.
+/// Each option has the value of its own argument, or its default.
 #[tactic(auto, using(crate::proofs::ForLaws::CommandLine::are_asked))]
 pub fn options_are_what_their_words_say()
     ensures { (rows : List Row) (options : Options) → Asks rows options → AreAsked rows options }
 {}
 
-/// Whatever the texts of `--listen` and `--connections` are, they ask to listen at the port of the
-/// first for as many connections as the second says. Four command lines are worked examples; one
-/// has the default of one connection. The number of faults counts the connections that ended with
-/// one.
+/// For all texts of `--listen` and `--connections`, the first spells the port to listen at, and the
+/// second the number of connections to serve. Four command lines are worked examples; one has the
+/// default of one connection. `faults_of` counts the connections that ended with a fault.
 #[tactic(auto, using(crate::proofs::Serving::words_ask_to_listen))]
 pub fn words_ask_to_listen()
     ensures texts { (port connections : Option Text) (asked : Option Listening) →

@@ -1,4 +1,4 @@
-//! What the lines of a trace say.
+//! What the lines of a trace ask for.
 ghost use Rattle.std.specs.Prelude.{◌≡◌, ◌↔◌, ℕ, List, Ok};
 ghost use Rattle.lldp_engine.specs.AgentState.{AgentState};
 ghost use Rattle.lldp_program.specs.declared.line.LineFault.{LineFault};
@@ -7,8 +7,8 @@ ghost use Rattle.lldp_program.specs.Laws.Sayings.{BeginForms, CountTicks, SkipsL
 ghost use Rattle.lldp_program.specs.Trace.Forms.{work_given};
 ghost use Rattle.lldp_program.specs.Trace.Work.{Work};
 
-/// Four first words begin the forms of a trace, and every other one begins a command. `tick` means
-/// as many ticks as it says. Only blank lines and comments, of at most 4,096 octets, are skipped.
+/// `tick`, `rx`, `up` and `down` begin the forms of a trace, and any other first word begins a
+/// command. `tick N` is N ticks. Only blank lines and comments of at most 4,096 octets are skipped.
 #[tactic(auto, using(crate::proofs::ForLaws::Sayings::skips))]
 pub fn first_words_decide_forms()
     ensures words { (agent : AgentState) (words : List (List ℕ)) → BeginForms agent words }
@@ -16,9 +16,9 @@ pub fn first_words_decide_forms()
     ensures skipped { (agent : AgentState) (line : List ℕ) → SkipsLines agent line }
 {}
 
-/// A line says what its words say, and only that: it says some work exactly if it has the words of
-/// that work, octet by octet, with nothing after them. The fault of words after `tick`, `rx`, `up`
-/// or `down` is the first of the faults that they have.
+/// A line asks for what its words ask for. It asks for some work exactly if it has the words of
+/// that work, octet by octet, with nothing after them. If the words after `tick`, `rx`, `up` or
+/// `down` have several faults, the first one is reported.
 #[tactic(auto, using(crate::proofs::ForLaws::OnlyLines::lines_say_what_their_words_say))]
 pub fn lines_say_what_their_words_say()
     ensures says { (agent : AgentState) (line : List ℕ) → SaysItsWords agent line }

@@ -1,4 +1,4 @@
-//! What serving connections achieves.
+//! What is true after connections were served.
 ghost use Rattle.std.specs.Prelude.{List, Option};
 ghost use Rattle.lldp_engine.specs.AgentState.{AgentState};
 ghost use Rattle.lldp_program.specs.Devices.Acceptors.{Call};
@@ -6,8 +6,8 @@ ghost use Rattle.lldp_program.specs.Laws.Served.{ServesAll};
 
 use crate::acceptor::Acceptor;
 
-/// For any acceptor, if the answer is not a fault, as many connections were served as were asked
-/// for, and `listen` served them at 127.0.0.1.
+/// For any acceptor: if the answer is not a fault, all requested connections were served, and
+/// `listen` served them at 127.0.0.1.
 pub fn all_connections_are_served<D: Acceptor>()
     ensures { (old new : Option (List (Call D.Connection))) (before after : AgentState) →
         ServesAll D.to_come D.taken old new before after }

@@ -1,4 +1,4 @@
-//! How a trace is cut into lines, what each line asks for, and the lines for what ports send.
+//! How a trace is cut into lines, what each line asks for, and what is written for frames.
 ghost use Rattle.std.specs.Prelude.{ℕ, List};
 ghost use Rattle.lldp_engine.specs.Past.{Past};
 ghost use Rattle.lldp_program.specs.Laws.Asked.{AsksItsItems, TellsEachPort, TellsItem};
@@ -11,22 +11,22 @@ pub fn lf_alone_ends_lines()
     ensures { (input : List ℕ) → CutsLines input }
 {}
 
-/// A line asks for the items of its work: `tick N` for N ticks, for every N; a frame, a link or a
-/// setting for one event; a show for that show; a refused line for the report of its fault.
+/// `tick N` asks for N ticks, for every N; a frame, a link or a setting asks for one event; a show
+/// asks for that show; a refused line asks for the report of its fault.
 #[tactic(auto, using(crate::proofs::ForLaws::Asked::asks_its_items))]
 pub fn lines_ask_for_their_items()
     ensures { (past : Past) (line : List ℕ) → AsksItsItems past line }
 {}
 
-/// What was sent at an event is reported by one line for each port that sent, with its whole name
-/// and all octets of its frame, and by nothing else.
+/// At an event, one line is written for each port that sends, with the port's whole name and all
+/// octets of its frame. Nothing else is written.
 #[tactic(auto, using(crate::proofs::ForLaws::Asked::tells_each_port))]
 pub fn each_port_that_sends_is_told()
     ensures { (past : Past) → TellsEachPort past }
 {}
 
-/// The text of a show is its lines, that of a refused line its fault, and that of an event what was
-/// sent at it. Every text is made of whole lines, and has nothing else.
+/// The text of a show is its lines, the text of a refused line is its fault, and the text of an
+/// event is the lines for what was sent. Every text consists of whole lines.
 #[tactic(auto, using(crate::proofs::ForLaws::Asked::tells_item))]
 pub fn items_are_told_by_their_lines()
     ensures { (past : Past) (item : Item) → TellsItem past item }

@@ -1,4 +1,4 @@
-//! Tests the calls that a host with an embedded agent makes and the program does not.
+//! Tests calls that a host with an embedded agent makes, but the program does not.
 use super::{only_receiving, open};
 use lldp_engine::{Command, CommandFault, Event, Mark, Show};
 use std::test::Fail;

@@ -1,5 +1,5 @@
-//! Tests that an opening without enough memory reports it. No later call allocates memory: the
-//! types say so, and tools/gate/refuse-memory.sh checks it for the program.
+//! Tests that opening reports a lack of memory. No later call allocates memory: the types ensure
+//! it, and tools/gate/refuse-memory.sh checks it for the program.
 use super::{NAMES, only_receiving, open};
 use linked_list_allocator::LocalHeap;
 use lldp_engine::OpenFault;
@@ -8,10 +8,10 @@ use std::alloc::{Allocator, Global};
 use std::process::Abort;
 use std::test::Fail;
 
-/// The size of a heap with room enough for every opening below.
+/// The size of a heap that is large enough for every opening below.
 const AMPLE: usize = 400_000;
 
-/// Returns the room that the table of a port needs.
+/// Returns the size of the memory that the table of a port needs.
 fn table_size(rt: &impl Abort, alloc: Global, limit: u8) -> Result<usize, Fail> {
     assert!(rt; 0 < limit && limit <= 128);
     let heap = LocalHeap::new(alloc, AMPLE)?;
@@ -20,8 +20,8 @@ fn table_size(rt: &impl Abort, alloc: Global, limit: u8) -> Result<usize, Fail> 
     Ok(heap.used())
 }
 
-/// Opens an agent in a heap of this size, and returns how much of it is used, or the fault. A
-/// refused opening must leave nothing allocated.
+/// Opens an agent in a heap of this size. Returns how much of the heap is used, or the fault.
+/// Checks that a refused opening leaves nothing allocated.
 fn taken(
     rt: &impl Abort,
     alloc: Global,
@@ -42,9 +42,9 @@ fn taken(
     }
 }
 
-/// Refuses each allocation of an opening in turn, with a heap that lacks one unit for it: that of
-/// the table of each port, and that of the ports, which comes first. With just enough room, no
-/// allocation is refused.
+/// Checks that a heap of just enough size suffices for opening. Then checks that opening fails with
+/// smaller heaps, so that each allocation in turn is refused: that of the table of each port, and
+/// that of the list of ports, which comes first.
 fn refuse_each(rt: &impl Abort, alloc: Global, ports: &[&str], limit: u8) -> Result<(), Fail> {
     let table = table_size(rt, alloc, limit)?;
     let all = taken(rt, alloc, ports, limit, AMPLE)??;

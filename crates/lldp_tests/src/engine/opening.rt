@@ -1,10 +1,10 @@
-//! Tests that opening works if there is memory, and what it refuses.
+//! Tests that opening succeeds if there is memory, and which options it refuses.
 use super::{NAMES, only_receiving, open};
 use crate::row::{octets, rows_of};
 use lldp_engine::Options;
 use std::test::Fail;
 
-/// Opens an agent with the options of each row, and compares the number of the fault, or 0.
+/// Opens an agent with the options of each row, and compares the fault's number, or 0 for none.
 #[test]
 fn openings(rt: HostRuntime) -> Result<(), Fail> {
     let rows = rows_of(rt.alloc(), "open")?;

@@ -9,10 +9,11 @@ use std::alloc::{AllocError, Global};
 use std::process::Abort;
 use std::test::Fail;
 
-/// The frame A with its Ethernet header.
+/// An LLDP frame: an Ethernet header, Chassis ID, Port ID, TTL 120 and End.
 const FRAME: &str = "0180c200000e00112233445588cc02070400112233445504050565746830060200780000";
 
-/// The LLDPDUs of the frames A, A5, A8, A9, A10 and Z2, and that of A11 without its TLV of 511 octets.
+/// LLDPDUs with only the mandatory TLVs; a System Name; an incomplete TLV; a second Chassis ID;
+/// malformed and repeated TLVs; TTL 0 and a second Chassis ID; and other TLVs.
 const LLDPDUS: &[&str] = &[
     "02070400112233445504050565746830060200780000",
     "02070400112233445504050565746830060200780a037377320000",
@@ -38,7 +39,7 @@ fn altered(alloc: Global, octets: &[u8], place: usize, bits: u8) -> Result<Vec<u
     Ok(altered)
 }
 
-/// Compares both readers on each front of these LLDPDUs, and on each with any one octet changed.
+/// Compares both readers on every prefix of these LLDPDUs, and on every change of one octet.
 #[test]
 fn cut_and_altered(rt: HostRuntime) -> Result<(), Fail> {
     for digits in LLDPDUS {
@@ -53,7 +54,7 @@ fn cut_and_altered(rt: HostRuntime) -> Result<(), Fail> {
     Ok(())
 }
 
-/// Passes a frame to a new agent, and returns how many frames it has received then.
+/// Passes a frame to a new agent, and returns the agent's count of received frames.
 fn received(rt: &(impl Abort + AllocGlobal), octets: &[u8]) -> Result<u32, Fail> {
     let mut agent = open(rt, rt.alloc(), &only_receiving(&["eth0"], 1))?;
     let event = Event::Frame { port: 0, octets };
@@ -63,8 +64,8 @@ fn received(rt: &(impl Abort + AllocGlobal), octets: &[u8]) -> Result<u32, Fail>
     Ok(agent.counters(0).received)
 }
 
-/// Passes A with each change of one octet to a new agent. A frame is not an LLDP frame exactly if
-/// its destination (6 octets) or its EtherType (2) is changed.
+/// Changes one octet of `FRAME` in every way, and passes each result to a new agent. It is not an
+/// LLDP frame exactly if its destination (6 octets) or its EtherType (2) was changed.
 #[test]
 fn one_octet_changed(rt: HostRuntime) -> Result<(), Fail> {
     let frame = octets(rt.alloc(), FRAME)?;

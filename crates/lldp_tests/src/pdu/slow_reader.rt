@@ -1,9 +1,9 @@
 //! A second reader of LLDPDUs, written from the definitions to compare `examine` with. It shares no
-//! code with it: it cuts the whole LLDPDU first, and at each TLV searches the earlier ones again.
+//! code with `examine`: it cuts the whole LLDPDU first, and searches all earlier TLVs at each TLV.
 use super::told::Told;
 use std::alloc::{AllocError, Global};
 
-/// A type and a body.
+/// The type and the body of a TLV.
 type Tlv<'a> = (u8, &'a [u8]);
 
 /// Returns the TLV that the octets begin with, and the octets after it. A header has 7 bits of type
@@ -27,7 +27,7 @@ fn cut(alloc: Global, pdu: &[u8]) -> Result<(Vec<Tlv<'_>>, &[u8]), AllocError> {
     Ok((tlvs, rest))
 }
 
-/// Returns true if the body is well formed for the type, by the table of TLVs.
+/// Returns true if the body is well formed for the type of the TLV.
 fn is_well_formed(tlv: &Tlv<'_>) -> bool {
     let body = tlv.1;
     let is_octet = |place: usize, octet: usize| body
@@ -35,7 +35,7 @@ fn is_well_formed(tlv: &Tlv<'_>) -> bool {
         .is_some_and(|found| usize::from(*found) == octet);
     match tlv.0 {
         4..=6 => body.len() <= 255,
-        // Two octets of available bits, and two of enabled bits, which are all available.
+        // Two octets of available bits, and two of enabled bits, all of which are also available.
         7 => body.len() == 4
             && body
                 .iter()
@@ -49,8 +49,7 @@ fn is_well_formed(tlv: &Tlv<'_>) -> bool {
     }
 }
 
-/// Returns the number of the first check that fails, or 0. `later` has the TLVs of the extent after
-/// the third.
+/// Returns the number of the first fault, or 0. `later` has the TLVs of the extent after the third.
 fn fault(tlvs: &[Tlv<'_>], later: &[Tlv<'_>]) -> u8 {
     let kind = |place: usize| tlvs.get(place).map_or(0, |tlv| tlv.0);
     let long = |place: usize| tlvs.get(place).map_or(0, |tlv| tlv.1.len());
@@ -72,7 +71,7 @@ fn fault(tlvs: &[Tlv<'_>], later: &[Tlv<'_>]) -> u8 {
     rows.iter().find(|row| row.0).map_or(0, |row| row.1)
 }
 
-/// Returns the time to live: the first two octets of the third body.
+/// Returns the time to live: the first two octets of the body of the third TLV.
 fn ttl(tlvs: &[Tlv<'_>]) -> usize {
     let octet = |place: usize| tlvs
         .get(2)
@@ -81,8 +80,8 @@ fn ttl(tlvs: &[Tlv<'_>]) -> usize {
     256 * octet(0) + octet(1)
 }
 
-/// Returns the TLVs that are kept: all that are well formed, except that of types 4 to 7 only the
-/// first well-formed one of each type is kept.
+/// Returns the TLVs that are kept: all that are well formed, but of each type from 4 to 7 only the
+/// first.
 fn kept<'a>(alloc: Global, later: &[Tlv<'a>]) -> Result<Vec<Tlv<'a>>, AllocError> {
     let mut kept = Vec::new(alloc);
     for (place, tlv) in later.iter().enumerate() {

@@ -1,11 +1,11 @@
-//! All that `examine` answers, in one value that can be compared.
+//! All that `examine` returns, as one value that can be compared.
 use crate::row::field;
 use lldp_pdu::{Examined, Info, Msap, examine};
 use std::alloc::{AllocError, Global};
 use std::test::Fail;
 
-/// What a reader reports about an LLDPDU: the number of its fault, or its TTL and MSAP identifier;
-/// and for a TTL above 0 its extent, its kept TLVs, and how many are discarded and unrecognized.
+/// What a reader reports about an LLDPDU: the number of its fault, or its TTL and MSAP identifier.
+/// For a TTL above 0, also its extent, its kept TLVs, and how many are discarded and unrecognized.
 #[derive(Debug, PartialEq, Drop)]
 pub struct Told<'a> {
     pub fault: u8,
@@ -63,7 +63,7 @@ impl<'a> Told<'a> {
         }
     }
 
-    /// Writes the report as the last fields of a row.
+    /// Returns the report as the last fields of a row.
     pub fn fields(&self, alloc: Global) -> Result<String, Fail> {
         if self.fault != 0 {
             return Ok(format!(in alloc; "fault\t{}", self.fault)?);

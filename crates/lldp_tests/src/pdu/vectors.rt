@@ -6,7 +6,7 @@ use std::alloc::Global;
 use std::process::Abort;
 use std::test::Fail;
 
-/// Writes what is read from a System Capabilities body as the last fields of a row.
+/// Reads a System Capabilities body, and returns the result as the last fields of a row.
 fn capabilities(alloc: Global, body: &[u8]) -> Result<String, Fail> {
     let Some(read) = caps(body) else {
         return Ok(String::new(alloc));
@@ -14,7 +14,7 @@ fn capabilities(alloc: Global, body: &[u8]) -> Result<String, Fail> {
     Ok(format!(in alloc; "{}\t{}", read.available, read.enabled)?)
 }
 
-/// Writes what is read from the body of a Management Address as the last fields of a row.
+/// Reads a Management Address body, and returns the result as the last fields of a row.
 fn address(alloc: Global, body: &[u8]) -> Result<String, Fail> {
     let Some(read) = mgmt(body) else {
         return Ok(String::new(alloc));
@@ -24,7 +24,7 @@ fn address(alloc: Global, body: &[u8]) -> Result<String, Fail> {
     Ok(format!(in alloc; "{family}\t{address}\t{numbering}\t{interface}\t{oid}")?)
 }
 
-/// Reads the octets of each row about a whole LLDPDU or a body, and compares what is read.
+/// Reads the octets of each row about a whole LLDPDU or a body, and compares the result.
 #[test]
 fn octets_read(rt: HostRuntime) -> Result<(), Fail> {
     for (kind, count) in [("examine", 44usize), ("caps", 6), ("mgmt", 10)] {
@@ -43,7 +43,7 @@ fn octets_read(rt: HostRuntime) -> Result<(), Fail> {
     Ok(())
 }
 
-/// Adds a TLV of a row, `KIND:BODY:ANSWER`, and compares the answer: 0, or the number of the fault.
+/// Adds the TLV of a field `KIND:BODY:ANSWER`, and compares the answer: 0 or the fault's number.
 fn put(rt: &impl Abort, alloc: Global, builder: &mut Builder, given: &str) -> Result<(), Fail> {
     let mut parts = given.split(':');
     let kind = parts.next().unwrap_or("").parse::<u8>()?;

@@ -1,11 +1,11 @@
-//! A reader and a writer that pass on little at a time and can fail, and a network.
+//! A reader and a writer that handle few octets at a time and can fail, and a network.
 ghost use Rattle.std.specs.Prelude.{◌≤◌};
 
 use std::io::{Error, ErrorKind, Read, Result, Write};
 use std::net::{Net, SocketAddr, TcpListener, TcpStream};
 
-/// A reader that returns its octets in pieces of these sizes, and fails as interrupted at one call,
-/// which counts like any other failure.
+/// A reader that returns its octets in a first piece and later pieces of these sizes. It can fail
+/// at one call, as interrupted, which must count like any other failure.
 #[derive(Drop)]
 pub struct Drip<'a> {
     octets: &'a [u8],
@@ -27,7 +27,7 @@ impl<'a> Drip<'a> {
         }
     }
 
-    /// Returns a reader that returns all at once.
+    /// Returns a reader that returns all its octets in one read.
     pub fn whole(octets: &'a [u8]) -> Self {
         Drip::new(octets, usize::MAX, usize::MAX, None)
     }
@@ -62,7 +62,7 @@ pub enum Burn {
 }
 
 /// A writer that accepts pieces of this size, and fails once: after this many octets, or when it is
-/// flushed. It keeps what is written after that too.
+/// flushed. It also keeps what is written after the failure.
 #[derive(Drop)]
 pub struct Fuse {
     octets: [u8; 4096],
@@ -70,7 +70,7 @@ pub struct Fuse {
     piece: usize,
     burns_at: usize,
     burn: Burn,
-    /// How often it was flushed.
+    /// How often the writer was flushed.
     pub flushes: usize,
     ghost within: { len ≤ 4096 },
 }

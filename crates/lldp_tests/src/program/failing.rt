@@ -6,8 +6,8 @@ use lldp_program::trace::RunFault;
 use std::process::Abort;
 use std::test::Fail;
 
-/// Checks that the tick whose LF was read was done, and the other one was not: one second was
-/// counted, and the next frame is sent 30 seconds after it.
+/// Checks that the tick whose LF was read was done, and the other tick was not: one second was
+/// counted, and the next frame is sent 30 seconds after the first.
 #[test]
 fn reader_that_fails_inside_a_line(rt: HostRuntime) -> Result<(), Fail> {
     let rows: &[(&[u8], Option<usize>, Result<(), RunFault>, &str)] = &[
@@ -62,7 +62,7 @@ lldp.eth0.2.ttl=120
 lldp.eth0.2.expires=111
 ";
 
-/// Four neighbors for a table of two: lines, each with the text that it gives.
+/// Lines about four neighbors for a table of two, each with the text that it writes.
 const FULL_TABLE: &[(&str, &str)] = &[
     (HEARD, ""),
     (HEARD_OTHER, ""),
@@ -75,8 +75,8 @@ const FULL_TABLE: &[(&str, &str)] = &[
     ("show neighbors\n", SHOWN_LATER),
 ];
 
-/// Runs `FULL_TABLE` with a reader that returns an octet at each call and fails at one of them, and
-/// compares what was written until then.
+/// Runs `FULL_TABLE` with a reader that returns one octet at each call and fails at this call, and
+/// compares what was written before.
 fn fails_at_call(
     rt: &(impl Abort + AllocGlobal),
     input: &str,
@@ -112,17 +112,17 @@ fn reader_that_fails(rt: HostRuntime) -> Result<(), Fail> {
     fails_at_call(&rt, input.as_str(), call, output.as_str())
 }
 
-/// Nine lines. The first five and the eighth send a frame each.
+/// Nine lines. Each of the first five and the eighth sends a frame.
 const LINES: [&str; 9] = [
     "tick\n", "update\n", "update\n", "update\n", "update\n", "update\n", "update\n", "tick\n",
     "tick\n",
 ];
 
-/// The frames of these lines, and one of two further updates, since there is credit for one.
+/// The frames of these lines, and one more: two further updates have credit for only one frame.
 const FRAMES: [&str; 7] = [SENT; 7];
 
-/// Runs the lines with a writer that fails after this many octets, then the lines that were not
-/// done and two further ones. The line of a frame has 141 octets with its LF.
+/// Runs the lines with a writer that fails after this many octets. Then runs the lines that were
+/// not done, and two updates. The line of a frame has 141 octets with its LF.
 fn fails_at(rt: &(impl Abort + AllocGlobal), octets: usize, burn: Burn) -> Result<(), Fail> {
     let mut agent = open(rt, rt.alloc(), &sending())?;
     let input = LINES.concat(rt.alloc())?;
@@ -148,14 +148,14 @@ fn fails_at(rt: &(impl Abort + AllocGlobal), octets: usize, burn: Burn) -> Resul
     let mut drip = Drip::whole(input.as_bytes());
     let wanted = (Ok(()), output.as_bytes());
     expect_run(rt, &mut agent, &mut drip, Fuse::endless(), wanted, octets);
-    // The frame that was not written whole counts as sent.
+    // A frame counts as sent even if its line was not written whole.
     let counters = ["lldp.eth0.sent=7", "lldp.eth0.shutdowns=0"];
     expect_counters(rt, &agent, &counters);
     Ok(())
 }
 
-/// Checks that exactly the octets before the fault were written, and that the agent stands for the
-/// events up to the one whose output failed. With room for 846 octets no write fails.
+/// Checks that exactly the octets before the fault were written, and that the agent did the events
+/// up to the one whose output failed. With room for 846 octets no write fails.
 #[test]
 fn writer_that_fails(rt: HostRuntime) -> Result<(), Fail> {
     for octets in 0..=846 {
@@ -165,7 +165,7 @@ fn writer_that_fails(rt: HostRuntime) -> Result<(), Fail> {
     Ok(())
 }
 
-/// Checks that exactly the octets before the fault were written, wherever in a show it comes.
+/// Checks that exactly the octets before the fault are written, at every place in a show.
 #[test]
 fn writer_that_fails_inside_a_show(rt: HostRuntime) -> Result<(), Fail> {
     for octets in 0..OUTPUT.len() {

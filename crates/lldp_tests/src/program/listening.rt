@@ -1,4 +1,4 @@
-//! Tests the program with words that ask to listen.
+//! Tests the program with arguments that ask to listen.
 use super::devices::{Drip, Fuse, Network};
 use super::sockets::{ASK, ASK_IN_VAIN, Client, LEARN, LEAVE, listen, read_all, send_all};
 use super::statuses::expect_status;
@@ -11,7 +11,7 @@ const DONE: (u8, &str) = (0, "");
 
 const SOCKET_FAILED: (u8, &str) = (1, "lldpa: socket failed\n");
 
-/// Runs the program, compares its status and fault, and checks that it does not use its streams.
+/// Runs the program. Checks its status and fault, and that it uses neither reader nor writer.
 fn run(
     rt: &(impl Abort + AllocGlobal),
     net: &impl Net<Listener = TcpListener, Stream = TcpStream>,
@@ -26,8 +26,8 @@ fn run(
     Ok(())
 }
 
-/// Connects clients and sends what they send, runs the program once for each row with its words,
-/// and compares what the clients receive.
+/// Connects clients and sends their lines, runs the program with the arguments of each row, and
+/// compares what the clients receive.
 fn serve_all(
     rt: &(impl Abort + AllocGlobal + Net<Stream = TcpStream, Listener = TcpListener>),
     clients: &[Client<'_>],
@@ -44,7 +44,7 @@ fn serve_all(
     read_all(rt, waiting)
 }
 
-/// Checks the port and the number of connections that the words give.
+/// Checks the port and the number of connections that the arguments ask for.
 #[test]
 fn port_and_connections(rt: HostRuntime) -> Result<(), Fail> {
     let rows: &[(&[&str], Option<(u16, u16)>)] = &[
@@ -64,7 +64,7 @@ fn port_and_connections(rt: HostRuntime) -> Result<(), Fail> {
     Ok(())
 }
 
-/// Checks that as many clients are served as the words ask for, and the next one is not.
+/// Checks that exactly as many clients are served as the arguments ask for.
 #[test]
 fn serves_so_many(rt: HostRuntime) -> Result<(), Fail> {
     let two = "lldpa --listen 4711 --receive-only eth0 --connections 2";
@@ -80,8 +80,8 @@ fn faulty_connection(rt: HostRuntime) -> Result<(), Fail> {
     serve_all(&rt, &[LEAVE, ASK_IN_VAIN], &[(words, SOCKET_FAILED)])
 }
 
-/// Checks the answer if no client comes, if the network has another port, and if the options are
-/// refused, which happens before a port is bound.
+/// Checks the answer if no client comes, and if the network has another port. Checks that options
+/// are refused before a port is bound.
 #[test]
 fn no_client(rt: HostRuntime) -> Result<(), Fail> {
     let rows: &[(&str, (u8, &str))] = &[

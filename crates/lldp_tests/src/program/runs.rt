@@ -20,8 +20,8 @@ pub const SENT: &str =
 pub const HEARD: &str =
     "rx eth0 0180c200000e00112233445588cc02070400112233445504050565746830060200780000\n";
 
-/// A trace with a neighbor that has a TTL of 1, is shown and ages out, with lines that are refused,
-/// and with a last line without LF.
+/// A trace in which a neighbor with a TTL of 1 is shown and ages out, and lines are refused. The
+/// last line has no LF.
 pub const INPUT: &[u8] =
     b"rx eth0 0180c200000e00112233445588cc02070400112233445504050565746830060200010000
 show neighbors
@@ -71,7 +71,7 @@ pub fn expect_counters(rt: &impl Abort, agent: &Agent, wanted: &[&str]) {
     }
 }
 
-/// Runs over these devices, and compares the answer and what was written. A failure prints `place`.
+/// Runs a trace over these devices, and checks the answer and the output. Failures print `place`.
 pub fn expect_run(
     rt: &(impl Abort + AllocGlobal),
     agent: &mut Agent,
@@ -89,7 +89,7 @@ pub fn expect_run(
     assert_eq!(rt; fuse.taken(), wanted.1, "at {place}");
 }
 
-/// Runs the input octet by octet, and in two pieces cut at every place, or in one piece.
+/// Runs the input octet by octet, in two pieces (cut at every place), and in one piece.
 #[test]
 fn any_pieces(rt: HostRuntime) -> Result<(), Fail> {
     for first in 1..=INPUT.len() {
@@ -102,7 +102,7 @@ fn any_pieces(rt: HostRuntime) -> Result<(), Fail> {
     Ok(())
 }
 
-/// Returns the text of an input. Its clauses follow from public contracts alone.
+/// Returns the text of an input. The clauses follow from public contracts alone.
 pub fn text_of_input(
     rt: &(impl Abort + AllocGlobal),
     agent: &mut Agent,

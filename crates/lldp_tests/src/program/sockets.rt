@@ -1,4 +1,4 @@
-//! Tests traces over connections to a listener of this host.
+//! Tests traces that arrive over connections to a listener on this host.
 use super::runs::{HEARD, expect_counters};
 use super::statuses::NONE;
 use crate::engine::{only_receiving, open};
@@ -15,7 +15,7 @@ use std::time::Duration;
 
 const SHOW: &str = "show neighbors\n";
 
-/// What `SHOW` gives if the neighbor of `HEARD` is held.
+/// The answer to `SHOW` if only the neighbor of `HEARD` is held.
 const SHOWN: &str = "lldp.eth0.neighbors=1
 lldp.eth0.octets=20
 lldp.eth0.too-many=no
@@ -32,13 +32,13 @@ pub type Client<'a> = (&'a [&'a str], Option<&'a str>);
 /// A client that sends a neighbor's frame.
 pub const LEARN: Client<'static> = (&[HEARD], Some(""));
 
-/// A client that asks for the neighbors when there is one.
+/// A client that asks for the neighbors, and expects one.
 pub const ASK: Client<'static> = (&[SHOW], Some(SHOWN));
 
-/// A client that asks for the neighbors when there are none.
+/// A client that asks for the neighbors, and expects none.
 pub const ASK_IN_VAIN: Client<'static> = (&[SHOW], Some(NONE));
 
-/// A client that asks for more than it ever reads.
+/// A client that asks 200 times, and leaves without reading.
 pub const LEAVE: Client<'static> = (&[SHOW; 200], None);
 
 /// Returns a listener at a free port. If no client waits there, accepting fails.
@@ -60,7 +60,7 @@ fn connect(
     Ok(client)
 }
 
-/// Connects the clients, and sends what they send. Returns those that wait for an answer.
+/// Connects the clients, and sends their lines. Returns the clients that wait for an answer.
 pub fn send_all<'a>(
     rt: &(impl Abort + AllocGlobal + Net<Stream = TcpStream, Listener = TcpListener>),
     listener: &TcpListener,
@@ -80,7 +80,7 @@ pub fn send_all<'a>(
     Ok(waiting)
 }
 
-/// Compares all that the clients receive with their answers.
+/// Checks that each client receives exactly its answer.
 pub fn read_all(
     rt: &(impl Abort + AllocGlobal),
     waiting: Vec<(TcpStream, &str)>,
@@ -109,8 +109,8 @@ impl Server {
         })
     }
 
-    /// Connects clients and sends what they send, serves as many connections as each call says and
-    /// compares its answer, and compares what the clients receive.
+    /// Connects clients and sends their lines. Calls `serve` for each of these numbers of
+    /// connections, and compares its answers. Then compares what the clients receive.
     fn serves(
         &mut self,
         rt: &(impl Abort + AllocGlobal + Net<Stream = TcpStream, Listener = TcpListener>),
@@ -131,7 +131,7 @@ fn two_connections(rt: HostRuntime) -> Result<(), Fail> {
     Server::open(&rt)?.serves(&rt, &[LEARN, ASK], &[(2, Ok(0))])
 }
 
-/// Checks that no more clients are served than were asked for, even if none were.
+/// Checks that no more clients are served than requested, also if 0 are requested.
 #[test]
 fn no_connections(rt: HostRuntime) -> Result<(), Fail> {
     let mut server = Server::open(&rt)?;
@@ -139,7 +139,7 @@ fn no_connections(rt: HostRuntime) -> Result<(), Fail> {
     server.serves(&rt, &[LEARN, ASK], &[(0, Ok(0)), (1, Ok(0)), (1, Ok(0))])
 }
 
-/// Checks that the next client is served, whatever the one before it did.
+/// Checks that each client is served, whatever the client before it did.
 #[test]
 fn client_that_does_not_read(rt: HostRuntime) -> Result<(), Fail> {
     let nothing: Client<'_> = (&[], Some(""));
@@ -148,8 +148,8 @@ fn client_that_does_not_read(rt: HostRuntime) -> Result<(), Fail> {
     Server::open(&rt)?.serves(&rt, &clients, &[(5, Ok(1))])
 }
 
-/// Checks that a client that leaves without reading an answer may or may not count as a fault, and
-/// that the next one is served.
+/// Checks that the next client is served after a client left without reading its answer. The client
+/// that left may or may not count as a fault.
 #[test]
 fn client_that_leaves(rt: HostRuntime) -> Result<(), Fail> {
     let mut server = Server::open(&rt)?;
@@ -160,7 +160,7 @@ fn client_that_leaves(rt: HostRuntime) -> Result<(), Fail> {
     read_all(&rt, waiting)
 }
 
-/// Checks that the connections before a failed accept still count.
+/// Checks that connections before a failed accept were served.
 #[test]
 fn nobody_to_accept(rt: HostRuntime) -> Result<(), Fail> {
     let mut server = Server::open(&rt)?;
@@ -223,7 +223,7 @@ impl Read for Conversation<'_> {
     }
 }
 
-/// Runs over a conversation, compares the answer, and checks that the agent keeps what it received.
+/// Runs the trace of a conversation. Checks the answer, and that the agent keeps the neighbor.
 fn converse(
     rt: &(impl Abort + AllocGlobal + Net<Stream = TcpStream, Listener = TcpListener>),
     steps: &[(&str, &str)],

@@ -1,4 +1,4 @@
-//! Tests the program with streams that fail, and with words that no shell can pass to it.
+//! Tests the program with streams that fail, and with arguments that no shell can pass to it.
 use super::devices::{Burn, Drip, Fuse, Network};
 use super::runs::{INPUT, OUTPUT};
 use lldp_program::program::run_program;
@@ -20,8 +20,8 @@ const FAR: usize = usize::MAX;
 
 const OFFLINE: Network<'static> = Network { listener: None };
 
-/// Runs the program with words, separated by spaces, and compares its status and the text of
-/// faults, which it writes octet by octet.
+/// Runs the program with these arguments, separated by spaces. Compares its status and what it
+/// wrote to `faults`, which accepts one octet at a time.
 pub fn expect_status(
     rt: &(impl Abort + AllocGlobal),
     net: &impl Net<Listener = TcpListener, Stream = TcpStream>,
@@ -62,7 +62,7 @@ fn streams_that_fail(rt: HostRuntime) -> Result<(), Fail> {
     Ok(())
 }
 
-/// Checks the status if writing help or the version fails, or the flush after it.
+/// Checks the status if help or the version cannot be written, or if the flush after it fails.
 #[test]
 fn help_that_cannot_be_written(rt: HostRuntime) -> Result<(), Fail> {
     let wanted = (1, WRITE_FAILED);
@@ -81,7 +81,7 @@ fn help_that_cannot_be_written(rt: HostRuntime) -> Result<(), Fail> {
     Ok(())
 }
 
-/// The whole message for a word that is not an option.
+/// The whole message for an argument that is not an option.
 const NO_SUCH: &str = "error: unexpected argument '--no-such' found
 
   tip: to pass '--no-such' as a value, use '-- --no-such'
@@ -91,8 +91,8 @@ Usage: lldpa [OPTIONS] PORT...
 For more information, try '--help'.
 ";
 
-/// Checks that an empty list of words is like the program's name alone, that without `--listen` the
-/// number of connections changes nothing, and that nothing is read if the words have a fault.
+/// Checks that an empty list of arguments is like the program's name alone, that `--connections`
+/// changes nothing without `--listen`, and that nothing is read if the arguments have a fault.
 #[test]
 fn words_of_the_program(rt: HostRuntime) -> Result<(), Fail> {
     let without_listen = "lldpa --connections 2 --receive-only eth0";

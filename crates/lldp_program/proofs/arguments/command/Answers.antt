@@ -5,7 +5,7 @@ use Rattle.lldp_program.specs.CommandLine.Usage.{versioned}
 use Rattle.lldp_program.proofs.Words.Parsed.{one_more}
 use Rattle.lldp_program.proofs.arguments.command.Goals as goal
 
--- the rules are equal one by one
+-- each call of `arg` adds the rule of its argument to the command line
 pub returns : goal.returns
 returns c =
     let s0 : app_of c.after_help.result ≡ versioned (new_app (codes "lldpa")) =

@@ -6,7 +6,7 @@ use Rattle.lldp_program.specs.Trace.Runs.{KeepsOn}
 use Rattle.lldp_program.specs.Serving.{AreRun, calls_of, results_of, faults_of}
 use Rattle.lldp_program.proofs.serve.serve_connections.Given as goal
 
--- each connection so far was accepted and run over
+-- each connection so far was accepted, and its trace was run
 abbrev pub invariant-loop-served : goal.invariant-loop-served
 invariant-loop-served g l = record {
   few : l.faulty ≤ l._served;
