@@ -1,13 +1,13 @@
 #!/usr/bin/env python3
-"""Compares lldpa with plain C that does the same work (tools/bench/yardstick.c), all in one run.
+"""Compares lldpa with plain C that does the same work (tools/bench/yardstick.c), in one run.
 
-The programs run each row by turns, several times; the least processor time counts, less that of an empty trace. C by
-vectors, which checks nothing of the TLVs, is the limit. If valgrind is installed, its callgrind counts instructions on
-a shorter trace; their columns begin with #. If tshark and tcpdump are installed, they read the frames of the mix and
-the captures of lldpa-capture too. Needs Python and a C compiler.
+Each row is run several times, the programs in turn; the least processor time counts, less that of
+the trace's beginning. C with vector instructions, which checks no TLV, shows the limit. If valgrind
+is installed, callgrind counts instructions on a shorter trace, in columns that begin with #. If
+tshark and tcpdump are installed, their times are measured too. Needs Python and a C compiler.
 
-The rows are in bench_rows.py, the counting of instructions in bench_counts.py, the readers of captures in
-bench_captures.py, and the picture in bench_picture.py.
+The rows are in bench_rows.py, the counting of instructions in bench_counts.py, the readers of
+captures in bench_captures.py, and the picture in bench_picture.py.
 """
 from __future__ import annotations
 
@@ -32,7 +32,7 @@ HEADS = ["lldpa", "C", "ratio", "vectors"]
 
 
 def resident(words: list[str]) -> int:
-    """Returns the kilobytes of memory that a program touched when it waits for its first line."""
+    """Returns the most kilobytes of memory that a program used before its first line."""
     child = subprocess.Popen(words, stdin=subprocess.PIPE, stdout=subprocess.DEVNULL)
     time.sleep(0.2)
     told = Path(f"/proc/{child.pid}/status").read_text()
@@ -42,7 +42,7 @@ def resident(words: list[str]) -> int:
 
 
 def by_turns(row: Row, room: Path, sides: list[list[str]], times: int) -> list[float]:
-    """Runs programs by turns. Returns the least nanoseconds of each for one thing of the row."""
+    """Runs the programs in turn. Returns each one's least nanoseconds per measured item."""
     whole, begin, things = row.traces(room, row.lines)
     best = [[float("inf"), float("inf")] for _ in sides]
     for _ in range(times):
@@ -53,7 +53,7 @@ def by_turns(row: Row, room: Path, sides: list[list[str]], times: int) -> list[f
 
 
 def start(program: str, room: Path) -> list[str]:
-    """Returns lines on a start of lldpa with one port and with 64 ports of 128 neighbors."""
+    """Returns lines on starting lldpa with one port, and with 64 ports of 128 neighbors."""
     lines = []
     for title, words in (("one port", ["eth0"]), ("64 ports", ["--max-neighbors=128", *PORTS])):
         least = min(spent([program, *words])[0] for _ in range(20))
@@ -63,7 +63,7 @@ def start(program: str, room: Path) -> list[str]:
 
 
 def columns(figures: list[float], unit: str = "") -> str:
-    """Returns the columns of the figures of a row: ours, C's, the ratio, and C's by vectors."""
+    """Returns the columns of a row: lldpa's figure, C's, their ratio, and C's with vectors."""
     shown = [f"{value:.0f}{unit}" for value in figures]
     if len(figures) > 1:
         shown.insert(2, f"{figures[0] / figures[1]:.2f}")
@@ -84,7 +84,7 @@ def compiled(room: Path) -> str:
 
 def table(options: argparse.Namespace, room: Path, saved: dict[str, list[float]],
           count: bool) -> list[dict[str, Any]]:
-    """Returns the rows, printed as they come, each with saved times or measured."""
+    """Measures each row, or uses its saved times, and prints it. Returns all rows."""
     heads = HEADS + [f"# {head}" for head in HEADS] if count else HEADS
     print(" " * 48 + "".join(f"{head:>11}" for head in heads))
     yardstick, told = compiled(room), []
@@ -99,7 +99,7 @@ def table(options: argparse.Namespace, room: Path, saved: dict[str, list[float]]
 
 
 def measure(options: argparse.Namespace, room: Path, told: dict[str, Any]) -> None:
-    """Measures into a table. Of a saved one only the instructions are counted again."""
+    """Fills a table with measurements. In a saved table only the instructions are counted again."""
     is_saved, count = bool(told), bool(shutil.which("valgrind"))
     told.setdefault("machine", machine())
     print(f"machine: {told['machine']}")
@@ -120,12 +120,12 @@ def read_options() -> argparse.Namespace:
     parser = argparse.ArgumentParser(description=(__doc__ or "").splitlines()[0])
     add = parser.add_argument
     add("--program", default=str(TOP / "crates/lldpa/out/lldpa"), help="the built program")
-    add("--times", type=int, default=5, help="runs of each side; the least counts (default: 5)")
+    add("--times", type=int, default=5, help="runs of each program; the least time counts (default: 5)")
     add("--only", default="", help="only rows with this text in their title")
-    add("--save", metavar="FILE", help="keep the table in this file")
-    add("--saved", metavar="FILE", help="measure nothing: take the table that was kept in this file")
+    add("--save", metavar="FILE", help="save the table to this file")
+    add("--saved", metavar="FILE", help="measure nothing; read the table from this file")
     add("--counts", action="store_true", help="with --saved, count the instructions of each row")
-    add("--svg", metavar="FILE", help="draw the table into this file (docs/bench.svg is the one that the pages show)")
+    add("--svg", metavar="FILE", help="draw the table to this file (the pages show docs/bench.svg)")
     return parser.parse_args()
 
 

@@ -1,12 +1,12 @@
 #!/usr/bin/env python3
-"""Counts the instructions of eight rows of the benchmark, and compares them with those of docs/bench.json.
+"""Counts the instructions of eight rows of the benchmark, and compares them with docs/bench.json.
 
     python3 tools/bench/bench_counts.py [--program PROGRAM]
 
-A row fails if it takes over 1 % more than it did, even on a busy machine; over 5 % if the C library is not the one of
-the saved counts. Needs valgrind; without it the status is 3. The last line is `N passed, M failed`. If a row is slower
-on purpose, `tools/bench/bench.py --saved docs/bench.json --counts --save docs/bench.json --svg docs/bench.svg` counts
-it again.
+A row fails if it needs over 1 % more instructions than the saved count, or over 5 % more if the C
+library is another. Without valgrind the status is 3. The last line is `N passed, M failed`. If a
+row has become slower on purpose, save new counts:
+`tools/bench/bench.py --saved docs/bench.json --counts --save docs/bench.json --svg docs/bench.svg`.
 """
 from __future__ import annotations
 
@@ -34,8 +34,8 @@ HELD = ("receive a typical frame, 32 neighbors", "receive the shortest frame, 36
 
 
 def instructions(words: list[str], trace: Path) -> int:
-    """Returns how many instructions a program runs for a trace. The loader's count too, and depend on the environment
-    and the program's path, so neither is the caller's."""
+    """Returns how many instructions a program runs for a trace. This includes the loader's, which
+    depend on the environment and the program's path, so both are fixed here."""
     program = Path(words[0])
     run = [shutil.which("valgrind") or "valgrind", "--tool=callgrind", "--callgrind-out-file=/dev/null"]
     with trace.open("rb") as file:
@@ -43,7 +43,7 @@ def instructions(words: list[str], trace: Path) -> int:
                              stderr=subprocess.PIPE, text=True, check=True, cwd=program.parent, env={})
     found = re.search(r"Collected : (\d+)", ran.stderr)
     if not found:
-        sys.exit(f"valgrind does not tell what {words} took")
+        sys.exit(f"valgrind reports no count for {words}")
     return int(found.group(1))
 
 
@@ -54,13 +54,13 @@ def library() -> str:
 
 
 def counted(row: Row, room: Path, sides: list[list[str]]) -> list[float]:
-    """Returns the instructions of each of some programs for one thing of the row."""
+    """Returns the instructions of each program per measured item of the row."""
     whole, begin, things = row.traces(room, max(1, row.lines // 50))
     return [(instructions(words, whole) - instructions(words, begin)) / things for words in sides]
 
 
 def counted_start(program: str, room: Path) -> int:
-    """Returns the instructions of a start with 64 ports of 128 and an empty trace."""
+    """Returns the instructions of a start with 64 ports of 128 neighbors and an empty trace."""
     empty = room / "empty"
     empty.write_text("")
     return instructions([program, *MANY, *PORTS], empty)
@@ -77,7 +77,7 @@ def main() -> int:
     parser.add_argument("--program", default=str(TOP / "crates/lldpa/out/lldpa"), help="the built program")
     program = parser.parse_args().program
     if not shutil.which("valgrind"):
-        print("skipped: counts of instructions, which need valgrind")
+        print("skipped: instruction counts, which need valgrind")
         return 3
     told = json.loads((TOP / "docs/bench.json").read_text())
     saved = {row["title"]: row["instructions"][0] for row in told["rows"] if row["instructions"]}

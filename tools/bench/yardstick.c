@@ -1,11 +1,11 @@
-/* The yardstick of bench.py, for amd64: the same work in plain C, without a proof and without most checks.
+/* The yardstick of bench.py, for amd64: the same work in plain C, without a proof and most checks.
  *
- *   yardstick read NEIGHBORS < TRACE      reads lines `rx PORT HEX`, decodes the digits by a table, walks the TLVs and
- *                                         refreshes the neighbor of that name among so many; counts ticks
- *   yardstick vectors NEIGHBORS < TRACE   the same, but the digits are read by SSE, nothing of the TLVs is checked,
- *                                         and the first 16 octets of an LLDPDU are taken for its name
+ *   yardstick read NEIGHBORS < TRACE      reads lines `rx PORT HEX`, decodes the digits by a table,
+ *                                         walks the TLVs and refreshes one of NEIGHBORS; counts ticks
+ *   yardstick vectors NEIGHBORS < TRACE   the same with SSE, but without a check of the TLVs; the
+ *                                         first 16 octets of an LLDPDU serve as the neighbor's name
  *   yardstick show LINES < TRACE          writes the lines of that file for each line that begins with `show`
- *   yardstick send FRAME < TRACE          writes 64 lines `tx eth0 HEX` of that frame, digit by digit, for each line
+ *   yardstick send FRAME < TRACE          writes 64 lines `tx eth0 HEX` of that frame for each line
  */
 #include <emmintrin.h>
 #include <stdint.h>
@@ -47,7 +47,7 @@ static int decode(const char *digits, int count, uint8_t *octets)
     return count % 2 || bad & 0xf0 ? -1 : count / 2;
 }
 
-/* Walks the TLVs of an LLDPDU and refreshes its neighbor among so many. */
+/* Walks the TLVs of an LLDPDU, and refreshes its neighbor in a table of at most `limit`. */
 static void take(const uint8_t *pdu, int length, int limit)
 {
     int at = 0, place = 0, chassis = 0, port = 0, ttl = 0;
@@ -85,13 +85,13 @@ static void take(const uint8_t *pdu, int length, int limit)
     table[i].ttl = ttl;
 }
 
-/* Returns lanes of ones for those octets that are at most so much. */
+/* Returns a lane of ones for each octet that is at most `most`, and of zeros for the others. */
 static inline __m128i at_most(__m128i octets, int most)
 {
     return _mm_cmpeq_epi8(_mm_min_epu8(octets, _mm_set1_epi8(most)), octets);
 }
 
-/* Returns eight octets, each in two, of sixteen digits. Clears in `good` the lanes that are not digits. */
+/* Returns the octets of sixteen digits, 16 bits each. Clears in `good` the lanes of non-digits. */
 static inline __m128i octets_of(const char *digits, __m128i *good)
 {
     __m128i all = _mm_loadu_si128((const __m128i *)digits);
@@ -104,7 +104,7 @@ static inline __m128i octets_of(const char *digits, __m128i *good)
     return _mm_and_si128(_mm_or_si128(_mm_slli_epi16(values, 4), _mm_srli_epi16(values, 8)), _mm_set1_epi16(255));
 }
 
-/* Decodes as `decode` does, 32 digits at a time; the last block begins as many before the end. */
+/* Decodes as `decode` does, 32 digits at a time. The last block begins 32 digits before the end. */
 static int decode_by_vectors(const char *digits, int count, uint8_t *octets)
 {
     __m128i good = _mm_set1_epi8(-1);
@@ -125,7 +125,7 @@ static int may_be_same(const uint8_t *a, const uint8_t *b)
     return _mm_movemask_epi8(same) == 0xffff;
 }
 
-/* Refreshes the neighbor of this name among so many, and looks at no TLV. */
+/* Refreshes the neighbor in a table of at most `limit`, without reading its TLVs. */
 static void take_unchecked(const uint8_t *pdu, int length, int limit)
 {
     int i = 0;

@@ -3,16 +3,16 @@
 
     tools/by-hand/flood-log.py [--frames 3000000] [--minutes 10]
 
-One port receives so many frames of 200 neighbors, as long as they may be, as fast as possible; at
-another one five neighbors come, change and age out. The log's files have 2 megabytes each and 20
-together. At ten moments lldpa-live is asked for its tables, and must answer in time; a replay
-of the one file of that moment must give the same tables. The folder must never have more than it
-may, and no frame of the quiet port may be dropped.
+One port receives this many frames of 200 neighbors, all of the greatest length, as fast as
+possible; at another port five neighbors come, change and age out. A file of the log has 2
+megabytes, all files together 20. Ten times lldpa-live is asked for its tables, and must answer in
+time; a replay of the log file of that moment must give the same tables. The folder must never be
+larger than its limit, and no frame of the quiet port may be dropped.
 
-With --minutes one port receives hostile frames for so long, and another one those of five quiet
-neighbors; the interface of a third one comes and goes. Meanwhile settings are reloaded, questions
-asked, addresses changed, and lldpa-live is stopped for a while.
-No frame of the quiet port may be lost, no neighbor be false, and nothing grow.
+With --minutes, one port receives hostile frames for this long, and another the frames of five quiet
+neighbors; the interface of a third port comes and goes. Settings are reloaded, questions asked,
+addresses changed, and lldpa-live is stopped for a while. No frame of the quiet port may be lost, no
+neighbor may be wrong, and memory and descriptors may not grow.
 
 It needs Linux and root. LLDPA names the program. The last line is `N passed, M failed`.
 """
@@ -32,7 +32,7 @@ from wires import Peer, Wires, flood  # noqa: E402
 
 LATE = 1.0
 MOMENTS = 10
-MOST, KEEP = 2, 20  # megabytes of a file of the log, and of all
+MOST, KEEP = 2, 20  # megabytes of a log file, and of all of them
 FRAMES = [numbered(number, 600, tlv(5, b"n%d" % number)).ljust(1514, b"\0")
           for number in range(200)]
 counts = Counts()
@@ -45,7 +45,7 @@ def numbers(live):
 
 
 def take(peer, moments, folder, number, sent):
-    """Lets the quiet port's neighbors send, and takes a moment."""
+    """Lets the quiet neighbors send, and records the tables. Returns how many frames were sent."""
     for place in range(5):
         if place != number % 5:
             peer.send(numbered(place, 30, tlv(5, b"moment %d" % number)))
@@ -76,11 +76,11 @@ def compare(given, wires):
     for name in ("live.eth0.kernel-drops", "live.eth0.limit-drops", "lldp.eth0.received",
                  "lldp.eth1.received"):
         print(f"{name}={told[name]}")
-    counts.that(f"all {sent} frames of the quiet port came in", told["lldp.eth1.received"] == sent)
+    counts.that(f"all {sent} frames of the quiet port were received", told["lldp.eth1.received"] == sent)
     counts.that("no line of the log was lost", told["live.log-lines-lost"] == 0)
     live.close()
     wrong = differing(folder, moments)
-    counts.that(f"{len(moments.answers)} moments replay alone: {wrong}", not wrong)
+    counts.that(f"{len(moments.answers)} moments can be replayed from one file: {wrong}", not wrong)
     print(live.errors(), end="")
 
 

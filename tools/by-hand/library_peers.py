@@ -1,4 +1,4 @@
-"""What other readers say of frames, and the rules of docs/STANDARD.md by which they differ."""
+"""Compares the library's answers with those of other decoders, by the rules of docs/STANDARD.md."""
 from __future__ import annotations
 
 import subprocess
@@ -11,7 +11,7 @@ TEXTS = {4: "pdescr", 5: "name", 6: "descr"}
 
 
 class Frame:
-    """A frame, and how it is made up."""
+    """A frame and its TLVs."""
 
     def __init__(self, octets: bytes):
         self.octets = octets
@@ -28,17 +28,16 @@ class Frame:
             self.told = None
 
     def optional(self, kind: int) -> list[bytes]:
-        """Returns the bodies of the TLVs of a type."""
         return [tlv.body for tlv in self.inside if tlv.kind == kind]
 
     def is_shutdown(self) -> bool:
-        """Returns whether nothing after the TTL matters."""
+        """Returns whether the time to live is 0, so that nothing after it matters."""
         return self.told is not None and self.told.ttl == 0
 
 
 LLDPD, SD_LLDP, BOTH = {"lldpd"}, {"sd-lldp"}, {"lldpd", "sd-lldp"}
 
-# The words of a rule, the peers that differ, and whether a frame is what the rule is about.
+# The text of a rule, the peers that differ from it, and whether a frame is a case of it.
 Reason = tuple[str, set[str], Callable[[Frame], bool]]
 
 # Why the library accepts a frame that a peer refuses.
@@ -72,7 +71,7 @@ REFUSED: list[Reason] = [
 
 
 class Told:
-    """What a peer says of a frame."""
+    """A peer's answer about a frame."""
 
     def __init__(self, line: str):
         words = line.split(" ")
@@ -91,13 +90,13 @@ def verdicts(command: list[str]) -> list[Told]:
 
 
 def plain(body: bytes) -> bool:
-    """Returns whether a text is one that peers show unchanged."""
+    """Returns whether peers show a text unchanged."""
     is_plain = all(0x20 <= octet < 0x7f and octet not in b"\"'\\" for octet in body)
     return is_plain and 0 < len(body) <= 255
 
 
 def fault_of_texts(frame: Frame, told: Told) -> str | None:
-    """Returns what is wrong with a text that a peer shows, if it occurs once and is plain; or None."""
+    """Returns how a text of a peer differs, or None; compares plain texts that occur once."""
     for kind, name in TEXTS.items():
         bodies = frame.optional(kind)
         if len(bodies) == 1 and plain(bodies[0]) and told.fields.get(name) != bodies[0].hex():
@@ -106,7 +105,7 @@ def fault_of_texts(frame: Frame, told: Told) -> str | None:
 
 
 def compared(peer: str, frame: Frame, theirs: Told) -> str:
-    """Returns "the same", the rule by which they differ, or `?` and how they differ."""
+    """Returns "the same", the rule by which the answers differ, or `?` and the difference."""
     ours = frame.told
     if (ours is not None) != theirs.is_accepted:
         rules = [rule for rule, peers, holds in (REFUSED if ours is None else TAKEN)

@@ -1,6 +1,6 @@
-"""The settings of the lldpds whose frames try-details.py and try-lldpctl.py compare."""
+"""The settings of the lldpd senders of try-details.py and try-lldpctl.py."""
 
-# the settings of an lldpd, by the name of what it then sends
+# the commands that configure an lldpd, by the name of its frames
 SENDERS = {
     "lldpd-pse": (
         "configure ports peer0 dot3 power pse supported enabled paircontrol powerpairs spare class class-3 type 2"

@@ -1,10 +1,11 @@
 #!/usr/bin/env python3
-"""Runs a command, and stops everything that it starts now and then, as a busy machine does.
+"""Runs a command, and now and then freezes all its processes, as if the machine were busy.
 
     tools/by-hand/standstill.py COMMAND ..
 
-Every 10 to 20 seconds its processes are frozen for 2 to 8 seconds. `tools/gate/test-python.py` and each other part of
-the gate must pass so too. It needs Linux, root, and control groups of either version. Its status is the command's.
+Every 10 to 20 seconds the processes are frozen for 2 to 8 seconds. The parts of the gate, such as
+`tools/gate/test-python.py`, must pass under this too. It needs Linux, root, and control groups of
+either version. Its status is that of the command.
 """
 import os
 import pathlib
@@ -19,7 +20,7 @@ GROUP = CGROUPS / ("freezer" if IS_OLD else "") / f"standstill-{os.getpid()}"
 
 
 def freeze(is_frozen: bool) -> None:
-    """Freezes the group, or lets it run again."""
+    """Freezes the processes, or lets them run again."""
     if IS_OLD:
         (GROUP / "freezer.state").write_text("FROZEN" if is_frozen else "THAWED")
     else:

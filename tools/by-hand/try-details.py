@@ -1,14 +1,15 @@
 #!/usr/bin/env python3
-"""Compares what is read of organizationally specific TLVs with what lldpcli and tshark show of the same frames.
+"""Compares how lldpa, lldpcli and tshark read organizationally specific TLVs of the same frames.
 
     tools/by-hand/try-details.py [--save FILE] [--octets]
 
-The frames come from real senders (lldpd, ladvd, lldpad; python/tests/judged.json) and from an lldpd that is configured
-for it; others are made, with a TLV of each kind and with each value that has a name. Each is sent over a link to a
-receiving lldpd, whose lldpcli is asked (-f json0), and to tshark. The values that they show and those read here must be
-equal, except what python/tests/judges.py and by_tshark.py list with its reason. --save keeps the frames with the
-answers of both, which python/tests/test_judged.py compares without them. --octets also gives tshark each front of one
-of each kind, and each of its octets changed to each other value. It needs Linux, root, and Debian's packages lldpd,
+The frames come from real senders (lldpd, ladvd, lldpad; python/tests/judged.json) and from an lldpd
+configured for it; others are made, with a TLV of each kind and each value that has a name. Each is
+sent to a receiving lldpd, whose lldpcli is asked (-f json0), and to tshark. Their values and those
+read here must be equal, except those that python/tests/judges.py and by_tshark.py list with a
+reason. --save writes the frames with both answers, which python/tests/test_judged.py compares
+without these programs. --octets also gives tshark the beginnings of one TLV of each kind, and the
+TLV with each octet changed to every other value. It needs Linux, root, and Debian's packages lldpd,
 iproute2 and tshark. The last line is `N passed, M failed`.
 """
 import argparse
@@ -36,7 +37,7 @@ JUDGED = TOP / "python" / "tests" / "judged.json"
 
 
 def sent_by_lldpd(wires):
-    """Returns the frames of an lldpd, by its settings."""
+    """Yields the name and the frame of each configured lldpd."""
     hearing = Peer(wires, "eth0")
     for name, commands in SENDERS.items():
         sender = Lldpd(wires.there, wires.folder, "-M", "4", "-S", "a real peer", "-I", "peer0")
@@ -51,7 +52,7 @@ def sent_by_lldpd(wires):
 
 
 def made():
-    """Makes frames with a TLV of each kind, and with each value that has a name."""
+    """Yields names and bodies of TLVs of each kind, and with each value that has a name."""
     for number, sample in enumerate(SAMPLES):
         (oui, subtype), octets = sample.kind, bytes.fromhex(sample.octets)
         yield f"{oui}.{subtype}-{number}", bytes.fromhex(oui) + bytes([subtype]) + octets
@@ -77,8 +78,8 @@ def made():
 
 
 def with_tlv(body):
-    """Returns a frame with this organizationally specific TLV. One of LLDP-MED follows that of its capabilities,
-    without which lldpd does not look at it."""
+    """Returns a frame with this organizationally specific TLV. If the TLV is of LLDP-MED, the
+    LLDP-MED Capabilities come before it, without which lldpd ignores it."""
     is_of_med = body.startswith(bytes.fromhex("0012bb")) and body[3] > 1
     before = [tlv(127, bytes.fromhex("0012bb01003f03"))] if is_of_med else []
     return frame(b"\x04\x02\0\0\0\0\1", b"\x05p1", 120, tlv(5, b"made"), *before, tlv(127, body))
@@ -114,9 +115,9 @@ def shown_by_lldpcli(frames, wires):
 
 
 def compare_octets(room):
-    """Returns how many fronts and changed octets are read as tshark reads them, and which are not. Skips those that
-    stay in hexadecimal, that have reserved bits, and that have a text with a NUL, which tshark cuts, or without
-    UTF-8."""
+    """Returns how many beginnings and changed TLVs are read as tshark reads them, and which are
+    not. Skips those that stay in hexadecimal, that have reserved bits, or whose text has a NUL
+    (tshark cuts it there) or is not UTF-8."""
     equal, differences = 0, []
     for sample in SAMPLES:
         octets = bytes.fromhex(sample.octets)
@@ -133,7 +134,7 @@ def compare_octets(room):
 
 
 def has_odd_text(tlv):
-    """Returns whether a text in it has a NUL, or is not UTF-8."""
+    """Returns whether a text of the TLV has a NUL, or is not UTF-8."""
     texts = [value for value in vars(tlv).values() if isinstance(value, bytes)] if not hasattr(tlv, "protocol") else []
     texts += [text for _, text in getattr(tlv, "elements", ())]
     return any(b"\0" in text or text != text.decode("utf-8", "replace").encode() for text in texts)

@@ -1,16 +1,17 @@
 #!/usr/bin/env python3
-"""Reads the same frames by the library, by lldpd's decoder and by systemd's sd-lldp, and compares
-what they say and how long they take. The library must say what tools/model/model.py says; if a peer
-says something else, a rule of docs/STANDARD.md must say so.
+"""Compares the library with lldpd's decoder and systemd's sd-lldp: their answers and their times.
+The library must answer as tools/model/model.py does; where a peer differs, a rule of
+docs/STANDARD.md must explain it.
 
-    tools/by-hand/try-library-peers.py --peers FOLDER [--library FOLDER] [--frames FILE ..] [--count N]
+    tools/by-hand/try-library-peers.py --peers FOLDER [--library FOLDER] [--frames FILE ..]
+        [--count N]
 
-The folder of the peers has the programs lldpd_decode and sd_decode, built over the sources of their
-projects: each is given `verdict FILE` and `bench FILE N`, with a frame in hexadecimal on each line
-of the file. The folder of the library is what tools/library/library.sh makes, which runs unless one
-is given. --frames names captures (pcap) and traces, besides those of docs and examples. The N frames,
-300,000 unless given, are those of all these, altered ones, and those of tools/model/fuzz.py. The last
-line is `N passed, M failed`.
+The folder of the peers holds the programs lldpd_decode and sd_decode, built from the sources of
+their projects. Each is run as `verdict FILE` and `bench FILE N`, where the file has a frame in
+hexadecimal on each line. tools/library/library.sh writes the folder of the library, and runs if
+none is given. --frames names captures (pcap) and traces, besides those of docs and examples. The N
+frames (default 300,000) are all of these, altered copies of them, and frames of
+tools/model/fuzz.py. The last line is `N passed, M failed`.
 """
 from __future__ import annotations
 
@@ -48,7 +49,7 @@ def captured_frames(paths: list[pathlib.Path]) -> list[bytes]:
 
 
 def corpus(captured: list[bytes], count: int) -> list[bytes]:
-    """Returns captured frames, then altered ones of them and those of tools/model/fuzz.py in turn."""
+    """Returns the captured frames, then altered copies and frames of tools/model/fuzz.py."""
     dice = fuzz.Dice(1)
     frames = list(captured)
     while len(frames) < count:
@@ -60,7 +61,7 @@ def corpus(captured: list[bytes], count: int) -> list[bytes]:
 
 
 def nanoseconds(command: list[str]) -> float:
-    """Returns the time for a frame, the least of seven rounds."""
+    """Returns the nanoseconds per frame, the least of seven rounds."""
     times = []
     for _ in range(7):
         ran = subprocess.run(command, capture_output=True, text=True, check=True)
@@ -76,7 +77,7 @@ def print_times(programs: dict[str, list[str]], files: dict[str, pathlib.Path]) 
 
 
 def judge(peer: str, frames: list[Frame], told: list[Told], counts: Counts) -> None:
-    """Compares all that a peer said, and prints how it differs."""
+    """Compares all answers of a peer, and prints how they differ."""
     assert len(told) == len(frames), f"{peer} reports other frames"
     answers: collections.Counter[str] = collections.Counter()
     for frame, theirs in zip(frames, told):
@@ -91,7 +92,7 @@ def judge(peer: str, frames: list[Frame], told: list[Told], counts: Counts) -> N
 
 
 def judge_library(program: str, frames: list[Frame], room: pathlib.Path, counts: Counts) -> None:
-    """Compares what the library says of the LLDPDUs of frames with the model."""
+    """Compares the library's answers about the LLDPDUs of the frames with the model's."""
     rows = [row_of(frame.pdu) for frame in frames if frame.is_ours]
     for row, found in zip(rows, written_rows([program], rows, room)):
         counts.that(f"the library has the row {row}", row == found)

@@ -1,14 +1,14 @@
 #!/usr/bin/env python3
-"""Compares what lldpctl prints of lldpa-live with what lldpcli prints of an lldpd beside it, on the same two links.
+"""Compares what lldpctl prints of lldpa-live with what lldpcli prints of lldpd on the same links.
 
     tools/by-hand/try-lldpctl.py
 
-At the far end an lldpd sends what it is configured to: TLVs of IEEE 802.1 and 802.3, LLDP-MED and custom ones. Then
-frames of real senders and made ones (python/tests/judged.json) are sent, and texts with every octet. At the near end
-run `lldpd -r` and lldpa-live, which receive the same. Each command is asked in each of the forms plain, keyvalue, json
-and json0, and each key and each value except the age is compared. A difference is a failure unless docs/LLDPD.md lists
-it. It needs Linux, root, and Debian's packages lldpd and iproute2. The last line
-is `N passed, M failed`.
+At the far end an lldpd sends the TLVs that it is configured for: IEEE 802.1 and 802.3, LLDP-MED and
+custom ones. Then frames of real senders and made ones (python/tests/judged.json) are sent, and
+texts with every octet. At the near end `lldpd -r` and lldpa-live receive the same frames. Each
+command is asked in the forms plain, keyvalue, json and json0, and all keys and values except ages
+are compared. A difference fails unless docs/LLDPD.md lists it. It needs Linux, root, and Debian's
+packages lldpd and iproute2. The last line is `N passed, M failed`.
 """
 import collections
 import contextlib
@@ -42,7 +42,7 @@ COMMANDS = ("show neighbors", "show neighbors details", "show neighbors summary"
             "show chassis", "show chassis summary", "show statistics", "show statistics summary",
             "show statistics ports eth1", "show configuration")
 OF_NEIGHBORS = ("show neighbors details",)
-BATCH = 60  # at two ports, and an lldpd keeps 32 neighbors of one
+BATCH = 60  # at two ports; lldpd keeps at most 32 neighbors of a port
 SIGN = re.compile(r"-(?=\d)|(?<=\d)[NSEW]")
 IDENTIFIER = re.compile(r"(chassis|port)\.(mac|ip|ifname|ifalias|local|unhandled|id|id\.type)|ChassisID|PortID")
 AGE = re.compile(r"Time: \d+ days?, [0-9:]+")
@@ -50,13 +50,13 @@ COORDINATES = [(degrees, resolution) for degrees in (0, 48.8566613, -33.8567844,
                for resolution in (0, 5, 9, 10, 15, 22, 25, 34)]
 PLAIN_HOST = ("configure system description \"two words\"", "configure lldp portidsubtype ifname",
               "configure lldp custom-tlv add oui 33,44,55 subtype 254")
-# what makes the near lldpd say what lldpa-live says
+# settings that make the near lldpd show what lldpa-live shows
 ALIKE = ("configure lldp portidsubtype ifname", "configure system description alike",
          "configure system ip management pattern 192.0.2.1")
 
 
 class Comparison:
-    """Counts what is equal, what is listed, and what is neither."""
+    """Counts equal values, listed differences, and other differences."""
 
     def __init__(self):
         self.counts = Counts()
@@ -70,7 +70,7 @@ class Comparison:
                 self.compare_values(where, name, key, of_theirs.get(key, []), of_ours.get(key, []))
             common = [key for key in dict.fromkeys(key for key, _ in theirs.get(name, [])) if key in of_ours]
             if common != [key for key in of_ours if key in of_theirs]:
-                self.counts.judge("another order of keys", f"{where}: {name}")
+                self.counts.judge("the keys have another order", f"{where}: {name}")
 
     def compare_values(self, where, name, key, theirs, ours):
         if theirs == ours:
@@ -93,7 +93,7 @@ class Comparison:
 
 
 def listed_keys(page):
-    """Returns the shows in the first column of the page's table of differences, each with a key in the second."""
+    """Returns the pairs of show and key in the page's table of differences."""
     table = page.partition(HEADING)[2].partition("\n## ")[0]
     rows = [line.split("|")[1:3] for line in table.splitlines() if line.startswith("|")]
     return [(show, key) for shows, keys in rows for show in re.findall("`([^`]*)`", shows)
@@ -101,7 +101,7 @@ def listed_keys(page):
 
 
 def escaped_alike(values):
-    """Escapes in texts all that is escaped here in one form or another."""
+    """Escapes in texts whatever some form escapes."""
     return [printable(one_line(str(value))) for value in values]
 
 
@@ -113,7 +113,7 @@ def by_key(pairs):
 
 
 def blocks_of(form, octets):
-    """Returns the blocks of an answer in a form: pairs of keys and values, by what they are about."""
+    """Returns the blocks of an answer in this form: keys and values, by the name of the block."""
     if form == "plain":
         return named(plain_blocks(octets.decode("utf-8", "surrogateescape")))
     if form == "keyvalue":
@@ -122,7 +122,7 @@ def blocks_of(form, octets):
 
 
 def named(blocks):
-    """Names blocks by what they are of: a port, and for a neighbor its identifiers."""
+    """Names each block by its port and, if it is of a neighbor, by its identifiers."""
     found = {}
     for port, pairs in blocks:
         of = [one_line(str(value)) for key, value in pairs if IDENTIFIER.fullmatch(key)]
@@ -131,7 +131,7 @@ def named(blocks):
 
 
 def plain_blocks(text):
-    """Reads the form plain: what precedes the colon of a line is its key."""
+    """Reads the form plain. The key of a line is the text before its colon."""
     title, *blocks = AGE.sub("Time", text).split(LINE + "\n")[1:]
     yield "title", [("title", title)]
     for block in filter(None, blocks):
@@ -169,13 +169,13 @@ def json_blocks(told):
 
 
 def unnamed(key, names):
-    """Returns a key without the name of a chassis, which is part of it if the chassis has one."""
+    """Returns a key without the name of the chassis, which it contains if the chassis has one."""
     front = f"chassis.{names[0]}." if names and names != ["id"] else None
     return "chassis." + key[len(front):] if front and key.startswith(front) else key
 
 
 class Lab:
-    """Both ends."""
+    """Both ends of the two links, with the lldpd and the lldpa-live that receive."""
 
     def __init__(self):
         self.last = None
@@ -207,15 +207,15 @@ class Lab:
                 theirs, ours = self.both(form, command)
                 try:
                     of_theirs = blocks_of(form, theirs)
-                except ValueError:  # lldpcli does not escape names that are keys, and one control character
+                except ValueError:  # lldpcli leaves keys and one control character unescaped
                     whole = json.loads(self.lldpd.ask("-f", "json0", *command.split()), strict=False)
                     short = {root: shortened(inner) for root, inner in whole.items()}
                     of_theirs = named(json_blocks(short if form == "json" else whole))
-                    comparison.listed["what lldpcli writes for JSON, and is not"] += 1
+                    comparison.listed["an answer of lldpcli that is not JSON"] += 1
                 comparison.compare(f"{where}: {command} -f {form}", of_theirs, blocks_of(form, ours))
 
     def both(self, form, command):
-        """Returns what both print, while no counters changed."""
+        """Returns what both print, asked again if the counters changed in between."""
         words = ("-f", form, *command.split())
         while True:
             theirs, ours = self.lldpd.ask(*words), self.lldpctl(form, command)
@@ -223,27 +223,27 @@ class Lab:
                 return theirs, ours
 
     def keys(self):
-        """Returns how many neighbors both show."""
+        """Returns how many neighbors each of the two shows."""
         return [blocks.count(b".port.ttl=") for blocks in (self.lldpd.ask("-f", "keyvalue", "show", "neighbors"),
                                                            self.lldpctl("keyvalue", "show neighbors"))]
 
     @contextlib.contextmanager
     def hearing(self, name, commands):
-        """Runs an lldpd at the far end with these commands until it is heard, and then ends it."""
+        """Runs an lldpd with these commands at the far end until both have received its frames."""
         sender = Lldpd(self.wires.there, self.wires.folder, "-M", "4", "-S", "a real peer", "-I", "peer0,peer1")
         try:
             for command in commands:
                 sender.tell(command)
             sender.tell("update")
             if not eventually(self.is_still):
-                raise SystemExit(f"{name} is not heard: {self.keys()}")
+                raise SystemExit(f"{name} was not received by both: {self.keys()}")
             yield
         finally:
             sender.close()
         eventually(lambda: self.keys() == [0, 0])
 
     def is_still(self):
-        """Returns whether both show two neighbors, and the same as a moment ago."""
+        """Returns whether both show two neighbors, and nothing changed since the last call."""
         before, self.last = self.last, (AGE.sub("", self.lldpd.ask("show", "neighbors", "details").decode()),
                                         self.lldpctl("json0", "show statistics"))
         return before == self.last and self.keys() == [2, 2]
@@ -264,7 +264,7 @@ def configured(lab, comparison):
 
 
 def sent(lab, comparison, name, frames):
-    """Compares frames that are sent as they are, some at a time."""
+    """Sends these frames unchanged, some at a time, and compares what is shown."""
     for at in range(0, len(frames), BATCH):
         some = frames[at:at + BATCH]
         for number in range(2):  # one port after the other, so that the order is fixed
@@ -281,7 +281,7 @@ def sent(lab, comparison, name, frames):
 
 
 def judged_frames():
-    """Returns the frames of real senders, and made ones, each from a chassis of its own."""
+    """Yields the frames of real senders and made ones, each with a chassis ID of its own."""
     for number, one in enumerate(json.loads(JUDGED.read_text())):
         octets = bytes.fromhex(one["frame"])
         rest = octets[16 + (int.from_bytes(octets[14:16], "big") & 511):]
@@ -296,7 +296,7 @@ def place_of(degrees, resolution):
 
 
 def odd_frames():
-    """Returns names with each octet, texts with several, and identifiers of each kind."""
+    """Yields frames with each octet in names, unusual texts, and identifiers of each kind."""
     def chassis(number):
         return b"\x04\x02\0\0\x09" + number.to_bytes(2, "big")
     for number in range(1, 256):

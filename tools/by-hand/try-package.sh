@@ -1,12 +1,12 @@
 #!/bin/sh
-# Boots a Debian of its own in a container, and there installs the package, runs each command of the pages that needs
-# root and the service on a link, upgrades and purges it; then no file may be left.
+# Boots a new Debian in a container. There it installs the package, runs each command of the pages
+# that needs root and the service, upgrades and purges the package, and checks that no file is left.
 #     tools/by-hand/try-package.sh [ROOT]
-# ROOT is a folder with a Debian that has python3, systemd-sysv, dbus and iproute2, and is left as it is; unless given,
-# debootstrap makes one, which takes a minute and a network. It needs Linux, root, and Debian's packages
-# systemd-container and, without ROOT, debootstrap. LLDPA and LLDPA_LIVE name the programs, as for
-# tools/release/package.sh. If BEFORE names a package of revision 0, an upgrade from it is tried first. The last line is
-# `N passed, M failed`; if something is missing it says so, and its status is 77.
+# ROOT is a folder with a Debian that has python3, systemd-sysv, dbus and iproute2; it is not
+# changed. Without it debootstrap makes one, which needs a network and a minute. Needs Linux, root,
+# and Debian's packages systemd-container and, without ROOT, debootstrap. LLDPA and LLDPA_LIVE name
+# the programs, as for tools/release/package.sh. If BEFORE names a package of revision 0, upgrades
+# from it first. The last line is `N passed, M failed`. If something is missing, the status is 77.
 set -u
 skip() {
     echo "skipped: $1"
@@ -16,7 +16,7 @@ skip() {
 
 given=${1:+$(realpath -- "$1")}
 tools=$(realpath "$(dirname "$0")/..")
-[ "$(id -u)" -eq 0 ] || skip "this is not root"
+[ "$(id -u)" -eq 0 ] || skip "it needs root"
 command -v systemd-nspawn > /dev/null || skip "there is no systemd-nspawn"
 [ -n "$given" ] || command -v debootstrap > /dev/null || skip "there is no debootstrap"
 room=$(mktemp -d) || exit 2
@@ -33,7 +33,7 @@ mkdir "$root/root/packages"
 [ -z "${BEFORE-}" ] || cp "$BEFORE" "$root/root/packages" || exit 1
 python3 "$tools/gate/examples.py" --as-root > "$root/root/commands" || exit 1
 
-# What runs there, once it has booted: each check is a line, `held` or `FAILED` with what was to hold.
+# The script that runs there after booting. Each check writes `held` or `FAILED`, and its name.
 cat > "$root/root/try.sh" <<'EOF'
 #!/bin/bash
 export DEBIAN_FRONTEND=noninteractive
@@ -48,7 +48,7 @@ listed() {
     find /etc /usr /opt /srv /var/lib /run/lldpa -path /var/lib/dpkg -prune -o -printf '%p %M %u %g %l\n' 2> /dev/null |
         grep -v '^/var/lib/systemd/\(timers\|random-seed\|catalog\)\|^/\(etc\|var/lib\|var/lib/systemd\) ' | sort
 }
-# Runs a command, which may run until it is ended.
+# Runs a command; one that still runs after 15 seconds succeeds too.
 for_a_while() {
     local status
     timeout 15 bash -c "$1" < /dev/null
@@ -67,7 +67,7 @@ reads() { lldpa-capture --show /usr/share/doc/lldpa/docs/lab.pcap | lldpa --rece
 
 notifies() { systemctl show -p Type -p StatusText lldpa | grep -c -x -e Type=notify -e 'StatusText=[0-9no]* neighbors\? on 1 port' | grep -x 2; }
 tells() { journalctl -u lldpa -g 'eth0 came: sender p1'; }
-# Runs acts in the place of a service, with its rights: 0 if each is refused. Further lines are of its [Service].
+# refuses UNIT ACTS [LINE ..]: succeeds if a service, with these further lines, is refused each act.
 refuses() {
     local unit=$1 acts=$2 status
     shift 2
@@ -117,7 +117,7 @@ confined_live() {
         lambda: connect("/run/systemd/journal/socket", socket.SOCK_DGRAM)' Type=oneshot Restart=no WatchdogSec=0
 }
 published() { eventually grep -x "lldpa_up $1" /var/lib/prometheus/node-exporter/lldpa.prom; }
-# Runs a command as a member of the group that may ask, or as nobody.
+# as_member runs a command as a member of the group; as_nobody succeeds if others may not run it.
 as_member() { setpriv --reuid=4711 --regid=4711 --groups="$(getent group asking | cut -d: -f3)" "$@"; }
 as_nobody() { ! setpriv --reuid=4711 --regid=4711 --clear-groups "$@"; }
 # Sends the frame of a neighbor once, with a time to live of an hour.
@@ -144,13 +144,13 @@ ip link add eth0 type veth peer name far && ip link set eth0 up && ip link set f
 neighbor &
 listed > /root/before
 if [ -e lldpa_*-0_*.deb ]; then
-    check "the version before installs" dpkg -i lldpa_*-0_*.deb
+    check "the earlier version installs" dpkg -i lldpa_*-0_*.deb
     sed -i 's/--role station/--role bridge/' /etc/default/lldpa
     echo 'configure system description "of the folder"' > /etc/lldpa.d/a.conf
     systemctl enable --now lldpa
     eventually answers Bridge:on
     say_once
-    check "the version before sees a neighbor" keeps
+    check "the earlier version sees a neighbor" keeps
     ls /var/lib/lldpa/*.trace > /root/logs
     check "an upgrade from it asks nothing" dpkg -i lldpa_*-1_*.deb
     check "it keeps the table" keeps
@@ -159,7 +159,7 @@ if [ -e lldpa_*-0_*.deb ]; then
     check "it keeps the logs" xargs ls < /root/logs
     check "its package is purged" dpkg -P lldpa
     listed > /root/after
-    check "the version before leaves no file" diff /root/before /root/after
+    check "the earlier version leaves no file" diff /root/before /root/after
 fi
 check "it installs" dpkg -i lldpa_*-1_*.deb
 check "it does not run before it is enabled" inactive
@@ -171,13 +171,13 @@ while read -r command; do
     sleep 1
 done < /root/commands
 check "systemd receives its state" notifies
-check "the journal has who came" tells
+check "the journal names the new neighbor" tells
 systemctl start lldpa-metrics
 check "its metrics are written" published 1
-check "what writes them may read, write, signal and connect no more than it needs" confined
+check "the metrics service may read, write, signal and connect no more than it needs" confined
 systemctl stop lldpa
 systemctl start lldpa-metrics
-check "metrics say that it does not answer" published 0
+check "the metrics report that it does not answer" published 0
 rm -r /var/lib/prometheus
 systemctl restart lldpa
 check "the service answers" shows Station:on
@@ -199,24 +199,24 @@ systemctl daemon-reload
 systemctl restart lldpa
 shows Station:on > /root/said 2>&1
 say_once
-check "a neighbor is seen" keeps
-check "a restart is done" systemctl restart lldpa
+check "it sees a neighbor" keeps
+check "it restarts" systemctl restart lldpa
 check "a restart keeps the table" keeps
 sleep 70
 kill -KILL "$(process)"
 check "a crash keeps the table" keeps
 old=$(process)
 kill -STOP "$old"
-check "an lldpa-live that hangs is noticed, and the service starts again" starts_anew
+check "an lldpa-live that hangs is noticed, and the service restarts" starts_anew
 mkdir -p /etc/lldpa.d && echo 'configure system description "of the folder"' > /etc/lldpa.d/a.conf
 check "it reloads" systemctl reload lldpa
 check "its settings are those of the folder" shows 'descr=of the folder'
 rm /etc/lldpa.d/a.conf
-check "the service keeps no right" grep -q '^CapEff:\s*0*$' "/proc/$(process)/status"
+check "the service keeps no capability" grep -q '^CapEff:\s*0*$' "/proc/$(process)/status"
 sed -i 's/^AGENT_OPTIONS=.*/AGENT_OPTIONS="--role bridge"/' /etc/default/lldpa
 old=$(process)
 check "it upgrades" dpkg -i lldpa_*-2_*.deb
-check "the upgrade starts the service anew" is_another
+check "the upgrade restarts the service" is_another
 check "an upgrade keeps the table" keeps
 check "a changed configuration stays" shows Bridge:on
 check "all files are as the package has them" \
@@ -240,7 +240,7 @@ StandardOutput=file:/root/tried
 EOF
 mkdir -p "$root/etc/systemd/system/multi-user.target.wants"
 ln -s ../try.service "$root/etc/systemd/system/multi-user.target.wants/try.service"
-# systemd wants a hierarchy of control groups, whatever this host has.
+# systemd needs its own hierarchy of control groups, whatever this host has.
 unshare --mount --pid --fork --kill-child sh -c 'mount --make-rprivate / && mount -t proc proc /proc &&
     { umount -R -l /sys/fs/cgroup; mount -t cgroup2 none /sys/fs/cgroup; } &&
     exec timeout 500 systemd-nspawn --quiet --register=no --keep-unit --private-network -D "$0" -b' "$root" \

@@ -1,4 +1,4 @@
-"""Everything at once to an lldpa-live, for tools/by-hand/flood-log.py --minutes."""
+"""Disturbs an lldpa-live in many ways at once, for tools/by-hand/flood-log.py --minutes."""
 from __future__ import annotations
 
 import collections
@@ -26,7 +26,7 @@ REFUSED = ("rx eth1 00", "tick", "no such command", "configure lldp tx-hold 0", 
 
 
 def hostile_frames(choice: random.Random) -> list[bytes]:
-    """Returns frames of 60 neighbors, half of them cut, altered or longer than they may be."""
+    """Returns frames of 60 neighbors, many of them cut, altered or too long."""
     frames = []
     for number in range(2000):
         octets = bytearray(numbered(100 + number % 60, 600, tlv(5, b"h%d" % number)))
@@ -41,7 +41,7 @@ def hostile_frames(choice: random.Random) -> list[bytes]:
 
 
 def ids_of(frames: list[bytes]) -> set[str]:
-    """Returns the neighbors that an agent keeps of each of these frames alone."""
+    """Returns the identifiers of the neighbors that an agent stores from each of these frames."""
     found = set()
     with Agent.start(["eth0"], PROGRAM, receive_only=True) as agent:
         for octets in frames:
@@ -68,7 +68,7 @@ class Unrest:
         self.able = ids_of(self.frames)
         self.names = [ids_of([numbered(number)]).pop() for number in range(QUIET)]
         self.sent: list[bytes] = []
-        self.expected: dict[str, str] = {}  # the last word of each quiet neighbor
+        self.expected: dict[str, str] = {}  # the last name of each quiet neighbor
         self.wrong: list[str] = []
         self.done: collections.Counter[str] = collections.Counter()
         self.figures: list[tuple[float, int, int]] = []  # seconds, KiB and descriptors
@@ -77,7 +77,7 @@ class Unrest:
         self.is_there = True  # the interface eth2
 
     def flood(self) -> None:
-        """Sends hostile frames, 1,000 a second, until it is over."""
+        """Sends hostile frames, 1,000 a second, until the run is over."""
         peer = Peer(self.wires, "peer0")
         while not self.is_over.wait(SECONDS_OF_A_TURN):
             for frame in self.choice.sample(self.frames, HOSTILE_A_TURN):
@@ -85,7 +85,7 @@ class Unrest:
         peer.close()
 
     def speak(self) -> None:
-        """Has a quiet neighbor say something new."""
+        """Sends a frame of a quiet neighbor with a new name."""
         number = len(self.sent)
         octets = numbered(number % QUIET, 600, tlv(5, b"word %d" % number))
         self.expected[self.names[number % QUIET]] = f"word {number}"
@@ -93,13 +93,13 @@ class Unrest:
         self.quiet.send(octets)
 
     def look(self) -> None:
-        """Compares the tables with what was sent. A busy kernel may hand a frame over late."""
+        """Checks that the tables show what was sent. A busy kernel may deliver a frame late."""
         if not eventually(self.is_as_sent, SECONDS_OF_A_WORD):
             seconds = time.monotonic() - self.began
             self.wrong.append(f"{seconds:.0f} s: {self.told}, not {self.expected}")
 
     def is_as_sent(self) -> bool:
-        """Returns whether what is shown was sent, and last sent by the quiet neighbors."""
+        """Returns whether the tables show what was sent, and the quiet neighbors' last names."""
         try:
             ports = read_show(self.live.ask("show neighbors")).ports
         except Refused as refused:
@@ -138,14 +138,14 @@ class Unrest:
             self.live.ask(line)
 
     def address(self) -> None:
-        """Gives this host another address, which another agent is to announce."""
+        """Changes the address that this host announces."""
         ip("-n", self.wires.here, "address", "flush", "dev", "eth1")
         if self.choice.random() < 0.7:
             ip("-n", self.wires.here, "address", "add", f"192.0.2.{self.choice.randrange(1, 9)}/24",
                "dev", "eth1")
 
     def come_or_go(self) -> None:
-        """Takes an interface away, or makes it anew and has somebody send there."""
+        """Removes the interface, or adds it again and sends a frame there."""
         (self.go if self.is_there else self.come)()
         where = "present" if self.is_there else "awaited"
         if not eventually(lambda: f"live.eth2.interface={where}" in self.live.ask("live")):
@@ -164,7 +164,7 @@ class Unrest:
         self.is_there = True
 
     def stand_still(self) -> None:
-        """Lets lldpa-live stand still while an interface is replaced."""
+        """Stops lldpa-live for a moment, while an interface is replaced."""
         self.live.signal(signal.SIGSTOP)
         if self.is_there:
             self.go()
@@ -205,7 +205,7 @@ class Unrest:
         return {key: came for key, came in since.items() if key[0] == "eth1"}
 
     def logged(self) -> list[str]:
-        """Returns the quiet port's frames that the log has, without those of the files' heads."""
+        """Returns the quiet port's frames in the log, except those in the heads of its files."""
         lines: list[str] = []
         for path in sorted(self.log.iterdir(), key=lambda one: one.stat().st_mtime_ns):
             text = path.read_text()
@@ -214,7 +214,7 @@ class Unrest:
         return [line for line in lines if line.startswith("rx eth1 ")]
 
     def by_minutes(self, place: int) -> list[int]:
-        """Returns the least figure of each whole minute, or of all if there is none."""
+        """Returns the least figure of each whole minute, or of the whole run if it is shorter."""
         minutes: dict[int, int] = {}
         whole = self.figures[-1][0] // 60 * 60 or 60
         for figure in (one for one in self.figures if one[0] < whole):
@@ -223,18 +223,18 @@ class Unrest:
         return [*minutes.values()]
 
     def judge(self, judge: Callable[[object, str], None]) -> None:
-        """Ends lldpa-live, and judges all."""
+        """Ends lldpa-live, and checks everything."""
         same = self.quiet_since() == self.since
         self.live.signal(signal.SIGTERM)
         judge(self.live.ends() == 0, f"it ended with status {self.live.process.returncode}")
-        judge(not self.wrong, f"all tables were right: {self.wrong[:4]}")
-        judge(same, f"since when the quiet neighbors are there did not change: {self.since}")
+        judge(not self.wrong, f"all tables were as sent: {self.wrong[:4]}")
+        judge(same, f"the quiet neighbors were not lost in between: {self.since}")
         wanted = [f"rx eth1 {octets.hex()}" for octets in self.sent]
         judge(self.logged() == wanted, f"all {len(wanted)} frames of the quiet port are in the log")
         wrong = differing(self.log, self.moments)
-        judge(not wrong, f"{len(self.moments.answers)} moments replay alone: {wrong}")
+        judge(not wrong, f"{len(self.moments.answers)} moments can be replayed from one file: {wrong}")
         for place, what, growth in ((1, "KiB", MOST_GROWTH), (2, "descriptors", 0)):
-            least = self.by_minutes(place)  # a question has a descriptor for a moment
+            least = self.by_minutes(place)  # a question uses a descriptor for a moment
             judge(least[-1] <= least[min(1, len(least) - 1)] + growth,
                   f"lldpa-live: {what}, at most {max(one[place] for one in self.figures)}, "
                   f"the least of each minute: {least}")

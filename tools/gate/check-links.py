@@ -3,14 +3,14 @@
 
     tools/gate/check-links.py [--installed FOLDER]
 
-It looks up links and their anchors; files, calls and options; and lines of sources in blocks that say `rust` or `antt`,
-which must be consecutive lines of one file. On pages about proofs it looks up each clause, definition, lemma and large
-number. Each row of SECURITY.md that says what shows it must name a law or call of the crates, a test of python/tests or
-audit/tests or a script, and these must exist. No page may call lldpa-live "the bridge", and no line of text may be over
-120 columns long.
+It looks up links and their anchors; files, calls and options; and the lines of sources in blocks
+that say `rust` or `antt`, which must be consecutive lines of one file. On pages about proofs it
+looks up each clause, definition, lemma and large number. In SECURITY.md each row that says what
+shows it must name a law or call of the crates, a test of python/tests or audit/tests, or a script.
+No page may call lldpa-live "the bridge", and no line of text may be over 120 columns long.
 
-With --installed it looks up only the links of the pages in that folder, which tools/release/install.sh has filled. The
-last line counts what was looked up.
+With --installed it looks up only the links of the pages in that folder, which
+tools/release/install.sh has filled. The last line counts what was looked up.
 """
 import pathlib
 import re
@@ -33,12 +33,12 @@ SCRIPTS = "\n".join(path.read_text() for path in (TOP / "tools").rglob("*.*") if
 NUMBERS_OF_CODE = set(re.findall(r"\d+", (SOURCE + DEFINITIONS).replace("_", "")))
 NUMBERS_OF_SOURCES = NUMBERS_OF_CODE | set(re.findall(r"\d+", SCRIPTS.replace("_", "")))
 
-# what people run, and the files that name its options
+# the files that name the options of the programs
 OF_OPTIONS = [TOP / "examples" / "help.txt"] + [
     path for folder in ("python", "audit", "bin", "tools", ".ci", "rust/live/src") for path in (TOP / folder).rglob("*")]
 OPTIONS = {option for path in OF_OPTIONS if path.is_file() and path.suffix != ".pyc"
            for option in re.findall(r"--[a-z][a-z-]*[a-z]", path.read_text(errors="replace"))}
-# of the toolchain and of other programs
+# options of the toolchain and of other programs
 OPTIONS |= {"--only", "--anew", "--list-axioms", "--allow-holes", "--fix-imports", "--test", "--minutes", "--line-buffered", "--now", "--since"}
 
 FOLDERS_OF_A_CRATE = ("specs", "proofs", "src", "must-fail")
@@ -49,7 +49,7 @@ def without_code(text):
 
 
 def anchors(page):
-    """Returns the anchors of the headings of a page, as its readers make them."""
+    """Returns the anchors of a page's headings, as GitHub makes them."""
     found = set()
     for heading in re.findall(r"^#+ (.*)$", without_code(page.read_text()), re.M):
         plain = re.sub(r"\[([^]]*)\]\([^)]*\)", r"\1", heading).lower()
@@ -69,13 +69,13 @@ def fault_of_link(page, target):
 
 
 def links(text):
-    """Returns the targets of a page's links, without those to other hosts."""
+    """Returns the targets of a page's links, except those to other hosts."""
     found = re.findall(r"\]\(([^)\s]+)\)", text) + re.findall(r"^\[[^]]+\]: (\S+)$", text, re.M)
     return [target for target in found if not re.match(r"[a-z]+://", target)]
 
 
 def is_there(name):
-    """Returns whether a file has this name, from the top or in a crate, or with an ending."""
+    """Returns whether a file has this name, from the top or in a crate, or with an ending added."""
     folders = [TOP, TOP / "crates"]
     if name.split("/")[0] in FOLDERS_OF_A_CRATE:
         folders += [TOP / "crates" / crate for crate in CRATES]
@@ -84,7 +84,7 @@ def is_there(name):
 
 
 def file_names(text):
-    """Returns the names of files in backticks, if they have no place that the reader fills in."""
+    """Yields the names of files in backticks, except those that the reader has to fill in."""
     tops = {path.name for path in TOP.iterdir()} | set(FOLDERS_OF_A_CRATE) | set(CRATES)
     for name in re.findall(r"`([\w.*/-]+)`", text):
         is_path = "/" in name and name.split("/")[0] in tops and "out" not in name.split("/")
@@ -93,13 +93,13 @@ def file_names(text):
 
 
 def excerpts(text):
-    """Returns the lines of the sources that a page shows, block by block, in blocks that say their language."""
+    """Yields the lines of each block of a page that says its language (rust or antt)."""
     for block in re.findall(r"^```(?:rust|antt)\n(.*?)^```$", text, re.M | re.S):
         yield [line.strip() for line in block.splitlines() if line.strip()]
 
 
 def lines_of_sources():
-    """Returns the lines of each source, without empty ones, and which of them begin something."""
+    """Yields the lines of each source, without empty ones, and which of them can begin an item."""
     for folder in ("src", "specs"):
         for path in TOP.glob(f"crates/*/{folder}/**/*"):
             if path.suffix in (".rt", ".antt"):
@@ -114,7 +114,7 @@ LINES = list(lines_of_sources())
 
 
 def is_shown(lines):
-    """Returns whether these are lines of a source from an item's or a clause's beginning on."""
+    """Returns whether a source has these lines in a row, from the beginning of an item on."""
     shown = "\n".join(lines)
     are_closed = all(shown.count(one) == shown.count(other) for one, other in ("()", "{}", "[]"))
     return are_closed and any(
@@ -124,20 +124,20 @@ def is_shown(lines):
 
 
 def large_numbers(text):
-    """Returns the numbers of four digits and more that are whole words, without years."""
+    """Yields the numbers of four digits and more that are whole words, except years."""
     for number in re.findall(r"(?<![\w.,-])(\d{1,3}(?:,\d{3})+|\d{4,})(?![\w,.-]*\w)", text):
         if number not in ("2009", "2016"):
             yield number.replace(",", "")
 
 
 def faults_of_page(page):
-    """Yields what a page names, each with what is wrong with it, or None."""
+    """Yields what a page names, each with its fault or None."""
     text = without_code(page.read_text())
     for line in text.splitlines():
         if len(line) > 120 and not line.startswith("|"):
             yield line[:50], "a line of more than 120 columns"
     for words in re.findall(r"\b(?:the|another) bridge\b", text, re.I):
-        yield words, "lldpa-live has a name"
+        yield words, "call lldpa-live by its name"
     for target in links(text):
         yield target, fault_of_link(page, target)
     for file in file_names(text):
@@ -157,7 +157,7 @@ def faults_of_page(page):
 
 
 def is_shown_by(name):
-    """Returns whether there is such a script, test (test_file.test_name), law or call."""
+    """Returns whether a script, test (test_file.test_name), law or call has this name."""
     module, _, test = name.partition(".")
     if name.startswith("tools/"):
         return (TOP / name).is_file()
@@ -168,7 +168,7 @@ def is_shown_by(name):
 
 
 def faults_of_security():
-    """Yields the rows of SECURITY.md that must say what shows them, and what they name."""
+    """Yields the rows of SECURITY.md that must say what shows them, and the names there."""
     is_claimed = False
     for line in (TOP / "SECURITY.md").read_text().splitlines():
         if not line.startswith("|"):
@@ -177,7 +177,7 @@ def faults_of_security():
             is_claimed = True
         elif is_claimed and not line.startswith("|---"):
             named = re.findall(r"`([^`]+)`", line.split("|")[-2])
-            yield line[:50], None if named else "names nothing that shows it"
+            yield line[:50], None if named else "it names nothing that shows it"
             for name in named:
                 yield name, None if is_shown_by(name) else "no such law, call, test or script"
 

@@ -1,21 +1,20 @@
 #!/usr/bin/env python3
-"""Checks from the sources alone what types and contracts leave to a reader.
+"""Checks in the sources what types and contracts do not show.
 
-Memory: one type, `Room`, has the storage that is taken at opening. So below the program no other module names a type
-that takes memory, and no other type has a field with an allocator. Only opening calls are given one, by one name, and
-they pass it only to opening calls, each once and for no more than what is to be held. `Global` comes from the runtime,
-and only the modules that read the words of the command line are given it.
+Memory: only `Room` has the storage that is allocated at opening. Below the program no other module
+names a type that allocates memory, and no other type has a field with an allocator. Only opening
+calls receive an allocator. They pass it only to opening calls, each once and for no more than what
+is held. `Global` comes from the runtime, and only modules that read the arguments receive it.
 
-Accesses: `Times` counts each get and set of a stored time. So only `get`, `set` and `look` reach its numbers, and it
-cannot be copied. `look`, which is not counted, is reached from `Table::entries` and `entry`, which no tick calls: only
-the show of neighbors calls the first, and only the tests the second. No type of a table has another field, which could
-store the times again. A proof by hand could say anything of a count, so there are only the two of `Count`, and those of
-the library for C, which move the pointer of a handle.
+Accesses: `Times` counts each get and set of a stored time. So only `get`, `set` and `look` read its
+numbers, and it cannot be copied. `look` is not counted; `Table::entries` and `entry` use it, which
+no tick calls: only the show of neighbors calls the first, and only the tests the second. No type of
+a table has another field, which could store times again. A proof by hand could claim anything of a
+count, so there are only two for `Count`, and those that move the pointer of a C handle.
 
     tools/gate/check-memory.py
 
-Each change in memory_mutants.py breaks a rule: with one of them, some rule must be seen broken.
-The last line is `N passed, M failed`.
+Each change in memory_mutants.py must break a rule. The last line is `N passed, M failed`.
 """
 from __future__ import annotations
 
@@ -37,7 +36,7 @@ TAKES_MEMORY = r"\b(?:Vec|VecDeque|Box|String|Rc|Arc|HashMap|BTreeMap|vec!|forma
 ALLOCATOR = r"\b(\w+): (?:&(?:'\w+ )?)?(?:mut )?(?:A|Global|impl Allocator)\b"
 HOLDS_A_ROOM = r"\b(?:Room<\w+(?:<A>)?, A>|Table<A>|Port<A>)"
 LIBRARY_OPENS = "lldpa_c/src/open.rt"
-# Each call that an allocator is passed to, and the one module that makes it, once.
+# Each call that passes an allocator on, and the one module that makes it, once.
 HANDED_ON = {
     "Room::open(alloc, limit as usize)": "lldp_table/src/table.rt",
     "Table::open(alloc, options.max_neighbors)": "lldp_engine/src/port.rt",
@@ -57,7 +56,7 @@ WALKS = ("count/Count/add/Proof.antt", "count/Count/new/Proof.antt")
 TABLE = "lldp_table/src/"
 ABOVE_THE_TABLE = ("lldp_engine", "lldp_program", "lldpa/")
 LOOKS = r"\.(?:entries|entry)\(|::(?:entries|entry)\b(?!::)"
-# What may be reached how often, in which crates, and from which modules only.
+# How often each of these may occur, in which crates, and in which modules only.
 REACHED = (
     (r"\bself\.each\b", TABLE, {TABLE + "times.rt": 3}),
     (r"\bself\.each\[slot as usize\]", TABLE, {TABLE + "times.rt": 3}),
@@ -74,7 +73,7 @@ REACHED = (
     *((re.escape(call), "", {module: 1}) for call, module in HANDED_ON.items()),
 )
 COUNTING = ("count.rt", "times.rt", "queue.rt")
-# The fields of what a table is made of.
+# The fields of the types that make up a table.
 HOLDS = {"Count": "number", "Times": "each count", "Queue": "slots last times",
          "Slot": "tag ttl length room", "Table": "slots order used queue limit too_many"}
 FIELD = r"(?:^|[{,])\s*(?:pub(?:\(crate\))? )?(?:ghost )?(\w+):"
@@ -85,7 +84,7 @@ def without_comments(text: str) -> str:
 
 
 class Sources:
-    """The sources of all crates, without tests, by their names below `crates`."""
+    """The sources of all crates except the tests, by their names below `crates`."""
 
     def __init__(self) -> None:
         self.texts: dict[str, str] = {}
@@ -101,20 +100,20 @@ class Sources:
         return {name: without_comments(text) for name, text in texts if name.startswith(crates)}
 
     def see(self, is_so: bool, fault: str) -> None:
-        """Counts a rule, and keeps what breaks it."""
+        """Counts a rule, and records the fault if the rule is broken."""
         self.rules += 1
         if not is_so:
             self.broken.append(fault)
 
 
 def counts_of(pattern: str, texts: dict[str, str]) -> dict[str, int]:
-    """Returns how often something is named in each text that names it."""
+    """Returns how often each text has the pattern, if it has it at all."""
     counts = {name: len(re.findall(rf"(?<!fn ){pattern}", text)) for name, text in texts.items()}
     return {name: count for name, count in counts.items() if count > 0}
 
 
 def functions_handed(code: str) -> str:
-    """Returns the functions that are given an allocator, by name. One that does not call it `alloc` is reported too."""
+    """Returns the functions that receive an allocator, with its name if that is not `alloc`."""
     heads = re.findall(r"\bfn (\w+)(?:<[^(]*>)?\(([^{;]*?)\)", code)
     taken = [(name, one) for name, all_taken in heads for one in re.findall(ALLOCATOR, all_taken)]
     return "\n".join(name if one == "alloc" else f"{name} ({one})" for name, one in taken)
@@ -126,27 +125,27 @@ def fields(code: str) -> str:
     return "\n".join(bodies)
 
 
-# What no code has: the crates, what is looked at of their code, what is left out of that, what is
-# sought in the rest, the modules that may have it, and what it does. So only `Room` has a field
-# with an allocator, and other types have rooms.
+# What no code may have: the crates, the part of their code that is searched, what is left out of
+# it, the pattern, the modules that may have it, and the fault. So only `Room` has a field with an
+# allocator, and other types have rooms.
 FORBIDDEN = (
     ((*BELOW_THE_PROGRAM, "lldp_program"), str, None, TAKES_MEMORY, (ROOM,),
-     "names a type that takes memory"),
+     "names a type that allocates memory"),
     (BELOW_THE_PROGRAM, str, None, r"\b(?!A:)\w+: [\w +]*\bAllocator\b", (),
-     "has an allocator of a type that is not A"),
+     "has an allocator whose type is not A"),
     ((*BELOW_THE_PROGRAM, PROGRAM), str,
      "|".join([r"\balloc: (?:A|Global)\b|\bstd::alloc\b", *map(re.escape, HANDED_ON)]),
      r"\balloc(?:ator)?\b", (ROOM,), "passes an allocator elsewhere"),
     (("lldp_", "lldpa/"), str, r"(?ms:^use .*?;)|: Global\b[,)]|<A: Allocator = Global>",
      r"\bGlobal\b", (), "makes a Global of its own"),
     (("lldpa/", "lldp_program"), str, None, r": Global\b|\bHostRuntime\b|\.alloc\(\)",
-     READ_THE_WORDS, "is given an allocator"),
+     READ_THE_WORDS, "receives an allocator"),
     ("lldpa_c/", str,
      r"\bspecs\.Box\b|\bBox<\w+(?:, A)?>|\bBox::(?:new\(alloc, agent\)|into_raw|from_raw)",
-     TAKES_MEMORY, (), "names a type that takes memory"),
+     TAKES_MEMORY, (), "names a type that allocates memory"),
     (BELOW_THE_PROGRAM, fields, HOLDS_A_ROOM, r"\b(?:A|Global)\b", (ROOM,), "has an allocator"),
     (BELOW_THE_PROGRAM, functions_handed, r"(?m:^(?:open|open_ports)$)", r"\w+", (),
-     "gives a call an allocator"),
+     "passes an allocator to a call"),
 )
 
 
@@ -157,8 +156,8 @@ def see_room(sources: Sources) -> None:
     lines = text.count("\n")
     asked = code.count("alloc")
     sources.see(lines <= MOST_LINES_OF_ROOM, f"{ROOM}: {lines} lines")
-    sources.see(asked == 2, f"{ROOM}: names its allocator {asked} times, and not twice")
-    sources.see(ROOM_TAKES in code, f"{ROOM}: takes something else")
+    sources.see(asked == 2, f"{ROOM}: names its allocator {asked} times instead of twice")
+    sources.see(ROOM_TAKES in code, f"{ROOM}: allocates something else")
     is_kept = ROOM_HAS in code and code.count("Vec") == 2
     sources.see(is_kept, f"{ROOM}: does not keep its Vec to itself")
 
@@ -172,20 +171,20 @@ def see_forbidden(sources: Sources) -> None:
 
 
 def see_reached(sources: Sources) -> None:
-    """Checks how often storage and stored times are reached, and that no time can be copied."""
+    """Checks how often storage and stored times are used, and that no time can be copied."""
     for pattern, crates, modules in REACHED:
         found = counts_of(pattern, sources.code(crates))
-        sources.see(found == modules, f"{pattern} is reached from {found}")
+        sources.see(found == modules, f"{pattern} occurs in {found}")
     for module in COUNTING:
         text = without_comments(sources.texts[TABLE + module])
         derived = set(re.findall(r"#\[derive\((.*?)\)\]", text))
         given = set(re.findall(r"^impl(?:<.*?>)? (\w+)(?:<.*?>)? for\b", text, re.M))
         is_so = derived == {"Drop"} and given == {"Model"}
-        sources.see(is_so, f"{module}: has more than Drop and Model: {derived}, {given}")
+        sources.see(is_so, f"{module}: implements more than Drop and Model: {derived}, {given}")
 
 
 def see_stores(sources: Sources) -> None:
-    """Checks that what a table is made of has only these fields: one more could store times that no clause counts."""
+    """Checks that a table has only these fields: others could store uncounted times."""
     code = "\n".join(sources.code(TABLE).values())
     for name, held in HOLDS.items():
         body = re.search(rf"\bstruct {name}\b[^{{;]*\{{(.*?)\n\}}", code, re.S)
@@ -201,15 +200,15 @@ def see_all(sources: Sources) -> None:
 
 
 def see_walks(sources: Sources) -> None:
-    """Checks that only `Count`, and what moves a handle of C's, have proofs written by hand."""
+    """Checks that only `Count` and the C library's handles have proofs written by hand."""
     for path in sorted(CRATES.glob("*/proofs/**/Proof.antt")):
         name = str(path.relative_to(CRATES))
         is_known = name in [f"lldp_table/proofs/{walk}" for walk in WALKS] or name.startswith(HANDLES)
-        sources.see(is_known, f"{name}: by hand")
+        sources.see(is_known, f"{name}: a proof by hand")
 
 
 def is_seen(name: str, change: tuple[str, ...]) -> bool:
-    """Returns whether the sources with the texts of a file replaced break some rule."""
+    """Returns whether these changes of a file break some rule."""
     sources = Sources()
     for old, new in zip(change[::2], change[1::2]):
         if sources.texts[name].count(old) != 1:
@@ -226,7 +225,7 @@ def main() -> int:
     mutants = [(name, change) for name, changes in MUTANTS.items() for change in changes]
     with ProcessPoolExecutor() as pool:
         for (name, change), seen in zip(mutants, pool.map(is_seen, *zip(*mutants))):
-            sources.see(seen, f"{name}, with {change[1]}: not seen, or not there once")
+            sources.see(seen, f"{name}, with {change[1]}: not noticed, or the old text does not occur once")
     for fault in sources.broken:
         print(fault)
     print(f"{sources.rules - len(sources.broken)} passed, {len(sources.broken)} failed")

@@ -1,11 +1,12 @@
 #!/usr/bin/env python3
-"""Checks that the gate tries what tools/named.txt names: each mutant is an edit that the
-prover must refuse, and each worked example, row and vector is a transcript, a test, or a part of
-tools/gate/check.sh. A theorem alone does not count.
+"""Checks that the gate tries what tools/named.txt names.
+
+Each mutant is an edit that the prover must refuse. Each worked example, row and vector is a
+transcript, a test, or a part of tools/gate/check.sh; a theorem alone does not count.
 
     tools/gate/check-named.py
 
-`rt ci` sees that the edits are refused and that the tests pass. The last line is `N passed, M failed`.
+`rt ci` checks that the edits are refused and the tests pass. The last line is `N passed, M failed`.
 """
 from __future__ import annotations
 
@@ -22,7 +23,7 @@ TESTS = TOP / "crates" / "lldp_tests" / "src"
 CHECK = (TOP / "tools" / "gate" / "check.sh").read_text()
 WORDS = (TOP / "tools" / "gate" / "words.sh").read_text()
 KINDS = ("body", "tested", "example")
-# the test that runs the rows of a kind
+# the test that runs the rows of each kind
 TEST_OF_ROWS = {"examine": "pdu::vectors::octets_read", "caps": "pdu::vectors::octets_read",
                 "mgmt": "pdu::vectors::octets_read", "build": "pdu::vectors::built",
                 "machine": "transmit::machine", "open": "engine::opening::openings"}
@@ -35,11 +36,11 @@ def fault_of_transcript(name: str) -> str | None:
 
 def fault_of_counters(name: str) -> str | None:
     rows = (TOP / "examples" / "receive-counters.rows").read_text().splitlines()[1:]
-    return None if name in [row.split()[0] for row in rows] else f"no row of counters is named {name}"
+    return None if name in [row.split()[0] for row in rows] else f"receive-counters.rows has no row {name}"
 
 
 def fault_of_vector(place: str) -> str | None:
-    """Returns what is wrong with a named vector, by its kind and its name, or None."""
+    """Returns what is wrong with a vector, given by kind and name, or None."""
     kind, _, name = place.partition(" ")
     rows = [row.split("\t")[:2] for row in (TOP / "examples" / "vectors.rows").read_text().splitlines()]
     if [kind, name] not in rows:
@@ -64,7 +65,7 @@ def asserts(function: str, passed: frozenset[str] = frozenset()) -> bool:
 
 
 def fault_of_test(place: str) -> str | None:
-    """Returns what is wrong with a named test and its row, if it names one, or None."""
+    """Returns what is wrong with a test, or with the row that is named with it, or None."""
     path, _, row = place.partition(": ")
     *modules, function = path.split("::")
     file = TESTS / "lib.rt"
@@ -81,7 +82,7 @@ def fault_of_test(place: str) -> str | None:
 
 
 def fault_of_shell(command: str) -> str | None:
-    """Returns what is wrong with a named command of tools/gate/words.sh, or None."""
+    """Returns what is wrong with a command of tools/gate/words.sh, or None."""
     lines = [line.strip() for line in WORDS.splitlines()]
     return fault_of_script("tools/gate/words.sh") if command in lines else f"tools/gate/words.sh does not run {command}"
 
@@ -98,7 +99,7 @@ PLACES = {"transcript": fault_of_transcript, "counters": fault_of_counters, "vec
 
 def fault_of_place(place: str) -> str | None:
     kind, _, rest = place.partition(" ")
-    return PLACES[kind](rest) if kind in PLACES else f"{place} is not a place that tries something"
+    return PLACES[kind](rest) if kind in PLACES else f"{place} is not a kind of place"
 
 
 def fault_of_body(text: str) -> str | None:
@@ -115,7 +116,7 @@ def fault_of(kind: str, text: str) -> str | None:
     name, sign, where = text.partition(" = ")
     if not sign or not name:
         return "it does not say where it is tried"
-    # A command for the shell may hold a comma, as a name may.
+    # Commands and names may contain commas: only one before a kind of place separates.
     places = re.split(rf", (?=(?:{'|'.join(PLACES)}) )", where)
     return next(filter(None, map(fault_of_place, places)), None)
 
@@ -125,7 +126,7 @@ def main() -> int:
     counts = Counts()
     for line in lines:
         kind, _, text = line.partition(" ")
-        fault = fault_of(kind, text) if kind in KINDS else "it is of no kind"
+        fault = fault_of(kind, text) if kind in KINDS else "its kind is unknown"
         if fault is None and lines.count(line) > 1:
             fault = "it is named twice"
         counts.judge(fault, line)

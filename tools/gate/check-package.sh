@@ -1,9 +1,10 @@
 #!/bin/sh
-# Builds the Debian package, and compares it with what tools/release/install.sh installs; runs what is in it; and checks
-# that all that is installed is removed again, and that lintian, if it is installed, finds nothing.
+# Builds the Debian package, compares it with what tools/release/install.sh installs, and runs its
+# programs. Checks that uninstalling removes everything, and that lintian, if installed, finds
+# nothing.
 #     tools/gate/check-package.sh [PROGRAM]
-# No root is needed, and nothing is installed on this host. The last line is `N passed, M failed`; without dpkg-deb or
-# lldpa-live (tools/release/live.sh --dynamic) it says so, and its status is 3.
+# It needs no root and installs nothing here. The last line is `N passed, M failed`. Without
+# dpkg-deb or lldpa-live (tools/release/live.sh --dynamic) it says so, and its status is 3.
 set -u
 LLDPA=$(realpath -- "${1:-$(dirname "$0")/../../crates/lldpa/out/lldpa}")
 export LLDPA
@@ -19,19 +20,19 @@ if ! [ -x "$LLDPA_LIVE" ]; then
 fi
 . tools/gate/parts.sh
 
-# Lists the files, folders and links of a tree, each with its mode and where it leads.
+# Lists the files, folders and links of a tree, each with its mode and the target of a link.
 listed() {
     (cd "$1" && find . -mindepth 1 -printf '%P %M %l\n' | LC_ALL=C sort)
 }
 
-# Installs into a tree of its own.
+# Installs into a new tree.
 install_into() {
     tree=$1
     shift
     check "tools/release/install.sh $*" env "DESTDIR=$tree" tools/release/install.sh "$@"
 }
 
-# says PATTERN COMMAND..: a command writes a line of this pattern.
+# says PATTERN COMMAND..: checks that a command writes a line with this pattern.
 says() {
     wanted=$1
     shift
@@ -40,7 +41,7 @@ says() {
     judge $? "$*: $(cat "$room/out")"
 }
 
-# Lists the files that are left in a tree.
+# Succeeds if no file is left in a tree, or else lists them.
 left_in() {
     [ -z "$(find "$1" ! -type d -o -name lldpa.d | tee /dev/stderr)" ]
 }
@@ -50,7 +51,7 @@ judge $? "tools/release/package.sh: $(cat "$room/said")"
 package=$(cat "$room/name")
 check "dpkg-deb -x $package" dpkg-deb -x "$package" "$room/package"
 
-# The package has what is installed under /usr, and these files besides. postinst puts the configuration in its place.
+# The package has what is installed under /usr, and a few files more; postinst writes the settings.
 install_into "$room/usr" --python /usr/lib/python3/dist-packages /usr
 mkdir -p "$room/package/etc/default"
 mv "$room/package/usr/share/lldpa/default" "$room/package/etc/default/lldpa"
@@ -66,13 +67,13 @@ diff -rq "$room/usr" "$room/package" | grep -v 'Only in .*package/usr/share' > "
 [ ! -s "$room/out" ]
 judge $? "files differ: $(cat "$room/out")"
 
-# The same holds for the default prefix, except folders that Debian names otherwise.
+# The default prefix has the same files, except that Debian names some folders differently.
 install_into "$room/local" --python /usr/local/lib/python3/dist-packages
 (cd "$room/local" && find . ! -type d) | sed 's,/usr/local/,/usr/,; s,/site-functions/,/vendor-completions/,' | sort > "$room/of-local"
 (cd "$room/usr" && find . ! -type d) | sort > "$room/of-usr"
 check "the prefix /usr/local has other files than /usr" diff "$room/of-local" "$room/of-usr"
 
-# All that is installed is removed again, except a configuration that was changed.
+# Uninstalling removes all that was installed, except a configuration that was changed.
 for prefix in /usr /usr/local /opt/lldpa; do
     install_into "$room/gone" --python /opt/python "$prefix"
     install_into "$room/gone" --uninstall --python /opt/python "$prefix"
@@ -85,7 +86,7 @@ install_into "$room/kept" --uninstall /usr
 check "tools/release/install.sh does not keep a configuration that was changed" \
     grep -qx 'PORTS="swp1"' "$room/kept/etc/default/lldpa"
 
-# Each program has its page and its completions, and runs from the package. lldpctl is not among those on the path.
+# Each program has its page and its completions, and runs from the package. lldpctl is elsewhere.
 version=$(dpkg-deb -f "$package" Version)
 for path in "$room"/package/usr/bin/* "$room/package/usr/lib/lldpa/bin/lldpctl"; do
     name=${path##*/}
@@ -104,14 +105,14 @@ check "the package has no py.typed" [ -f "$room/package/usr/lib/lldpa/python/lld
 path=$room/package/usr/lib/python3/dist-packages
 says "^$path/lldpa/__init__.py$" env --chdir / "PYTHONPATH=$path" /usr/bin/python3 -c 'import lldpa; print(lldpa.__file__)'
 says "^lldpa-audit " env --chdir / "PYTHONPATH=$path" /usr/bin/python3 -m lldpa_audit --version
-# The pages are those for operators, and each of their links leads to something that is installed.
+# The package has the pages for operators, and each of their links leads to an installed file.
 pages=$(cd "$room/package/usr/share/doc/lldpa" && find . -name '*.md' | LC_ALL=C sort | xargs)
 [ "$pages" = "./README.md ./SECURITY.md ./audit/README.md ./docs/CAPTURES.md ./docs/LLDPD.md ./docs/OPERATORS.md \
 ./docs/PROGRAMS.md" ]
 judge $? "the package has the pages $pages"
 check "links of installed pages" python3 tools/gate/check-links.py --installed "$room/package/usr/share/doc/lldpa"
 ! dpkg-deb --info "$package" conffiles | grep /etc/default/lldpa
-judge $? "/etc/default/lldpa is a configuration file of the package, about which an upgrade could ask"
+judge $? "/etc/default/lldpa is a conffile of the package, so an upgrade could ask about it"
 check "/etc/default/lldpa has options that belong in the unit" grep -qx 'LIVE_OPTIONS=""' "$room/package/etc/default/lldpa"
 units=$room/package/usr/lib/systemd/system
 check "lldpa.service does not run lldpa-live" grep -q \
@@ -120,7 +121,7 @@ check "lldpa-metrics.service does not run lldpa-ctl" \
     grep -q '^ExecStart=/usr/bin/lldpa-ctl metrics ' "$units/lldpa-metrics.service"
 check "there is no timer for metrics, or no rules for Prometheus" \
     ls "$units/lldpa-metrics.timer" "$room/package/usr/share/lldpa/lldpa.rules.yml"
-# The service reads the settings of its folder, which exists; another prefix has another folder.
+# The service reads the settings of its folder, which exists. Another prefix has its own folder.
 install_into "$room/opt" --python /opt/python /opt/lldpa
 check "there is no folder of settings" \
     ls -d "$room/package/etc/lldpa.d" "$room/local/etc/lldpa.d" "$room/opt/opt/lldpa/etc/lldpa.d"
@@ -130,7 +131,7 @@ check "the service below /opt/lldpa does not read /opt/lldpa/etc/lldpa.d" grep -
     '^ExecStart=/opt/lldpa/bin/lldpa-live .* --config /opt/lldpa/etc/lldpa.conf --config /opt/lldpa/etc/lldpa.d ' \
     "$room/opt/opt/lldpa/lib/systemd/system/lldpa.service"
 
-# The packages of the library have what tools/release/install.sh --library installs, and pkg-config finds it there.
+# The packages of the library have what install.sh --library installs, and pkg-config finds it.
 library_packages() {
     LLDPA_LIB_DIR=$room/built
     export LLDPA_LIB_DIR
@@ -154,11 +155,11 @@ library_packages() {
         told_by_pkg_config liblldpa.so.1
         told_by_pkg_config -l:liblldpa.a
     else
-        echo "skipped: a program that is built as pkg-config says, since there is no pkg-config or no cc"
+        echo "skipped: a program that is built with pkg-config, since there is no pkg-config or no cc"
     fi
 }
 
-# lldpa1 has the shared object and no other file but its papers. It has its name, and exports what the header declares.
+# lldpa1 has the shared object and the usual papers. The object exports what the header declares.
 shared_object() {
     files=$(cd "$room/shared" && find . -type f -printf '%f\n' | LC_ALL=C sort | tr '\n' ' ')
     [ "$files" = "changelog.Debian.gz copyright liblldpa.so.1 lldpa1 " ]
@@ -170,10 +171,10 @@ shared_object() {
     sed -n 's/^[a-z0-9_]* \(lldpa_[a-z_]*\)(.*/\1/p' crates/lldpa_c/include/lldpa.h | sort > "$room/declared"
     check "the shared object exports other names than lldpa.h declares" diff "$room/declared" "$room/exported"
     [ "$(dpkg-deb -f "$made" Package)" = lldpa1 ] && dpkg-deb --info "$made" shlibs | grep -q '^liblldpa 1 lldpa1 '
-    judge $? "lldpa1 does not say which package a program depends on"
+    judge $? "lldpa1 or its shlibs file does not have the name of the package"
 }
 
-# examples/c/who.c, built as pkg-config says, runs: with the shared object, or with the archive.
+# Builds examples/c/who.c as pkg-config says, with the shared object or the archive, and runs it.
 told_by_pkg_config() {
     told=$(dirname "$(find "$room/developed" -name lldpa.pc)")
     flags=$(PKG_CONFIG_LIBDIR=$told PKG_CONFIG_SYSROOT_DIR=$room/developed pkg-config --cflags --libs lldpa)

@@ -1,10 +1,10 @@
 #!/bin/sh
-# The parts of the gate.
+# Runs the parts of the gate.
 #     tools/gate/check.sh [--cheap | --built | --gate] [PROGRAM]
-# --cheap runs what needs no program, in a minute and a half; --built what tries PROGRAM, the one that the gate leaves
-# unless given; without an option both run. --gate proves and tests every crate between them (rt ci), and stops if what
-# is cheap fails. It needs sh, bash, python3 and a C compiler; what is skipped, since something is not installed, is said
-# and not counted. The last lines say where the time went, and the very last `N passed, M failed`.
+# --cheap runs the parts that need no program (90 seconds), --built those that try PROGRAM (default:
+# the gate's), no option both. --gate also proves and tests all crates (rt ci), and stops if a cheap
+# part fails. Needs sh, bash, python3 and a C compiler; parts without their tools are reported, and
+# not counted. The last lines are the seconds of each part, and `N passed, M failed`.
 set -u
 cd "$(dirname "$0")/../.." || exit 2
 . tools/gate/parts.sh
@@ -17,10 +17,10 @@ cheap() {
     part "generated files" python3 tools/write/check.py
     part "numbers of docs/TESTING.md" python3 tools/write/numbers.py --check
     part "links of the pages" python3 tools/gate/check-links.py
-    part "what is tried by name" python3 tools/gate/check-named.py
+    part "names of tools/named.txt" python3 tools/gate/check-named.py
     part "manual pages and units" tools/gate/manuals-and-units.sh
     part "completions" python3 tools/gate/completions.py
-    part "memory and accesses, by the sources" python3 tools/gate/check-memory.py
+    part "memory and accesses, in the sources" python3 tools/gate/check-memory.py
     part "types of the Python packages" tools/gate/types.sh
 }
 
@@ -34,7 +34,7 @@ built() {
     part "arguments and streams" tools/gate/words.sh "$program"
     part "tests of the Python package" python3 tools/gate/test-python.py "$program"
     part "audit of eight ports" python3 audit/tools/check.py --program "$program"
-    # The first of these proves the library, the second finds that proof.
+    # The first of these proves the library; the second uses that proof.
     part "arm64, by qemu" tools/gate/kept.py arm64 python3 tools/library/check-arm64.py
     part "the library" tools/gate/kept.py library python3 tools/library/check-library.py
     part "the package" tools/gate/check-package.sh "$program"
@@ -60,7 +60,7 @@ case $stage in
             part "proofs, mutants and tests (rt ci)" rt ci
             built
         else
-            echo "nothing is proved or built, since what is cheap fails"
+            echo "nothing is proved or built, since a cheap part failed"
         fi ;;
     *) sed -n 's/^# \{0,1\}//; 3,7p' "$0" >&2 && exit 2 ;;
 esac

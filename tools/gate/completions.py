@@ -1,11 +1,11 @@
 #!/usr/bin/env python3
-"""Completes words of each program in bash, and compares them with what its --help says; checks that
-zsh reads its file, and that it offers the same commands.
+"""Compares the completions of each program with what its --help says.
 
     tools/gate/completions.py
 
-The help of lldpa is examples/help.txt, with which another part of the gate compares the program's.
-What is not installed is skipped. The last line is `N passed, M failed`.
+bash completes words; zsh must be able to read its file, which must offer the same commands. The
+help of lldpa is examples/help.txt, which another part of the gate compares with the program's. What
+is not installed is skipped. The last line is `N passed, M failed`.
 """
 from __future__ import annotations
 
@@ -24,7 +24,7 @@ LIVE = TOP / "rust" / "live" / "out" / "lldpa-live"
 LIBRARY = Path("/usr/share/bash-completion/bash_completion")
 PROGRAMS = ("lldpa", "lldpa-live", "lldpa-ctl", "lldpctl", "lldpa-audit", "lldpa-capture")
 COMMANDS = {"lldpa-ctl": r"^  ([a-z]+) ", "lldpctl": r"^  (show|watch|configure|update)\b"}
-# Completes a word after a program's name.
+# Completes the first word after a program's name.
 COMPLETE = f"""
 . {LIBRARY}
 . {IN_BASH}
@@ -47,7 +47,7 @@ def help_of(program: str) -> str:
 
 
 def offered(program: str, begun: str) -> set[str]:
-    """Returns what bash offers for a word after the name of a program."""
+    """Returns what bash offers for the first word after the name of a program."""
     return set(written("bash", "-c", COMPLETE, "bash", program, begun).split())
 
 
@@ -67,7 +67,7 @@ def main() -> int:
         for program in COMMANDS:
             counts.that(f"the commands of {program} in bash", offered(program, "") == commands[program] | links)
     else:
-        print(f"skipped: completions for bash, since there is no {LIBRARY}")
+        print(f"skipped: completions for bash, since {LIBRARY} is missing")
     for program in COMMANDS:
         found = re.search(rf"^    1{program}\) commands=\((.*)\)", IN_ZSH.read_text(), re.M)
         counts.that(f"the commands of {program} in zsh", found and set(found[1].split()) == commands[program])

@@ -1,23 +1,23 @@
-"""What the checking scripts share: a count of what held, whose last line the gate adds up."""
+"""Counts the checks of a script; the gate adds up the last lines of its scripts."""
 from __future__ import annotations
 
 
 class Counts:
-    """Counts how many checks held, and how many did not, which are reported."""
+    """Counts the checks that held and those that failed, and reports the failed ones."""
 
     def __init__(self) -> None:
         self.passed = self.failed = 0
 
     def judge(self, fault: object, what: object) -> None:
-        """Counts a check whose fault is None, or reports its fault."""
+        """Counts a check as passed if there is no fault; otherwise counts and reports the fault."""
         self.passed += fault is None
         self.failed += fault is not None
         if fault is not None:
             print(f"FAILED: {what}: {fault}", flush=True)
 
     def that(self, what: object, holds: object) -> None:
-        """Counts a check that holds, or reports it."""
-        self.judge(None if holds else "it does not hold", what)
+        """Counts a check as passed if it holds; otherwise counts and reports it."""
+        self.judge(None if holds else "this does not hold", what)
 
     def end(self) -> int:
         """Prints the last line, and returns the status: 1 if a check failed or none was made."""

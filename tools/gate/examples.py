@@ -4,22 +4,22 @@
     python3 tools/gate/examples.py PROGRAM [NAME ...]
     python3 tools/gate/examples.py --as-root
 
-The transcripts are in examples/, whose README says what their files are. A filter has texts of small letters and
-hyphens, and some line that is shown has each. Each transcript is run four ways: its first lines, one more each time;
-without its last LF, which changes nothing; octet by octet; and in two pieces, cut at every place (except inputs of more
-than 10,000 octets). A piece is written when the program has read the one before it. Each run must end with status 0 and
-write nothing on standard error. receive-counters.rows has transcripts and the values of some counters of eth0, which
-`show statistics` after their lines must show.
+The transcripts are in examples/, whose README describes the files. The texts of a filter have small
+letters and hyphens, and each occurs in a shown line. Each transcript is run in four ways: its first
+lines, one more each time; without its last LF, which changes nothing; octet by octet; and in two
+pieces, cut at every place (inputs of up to 10,000 octets). A piece is written when the program has
+read the one before. Each run must end with status 0 and write nothing on standard error.
+receive-counters.rows has counters of eth0, which `show statistics` must show after a transcript.
 
-The examples of the pages and of the manual page are blocks whose first line begins with `$ `. Each such line is a
-command; if it ends with <<'EOF' or <<EOF, its input follows up to the line EOF. Below is what it writes, up to the next
-command. The command `echo $?` shows a status other than 0. Nothing may come on standard error. The number of a port
-behind --listen stands for a free one. A block that takes too long has failed, and all that it started is ended. A block
-whose commands begin with sudo is left to tools/by-hand/try-package.sh, for which --as-root lists these commands; a
-block with commands of both kinds has failed.
+Examples of the pages and the manual page are blocks whose first line begins with `$ `. Each such
+line is a command; after <<'EOF' or <<EOF its input follows up to the line EOF. Its output is below,
+up to the next command. `echo $?` shows a status other than 0. Standard error must be empty. A free
+port replaces the number after --listen. A block that takes too long fails, and all that it started
+is ended. tools/by-hand/try-package.sh runs the blocks whose commands begin with sudo; --as-root
+lists these commands. A block with commands of both kinds fails.
 
-If names are given, only those transcripts and their rows are run. The last line counts each way of each transcript, each row
-and each block.
+If names are given, only those transcripts and their rows are run. The last line counts the ways of
+each transcript, the rows and the blocks.
 """
 import array
 import concurrent.futures
@@ -44,11 +44,11 @@ TOP = pathlib.Path(__file__).resolve().parents[2]
 # the beginning of a command that needs root
 AS_ROOT = "$ sudo "
 
-# some counters after the lines of transcripts
+# the rows of counters, and the command that shows counters
 ROWS = TOP / "examples" / "receive-counters.rows"
 SHOW = b"show statistics\n"
 
-# for how long one run may take
+# how many seconds a run may take
 SECONDS = 60
 
 # the longest input that is cut at every place
@@ -56,14 +56,14 @@ LONGEST_CUT = 10000
 
 
 def unread(pipe):
-    """Returns how many octets of a pipe were not read yet."""
+    """Returns how many octets of a pipe have not been read yet."""
     octets = array.array("i", [0])
     fcntl.ioctl(pipe, termios.FIONREAD, octets)
     return octets[0]
 
 
 def feed(ran, pieces):
-    """Writes each piece to a program when it has read the one before it, and then closes its input."""
+    """Writes each piece to a program after it has read the one before, then closes its input."""
     pipe = ran.stdin.fileno()
     end = time.monotonic() + SECONDS
     for piece in pieces:
@@ -74,14 +74,14 @@ def feed(ran, pieces):
 
 
 def difference(written, wanted):
-    """Returns where two texts differ first, in words."""
+    """Returns in words where two texts first differ."""
     got, want = written.splitlines(), wanted.splitlines()
     place = next((at for at in range(len(got) + 1) if got[at:at + 1] != want[at:at + 1]), len(got))
-    return f"line {place + 1} of its output is {got[place:place + 1]}, and not {want[place:place + 1]}"
+    return f"line {place + 1} of its output is {got[place:place + 1]}, not {want[place:place + 1]}"
 
 
 def words_and_filter(args):
-    """Returns the words and the texts of the filter, or None if the filter cannot be read."""
+    """Returns the arguments, and the texts of the filter or None if it cannot be read."""
     words = args.splitlines()
     if not words or not words[-1].startswith("|"):
         return words, []
@@ -90,13 +90,13 @@ def words_and_filter(args):
 
 
 def lines_with(written, texts):
-    """Returns the lines that have one of some texts, or all lines if there are no texts."""
+    """Returns the lines that contain one of the texts, or all lines if there are no texts."""
     lines = written.splitlines(keepends=True)
     return b"".join(line for line in lines if not texts or any(text.encode() in line for text in texts))
 
 
 def fault_of_run(program, words, texts, run):
-    """Returns what is wrong if the program is fed an input in pieces and must show some lines, or None."""
+    """Runs the program on an input in pieces. Returns what is wrong with its output, or None."""
     pieces, wanted = run
     with tempfile.TemporaryFile() as out, tempfile.TemporaryFile() as said:
         ran = subprocess.Popen([program, *words], stdin=subprocess.PIPE, stdout=out, stderr=said)
@@ -112,12 +112,12 @@ def fault_of_run(program, words, texts, run):
         said.seek(0)
         written, told = lines_with(out.read(), texts), said.read()
     if status != 0 or told:
-        return f"it ended with status {status}, and said {told[:300]!r}"
+        return f"it ended with status {status} and wrote {told[:300]!r} on standard error"
     return None if written == wanted else difference(written, wanted)
 
 
 def steps_of(trace, shown):
-    """Returns each line of an input with what it writes, or a text that says where the two files differ."""
+    """Returns each line of an input with its output, or says where the two files differ."""
     lines = trace.removesuffix(b"\n").split(b"\n") if trace else []
     steps = []
     for line in shown.splitlines(keepends=True):
@@ -134,7 +134,7 @@ def steps_of(trace, shown):
 
 
 def ways(trace, steps):
-    """Returns the name of each way to feed an input, and its runs: pieces and the output."""
+    """Yields the name of each way to feed an input, and its runs: pieces and output."""
     fronts, texts = [b""], [b""]
     for line, written in steps:
         fronts.append(trace[:len(fronts[-1]) + len(line) + 1])
@@ -153,11 +153,11 @@ def fault_of_filter(texts, steps):
     if texts is None:
         return "its filter is not of the form | grep TEXT or | grep -e TEXT -e TEXT"
     lines = b"".join(line for _, written in steps for line in written)
-    return next((f"no line that is shown has {text}" for text in texts if text.encode() not in lines), None)
+    return next((f"no shown line contains {text}" for text in texts if text.encode() not in lines), None)
 
 
 def transcripts(only):
-    """Returns the name, words, texts of the filter and input of each transcript, and its lines with what they show."""
+    """Yields each transcript: its name, arguments, filter, input, and lines with their output."""
     for args in sorted((TOP / "examples").glob("*.args")):
         if not only or args.stem in only:
             words, texts = words_and_filter(args.read_text())
@@ -168,7 +168,7 @@ def transcripts(only):
 
 
 def run_transcripts(program, only):
-    """Runs each transcript in each way. Yields the name of each, and what is wrong, or None."""
+    """Runs each transcript in each way. Yields the name of each, and its fault or None."""
     with concurrent.futures.ProcessPoolExecutor() as pool:
         for name, words, texts, trace, steps in transcripts(only):
             if isinstance(steps, str):
@@ -181,7 +181,7 @@ def run_transcripts(program, only):
 
 
 def rows(only):
-    """Returns each row's name, its counters, and its transcript or what is wrong."""
+    """Yields the name and the counters of each row, and its transcript or a fault."""
     counters, *table = [line.split() for line in ROWS.read_text().splitlines()]
     shown = {one[0]: one for one in transcripts([])}
     for name, *values in table:
@@ -196,7 +196,7 @@ def rows(only):
 
 
 def run_rows(program, only):
-    """Runs the transcript of each row with its show. Yields the name of each row, and what is wrong, or None."""
+    """Runs each row's transcript and its show. Yields the name of each row, and its fault."""
     for name, values, found in rows(only):
         fault = found
         if not isinstance(found, str):
@@ -207,7 +207,7 @@ def run_rows(program, only):
 
 
 def blocks():
-    """Returns the name and the lines of each block of the pages and of the manual page."""
+    """Yields the name and the lines of each block of the pages and of the manual page."""
     for path in [path for folder in (".", "docs", "examples") for path in sorted((TOP / folder).glob("*.md"))]:
         for place, block in enumerate(re.findall(r"^```\w*\n(.*?)^```$", path.read_text(), re.M | re.S), 1):
             yield f"{path.relative_to(TOP)}, block {place}", block.splitlines()
@@ -221,7 +221,7 @@ def commands(lines):
 
 
 def script_and_output(lines):
-    """Returns the commands of a block with their input, and what they write."""
+    """Returns the commands of a block with their input, and their output."""
     script, wanted, is_input = [], [], False
     for line in lines:
         if is_input:
@@ -236,7 +236,7 @@ def script_and_output(lines):
 
 
 def with_free_ports(text, script):
-    """Returns the text with each port at which the script listens replaced by a free one."""
+    """Returns the text with a free port in place of each port on which the script listens."""
     for number in sorted(set(re.findall(r"--listen[ =](\d+)", script))):
         text = re.sub(rf"\b{number}\b", free_port(number), text)
     return text
@@ -244,7 +244,7 @@ def with_free_ports(text, script):
 
 @functools.lru_cache(None)
 def free_port(number):
-    """Returns a port of this host at which nobody listens, the same one for the same number of the pages."""
+    """Returns a free port of this host, the same one for the same number."""
     with socket.socket() as one:
         one.bind(("127.0.0.1", 0))
         return str(one.getsockname()[1])
@@ -288,7 +288,7 @@ def run_blocks(program):
                 if as_root == {False}:
                     yield f"{name} ({lines[0]})", fault_of_block(lines, folder)
                 elif as_root != {True}:
-                    yield f"{name} ({lines[0]})", "some of its commands begin with sudo, and others do not"
+                    yield f"{name} ({lines[0]})", "only some of its commands begin with sudo"
 
 
 def main():

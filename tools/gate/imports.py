@@ -1,13 +1,12 @@
 #!/usr/bin/env python3
-"""Computes which part of the Python packages imports which, and fails at a cycle or at an import
-that goes the wrong way.
+"""Checks which parts of the Python packages import which, and fails if they form a cycle.
 
     tools/gate/imports.py
 
-The parts of a folder are its files and its folders. If a file below one part imports from below
-another, the first part imports the second, wherever the import is in the file. The parts of
-each folder must have an order in which each imports only earlier ones. Besides, lldpa imports
-nothing of lldpa_audit. The last line is `N passed, M failed`, counted by folder and by rule.
+The parts of a folder are its files and its folders. If a file of one part imports from another
+part, the first part imports the second, wherever the import is in the file. The parts of each
+folder must have an order in which each imports only earlier ones. Also, lldpa imports nothing of
+lldpa_audit. The last line is `N passed, M failed`, counted by folder and by rule.
 """
 from __future__ import annotations
 
@@ -22,19 +21,19 @@ from counts import Counts
 
 TOP = Path(__file__).resolve().parents[2]
 NEVER = ("lldpa", "lldpa_audit")
-# The files of the packages by their names in parts, a package's own file as its `__init__`.
+# The files of the packages by the parts of their names; a package's own file is its `__init__`.
 MODULES = {path.relative_to(package.parents[1]).with_suffix("").parts: path
            for package in TOP.glob("*/lldpa*/__init__.py") for path in package.parent.rglob("*.py")}
 
 
 def module_of(name: tuple[str, ...]) -> tuple[str, ...] | None:
-    """Returns the module of this name, or the one that has what is named, or None."""
+    """Returns the module of this name, or the module that defines the name, or None."""
     known = (name, (*name, "__init__"), name[:-1], (*name[:-1], "__init__"))
     return next((module for module in known if module in MODULES), None)
 
 
 def imported_by(module: tuple[str, ...]) -> Iterator[tuple[str, ...]]:
-    """Yields the names that a module imports, in full."""
+    """Yields the full names that a module imports."""
     for node in ast.walk(ast.parse(MODULES[module].read_text())):
         if isinstance(node, ast.Import):
             yield from (tuple(alias.name.split(".")) for alias in node.names)

@@ -1,11 +1,11 @@
 #!/usr/bin/env python3
-"""Keeps the count of a part of the gate as long as nothing that it reads has changed.
+"""Runs a part of the gate, unless nothing that it reads has changed since it last passed here.
 
     tools/gate/kept.py NAME COMMAND ..
 
-Runs the command, unless the files of READ and the versions of the compilers are those with which it last passed here.
-If something was skipped, the count is not kept. The states are in out/passed, which git ignores, so a clean clone runs
-everything. The last line is `N passed, M failed`.
+If the files of READ and the versions of the compilers are the same as then, it repeats the count.
+If something was skipped, the count is not kept. The states are in out/passed, which git ignores, so
+a clean clone runs everything. The last line is `N passed, M failed`.
 """
 from __future__ import annotations
 
@@ -33,7 +33,7 @@ def written_by(command: Iterable[str]) -> str:
 
 
 def state_of(names: Iterable[str], words: str = "") -> str:
-    """Returns a digest of files, of those in folders, and of some words. What git ignores is left out."""
+    """Returns a digest of these words and files, without the files that git ignores."""
     listed = written_by(["git", "ls-files", "-coz", "--exclude-standard", "--", *names]).split("\0")
     digest = hashlib.sha256(words.encode())
     for name in sorted(set(listed)):
@@ -43,7 +43,7 @@ def state_of(names: Iterable[str], words: str = "") -> str:
 
 
 def run(command: list[str]) -> tuple[int, list[str]]:
-    """Runs a command. Returns its status and its lines, each of which is printed as it comes."""
+    """Runs a command and prints its lines as they come. Returns its status and the lines."""
     lines = []
     with subprocess.Popen(command, stdout=subprocess.PIPE, stderr=subprocess.STDOUT, text=True) as ran:
         assert ran.stdout is not None
@@ -58,7 +58,7 @@ def main() -> int:
     state, note = state_of(READ, "".join(map(written_by, COMPILERS))), KEPT / name
     kept, passed = note.read_text().split() if note.exists() else ("", "0")
     if kept == state:
-        print(f"kept: nothing that it reads has changed since it passed here\n{passed} passed, 0 failed")
+        print(f"kept: no file that it reads has changed since it last passed here\n{passed} passed, 0 failed")
         return 0
     status, lines = run(command)
     last = re.fullmatch(r"(\d+) passed, 0 failed\n", lines[-1]) if lines else None

@@ -1,11 +1,11 @@
 #!/bin/sh
-# Checks that the manual pages are well formed, that the services have few rights, and that their settings are in the
-# file of defaults. The last line is `N passed, M failed`.
+# Checks that the manual pages are well formed, that the services have few rights, and that their
+# settings are in the file of defaults. The last line is `N passed, M failed`.
 set -u
 cd "$(dirname "$0")/../.." || exit 2
 . tools/gate/parts.sh
 if needs mandoc; then
-    for page in man/*.[1-8] audit/*.1 crates/lldpa_c/include/*.3; do # which pages are installed beside them does not matter
+    for page in man/*.[1-8] audit/*.1 crates/lldpa_c/include/*.3; do # a page may name pages that are not installed
         mandoc -T lint "$page" 2>&1 | grep -v "referenced manual not found\|mandoc.db" > "$room/out"
         [ ! -s "$room/out" ]
         judge $? "mandoc -T lint: $(cat "$room/out")"

@@ -1,8 +1,8 @@
-"""Changes of the sources that tools/gate/check-memory.py must see, each of which breaks a rule."""
+"""Changes of sources that tools/gate/check-memory.py must notice, since each breaks a rule."""
 from __future__ import annotations
 
-# for each file its changes: an old text, which it contains once, and the new one, in which @ is the old one; a change
-# may have further such pairs
+# the changes of each file: an old text, which occurs once, and the new text, where @ stands for the
+# old one; a change may have several such pairs
 MUTANTS = {
     "lldp_engine/src/agent.rt": (
         ("pub fn find_port(",

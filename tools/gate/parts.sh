@@ -1,5 +1,5 @@
-# What the scripts of the gate count with; they read this file from the top of the repository. `room` is a folder that
-# is removed when they end.
+# Functions with which the scripts of the gate count. They are read from the top of the repository.
+# `room` is a folder that is removed at the end.
 room=$(mktemp -d) || exit 2
 trap 'rm -rf "$room"' EXIT
 passed=0
@@ -8,7 +8,7 @@ kept=0
 export PYTHONDONTWRITEBYTECODE=1
 : > "$room/seconds"
 
-# judge STATUS WHAT: counts a check that held (0), or one that did not, which is reported.
+# judge STATUS WHAT: counts a check that held (status 0), or counts and reports one that did not.
 judge() {
     if [ "$1" -eq 0 ]; then
         passed=$((passed + 1))
@@ -18,7 +18,7 @@ judge() {
     fi
 }
 
-# check WHAT COMMAND..: runs a command, and counts whether it succeeds. If not, what it said is reported.
+# check WHAT COMMAND..: runs a command, and counts whether it succeeds. If not, reports its output.
 check() {
     check_what=$1
     shift
@@ -26,15 +26,15 @@ check() {
     judge $? "$check_what: $(tail -n 20 "$room/out")"
 }
 
-# needs COMMAND: succeeds if that command is installed; if not, it says what is skipped.
+# needs COMMAND: succeeds if the command is installed; otherwise reports it as skipped.
 needs() {
     command -v "$1" > /dev/null && return
     echo "skipped: $1, which is not installed"
     false
 }
 
-# part NAME COMMAND..: runs a script whose last line is `N passed, M failed`, adds up its counts, and notes the seconds.
-# A script that ends with status 3 skipped what it is for, and says why.
+# part NAME COMMAND..: runs a script, adds the counts of its last line `N passed, M failed`, and
+# notes its seconds. A script that skips its task ends with status 3 and says why.
 part() {
     part_name=$1
     shift
@@ -51,7 +51,7 @@ part() {
     if [ "$part_status" -eq 3 ]; then
         return
     elif [ -z "$counted" ]; then
-        judge 1 "$part_name: the script ended with status $part_status and without a count"
+        judge 1 "$part_name: the script ended with status $part_status and printed no count"
     elif [ "$part_status" -ne 0 ] && [ "$uncounted" -eq 0 ]; then
         judge 1 "$part_name: the script counts no failure, but ended with status $part_status"
     else
@@ -61,7 +61,7 @@ part() {
     fi
 }
 
-# Says where the time went, and the counts, in the last line.
+# Prints the seconds of the parts, and the counts in the last line.
 finish() {
     if [ -s "$room/seconds" ]; then
         echo "== seconds of each part"

@@ -1,15 +1,15 @@
 #!/bin/sh
-# Refuses memory to the built program and checks that it says so: status 2, `lldpa: no memory` on its standard
-# error and nothing on standard output. Each request for memory of a run is refused once with all later ones,
-# and once alone:
-#  - with all later ones, the run always ends so;
-#  - alone, the run may also survive it, and then writes its right output with status 0: std asks for all the
-#    room that an iterator hints at and, if it does not get that, for less. That is not a fault.
-# The runs are the stored run of the program, and one that opens 64 ports of 128 neighbors. Then each transcript of
-# examples/ is run: a run asks for memory as often as one of the same words over an empty input, so nothing after
-# the opening does; and if each request after those of the opening is refused, it writes the same.
-# It takes the program (the gate's unless given), and needs a C compiler for refuse.c, which it preloads. Its
-# last line counts the runs; the status is 3 if it had to be skipped.
+# Refuses memory to the built program, and checks that it reports this: status 2, `lldpa: no memory`
+# on standard error, and nothing on standard output. Each request for memory of a run is refused
+# once with all later ones, and once alone:
+#  - with all later ones, the run always ends like this;
+#  - alone, the run may also survive, and must then write its right output with status 0: std asks
+#    for all the room that an iterator hints at and, if refused, for less. That is not a fault.
+# The runs are the stored run of the program, and one that opens 64 ports of 128 neighbors. Then
+# each transcript of examples/ is run. It must request memory as often as a run with the same
+# arguments and empty input, and write the same if all requests after opening are refused. It needs
+# a C compiler for refuse.c, which it preloads, and takes the program (by default the gate's). The
+# last line counts the runs; if it is skipped, the status is 3.
 set -u
 cd "$(dirname "$0")/../.." || exit 2
 program=$(realpath -- "${1:-crates/lldpa/out/lldpa}") && [ -x "$program" ] || { echo "no program"; exit 2; }
@@ -18,7 +18,7 @@ command -v cc > /dev/null || { echo "skipped: refused memory, which needs a C co
 cc -O1 -shared -fPIC -o "$room/refuse.so" tools/gate/refuse.c || exit 2
 survived=0
 
-# Runs the program on $room/in with the words given, memory refused as the environment says.
+# Runs the program on $room/in with these arguments; the environment says which memory is refused.
 run() {
     LD_PRELOAD=$room/refuse.so "$program" "$@" < "$room/in" > "$room/out" 2> "$room/err"
     status=$?
@@ -32,19 +32,19 @@ survives() {
     [ "$status" -eq 0 ] && [ ! -s "$room/err" ] && cmp -s "$room/out" "$room/want"
 }
 
-# judge_run STATUS WHAT: counts a run that was well (0), else reports what it did.
+# judge_run STATUS WHAT: counts a run that was right (status 0), or reports what it did.
 judge_run() {
     judge "$1" "$2: status $status, wrote $(head -c 200 "$room/out"), said $(head -c 200 "$room/err")"
 }
 
-# Refuses each request of the run on the words given, which wants what $room/want has.
+# Refuses each request of a run with these arguments, which should write what $room/want has.
 refuse_each() {
     TELL_TO=$room/requests run "$@"
     survives
-    judge_run $? "ample memory"
+    judge_run $? "no request refused"
     requests=$(cat "$room/requests" 2> /dev/null || echo 0)
     [ "$requests" -gt 0 ]
-    judge_run $? "no request was seen: is the program linked to the C library?"
+    judge_run $? "no request was counted: is the program linked to the C library?"
     for number in $(seq "$requests"); do
         REFUSE_AT=$number REFUSE_LATER=1 run "$@"
         says_no_memory
@@ -54,7 +54,7 @@ refuse_each() {
         says_no_memory || survives
         judge_run $? "request $number refused"
     done
-    echo "$requests requests for memory refused, of which $survived were survived alone"
+    echo "$requests requests for memory refused, and the program survived $survived of them alone"
     survived=0
 }
 
@@ -73,7 +73,7 @@ printf 'local-chassis.%s\n' mac=00:00:5e:00:53:01 name=sw1 descr=lldpa caps=Brid
     > "$room/want"
 refuse_each "$@"
 
-# Counts the requests of a run of the words given.
+# Prints how often a run with these arguments requests memory.
 requests_of_run() {
     TELL_TO=$room/requests run "$@"
     cat "$room/requests"
@@ -93,7 +93,7 @@ for args in examples/*.args; do
     cp "$room/out" "$room/want"
     REFUSE_AT=$((opening + 1)) REFUSE_LATER=1 run "$@"
     survives
-    judge_run $? "$args: each request behind the $opening of the opening refused"
+    judge_run $? "$args: each request after the $opening of the opening refused"
 done
 
 finish

@@ -1,12 +1,12 @@
-/* Refuses a program memory: a library to be preloaded, for tools/gate/refuse-memory.sh.
+/* A library that refuses memory to a program that preloads it, for tools/gate/refuse-memory.sh.
  *
- * It counts the program's requests for memory. REFUSE_AT=N refuses request N; with REFUSE_LATER set, all
- * later ones too. With TELL_TO=FILE the number of requests is written to FILE at the end. */
+ * It counts the program's requests for memory. REFUSE_AT=N refuses request N and, if REFUSE_LATER is
+ * set, all later ones. TELL_TO=FILE writes the number of requests to FILE at the end. */
 #include <errno.h>
 #include <stdio.h>
 #include <stdlib.h>
 
-/* The C library's own functions, by the names under which they stay in reach. */
+/* The C library's own functions, by names that this library does not replace. */
 extern void *__libc_malloc(size_t size);
 extern void *__libc_calloc(size_t count, size_t size);
 extern void *__libc_realloc(void *old, size_t size);

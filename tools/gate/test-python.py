@@ -1,11 +1,10 @@
 #!/usr/bin/env python3
-"""Runs the tests of python/tests, as `python3 -m unittest discover python/tests` does, and those of
-audit/tests, and counts them. Two modules run for each processor, since most of their time is waiting.
+"""Runs the tests of python/tests and audit/tests, as `python3 -m unittest discover` does.
 
     python3 tools/gate/test-python.py [PROGRAM]
 
-PROGRAM is the lldpa that they run. What is skipped is reported with its reason, and not counted. The
-last line is `N passed, M failed`.
+PROGRAM is the lldpa that they run. Two modules run for each processor, since the tests mostly wait.
+Skipped tests are reported, and not counted. The last line is `N passed, M failed`.
 """
 import concurrent.futures
 import io
@@ -18,16 +17,16 @@ from typing import NamedTuple
 
 TOP = pathlib.Path(__file__).resolve().parents[2]
 TESTS = [TOP / "python" / "tests", TOP / "audit" / "tests"]
-# These run longest. If one of them began last, the gate would wait for it.
+# These take longest, so they begin first: otherwise the gate would wait for them.
 LONGEST = ("test_service", "test_state", "test_control_paths", "test_addresses", "test_log_files", "test_relay",
            "test_patterns", "test_control", "test_live_ends", "test_bad_files", "test_live_log", "test_packaging",
            "test_settings", "test_ctl_live", "test_audit_command", "test_identity", "test_ask")
-# a test that wants an answer within a tenth of a second has the processors for itself
+# tests that need an answer within a tenth of a second run alone
 ALONE = ("test_live_flood",)
 
 
 class Ran(NamedTuple):
-    """What became of a module's tests, and what they wrote."""
+    """The results of a module's tests, and what they wrote."""
     tests: int
     skipped: int
     failed: int
@@ -35,8 +34,8 @@ class Ran(NamedTuple):
 
 
 def prepare():
-    """Lets a process import the tests. A shell lets what it runs in the background ignore SIGINT,
-    and so would the programs that are tested."""
+    """Lets a process import the tests. Background jobs of a shell ignore SIGINT, and so would the
+    programs that are tested, so the default is restored."""
     sys.dont_write_bytecode = True
     signal.signal(signal.SIGINT, signal.default_int_handler)
     sys.path[:0] = [*map(str, TESTS), str(TOP / "audit")]
@@ -54,7 +53,7 @@ def run_module(name):
 
 
 def run_all(names):
-    """Runs the modules, in a process each, and reports each when it has ended."""
+    """Runs each module in a process of its own, and yields the results in order."""
     beside = [name for name in names if name not in ALONE]
     workers = 2 * len(os.sched_getaffinity(0))
     for workers, some in ((workers, beside), (1, [name for name in names if name in ALONE])):

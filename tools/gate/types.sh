@@ -1,5 +1,5 @@
 #!/bin/sh
-# Checks by mypy that the Python packages have the types that they say. The last line is `N passed, M failed`.
+# Checks the types of the Python packages with mypy. The last line is `N passed, M failed`.
 set -u
 cd "$(dirname "$0")/../.." || exit 2
 . tools/gate/parts.sh

@@ -1,5 +1,5 @@
 #!/bin/sh
-# Gives the program arguments and streams, right ones and wrong ones, and compares its status and what it writes.
+# Runs the program with right and wrong arguments and streams, and checks its status and its output.
 #     tools/gate/words.sh PROGRAM
 # The last line is `N passed, M failed`.
 set -u
@@ -11,9 +11,9 @@ ln -s "$program" "$room/bin/lldpa"
 frame=0180c200000e02000000000188cc020704020000000001040505657468300602007908046574683
 frame=${frame}00a096c6f63616c686f73740c056c6c6470610e04008000800000
 
-# ends STATUS SAID COMMAND [WRITTEN]: a command for the shell, run with empty input in a folder of its own,
-# ends with that status, says that line on standard error (none if it is empty, a text of that pattern if it
-# begins with `*`) and writes those lines (none unless given; patterns as before).
+# ends STATUS SAID COMMAND [WRITTEN]: runs a command in a folder with empty input. Checks that it
+# ends with this status, writes the line SAID on standard error (none if empty) and the lines
+# WRITTEN on standard output (none unless given). If a text begins with `*`, it is a pattern.
 ends() {
     (cd "$room" && PATH="$room/bin:$PATH" sh -c "$3") < /dev/null > "$room/out" 2> "$room/err"
     status=$?
@@ -24,7 +24,7 @@ ends() {
     judge "$is_so" "$3: status $status, said $(head -c 200 "$room/err"), wrote $(head -c 200 "$room/out")"
 }
 
-# Succeeds if a file has those lines: none if they are empty, and a text of that pattern if they begin with `*`.
+# Succeeds if a file has these lines (none if empty), or matches a pattern that begins with `*`.
 holds() {
     case $1 in
         "") [ ! -s "$2" ] ;;
@@ -33,7 +33,7 @@ holds() {
     esac
 }
 
-# Tries the rows of arguments that are refused, each as in the specification.
+# Tries the arguments that the specification says are refused.
 echo "== words: refused arguments"
 ends 2 "lldpa: no ports" 'lldpa'
 ends 2 "lldpa: same port twice" 'lldpa eth0 eth0'
@@ -174,7 +174,7 @@ else
     echo "skipped: a full device, since there is no /dev/full"
 fi
 
-# Compares the answers to input that is not text with the model's.
+# Compares the answers to input that is not text with those of the model.
 echo "== binary input"
 python3 -c 'import random, sys
 sys.stdout.buffer.write(random.Random(1).randbytes(2000000))' > "$room/random"

@@ -1,13 +1,14 @@
-# Reads the words `[--arch amd64|arm64] [FOLDER]`, for tools/library/library.sh and tools/release/build.sh. Sets `arch` and
-# `folder` to what is given, `target` to what the toolchain calls the architecture, and `tools` to what the names of the
-# compiler and of binutils begin with, if it is not this machine's. The script that reads this file has a function `fail`.
+# Reads the arguments `[--arch amd64|arm64] [FOLDER]` of tools/library/library.sh and
+# tools/release/build.sh. Sets `arch` and `folder` to them, `target` to the toolchain's name of the
+# architecture, and `tools` to the prefix of the compiler and binutils, if it is not this machine's.
+# A script that reads this file has a function `fail`.
 here=$(uname -m | sed 's/x86_64/amd64/; s/aarch64/arm64/')
 arch=$here
 folder=
 while [ $# -gt 0 ]; do
     case $1 in
         --arch) arch=$2 && shift ;;
-        -*) fail "there is no option $1" ;;
+        -*) fail "unknown option $1" ;;
         *) folder=$1 ;;
     esac
     shift
@@ -15,7 +16,7 @@ done
 case $arch in
     amd64) triple=x86_64-linux-gnu target='x86_64-unknown-linux-gnu --cpu=x86-64' ;;
     arm64) triple=aarch64-linux-gnu target=aarch64-unknown-linux-gnu ;;
-    *) fail "nothing can be built for $arch" ;;
+    *) fail "unknown architecture $arch" ;;
 esac
 tools=
 [ "$arch" = "$here" ] || tools=$triple-

@@ -1,11 +1,11 @@
 #!/usr/bin/env python3
-"""Builds the program and the library for arm64, and runs them by qemu: all transcripts of examples/, the vectors, rows
-and transcripts of the library, NULL for each pointer, and random traces, which the model runs too. Makes the packages.
+"""Builds the program and the library for arm64, runs them with qemu, and makes the packages.
 
     python3 tools/library/check-arm64.py [FOLDER]
 
-FOLDER is what tools/release/build.sh --arch arm64 made; unless it is given, that is made first. Without gcc for arm64 or
-qemu-user the status is 3. The last line is `N passed, M failed`.
+Runs all transcripts of examples/, the vectors, rows and transcripts of the library, NULL for each
+pointer, and random traces beside the model. If FOLDER is missing, tools/release/build.sh makes it.
+Without gcc for arm64 or qemu-user the status is 3. The last line is `N passed, M failed`.
 """
 from __future__ import annotations
 
@@ -32,7 +32,7 @@ NATIVE = importlib.import_module("check-library")
 
 
 def wrapped(program: pathlib.Path) -> pathlib.Path:
-    """Returns a script that runs a program by qemu."""
+    """Returns a script that runs a program with qemu."""
     script = program.with_name(f"{program.name}-by-qemu")
     script.write_text(f'#!/bin/sh\nexec {" ".join(QEMU)} {program} "$@"\n')
     script.chmod(0o755)
@@ -40,7 +40,7 @@ def wrapped(program: pathlib.Path) -> pathlib.Path:
 
 
 def check_program(program: pathlib.Path, counts: Counts) -> None:
-    """Runs the transcripts of examples/, each in one piece, and compares random traces with the model."""
+    """Runs each transcript of examples/ in one piece, and compares random traces with the model."""
     script = wrapped(program)
 
     def fault_of_one(one: Any) -> str | None:
@@ -59,20 +59,20 @@ def check_program(program: pathlib.Path, counts: Counts) -> None:
 
 
 def check_library(folder: pathlib.Path, room: pathlib.Path, counts: Counts) -> None:
-    """Runs the programs in C over the library, and one over the shared object."""
+    """Runs the C programs with the archive, and one of them with the shared object."""
     for name, linked in (("vectors", "liblldpa.a"), ("vectors", "liblldpa.so.1"), ("nulls", "liblldpa.a"),
                          ("limits", "liblldpa.a"), ("refused", "liblldpa.a"), ("transcript", "liblldpa.a")):
         more = NATIVE.WRAPPED if name == "refused" else []
         fault = fault_of([COMPILER, "-std=c99", "-O2", *WARNINGS, *more, f"-I{folder}", TOOLS / f"{name}.c",
                           folder / linked, "-o", room / name])
-        counts.judge(fault, f"building {name} for arm64 over {linked}")
+        counts.judge(fault, f"building {name} for arm64 with {linked}")
         if fault is None:
             command = [*QEMU, "-E", f"LD_LIBRARY_PATH={folder}", str(room / name)]
             NATIVE.run_program(name, command, room, counts)
 
 
 def has_live(folder: pathlib.Path, counts: Counts) -> bool:
-    """Builds lldpa-live, and returns whether that can be done here: Rust may have no library for arm64."""
+    """Builds lldpa-live. Returns whether this host can: Rust may have no library for arm64."""
     settings = os.environ | {"LLDPA_LIB_DIR": str(folder / "lib")}
     for words in ([], ["--dynamic"]):
         made = ran([TOP / "tools" / "release" / "live.sh", "--arch", "arm64", *words], env=settings)
@@ -86,7 +86,7 @@ def has_live(folder: pathlib.Path, counts: Counts) -> bool:
 
 
 def check_packages(folder: pathlib.Path, room: pathlib.Path, counts: Counts) -> None:
-    """Checks that each Debian package can be made, and that what is compiled in it is for arm64."""
+    """Checks that each Debian package can be made, and that its compiled files are for arm64."""
     for command in ("dpkg-deb", "dpkg-architecture"):
         if shutil.which(command) is None:
             skip(f"the packages for arm64, since there is no {command}")
@@ -101,7 +101,7 @@ def check_packages(folder: pathlib.Path, room: pathlib.Path, counts: Counts) -> 
         ran(["dpkg-deb", "-x", package, tree])
         begins = [path.read_bytes()[:20] for path in tree.rglob("*") if path.is_file()]
         machines = {octets[18] for octets in begins if octets.startswith(b"\x7fELF")}
-        counts.judge(None if machines <= {EM_AARCH64} else machines, f"what is compiled in {name} for arm64")
+        counts.judge(None if machines <= {EM_AARCH64} else machines, f"the compiled files of {name} for arm64")
 
 
 def main() -> int:

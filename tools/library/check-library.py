@@ -1,15 +1,16 @@
 #!/usr/bin/env python3
-"""Checks the library for C, by programs of tools/library/c that run over it with the compiler's
-sanitizers: rows, and cut and altered LLDPDUs beside the model (vectors.c); the transcripts of
-examples/ and whole shows beside the model (transcript.c); NULL for each pointer and what is out of
-range (nulls.c); what rows do not reach (limits.c); and refused memory under valgrind (refused.c). Then
-the crate rust/lldpa with its tests, and the examples of docs/LIBRARY.md and of examples/.
+"""Checks the library for C, the crate rust/lldpa, and the examples of docs/LIBRARY.md and examples.
 
     python3 tools/library/check-library.py [FOLDER]
 
-FOLDER has liblldpa.a, liblldpa.so.1 and lldpa.h; unless it is given tools/library/library.sh makes them.
-What cannot be tried here, for instance since cargo or valgrind is not installed, is reported and not
-counted; without a C compiler or a library the status is 3. The last line is `N passed, M failed`.
+Programs of tools/library/c run with the library and the compiler's sanitizers: rows, and cut and
+altered LLDPDUs beside the model (vectors.c); the transcripts of examples/ and whole shows beside
+the model (transcript.c); NULL for each pointer, and values out of range (nulls.c); what rows do not
+reach (limits.c); and refused memory under valgrind (refused.c).
+
+FOLDER has liblldpa.a, liblldpa.so.1 and lldpa.h; tools/library/library.sh makes them if none is
+given. What cannot be checked here, for instance without cargo or valgrind, is reported and not
+counted. Without a C compiler or a library the status is 3. The last line is `N passed, M failed`.
 """
 from __future__ import annotations
 
@@ -52,7 +53,7 @@ def check_header(library: Library, counts: Counts) -> None:
 
 
 def check_functions(library: Library, counts: Counts) -> None:
-    """Checks that header, archive and manual page have the same functions."""
+    """Checks that the header, the archive and the manual page have the same functions."""
     header = (library.folder / "lldpa.h").read_text()
     declared = set(re.findall(r"^\w+ (lldpa_\w+)\(", header, re.M))
     defined = ran(["nm", "--defined-only", "--extern-only", library.folder / "liblldpa.a"]).stdout
@@ -64,7 +65,7 @@ def check_functions(library: Library, counts: Counts) -> None:
 
 
 def check_plug_in(library: Library, counts: Counts) -> None:
-    """Checks that a shared object that contains the archive exports no function of it."""
+    """Checks that a shared object that contains the archive exports none of its functions."""
     plug_in = library.room / "plug-in.so"
     (library.room / "plug-in.c").write_text("#include <lldpa.h>\nunsigned plug_in(void) { return lldpa_version(); }\n")
     fault = fault_of(["cc", "-shared", "-fPIC", f"-I{library.folder}", library.room / "plug-in.c",
@@ -75,7 +76,7 @@ def check_plug_in(library: Library, counts: Counts) -> None:
 
 
 def check_size(library: Library, counts: Counts) -> None:
-    """Checks that a program gets less than 6 KB of the archive if it uses only the reader."""
+    """Checks that the archive adds less than 6 KB to a program that uses only the reader."""
     sizes = []
     for name, call in (("without", "0"), ("with", "lldpa_examine((const uint8_t *)words, (size_t)count, &told)")):
         source = library.room / f"{name}.c"
@@ -87,14 +88,14 @@ def check_size(library: Library, counts: Counts) -> None:
 
 
 def has_sanitizers(room: pathlib.Path) -> bool:
-    """Returns whether the compiler has the sanitizers, and what it builds with them runs."""
+    """Returns whether the compiler has the sanitizers, and programs built with them run."""
     (room / "empty.c").write_text("int main(void) { return 0; }\n")
     built = ["cc", *SANITIZERS, room / "empty.c", "-o", room / "empty"]
     return fault_of(built) is None and fault_of([room / "empty"]) is None
 
 
 def check_programs(library: Library, counts: Counts) -> None:
-    """Runs the programs in C, with the sanitizers if the compiler has them."""
+    """Runs the C programs, with the sanitizers if the compiler has them."""
     flags = SANITIZERS if has_sanitizers(library.room) else []
     if not flags:
         skip("the sanitizers, which the compiler does not have")
@@ -106,7 +107,7 @@ def check_programs(library: Library, counts: Counts) -> None:
 
 
 def run_program(name: str, command: list[str], room: pathlib.Path, counts: Counts) -> None:
-    """Runs one of the programs in C, which was built."""
+    """Runs one of the C programs after it was built."""
     if name == "transcript":
         check_transcripts(command, counts)
     elif name == "vectors":
@@ -116,7 +117,7 @@ def run_program(name: str, command: list[str], room: pathlib.Path, counts: Count
 
 
 def check_refused(library: Library, counts: Counts) -> None:
-    """Refuses memory, under valgrind if it is installed: AddressSanitizer has a malloc of its own."""
+    """Refuses memory, under valgrind if installed: AddressSanitizer replaces malloc."""
     wrapper = VALGRIND if shutil.which("valgrind") else []
     if not wrapper:
         skip("valgrind, which is not installed")
@@ -137,14 +138,14 @@ def check_processor(library: Library, counts: Counts) -> None:
 
 
 def check_stack(library: Library, counts: Counts) -> None:
-    """Checks that no call takes more stack than the header says. What each takes is printed."""
+    """Checks that no call uses more stack than the header says. Prints what each call uses."""
     fault = library.compiled(TOOLS / "stack.c", "stack", "-std=gnu99")
     counts.judge(fault, "building stack")
     if fault is None:
         count_of([library.room / "stack"], "stack", counts)
 
 
-# The longest come first.
+# The checks that take longest come first.
 CHECKS = (check_programs, check_rust, check_front, check_refused, check_receive, check_layout, check_header,
           check_processor, check_functions, check_plug_in, check_bindings, check_size, check_machine, check_stack,
           check_page, check_who, check_sd_lldp_rx)
@@ -152,7 +153,7 @@ CHECKS = (check_programs, check_rust, check_front, check_refused, check_receive,
 
 def in_own_room(check: Callable[[Library, Counts], None], folder: pathlib.Path,
                 room: pathlib.Path) -> Callable[[Counts], None]:
-    """Returns a check of the library in a folder, which has a room of its own."""
+    """Returns the check with the library of this folder, and with a new folder of its own."""
     own = Library(folder, room / check.__name__)
     own.room.mkdir()
     return lambda counts: check(own, counts)

@@ -1,13 +1,15 @@
 #!/bin/sh
 # Makes the library that programs link: liblldpa.a, liblldpa.so.1 and lldpa.h, in a folder.
 #     tools/library/library.sh [--arch amd64|arm64] [FOLDER]
-# FOLDER is crates/lldpa_c/out/lib unless given. The architecture is that of this machine unless given; for another one
-# it needs a C compiler and binutils, such as the package gcc-aarch64-linux-gnu. For amd64 it is for any processor.
+# By default FOLDER is crates/lldpa_c/out/lib and the architecture is that of this machine. Another
+# architecture needs a C compiler and binutils, such as the package gcc-aarch64-linux-gnu. The
+# library for amd64 runs on every such processor.
 #
-# The functions of the archive that `rt lib` builds are renamed to begin with `proved_`. Programs call those of
-# crates/lldpa_c/front, which handle NULL and ask malloc for memory. Each group of calls below is one object of
-# liblldpa.a with all that it reaches, and the archive defines only the global names of lldpa.h. `rt lib` runs if a source, a definition, a proof,
-# crates.txt or the toolchain changed since it ran for this architecture. Prints the name of the folder.
+# The functions of the archive that `rt lib` builds get the prefix `proved_`. Programs call those of
+# crates/lldpa_c/front, which handle NULL and call malloc. Each group of calls below is one object
+# of liblldpa.a, with all that it uses, and the archive defines only the global names of lldpa.h.
+# `rt lib` runs if a source, a definition, a proof, crates.txt or the toolchain has changed since it
+# last ran for this architecture. The script prints the name of the folder.
 set -eu
 cd "$(dirname "$0")/../.."
 front=crates/lldpa_c/front
@@ -18,7 +20,7 @@ fail() {
     exit 1
 }
 
-# The calls that one object of the archive has.
+# The calls in each object of the archive.
 groups() {
     echo "version lldpa_version"
     echo "reading lldpa_frame_pdu lldpa_examine lldpa_next_kept lldpa_caps lldpa_mgmt"
@@ -37,7 +39,7 @@ folder=$(realpath -m -- "${folder:-crates/lldpa_c/out/lib}")
 room=$(mktemp -d)
 trap 'rm -rf "$room"' EXIT
 
-# A digest of all that the archive is built of.
+# A digest of everything that the archive is built from.
 state() {
     {
         rt version
@@ -57,13 +59,13 @@ if [ "$(cat "$kept/stamp" 2> /dev/null)" != "$(state)" ]; then
     echo "$before" > "$kept/stamp"
 fi
 
-# Everything in one object, the functions of the front each in a section of its own.
+# One object with everything; each function of the front has a section of its own.
 "${tools}nm" --defined-only "$kept/liblldpa_c.a" | sed -n 's/^.* T \(lldpa_.*\)$/\1 proved_\1/p' > "$room/names"
 "${tools}objcopy" --redefine-syms="$room/names" "$kept/liblldpa_c.a" "$room/proved.a"
 compile() {
     "${tools}gcc" -std=gnu99 -O2 -fPIC -ffunction-sections -Wall -Wextra -Werror -I"$header" -c "$@"
 }
-# A shared object that contains the archive does not export its functions.
+# If the archive is linked into a shared object, that does not export the archive's functions.
 compile -fvisibility=hidden $front/lldpa.c -o "$room/front.o"
 compile $front/lldpa.c -o "$room/exported.o"
 compile $front/memory.c -o "$room/memory.o"
@@ -81,7 +83,7 @@ done
 rm -f "$room/liblldpa.a"
 (cd "$room/objects" && "${tools}ar" rcsD ../liblldpa.a ./*.o)
 install -m 644 "$room/liblldpa.a" "$header/lldpa.h" "$folder"
-# What the front calls, for tests that put another front before it.
+# The functions that the front calls, for tests that put another front before them.
 cp "$room/proved.a" "$folder/proved.a"
 "${tools}ar" rsD "$folder/proved.a" "$room/memory.o" 2> /dev/null
 echo 'LLDPA_1 { global: lldpa_*; local: *; };' > "$room/exports"

@@ -1,11 +1,10 @@
 #!/usr/bin/env python3
-"""Runs the examples over the library, for tools/library/check-library.py: those of docs/LIBRARY.md, and
-those of examples/ in C and Python on a capture and on a link.
+"""Runs the examples of docs/LIBRARY.md and of examples/ with the library, for check-library.py.
 
     python3 tools/library/library_examples.py --hear PROGRAM [WORD ..]
 
-in a network namespace of its own: runs a receive loop of examples/ at one end of a link, and sends
-frames at the other end until it reports what happens to their sender.
+With --hear, in a network namespace of its own, it runs a receive loop of examples/ at one end of a
+link, and sends frames at the other end until the loop has reported each change of their sender.
 """
 from __future__ import annotations
 
@@ -27,8 +26,8 @@ EXAMPLES = TOP / "examples"
 PAGE = TOP / "docs" / "LIBRARY.md"
 LINK = ("link add here type veth peer name there", "link set here up", "link set there up")
 
-# Frames of 00:11:22:33:44:55, port eth0, and the reports about each: it comes, has a name, and leaves; it comes for one
-# second, and ages out. After a pause that is longer than its time to live it comes again, and is held.
+# Frames of 00:11:22:33:44:55, port eth0, each with its report: it is new, has a name, is gone; is
+# new for one second, and ages out; after a pause longer than its time to live it is new, and stays.
 KEY = "02070400112233445504050565746830"
 PAUSE = "4.5"
 HEARD = ((KEY + "06020078", b"new"), (KEY + "060200780a03737731", b"changed"), (KEY + "06020000", b"gone"),
@@ -36,7 +35,7 @@ HEARD = ((KEY + "06020078", b"new"), (KEY + "060200780a03737731", b"changed"), (
          (KEY + "060200780a03737731", b"changed"))
 SENDER = b" chassis.mac=00:11:22:33:44:55 port.ifname=eth0\n"
 
-# The input of examples/c/sd_lldp_rx.c, and what it writes.
+# The input of examples/c/sd_lldp_rx.c, and the output that it must write.
 PLAYED = ((KEY + "06020003", "added eth0", "due in 3"), (KEY + "06020003", "refreshed eth0", "due in 3"),
           ("tick 2", "", "due in 1"), (KEY + "060200050a03737731", "updated eth0", "due in 5"),
           ("tick 4", "", "due in 1"), ("tick 9", "removed eth0", "nothing is due"),
@@ -44,7 +43,7 @@ PLAYED = ((KEY + "06020003", "added eth0", "due in 3"), (KEY + "06020003", "refr
 
 
 def frame_of(pdu: str) -> bytes:
-    """Returns a frame with this LLDPDU, in hexadecimal, and its end."""
+    """Returns a frame with this LLDPDU (in hexadecimal) and an End TLV."""
     return bytes.fromhex(f"0180c200000e00112233445588cc{pdu}0000").ljust(60, b"\0")
 
 
@@ -63,7 +62,7 @@ def loading(library: Library) -> dict[str, str]:
 
 
 def check_page(library: Library, counts: Counts) -> None:
-    """Runs the programs of docs/LIBRARY.md in C; those in Rust are tests of the crate."""
+    """Runs the C programs of docs/LIBRARY.md. Its Rust programs are tests of the crate."""
     programs = re.findall(r"^```c\n(.*?)^```\n\n```text\n(.*?)^```$", PAGE.read_text(), re.M | re.S)
     for at, (text, wanted) in enumerate(programs):
         source = library.room / f"page-{at}.c"
@@ -73,7 +72,7 @@ def check_page(library: Library, counts: Counts) -> None:
 
 
 def follow(heard: subprocess.Popen[bytes], send: Callable[[bytes], object]) -> bool:
-    """Returns whether a receive loop reports what happens to a neighbor whose frames are sent."""
+    """Sends the frames of a neighbor. Returns whether a receive loop reports each change."""
     told, end = b"", time.monotonic() + SECONDS
     assert heard.stdout is not None
     os.set_blocking(heard.stdout.fileno(), False)
@@ -94,7 +93,7 @@ def follow(heard: subprocess.Popen[bytes], send: Callable[[bytes], object]) -> b
 
 
 def hear(command: list[str]) -> int:
-    """Returns 0 if a receive loop reports what happens, and ends when asked, else 1."""
+    """Returns 0 if a receive loop reports all changes of a neighbor and ends when asked, else 1."""
     for words in LINK:
         subprocess.run(["ip", *words.split()], check=True)
     with socket.socket(socket.AF_PACKET, socket.SOCK_RAW) as sender, \
@@ -106,7 +105,7 @@ def hear(command: list[str]) -> int:
 
 
 def check_sd_lldp_rx(library: Library, counts: Counts) -> None:
-    """Checks that the sketch of sd_lldp_rx reports each event, and when one is due."""
+    """Checks that the sketch of sd_lldp_rx reports each event, and when the next is due."""
     source = EXAMPLES / "c" / "sd_lldp_rx.c"
     counts.judge(library.compiled(source, "sd_lldp_rx"), "building examples/c/sd_lldp_rx.c")
     lines = [given if " " in given else f"rx {frame_of(given).hex()}" for given, _, _ in PLAYED]
@@ -117,11 +116,11 @@ def check_sd_lldp_rx(library: Library, counts: Counts) -> None:
 
 
 def check_receive(library: Library, counts: Counts) -> None:
-    """Checks that the receive loops hear a neighbor on a link, if a network namespace may be made."""
+    """Checks that the receive loops see a neighbor on a link, if a namespace can be made."""
     fault = library.compiled(EXAMPLES / "c" / "receive.c", "receive")
     counts.judge(fault, "building examples/c/receive.c")
     if shutil.which("ip") is None or fault_of(["unshare", "--net", "true"]) is not None:
-        skip("hearing on a link, which needs root, ip and unshare")
+        skip("receiving on a link, which needs root, ip and unshare")
         return
     python = [sys.executable, EXAMPLES / "python" / "receive.py"]
     for name, example in (("c/receive.c", [library.room / "receive"]),
@@ -132,7 +131,7 @@ def check_receive(library: Library, counts: Counts) -> None:
 
 
 def check_who(library: Library, counts: Counts) -> None:
-    """Checks that the examples in C and Python say the same of a capture."""
+    """Checks that the C and Python examples print the same for a capture."""
     wanted = (EXAMPLES / "c" / "who.expect").read_text()
     counts.judge(library.compiled(EXAMPLES / "c" / "who.c", "who"), "building examples/c/who.c")
     check_example("examples/c/who.c", [library.room / "who", CAPTURE], wanted, counts)

@@ -1,5 +1,5 @@
-"""The part of the library that answers for NULL, crates/lldpa_c/front/lldpa.c, made wrong on
-purpose: tools/library/c/nulls.c sees each."""
+"""Makes wrong versions of the library's front, crates/lldpa_c/front/lldpa.c, which checks for NULL.
+tools/library/c/nulls.c must fail with each of them."""
 from __future__ import annotations
 
 from library_parts import TOP, Counts, Library, fault_of, ran
@@ -7,37 +7,37 @@ from library_parts import TOP, Counts, Library, fault_of, ran
 FRONT = TOP / "crates" / "lldpa_c" / "front" / "lldpa.c"
 NULLS = TOP / "tools" / "library" / "c" / "nulls.c"
 
-# What is wrong, the text that the front has once, and the text in its place.
+# The fault, the text that the front has once, and the wrong text in its place.
 EDITS = (
-    ("lldpa_frame_pdu does not look for the place", "is_missing(frame, length) || pdu == NULL",
+    ("lldpa_frame_pdu does not check the place", "is_missing(frame, length) || pdu == NULL",
      "is_missing(frame, length)"),
     ("lldpa_examine does not check where to write", "is_missing(pdu, length) || told == NULL",
      "is_missing(pdu, length)"),
-    ("lldpa_build does not look for bodies", "lacks_octets(tlvs, tlv_count)",
+    ("lldpa_build does not check the bodies", "lacks_octets(tlvs, tlv_count)",
      "is_missing(tlvs, tlv_count)"),
-    ("lldpa_escape does not look for the text", "is_missing(text, text_length) || is_missing(room",
+    ("lldpa_escape does not check the text", "is_missing(text, text_length) || is_missing(room",
      "is_missing(room"),
-    ("lldpa_leave answers another number", "LLDPA_NULL, (agent, marks)", "LLDPA_OK, (agent, marks)"),
-    ("lldpa_open does not look for the hostname",
+    ("lldpa_leave returns another number", "LLDPA_NULL, (agent, marks)", "LLDPA_OK, (agent, marks)"),
+    ("lldpa_open does not check the hostname",
      " && is_copied(&given.hostname, &options->hostname)", ""),
-    ("lldpa_open looks at 64 names", "#define MOST_NAMES 65", "#define MOST_NAMES 64"),
-    ("lldpa_ticks answers another number",
+    ("lldpa_open reads at most 64 names", "#define MOST_NAMES 65", "#define MOST_NAMES 64"),
+    ("lldpa_ticks returns another number",
      "marks == NULL || told == NULL, LLDPA_NULL", "marks == NULL || told == NULL, LLDPA_NOT_OPEN"),
-    ("lldpa_due does not look for the seconds", "agent == NULL || seconds == NULL", "agent == NULL"),
-    ("lldpa_frame writes news if none are asked for", "news == NULL ? proved_lldpa_frame",
+    ("lldpa_due does not check the seconds", "agent == NULL || seconds == NULL", "agent == NULL"),
+    ("lldpa_frame writes news if none are wanted", "news == NULL ? proved_lldpa_frame",
      "news != NULL ? proved_lldpa_frame"),
     ("lldpa_open accepts options of another size", "if (options->size != sizeof *options)",
      "if (options->size == 0)"),
     ("lldpa_frame_of writes to the handle that it reads", "(COPY(agent), port, mark",
      "((lldpa_agent *)agent, port, mark"),
-    ("lldpa_close does not look for the agent", "if (agent != NULL)", "if (true)"),
+    ("lldpa_close does not check the agent", "if (agent != NULL)", "if (true)"),
     ("NULL with a length of 0 is refused", "return at == NULL && count > 0;",
      "return at == NULL;"),
 )
 
 
 def fault_of_edit(library: Library, old: str, new: str) -> str | None:
-    """Returns why a wrong front is not seen, or None."""
+    """Returns why a wrong front is not noticed, or None."""
     text = FRONT.read_text()
     if text.count(old) != 1:
         return f"{old!r} does not occur once in {FRONT.name}"
@@ -47,7 +47,7 @@ def fault_of_edit(library: Library, old: str, new: str) -> str | None:
                       library.folder / "proved.a", "-o", program])
     if fault is not None:
         return fault
-    return None if ran([program]).returncode != 0 else "it is not seen"
+    return None if ran([program]).returncode != 0 else "it is not noticed"
 
 
 def check_front(library: Library, counts: Counts) -> None:

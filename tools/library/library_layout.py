@@ -1,10 +1,8 @@
-"""Compares what the header and crates/lldpa_c say of each struct and function of the library: the
-fields by their names and types, in order, the parameters by their types, and which pointers are only
-read. The front asserts the size of each struct, and does not compile with a header that has another
-one.
+"""Compares the structs and functions of lldpa.h with those of crates/lldpa_c.
 
-A slice of Rattle is a pointer and a length in C. A handle's memory is a pointer that only the
-library knows.
+It compares the names and types of fields, in order, the types of parameters, and which pointers are
+only read. The front asserts the size of each struct, so it does not compile with another header. In
+C, a slice of Rattle is a pointer and a length, and a handle's memory is an opaque pointer.
 """
 from __future__ import annotations
 
@@ -16,12 +14,12 @@ CRATE = TOP / "crates" / "lldpa_c" / "src"
 FRONT = TOP / "crates" / "lldpa_c" / "front" / "lldpa.c"
 PARTS = TOP / "crates" / "lldp_transmit" / "src" / "parts.rt"
 
-# The types of C and of Rattle by one name; a struct's is its name in small letters without a prefix.
+# The common names of C's and Rattle's types; a struct's is its name in lower case without prefix.
 TYPES = {"uint8_t": "u8", "uint16_t": "u16", "uint32_t": "u32", "size_t": "usize", "bool": "bool", "void": "()",
          "ticks_taken": "ticks", "parts": "machine", "statistics_told": "statistics",
          "configuration_told": "configuration"}
 STRUCT = re.compile(r"typedef struct lldpa_\w+ \{(.*?)\} lldpa_(\w+);", re.S)
-LENGTH = "usize behind a pointer"
+LENGTH = "usize after a pointer"
 Lists = dict[str, list[str]]
 
 
@@ -31,7 +29,7 @@ def plain(name: str) -> str:
 
 
 def of_c(declared: str) -> str:
-    """Returns the type of a field or a parameter of C, as `const uint8_t *octets`."""
+    """Returns the type of a C field or parameter, such as `const uint8_t *octets`."""
     if "*" in declared:
         return "const pointer" if declared.startswith("const ") else "pointer"
     words = declared.replace("const ", "").split()
@@ -40,7 +38,7 @@ def of_c(declared: str) -> str:
 
 
 def of_rust(declared: str) -> list[str]:
-    """Returns the types that a field or a parameter of Rattle is in C."""
+    """Returns the C types of a field or a parameter of Rattle."""
     declared = declared.strip()
     is_written = re.match(r"&('a )?mut |\*mut ", declared) is not None
     pointer = "pointer" if is_written else "const pointer"
@@ -59,7 +57,7 @@ def split(text: str, mark: str) -> list[str]:
 
 
 def fields_of_c(body: str) -> list[str]:
-    """Returns the names and types of fields. The length behind a pointer has no name in Rattle."""
+    """Returns the names and types of C fields. A length after a pointer has no name in Rattle."""
     found: list[str] = []
     for field in split(body, ";"):
         name, kind = re.findall(r"\w+", field.split("[")[0])[-1], of_c(field)
@@ -69,7 +67,7 @@ def fields_of_c(body: str) -> list[str]:
 
 
 def fields_of_rust(body: str) -> list[str]:
-    """Returns the names and the types that the fields of a struct have in C."""
+    """Returns the names of a Rattle struct's fields, with their types in C."""
     found: list[str] = []
     declarations = r"^ +(?:pub(?:\(crate\))? )(?:is_)?(\w+): (.*?),$"
     for name, declared in re.findall(declarations, body, re.M):
@@ -103,23 +101,23 @@ def check_sizes(library: Library, counts: Counts) -> None:
         (library.room / "lldpa.h").write_text(re.sub(rf"(struct lldpa_{name} {{)", r"\1 char more;", header))
         said = ran(["cc", "-std=gnu99", "-fsyntax-only", f"-I{library.room}", FRONT]).stderr
         is_seen = re.search(rf"error.*the size of lldpa_{name}\b", said) is not None
-        counts.judge(None if is_seen else said[:1500], f"a field more in lldpa_{name}")
+        counts.judge(None if is_seen else said[:1500], f"one more field in lldpa_{name}")
 
 
 def check_layout(library: Library, counts: Counts) -> None:
-    """Checks that both say the same, and that the front asserts the sizes."""
+    """Checks that the header and the crate agree, and that the front asserts the sizes."""
     check_sizes(library, counts)
     text = re.sub(r"/\*.*?\*/", "", (library.folder / "lldpa.h").read_text(), flags=re.S)
-    # The front gives a proved reader of an agent a copy of its handle.
+    # The front passes a copy of the handle to each proved function that only reads an agent.
     wants = header_lists(text.replace("(const lldpa_agent *", "(lldpa_agent *"))
     found: Lists = {}
     for file in [*sorted(CRATE.rglob("*.rt")), PARTS]:
         found |= rust_lists(file.read_text())
-    # The front has a function of its own, and one that calls either of two.
+    # The front has one function of its own, and one that calls either of two.
     found["lldpa_version"] = wants["lldpa_version"]
     found["lldpa_frame"] = found.pop("lldpa_frame_news")
     for name, wanted in wants.items():
         is_same = found.get(name) == wanted
         counts.judge(None if is_same else f"{found.get(name)}, and in lldpa.h {wanted}", f"{name} in crates/lldpa_c")
     more = [name for name in found if name not in wants and name not in ("held", "()")]
-    counts.judge(f"{more}" if more else None, "what crates/lldpa_c has beside lldpa.h")
+    counts.judge(f"{more}" if more else None, "what crates/lldpa_c has and lldpa.h has not")

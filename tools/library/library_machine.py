@@ -1,5 +1,5 @@
-"""Checks the machine code of the archive: no function branches before the loop that probes the pages of a large stack
-frame. A compiler that moved a branch there has overwritten the register that the loop needs."""
+"""Checks the machine code of the archive: no function branches before the loop that touches the
+pages of a large stack frame. A branch there would overwrite a register of the loop."""
 from __future__ import annotations
 
 import re
@@ -12,7 +12,7 @@ PROBE = re.compile(r"\ssub\s+\$0x1000,%rsp")
 
 
 def branched_before(code: str) -> list[str]:
-    """Returns the functions in objdump's output that branch before they probe."""
+    """Returns the functions in objdump's output that branch before they touch the pages."""
     found, name, has_branched = [], "", False
     for line in code.splitlines():
         begins = FUNCTION.match(line)
@@ -26,9 +26,9 @@ def branched_before(code: str) -> list[str]:
 
 
 def check_machine(library: Library, counts: Counts) -> None:
-    """Checks that no function of the archive does so, and that one that does is seen."""
+    """Checks that no function of the archive does this, and that one that does is noticed."""
     code = ran(["objdump", "-d", "--no-show-raw-insn", library.folder / "liblldpa.a"]).stdout
     found = branched_before(code)
     counts.judge(f"{found} branch before they probe" if found else None, "the machine code of the archive")
     moved = "0 <wrong>:\n  0: \tje     9\n  2: \tsub    $0x1000,%rsp\n"
-    counts.judge(None if branched_before(moved) == ["wrong"] else "it is not seen", "a branch before a probe")
+    counts.judge(None if branched_before(moved) == ["wrong"] else "it is not noticed", "a branch before a probe")

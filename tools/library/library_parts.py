@@ -1,4 +1,4 @@
-"""What the checks of the library share: commands, counts, and programs built over it."""
+"""Runs commands, adds up their counts, and builds programs with the library, for its checks."""
 from __future__ import annotations
 
 import concurrent.futures
@@ -24,14 +24,14 @@ def skip(what: str) -> None:
 
 def ran(command: Sequence[object], cwd: pathlib.Path | None = None,
         env: Mapping[str, str] | None = None) -> subprocess.CompletedProcess[str]:
-    """Returns a command that has ended, with what it wrote."""
+    """Runs a command to its end. Returns its status and what it wrote."""
     settings: dict[str, Any] = {"capture_output": True, "text": True, "timeout": SECONDS}
     return subprocess.run([str(word) for word in command], stdin=subprocess.DEVNULL, cwd=cwd,
                           env=env, check=False, **settings)
 
 
 def fault_of(command: Sequence[object]) -> str | None:
-    """Returns what a command says if its status is not 0, or None."""
+    """Returns what a command writes if its status is not 0, or else None."""
     ended = ran(command)
     if ended.returncode == 0:
         return None
@@ -39,7 +39,7 @@ def fault_of(command: Sequence[object]) -> str | None:
 
 
 def count_of(command: Sequence[object], what: str, counts: Counts) -> None:
-    """Adds up what a program counts in its last line."""
+    """Adds the counts of a program's last line."""
     ended = ran(command)
     *lines, last = ended.stdout.splitlines() or [""]
     found = re.fullmatch(r"(\d+) passed, (\d+) failed", last)
@@ -53,7 +53,7 @@ def count_of(command: Sequence[object], what: str, counts: Counts) -> None:
 
 
 def side_by_side(checks: Iterable[Callable[[Counts], None]], counts: Counts) -> None:
-    """Runs checks, three at a time, and adds up what they count."""
+    """Runs checks, three at a time, and adds up their counts."""
     def counted(check: Callable[[Counts], None]) -> Counts:
         own = Counts()
         check(own)
@@ -66,17 +66,16 @@ def side_by_side(checks: Iterable[Callable[[Counts], None]], counts: Counts) -> 
 
 
 class Library:
-    """The library in its folder, and programs that are built over it in a folder of their own."""
+    """The library in its folder, and programs built with it in another folder."""
 
     def __init__(self, folder: pathlib.Path, room: pathlib.Path):
         self.folder, self.room = folder, room
 
     def compiled(self, source: pathlib.Path, name: str, *flags: str) -> str | None:
-        """Builds a program. Returns what is wrong, or None."""
+        """Builds a program with the library. Returns the fault, or None."""
         return fault_of(["cc", "-std=c99", "-O2", "-g", *WARNINGS, *flags, f"-I{self.folder}",
                          source, self.folder / "liblldpa.a", "-o", self.room / name])
 
     def shared(self) -> pathlib.Path | None:
-        """Returns the shared object, or None if there is none."""
         found = self.folder / "liblldpa.so.1"
         return found if found.is_file() else None

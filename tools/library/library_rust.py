@@ -15,8 +15,8 @@ CRATE = TOP / "rust" / "lldpa"
 
 
 def strange_archive(library: Library) -> pathlib.Path:
-    """Makes an archive that answers 77 to all but lldpa_open, and is of another version if LLDPA_STRANGE is set.
-    Returns its folder."""
+    """Makes an archive in which all calls except lldpa_open return 77, and which has another
+    version if LLDPA_STRANGE is set. Returns its folder."""
     header = (library.folder / "lldpa.h").read_text()
     found = re.search(r"define LLDPA_VERSION (\d+)", header)
     assert found is not None
@@ -33,14 +33,14 @@ def strange_archive(library: Library) -> pathlib.Path:
 
 def cargo(words: list[str], folder: pathlib.Path, library: Library, program: str = "cargo",
           **more: str) -> subprocess.CompletedProcess[str]:
-    """Runs cargo in the crate over the archive in a folder. A warning is an error."""
+    """Runs cargo in the crate, with the archive of a folder. A warning is an error."""
     settings = os.environ | {"LLDPA_LIB_DIR": str(folder), "RUSTFLAGS": "-D warnings",
                              "CARGO_TARGET_DIR": str(library.room / "target"), **more}
     return ran([program, words[0], "--offline", "--locked", "--quiet", *words[1:]], CRATE, settings)
 
 
 def check_crate(words: list[str], folder: pathlib.Path, library: Library, counts: Counts) -> None:
-    """Counts the tests of the crate that pass, as cargo says, and that cargo ends well."""
+    """Counts the crate's tests that cargo reports as passed, and checks cargo's status."""
     ended = cargo(words, folder, library)
     results = re.findall(r"^test result: \w+\. (\d+) passed; \d+ failed", ended.stdout, re.M)
     counts.passed += sum(map(int, results))
@@ -58,18 +58,18 @@ def check_versions(library: Library, counts: Counts) -> None:
         (folder / "liblldpa.a").write_bytes(octets[:end] + number.to_bytes(4, "little") + octets[end + 4:])
         ended = cargo(["check"], folder, library)
         is_right = ended.returncode == 0 if fits else "this crate needs 1.0" in ended.stderr
-        counts.judge(None if is_right else ended.stderr[-1500:], f"the crate for Rust with an archive of {number}")
+        counts.judge(None if is_right else ended.stderr[-1500:], f"the crate for Rust with an archive of version {number}")
 
 
 def check_bindings(library: Library, counts: Counts) -> None:
-    """Checks that the declarations for Rust are those that bindgen writes of the header."""
+    """Checks that the declarations for Rust are those that bindgen writes for the header."""
     if shutil.which("bindgen") is None:
         skip("the declarations for Rust, since there is no bindgen")
         return
     written, kept = ran([TOP / "tools" / "library" / "bindings.sh"]).stdout, (CRATE / "src" / "sys.rs").read_text()
-    # With and without rustfmt, bindgen lays them out differently.
+    # bindgen lays them out differently with and without rustfmt.
     bare = [re.sub(r"\s+|,(?=\s*[)}])", "", text) for text in (written, kept)]
-    counts.judge(None if bare[0] == bare[1] != "" else "bindgen writes others", "rust/lldpa/src/sys.rs")
+    counts.judge(None if bare[0] == bare[1] != "" else "bindgen writes something else", "rust/lldpa/src/sys.rs")
 
 
 def check_examples(library: Library, counts: Counts) -> None:
@@ -91,17 +91,17 @@ def check_examples(library: Library, counts: Counts) -> None:
 
 
 def check_oldest(library: Library, counts: Counts) -> None:
-    """Checks that the crate builds with the compiler of the system, such as Debian's, if it has one."""
+    """Checks that the crate builds with the system's compiler, if there is one."""
     if not pathlib.Path("/usr/bin/rustc").exists() or not pathlib.Path("/usr/bin/cargo").exists():
-        skip("the crate for Rust by the system's compiler, since there is none")
+        skip("the crate for Rust with the system's compiler, since there is none")
         return
     ended = cargo(["build", "--all-targets"], library.folder, library, "/usr/bin/cargo",
                   RUSTC="/usr/bin/rustc", CARGO_TARGET_DIR=str(library.room / "oldest"))
-    counts.judge(ended.stderr[-1500:] if ended.returncode else None, "the crate for Rust by the system's compiler")
+    counts.judge(ended.stderr[-1500:] if ended.returncode else None, "the crate for Rust with the system's compiler")
 
 
 def check_rust(library: Library, counts: Counts) -> None:
-    """Checks the crate's tests, examples and lints, also over a wrong archive."""
+    """Checks the crate's tests, examples and lints, and its tests with a wrong archive."""
     if shutil.which("cargo") is None:
         skip("the crate for Rust, since there is no cargo")
         return

@@ -1,4 +1,4 @@
-"""Runs transcripts and rows over the library by tools/library/c/transcript.c and vectors.c."""
+"""Runs transcripts and rows with the library, by tools/library/c/transcript.c and vectors.c."""
 from __future__ import annotations
 
 import importlib
@@ -18,18 +18,18 @@ import model  # noqa: E402
 FRAMES = importlib.import_module("check-frames")
 ROWS = TOP / "examples" / "vectors.rows"
 HEADER = TOP / "crates" / "lldpa_c" / "include" / "lldpa.h"
-# Every cause, how often it comes, and its mark: of a machine with a credit of 5, bursts of 4, a wait
-# of 2 and the greatest interval, worked out by hand.
+# Every cause, how often it occurs, and its mark, worked out by hand for a machine with a credit of
+# 5, bursts of 4, a wait of 2 and the greatest interval.
 CAUSES = """CHANGE:1:QUIET TICK:1:ORDINARY CHANGE:1:ORDINARY NEIGHBOR:1:ORDINARY TICK:3:ORDINARY
 TICK:1:QUIET NOTHING:1:QUIET DOWN:1:QUIET TICK:1:QUIET CHANGE:1:QUIET UP:1:QUIET TICK:1:ORDINARY
 TICK:3599:QUIET TICK:1:ORDINARY STOP:1:SHUTDOWN STOP:1:QUIET ALLOW:1:QUIET TICK:1:QUIET
 TICK:1:ORDINARY"""
 ROLES = ("station", "bridge", "router")
-Steps = Sequence[Tuple[bytes, List[bytes]]]  # lines, each with those that it writes
+Steps = Sequence[Tuple[bytes, List[bytes]]]  # lines, each with the lines that it writes
 
 
 def words_of(agent: model.Agent) -> list[str]:
-    """Returns the words of transcript.c that open the same agent."""
+    """Returns the arguments with which transcript.c opens the same agent."""
     options = agent.options
     address = agent.management()[2:6].hex() if options.management else ""
     numbers = (ROLES.index(options.role), options.max_neighbors, options.tx_credit_max,
@@ -39,8 +39,8 @@ def words_of(agent: model.Agent) -> list[str]:
 
 
 def event_of(agent: model.Agent, line: bytes, is_refused: bool) -> bytes | None:
-    """Returns a line as transcript.c reads it. None if the program does not give it to its agent:
-    a comment, or an event that it refuses."""
+    """Returns a line as transcript.c reads it, or None if the program does not pass it to its
+    agent: a comment, or an event that it refuses."""
     text = line.decode("latin-1")
     if len(line) > 4096 or text.lstrip(" \t")[:1] in ("", "#"):
         return None
@@ -61,8 +61,7 @@ def event_of(agent: model.Agent, line: bytes, is_refused: bool) -> bytes | None:
 
 def fault_of_events(command: Sequence[str], words: Sequence[str], steps: Steps,
                     texts: Sequence[str] = ()) -> str | None:
-    """Returns what is wrong if lines must write some others, of which only those with one of the
-    texts are shown; or None."""
+    """Returns how the output differs, or None. Compares only lines with one of the texts."""
     agent = model.opened(words)
     given = [(event_of(agent, line, b"".join(written).startswith(b"error: ")), written)
              for line, written in steps]
@@ -78,12 +77,12 @@ def fault_of_events(command: Sequence[str], words: Sequence[str], steps: Steps,
 
 
 def written_by(agent: model.Agent, line: bytes) -> list[bytes]:
-    """Returns what the model writes at a line."""
+    """Returns what the model writes for a line."""
     return [f"{one}\n".encode("latin-1") for one in model.answer(agent, line.decode("latin-1"))]
 
 
 def leaving(agent: model.Agent, lines: Iterable[bytes]) -> Steps:
-    """Returns the events by which an agent leaves after lines, as if disabled, and again."""
+    """Returns the events that make an agent leave after these lines, and leave once more."""
     for line in lines:
         written_by(agent, line)
     disable = [f"configure ports {port.name} lldp status disabled" for port in agent.ports]
@@ -103,7 +102,7 @@ def check_transcripts(command: Sequence[str], counts: Counts) -> None:
 
 
 def whole_shows(ports: int, neighbors: int) -> tuple[list[str], Steps]:
-    """Returns words and lines with many neighbors at each port, and what the model writes."""
+    """Returns arguments and lines with many neighbors on each port, and what the model writes."""
     names = [f"p{port}" for port in range(ports)]
     frames = [FRAMES.frame_of(number, 120).hex() for number in range(neighbors)]
     lines = [f"rx {name} {frame}" for name in names for frame in frames]
@@ -114,7 +113,7 @@ def whole_shows(ports: int, neighbors: int) -> tuple[list[str], Steps]:
 
 
 def check_rows(command: Sequence[str], room: pathlib.Path, counts: Counts) -> None:
-    """Compares vectors.rows, every cause, and cut and altered LLDPDUs beside the model."""
+    """Compares vectors.rows, every cause, and cut and altered LLDPDUs with the model."""
     rows = [line for line in ROWS.read_text().splitlines() if not line.startswith("#")]
     rows.append(row_of_causes())
     for row, found in zip_longest(rows, written_rows(command, rows, room)):
@@ -124,7 +123,7 @@ def check_rows(command: Sequence[str], room: pathlib.Path, counts: Counts) -> No
 
 
 def row_of_causes() -> str:
-    """Returns the row of every cause, with the numbers of the header."""
+    """Returns the row of every cause, with the numbers of lldpa.h."""
     numbers = dict(re.findall(r"#define LLDPA_(?:CAUSE_)?(\w+) (\d+)", HEADER.read_text()))
     steps = [step.split(":") for step in CAUSES.split()]
     played = [f"{numbers[cause]}:{times}:3600:{numbers[mark]}" for cause, times, mark in steps]
@@ -132,7 +131,7 @@ def row_of_causes() -> str:
 
 
 def written_rows(command: Sequence[str], rows: Iterable[str], room: pathlib.Path) -> list[str]:
-    """Returns what vectors.c writes of rows, and what it says if it fails."""
+    """Returns what vectors.c writes for these rows, and its errors if it fails."""
     path = room / "rows"
     path.write_text("".join(f"{row}\n" for row in rows))
     ended = ran([*command, path])
@@ -141,14 +140,14 @@ def written_rows(command: Sequence[str], rows: Iterable[str], room: pathlib.Path
 
 
 def fault_of_rows(command: Sequence[str], rows: Iterable[str], room: pathlib.Path) -> str | None:
-    """Returns the first row that the library has otherwise, or None."""
+    """Returns the first row for which the library writes something else, or None."""
     wanted = list(rows)
     pairs = zip_longest(wanted, written_rows(command, wanted, room))
     return next((f"{found}, not {row}" for row, found in pairs if found != row), None)
 
 
 def row_of(pdu: bytes) -> str:
-    """Returns the row of examples/vectors.rows that says what the model reads of an LLDPDU."""
+    """Returns the row of examples/vectors.rows for what the model reads in an LLDPDU."""
     fields: list[Any] = ["examine", "altered", pdu.hex() or "-"]
     try:
         told = model.Lldpdu(pdu)

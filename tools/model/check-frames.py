@@ -1,13 +1,13 @@
 #!/usr/bin/env python3
-"""Gives the built program and the model cut and altered frames, and full tables whose neighbors come and leave.
+"""Compares the built program with the model on altered frames and on full tables.
 
     tools/model/check-frames.py PROGRAM [SEED]
 
-Each front of each frame below is heard, and the frame with each octet changed to each other value, once by an empty
-table and once by one that holds the neighbor of the first frame, so that it shows whom a shutdown names; behind each
-one what is held and counted is compared, and the table is emptied. Then frames with random times to live, of more
-neighbors than there is room for, with seconds and shutdown frames between them: eight traces, of the seeds from SEED
-on, 1 unless given. The last line is `N passed, M failed`.
+Each frame below is received cut after each octet, and with each octet changed to every other value,
+once by an empty table and once by one that holds the neighbor of the first frame, which shows whom
+a shutdown removes. After each frame the neighbors and counters are compared, and the table is
+emptied. Then eight traces, with the seeds from SEED (default 1), have more neighbors than there is
+room for, random times to live, seconds and shutdown frames. The last line is `N passed, M failed`.
 """
 import random
 import sys
@@ -22,7 +22,7 @@ CHASSIS = spelled(1, bytes.fromhex("04001122334455"))
 PORT = spelled(2, b"\5eth0")
 MANDATORY = CHASSIS + PORT + spelled(3, bytes([0, 120]))
 END = spelled(0, b"")
-# of five octets, with a bit enabled that is not available, and well formed
+# of five octets; with a bit enabled that is not available; well formed
 CAPABILITIES = b"".join(spelled(7, bytes.fromhex(body)) for body in ("0004000400", "00040014", "00140004"))
 ADDRESS = spelled(8, bytes.fromhex("110220010db800000000000000000000000102000000") + b"\7\0")
 MANY_KINDS = ADDRESS + spelled(127, b"\0\x12\x0f\1") + spelled(9, b"") + spelled(6, b"a\\\0b")
@@ -40,13 +40,13 @@ LLDPDUS = (
 LOOK = [b"show neighbors", b"show statistics"]
 EMPTY = [b"configure ports eth0 lldp status disabled", b"configure ports eth0 lldp status rx-only"]
 
-NEIGHBORS = 180  # of different octets; there is room for 128
+NEIGHBORS = 180  # there is room for 128
 ROUNDS = 3000
 LOOK_EACH = 25
 
 
 def altered(frame):
-    """Returns each front of a frame that has an octet, and the frame with each octet changed to each other value."""
+    """Yields each front of a frame, and the frame with each octet changed to each other value."""
     for end in range(1, len(frame) + 1):
         yield frame[:end]
     for place, octet in enumerate(frame):
@@ -64,14 +64,14 @@ def frame_of(number, ttl):
 
 
 def altered_trace(pdu):
-    """Returns the lines with which an LLDPDU is heard, altered, one after another."""
+    """Returns the lines with which each altered version of an LLDPDU is received."""
     known = heard(HEADER + LLDPDUS[0])
     return [line for frame in altered(HEADER + pdu)
             for line in (heard(frame), *LOOK, *EMPTY, known, heard(frame), *LOOK, *EMPTY)]
 
 
 def random_trace(seed):
-    """Returns lines with which a table is full, and neighbors of it expire, refresh and leave."""
+    """Yields lines that fill a table, and let its neighbors expire, be refreshed and leave."""
     dice = random.Random(seed)
     for round_ in range(ROUNDS):
         number = dice.randrange(NEIGHBORS)
@@ -89,7 +89,7 @@ def random_trace(seed):
 
 
 def fault_of(case):
-    """Returns what is wrong with a case, an LLDPDU or the seed of a random trace, or None."""
+    """Returns what is wrong with a case (an LLDPDU or the seed of a random trace), or None."""
     lines = list(random_trace(case)) if isinstance(case, int) else altered_trace(case)
     return compare.difference(sys.argv[1], ["--receive-only", "--max-neighbors", "128", "eth0"], lines)
 

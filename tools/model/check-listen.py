@@ -1,13 +1,13 @@
 #!/usr/bin/env python3
-"""Talks to the built program over a connection, and looks how soon it answers.
+"""Asks the built program questions over a connection, and checks how soon it answers.
 
     tools/model/check-listen.py PROGRAM
 
-A client asks a question whose answer is written in several pieces, and asks again when it has read all of it. Each
-answer has to come at once: a program that does not set TCP_NODELAY keeps the last piece back until the one before it
-was acknowledged, some 40 milliseconds each time. If too many are late while the machine stands still, it says so and
-asks all again, at most twice. Then clients come one after another to a program that was asked to serve 65,535, the
-greatest number; each is answered, and the program keeps running. The last line is `N passed, M failed`.
+A client asks a question whose answer is written in several pieces, and asks again when it has read
+it all. Each answer must come at once: without TCP_NODELAY the last piece waits until the one before
+it is acknowledged, some 40 milliseconds. If too many are late while the machine stands still, all
+are asked again, at most twice. Then clients connect one after another to a program that may serve
+65,535, the most. Each is answered, and the program runs on. The last line is `N passed, M failed`.
 """
 import pathlib
 import socket
@@ -30,16 +30,16 @@ QUESTIONS = 100
 QUESTION = b"show statistics\nx\n"
 END = b"error: unknown command\n"
 
-# If an answer takes longer, it was kept back or the machine was busy; this many may be so.
+# An answer that takes longer was delayed, or the machine was busy; this many may be late.
 LATE = 0.02
 MOST_LATE = QUESTIONS // 4
 
-# how many come to a program that was asked to serve 65,535
+# how many clients connect to a program that may serve 65,535
 CLIENTS = 5
 
 
 def answer(client):
-    """Returns all that comes up to the mark."""
+    """Returns what is received up to the mark."""
     octets = b""
     while not octets.endswith(END):
         piece = client.recv(65536)
@@ -50,7 +50,7 @@ def answer(client):
 
 
 def late_answers(client):
-    """Returns how many questions are answered late, or None if an answer is not whole."""
+    """Returns how many questions are answered late, or None if an answer is not complete."""
     late = 0
     for _ in range(QUESTIONS):
         begin = time.perf_counter()
@@ -62,7 +62,7 @@ def late_answers(client):
 
 
 def late_by_the_program(client):
-    """Returns how many questions are answered late, without those tries in which the machine stood still."""
+    """Returns how many questions are answered late. Asks again if the machine stood still."""
     for left in reversed(range(TRIES)):
         with Standstill() as standstill:
             late = late_answers(client)
@@ -74,7 +74,7 @@ def late_by_the_program(client):
 
 
 def serves_the_most():
-    """Returns whether a program that may serve the most connections answers some, and waits."""
+    """Returns whether a program that may serve the most connections serves some and runs on."""
     number = free_port()
     words = [sys.argv[1], "--listen", number, "--connections", "65535", "--receive-only", "eth0"]
     with subprocess.Popen(words, stdin=subprocess.DEVNULL) as program:

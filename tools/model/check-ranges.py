@@ -1,12 +1,12 @@
 #!/usr/bin/env python3
-"""Tries every value of every range on the built program and the model, and one past each end.
+"""Tries every value of every range, and one past each end, on the built program and the model.
 
     tools/model/check-ranges.py PROGRAM
 
-Of the numbers of --listen and --connections, and of the seconds of `tick N`, which are too many to be tried one by one,
-it tries those near a power of two or of ten and those near the ends. It opens agents with a hostname of every length,
-and with every role, too: it is not proved that no opening is refused for lack of memory. The last line is
-`N passed, M failed`.
+--listen, --connections and the seconds of `tick N` have too many values: it tries those near a
+power of two or of ten and those near the ends. It also opens agents with a hostname of every
+length, and with every role, since it is not proved that no opening fails for lack of memory. The
+last line is `N passed, M failed`.
 """
 import sys
 from concurrent.futures import ThreadPoolExecutor
@@ -17,10 +17,10 @@ from counts import Counts
 
 SHOWS = [b"show configuration", b"show chassis", b""]
 
-# options whose numbers change nothing here: the first since no connection is served, the second since a name is bad
+# options whose numbers have no effect here: no connection is served, or the port name is wrong
 MANY = {"--connections": ["eth0"], "--listen": ["a.b"]}
 
-# what `configure lldp` sets, and the greatest number of each
+# the numbers that `configure lldp` sets, with their greatest values
 COMMANDS = {name: setting.greatest for name, setting in model.SETTINGS.items()}
 COMMANDS["max-neighbors"] = model.OPENING["max_neighbors"]
 
@@ -33,7 +33,7 @@ def near_round_ones(greatest):
 
 
 def runs():
-    """Returns the words and lines of each run."""
+    """Yields the arguments and the lines of each run."""
     for option, greatest in model.OPENING.items():
         for number in range(greatest + 2):
             yield [model.option_word(option), str(number), "eth0"], SHOWS

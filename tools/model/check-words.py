@@ -1,12 +1,12 @@
 #!/usr/bin/env python3
-"""Gives the built program and the model lines that are nearly right: each word of each form of a line in turn one slip
-away, or another word of English or of lldpcli, a word more or less, and each octet before a line. Also roles and options
-that are nearly right, each of which the program must refuse.
+"""Gives the built program and the model lines that are nearly right.
 
     tools/model/check-words.py PROGRAM
 
-What the program accepts and the model does not is an addition to its commands, or the other way round. A difference is
-made small and shown. The last line is `N passed, M failed`, counted by form.
+In each form of a line each word in turn is one slip away, or another word of English or of lldpcli;
+a word is added or removed; and each octet comes before the line. Options and roles that are nearly
+right must be refused. If only one of the two accepts a line, the difference is made small and
+shown. The last line is `N passed, M failed`, counted by form.
 """
 import string
 import subprocess
@@ -19,7 +19,7 @@ import model
 import near
 from counts import Counts
 
-# besides the right lines one with octets whose upper case latin-1 does not have
+# the right lines, and one with octets that have no upper case in latin-1
 FORMS = [*near.LINES, ["configure", "system", "hostname", "\u00ff\u00b5"]]
 OPTIONS = [*(name.replace("_", "-") for name in model.VALUED), "receive-only", "help", "version"]
 SHORT = "hV"
@@ -28,7 +28,7 @@ SENDING = ["eth0"]
 
 
 def lines_of(form):
-    """Returns all lines that are nearly a right one, and the line after each mark."""
+    """Returns all lines that are nearly this one, and this one with each mark at its ends."""
     lines = [" ".join(words).encode("latin-1") for words in near.lines_near(form)]
     whole = " ".join(form).encode("latin-1")
     for mark in near.MARKS:
@@ -69,7 +69,7 @@ def main():
         faults = list(pool.map(fault_of, FORMS))
         for arguments in (roles(), options()):
             taken = [words for words, is_so in zip(arguments, pool.map(is_taken, arguments, chunksize=50)) if is_so]
-            faults.append(f"{len(taken)} taken: {taken[:5]}" if taken else None)
+            faults.append(f"{len(taken)} accepted: {taken[:5]}" if taken else None)
     counts = Counts()
     for name, fault in zip([*(" ".join(form) for form in FORMS), "roles", "options"], faults):
         counts.judge(fault, f"near {name}")

@@ -1,5 +1,5 @@
-"""Runs lldpa on words and a trace, over standard input or over connections, and compares its answers with the model of
-tools/model/model.py, the table of wrong arguments in docs/TRACE.md and the judge of tools/model/judge.py."""
+"""Runs lldpa with arguments and a trace, over standard input or connections, and compares it with
+model.py, judge.py and the wrong arguments of docs/TRACE.md."""
 import contextlib
 import itertools
 import os
@@ -14,7 +14,7 @@ sys.path.append(str(pathlib.Path(__file__).resolve().parents[1] / "gate"))
 import judge  # noqa: E402
 import model  # noqa: E402
 
-# the number of a free port of this host, which differs from run to run
+# stands for the number of a free port of this host
 FREE_PORT = "FREE"
 
 SECONDS = 60
@@ -30,7 +30,7 @@ WRONG_WORDS = (
 
 
 def free_port():
-    """Returns a free port of this process's hundred, which the kernel gives to nobody."""
+    """Returns a free port from this process's own hundred, which the kernel hands out to nobody."""
     first = 10000 + os.getpid() % 200 * 100
     for number in itertools.cycle(range(first, first + 100)):
         with socket.socket() as one, contextlib.suppress(OSError):
@@ -52,7 +52,7 @@ def connected(number, program):
 
 
 def asked(client, octets):
-    """Sends octets over a connection, and returns all that is answered."""
+    """Sends octets over a connection, and returns the whole answer."""
     answer = b""
     client.sendall(octets)
     client.shutdown(socket.SHUT_WR)
@@ -71,7 +71,7 @@ def cut_at_lines(octets, count):
 
 
 def number_of_connections(words):
-    """Returns how many connections the words ask for. A word after `--` is a port, whatever it looks like."""
+    """Returns how many connections the arguments ask for. Arguments after `--` are ports."""
     try:
         given, _ = model.read_words(words)
     except model.NoRun:
@@ -80,7 +80,7 @@ def number_of_connections(words):
 
 
 def answer_over_connections(program, words, trace):
-    """Returns what the program answers over connections, of which each brings a piece of the trace."""
+    """Returns what the program answers over connections, each with a piece of the trace."""
     number = free_port()
     words = [word.replace(FREE_PORT, number) for word in words]
     ran = subprocess.Popen([program, *words], stdin=subprocess.DEVNULL, stdout=subprocess.PIPE, stderr=subprocess.PIPE)
@@ -101,7 +101,7 @@ def answer_over_connections(program, words, trace):
 
 
 def answer_of_program(program, words, trace):
-    """Returns status, output and standard error; a program that does not end has no status."""
+    """Returns status, output and standard error. The status is None if the program does not end."""
     if any(FREE_PORT in word for word in words):
         return answer_over_connections(program, words, trace)
     try:
@@ -127,7 +127,7 @@ def is_told(complaint, words):
 
 
 def fault_of_refusal(status, output, complaint, words):
-    """Returns what is wrong if the reader of words answers by itself, or None."""
+    """Returns what is wrong with an answer of the parser of arguments, or None."""
     if status == 0:
         is_well = output and not complaint
     else:
@@ -136,7 +136,7 @@ def fault_of_refusal(status, output, complaint, words):
 
 
 def difference(program, words, lines):
-    """Returns in what the answers of program and model differ, or None."""
+    """Returns how the answers of program and model differ, or None."""
     trace = b"\n".join(lines)
     status, output, complaint = answer_of_program(program, words, trace)
     wanted_status, wanted, wanted_complaint = model.run([word.replace(FREE_PORT, "1") for word in words], trace)
@@ -154,7 +154,7 @@ def difference(program, words, lines):
 
 
 def judged(program, words, lines):
-    """Returns what the judge finds wrong, or None if nothing or if no trace is run."""
+    """Returns what the judge finds wrong, or None. It judges no traces over connections."""
     try:
         model.opened(words)
     except model.NoRun:

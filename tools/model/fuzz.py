@@ -1,12 +1,12 @@
 #!/usr/bin/env python3
-"""Runs lldpa and the model of tools/model/model.py on the same random words and traces, and compares the answers. Some
-of the traces also go to the judge of tools/model/judge.py, which checks when frames were sent.
+"""Compares lldpa with tools/model/model.py on random arguments and traces.
 
     python3 tools/model/fuzz.py [--program FILE] [--seed N] [--seconds S] [--traces N]
 
-Each trace has a seed of its own: trace K of a run has the seed N + K, so `--seed SEED --traces 1` runs one
-alone. The first seed is printed first. After the first difference the trace is made small and printed with its seed.
-Without --seconds and --traces it runs for half a minute. The last line is `1 passed, 0 failed` or `0 passed, 1 failed`.
+In some of the traces tools/model/judge.py also checks when frames were sent. Trace K of a run has
+the seed N + K, so `--seed SEED --traces 1` runs one alone. The first seed is printed first. After
+the first difference the trace is made small and printed with its seed. Without --seconds and
+--traces it runs for half a minute. The last line is `1 passed, 0 failed` or `0 passed, 1 failed`.
 """
 import argparse
 import functools
@@ -36,10 +36,8 @@ LENGTHS = (0, 0, 1, 2, 3, 4, 5, 6, 7, 9, 16, 17, 30, 128, 254, 255, 256, 257, 50
 
 
 class Dice(random.Random):
-    """Random choices with names."""
-
     def happens(self, one_in):
-        """Returns whether something happens, once in so many tries."""
+        """Returns true once in this many tries."""
         return self.randrange(one_in) == 0
 
     def octets(self, length):
@@ -49,7 +47,7 @@ class Dice(random.Random):
         return bytes(self.choices(PRINTABLE, k=length))
 
     def weighted(self, weights):
-        """Returns a key of the dictionary, as often as its weight says."""
+        """Returns one of the keys, each as often as its weight says."""
         return self.choices(list(weights), list(weights.values()))[0]
 
 
@@ -59,7 +57,7 @@ def spelled(kind, body):
 
 
 def identifier(dice):
-    """Returns the body of a Chassis ID or Port ID: mostly one of a few, so that the same names come again."""
+    """Returns the body of a Chassis ID or Port ID, mostly one of a few, so that names recur."""
     if not dice.happens(8):
         return dice.choice([b"\4\0\1\2\3\4" + bytes([dice.randrange(3)]), b"\5p%d" % dice.randrange(4)])
     if dice.happens(2):
@@ -77,7 +75,7 @@ def management_address(dice):
 
 
 def optional_tlv(dice):
-    """Returns a TLV as it may follow the first three."""
+    """Returns a TLV that may follow the first three."""
     kind = dice.weighted({4: 5, 5: 6, 6: 5, 7: 6, 8: 7, 9: 1, 50: 1, 126: 1, 127: 6, 0: 1, 1: 1, 2: 1, 3: 1})
     if dice.happens(6):
         return spelled(kind, dice.octets(dice.choice(LENGTHS)))
@@ -109,7 +107,7 @@ def lldpdu(dice):
 
 
 def altered_octets(dice, octets):
-    """Returns the octets with some of them changed, taken away or added."""
+    """Returns the octets with some of them changed, removed or added."""
     place = dice.randrange(len(octets) + 1)
     change = dice.choice(["change", "change", "bit", "cut", "drop", "insert"])
     if change == "cut":
@@ -186,7 +184,7 @@ def good_line(dice, ports):
 
 
 def restart(dice, port):
-    """Returns lines that stop a port, or take its link, and let it start again, with changes before and after."""
+    """Returns lines that stop a port or its link and restart it, with changes around them."""
     updates = [b"update"] * dice.randrange(7)
     if dice.happens(2):
         away, back = b"down " + port, b"up " + port
@@ -198,7 +196,7 @@ def restart(dice, port):
 
 
 def altered_line(dice, line):
-    """Returns a line with something wrong in it, or unusual."""
+    """Returns a line made wrong or unusual."""
     words = line.split(b" ")
     place = dice.randrange(len(words))
     change = dice.weighted({"near": 12, "word": 5, "number": 4, "drop": 4, "add": 4, "quote": 4, "mark": 4, "space": 3,
@@ -243,7 +241,7 @@ def line_of(dice, ports):
 
 
 def near_line(dice):
-    """Returns a line that is nearly right, of any form as often as of another."""
+    """Returns a line that is nearly right. All forms are equally likely."""
     words = list(dice.choice(near.LINES))
     if dice.happens(20):
         return dice.choice(near.MARKS) + " ".join(words).encode()
@@ -267,7 +265,7 @@ def ports_of(dice):
 
 
 def words_of(dice):
-    """Returns options and ports. Most are good: with bad ones a trace is not worth its time."""
+    """Returns options and ports, most of them right: with wrong ones no trace is run."""
     ports = ports_of(dice)
     options = []
     for name, most in model.OPENING.items():
@@ -297,7 +295,7 @@ def words_of(dice):
 
 
 def altered_words(dice, options, ports):
-    """Returns the same with something wrong in it, or unusual."""
+    """Returns the options and the ports with something wrong or unusual."""
     change = dice.choice(["value", "value", "twice", "port", "port", "same", "unknown", "help"])
     if change == "value":
         name = dice.choice(sorted(model.VALUED)).replace("_", "-")
@@ -317,7 +315,7 @@ def altered_words(dice, options, ports):
 
 @functools.cache
 def examples():
-    """Returns the words and traces that the pages show, and the transcripts."""
+    """Returns the arguments and the lines of the pages' examples and of the transcripts."""
     found = []
     pages = "".join(path.read_text() for path in sorted((TOP / "docs").glob("*.md")))
     command = r"\$ (?:lldpa ([^\n|]*?) *(?:2>&1)?|\(lldpa ([^\n|]*?) *\|[^\n]*\)) *<<'EOF'"
@@ -346,7 +344,7 @@ def altered_example(dice, words, lines):
 
 
 def new_trace(dice):
-    """Returns words and lines of all kinds, and shows at the end."""
+    """Returns arguments and lines of all kinds, with shows at the end."""
     words = words_of(dice)
     ports = [word.encode() for word in words if re.fullmatch("[0-9A-Za-z_/:-]*[0-9]", word)]
     length = dice.choice([10, 20, 30, 40, 50, 60, 150]) if len(ports) < 9 else 10
@@ -358,7 +356,7 @@ def new_trace(dice):
 
 
 def case(seed):
-    """Returns the words and the lines of a trace; joined by LF the lines are the input."""
+    """Returns the arguments and the lines of a trace. The input is the lines, joined by LF."""
     dice = Dice(seed)
     if dice.happens(10):
         words = [*dice.choice([[], ["--receive-only"]]), "eth0"]
@@ -372,7 +370,7 @@ def case(seed):
 
 # ------------------------------------------------------------------------------------------- making small
 def without_runs(items, differs):
-    """Returns the items without the runs that a difference does not need, longest runs first."""
+    """Removes the runs of items that a difference does not need, longest runs first."""
     size = len(items)
     while size:
         at = 0
@@ -387,7 +385,7 @@ def without_runs(items, differs):
 
 
 def shorter_line(line, differs):
-    """Returns the line without the words, the pairs of octets and the octets that a difference does not need."""
+    """Removes the words, pairs of octets and octets that a difference does not need."""
     line = b" ".join(without_runs(line.split(b" "), lambda words: differs(b" ".join(words))))
     for size in (2, 1):
         parts = [line[at:at + size] for at in range(0, len(line), size)]
@@ -396,7 +394,7 @@ def shorter_line(line, differs):
 
 
 def made_small(find, program, words, lines):
-    """Returns words and lines that still differ, and need all that they have, as far as two minutes reach."""
+    """Removes what a difference does not need, for two minutes at most."""
     end = time.monotonic() + 120
 
     def differs(words, lines):
@@ -415,7 +413,7 @@ def made_small(find, program, words, lines):
 
 
 def as_command(program, words, lines):
-    """Returns a line for the shell that shows the difference again."""
+    """Returns a shell command that reproduces the difference."""
     octets = b"\n".join(lines)
     text = re.sub(rb"[^ -&(-\[\]-~]", lambda octet: b"\\0%03o" % octet[0][0], octets).decode()
     text = text.replace("\\0012", "\\n")
@@ -446,7 +444,7 @@ def main():
 
 
 def finder_of(given, seed):
-    """Returns what finds something wrong with the trace of a seed, or None."""
+    """Returns the first function that finds a fault in the trace of this seed, or None."""
     words, lines = case(seed)
     finders = [difference] + [judged] * (seed % JUDGED_ONE_IN == 0)
     return next((find for find in finders if find(given.program, words, lines) is not None), None)
@@ -457,7 +455,7 @@ def show(find, program, seed):
     words, lines = case(seed)
     print(f"seed {seed} differs: {find(program, words, lines)[:1000]}", flush=True)
     words, lines = made_small(find, program, words, lines)
-    print(f"made small: {find(program, words, lines)}\n{as_command(program, words, lines)}")
+    print(f"made smaller: {find(program, words, lines)}\n{as_command(program, words, lines)}")
     print("FAILED: the program and the model differ\n0 passed, 1 failed")
 
 

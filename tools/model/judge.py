@@ -1,10 +1,11 @@
-"""A second judge of when ports send, beside tools/model/model.py, with which it shares no state.
+"""Checks when ports send, and shares no state with tools/model/model.py.
 
-It takes words, a trace and the frames that the program sent at each event. For each event it computes, only from whole
-lists, what the definitions of lldp_transmit and lldp_engine say: whether a port stops there, whether a frame is due
-there, and whether no run of events that ends there would hold more frames than the greatest credit plus one for each
-second after its first event. A frame has to be sent exactly if both hold, so none is late. There is no timer, no credit
-and no table here: each question goes back over the events.
+It reads arguments, a trace, and the frames that the program sent at each event. For each event it
+computes from the whole list of events, as the definitions of lldp_transmit and lldp_engine do:
+whether a port stops, whether a frame is due, and whether no run of events that ends there would
+have more frames than the greatest credit plus one for each second after its first event. A frame
+must be sent exactly if both hold, so none is late. There is no timer, no credit and no table here:
+each question goes back over the events.
 """
 import functools
 import re
@@ -13,19 +14,19 @@ from typing import NamedTuple, Optional
 
 import model
 
-# a comment one octet too long, whose answer shows where that of the line before it ends
+# a comment one octet too long: the answer to it marks the end of the answer before it
 MARK = b"#" * 4097
 MARK_ANSWER = b"error: line too long"
 
-# the most seconds that are judged, since each question goes over all events
+# the most seconds of a judged trace, since each question goes over all events
 MOST_TICKS = 300
 
-# what is not a local change; every other event is a setting, and one
+# events that are not local changes; all others are settings or updates, which are
 NO_CHANGES = ("tick", "frame", "link", "status")
 
 
 class Event(NamedTuple):
-    """An event: its kind, the port that it is for (None if it is for all), and what it brings."""
+    """An event: its kind, its port (None for all ports) and its value."""
     kind: str
     port: Optional[str] = None
     value: object = None
@@ -48,8 +49,8 @@ def events_of_line(line):
 
 
 def single_seconds(lines):
-    """Returns the lines with each line of several seconds as so many lines of one. Returns None if they cannot be
-    judged: they are too many, one is as long as a mark, or a word that gives seconds is quoted."""
+    """Returns the lines, with each line of several seconds as lines of one second. Returns None if
+    they cannot be judged: too many seconds, a line as long as a mark, or a quote in a tick line."""
     single, ticks = [], 0
     for line in lines:
         words = re.split(rb"[ \t]+", line.strip(b" \t"))
@@ -63,14 +64,14 @@ def single_seconds(lines):
 
 
 def answers(output):
-    """Returns the lines before each mark's answer."""
+    """Returns for each mark the lines that are written before the answer to it."""
     parts = re.split(rb"(?m)^%s\n" % MARK_ANSWER, output)[:-1]
     return [part.split(b"\n")[:-1] for part in parts]
 
 
 class Port:
-    """What the definitions say of one port at each position of the list of its events. `sent` are the positions at
-    which an ordinary frame was sent."""
+    """Computes what the definitions say about a port at each position in the list of its events.
+    `sent` holds the positions at which an ordinary frame was sent."""
 
     def __init__(self, name, options, events, sent):
         self.name = name
@@ -83,11 +84,11 @@ class Port:
             setattr(self, question, functools.lru_cache(None)(getattr(self, question)))
 
     def ticks(self, i, k):
-        """Returns how many seconds there are at positions i to k."""
+        """Returns how many seconds pass at positions i to k."""
         return self.ticks_to[k + 1] - self.ticks_to[i] if i <= k else 0
 
     def last(self, kind, k, other):
-        """Returns what the last event of this kind at or before k brought, or the other if there is none."""
+        """Returns the value of the last event of this kind up to k, or `other` if there is none."""
         found = (e.value for e in reversed(self.events[:k + 1]) if e.kind == kind and e.port in (None, self.name))
         return next(found, other)
 
@@ -105,7 +106,7 @@ class Port:
 
     # ---- receiving
     def learned(self, k):
-        """Returns the sound LLDPDU that is heard at k, or None."""
+        """Returns the sound LLDPDU that is received at k, or None."""
         event = self.events[k]
         is_heard = event.kind == "frame" and event.port == self.name and self.hears(k - 1) and self.up(k - 1)
         octets = event.value if is_heard else b""
@@ -130,7 +131,7 @@ class Port:
         return heard.name in live or len(live) < limit
 
     def live(self, name, k):
-        """Returns whether the last event about this neighbor stored it, and it has not run out."""
+        """Returns whether the last event about this neighbor stored it, and it has not expired."""
         for p in range(k, -1, -1):
             heard = self.learned(p)
             if self.purges(p) or heard is not None and heard.name == name and heard.ttl == 0:
@@ -153,7 +154,7 @@ class Port:
                 and is_free)
 
     def active(self, k):
-        """Returns whether a start came, and since then neither a stop nor a link that went down."""
+        """Returns whether the port has started, and has not stopped or lost its link since."""
         for p in range(k, -1, -1):
             if self.stops(p) or not self.up(p):
                 return False
@@ -200,7 +201,7 @@ class Port:
         return any(self.signal(s) and self.sent_to[k] == self.sent_to[s] for s in range(self.last_start(k), k + 1))
 
     def is_open(self, k):
-        """Returns whether no run of events that ends at k would hold too many frames with one more there."""
+        """Returns whether, with one more frame at k, no run that ends there has too many frames."""
         most = self.options.tx_credit_max
         return all(self.sent_to[k] - self.sent_to[i] + 1 <= most + self.ticks(i + 1, k) for i in range(k + 1))
 
@@ -213,7 +214,7 @@ class Port:
 
 
 def is_shutdown(frame):
-    """Returns whether a frame of the agent says that it leaves: its third TLV is a TTL of 0."""
+    """Returns whether a frame of the agent is a shutdown frame: its third TLV is a TTL of 0."""
     tlvs, _ = model.cut(frame[14:])
     return tlvs[2].body == b"\0\0"
 
@@ -228,7 +229,7 @@ def fault_of(words, lines, said):
         found = events_of_line(line) if is_event else []
         for frame in (w.split(b" ") for w in written if w.startswith(b"tx ")):
             if not found:
-                return f"a frame goes at {line[:60]!r}, which is not an event"
+                return f"a frame is sent at {line[:60]!r}, which is not an event"
             kind = shutdowns if is_shutdown(bytes.fromhex(frame[2].decode())) else ordinary
             kind[frame[1].decode()].add(len(events))
         events += found
@@ -242,7 +243,7 @@ def fault_of(words, lines, said):
 
 
 def judged(run, words, lines):
-    """Returns what is wrong with what a program does, or None. `run` returns its output."""
+    """Returns what a program does wrong, or None. `run` runs it and returns its output."""
     single = single_seconds(lines)
     if single is None:
         return None

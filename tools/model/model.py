@@ -3,12 +3,12 @@
 
     python3 tools/model/model.py WORDS.. < TRACE
 
-takes the words of lldpa and a trace, and writes what lldpa must write, over connections as over standard output. It was
-written from the text of IEEE 802.1AB-2009 (clauses 8 and 9) and docs/TRACE.md, and shares no code with lldpa.
-tools/model/fuzz.py compares the two. If lldpa's reader of words answers by itself (a bad option, --help), the model
-knows the status and not the text.
+It accepts the arguments of lldpa and a trace, and writes what lldpa must write, over connections as
+on standard output. It was written from IEEE 802.1AB-2009 (clauses 8 and 9) and docs/TRACE.md, and
+shares no code with lldpa. tools/model/fuzz.py compares the two. If lldpa's parser of arguments
+answers by itself (a bad option, --help), the model knows the status but not the text.
 
-Time is a clock that counts ticks since opening; what lasts some ticks is kept as the time at which it ends.
+Time is a clock that counts ticks since opening. What lasts some ticks is stored as its end.
 """
 import re
 import sys
@@ -47,8 +47,8 @@ def cut(octets):
     return tlvs, octets[at:]
 
 def management_fields(body):
-    """Returns family, address, interface numbering, interface number and OID of a Management Address whose length is
-    exactly what the two lengths in it say, or else None."""
+    """Returns family, address, interface numbering, interface number and OID of a Management
+    Address, or None if its length is not exactly what the two lengths in it say."""
     if not body or not 2 <= body[0] <= 32 or len(body) < body[0] + 7:
         return None
     address, behind = body[1:1 + body[0]], body[1 + body[0]:]
@@ -57,7 +57,7 @@ def management_fields(body):
     return (address[0], address[1:], numbering, interface, oid) if is_exact else None
 
 def is_well_formed(tlv):
-    """Returns whether an optional TLV has a body as its type wants it."""
+    """Returns whether the body of an optional TLV is right for its type."""
     length = len(tlv.body)
     if tlv.kind in (PORT_DESCRIPTION, SYSTEM_NAME, SYSTEM_DESCRIPTION):
         return length <= 255
@@ -70,11 +70,11 @@ def is_well_formed(tlv):
 MANDATORY = ((CHASSIS_ID, 256), (PORT_ID, 256), (TIME_TO_LIVE, 511))
 
 class UnsoundLldpdu(Exception):
-    """An LLDPDU that is refused, by the number of the first check that it fails."""
+    """An LLDPDU is refused. The argument is the number of the first check that it fails."""
 
 class Lldpdu:
-    """What a sound LLDPDU says: its MSAP identifier as `name`, its `ttl`, and if that is above 0 its `extent`, the TLVs
-    `kept` of it, how many of these are `unrecognized`, and how many are `discarded`."""
+    """A sound LLDPDU: its MSAP identifier as `name`, its `ttl` and, if that is above 0, `extent`,
+    the `kept` TLVs, and the numbers of `unrecognized` and of `discarded` TLVs."""
 
     def __init__(self, octets):
         tlvs, rest = cut(octets)
@@ -105,8 +105,8 @@ class Lldpdu:
 
 # ------------------------------------------------------------------------ the neighbors of a port (clause 9)
 class Table:
-    """The neighbors of a port by name, in the order in which they were last new, each as its last stored
-    LLDPDU and the time at which it expires; and until when some dropped LLDPDU would have lasted."""
+    """The neighbors of a port by name, in the order in which they were last new, each with its last
+    LLDPDU and the time when it expires; and until when some dropped LLDPDU would have lasted."""
 
     def __init__(self):
         self.held = {}
@@ -123,7 +123,7 @@ class Table:
         return "refreshed" if is_held else "new"
 
     def age(self, now):
-        """Removes the neighbors whose time has come, and returns how many."""
+        """Removes the neighbors that have expired, and returns how many there were."""
         gone = [name for name, (_, expires_at) in self.held.items() if expires_at <= now]
         for name in gone:
             del self.held[name]
@@ -131,7 +131,7 @@ class Table:
 
 # ------------------------------------------------------------------------------ when a port sends (clause 9)
 class Transmitter:
-    """When a port sends. An event that can make it send returns "ordinary", "shutdown" or None."""
+    """Decides when a port sends. Events that can send return "ordinary", "shutdown" or None."""
 
     def __init__(self, agent):
         self.agent = agent
@@ -140,7 +140,7 @@ class Transmitter:
         self.may_start_at = self.timer_ends_at = self.signals_left = 0
 
     def tick(self, may_send):
-        """Takes a second: first its credit, then a start or the end of the timer."""
+        """Lets a second pass: adds a credit, then starts the port or ends its timer."""
         self.credit = min(self.agent.options.tx_credit_max, self.credit + 1)
         if self.is_active and self.agent.now == self.timer_ends_at:
             self.signals_left = max(0, self.signals_left - 1)
@@ -152,7 +152,7 @@ class Transmitter:
         return self.frame_if_due()
 
     def local_change(self):
-        """Takes a local change: what the frames say was set, or how often they are sent."""
+        """Handles a local change: of what the frames contain, or of how often they are sent."""
         if self.is_active:
             self.signal()
         return self.frame_if_due()
@@ -170,7 +170,7 @@ class Transmitter:
         self.timer_ends_at = self.agent.now + (1 if self.signals_left else self.agent.tx_interval)
 
     def frame_if_due(self):
-        """Returns a requested frame as soon as there is credit for it."""
+        """Returns "ordinary" if a frame is requested and there is credit for it, else None."""
         if not self.is_frame_wanted or self.credit == 0:
             return None
         self.is_frame_wanted = False
@@ -178,7 +178,7 @@ class Transmitter:
         return "ordinary"
 
     def stop(self):
-        """Takes the right to transmit away: an active port says so, and waits before it starts again."""
+        """Forbids transmitting: an active port sends a shutdown frame, and waits to restart."""
         if not self.is_active:
             return None
         self.fall_silent()
@@ -196,7 +196,7 @@ COUNTERS = ("sent", "shutdowns", "received", "discarded", "errors", "tlvs-discar
             "ageouts", "drops")
 
 class Port:
-    """A port: status and link, neighbors, transmitter, counters. Events return what the transmitter's do."""
+    """A port: status, link, neighbors, transmitter, counters. Events return what it sends."""
 
     def __init__(self, name, agent):
         self.name = name
@@ -212,7 +212,7 @@ class Port:
         return self.transmitter.tick(self.status in TRANSMITTING and self.is_up)
 
     def hear(self, frame):
-        """Takes a frame; one that is not an LLDP frame, or that comes to a deaf port, changes nothing."""
+        """Receives a frame, unless it is not an LLDP frame or the port does not receive."""
         is_lldp = frame[:6] == NEAREST_BRIDGE and frame[12:14] == ETHERTYPE and len(frame) <= 1514
         if not is_lldp or self.status not in RECEIVING or not self.is_up:
             return None
@@ -252,11 +252,11 @@ DEFAULTS = {"mac": "02:00:00:00:00:01", "hostname": "localhost", "management": "
             "max_neighbors": 32, "tx_credit_max": 5, "tx_fast_init": 4, "reinit_delay": 2}
 
 class Range(NamedTuple):
-    """A number that `configure lldp` sets: from 1 to this, and its value at the start."""
+    """A number that `configure lldp` sets, at least 1: its greatest and its first value."""
     greatest: int
     at_start: int
 
-# all of them but the limit, which begins with the value of an option and cannot be higher
+# all except max-neighbors, which starts with the value of its option and cannot exceed it
 SETTINGS = {"tx-interval": Range(3600, 30), "tx-hold": Range(100, 4)}
 
 def attribute(name):
@@ -280,11 +280,11 @@ class Agent:
         return min(65535, self.tx_interval * self.tx_hold + 1)
 
     def capabilities(self):
-        """Returns the body of System Capabilities: the role is available, and enabled."""
+        """Returns the body of System Capabilities: the bit of the role is available and enabled."""
         return 2 * ROLES[self.options.role].to_bytes(2, "big")
 
     def management(self):
-        """Returns the body of the Management Address: an IPv4 one, with no interface and no OID."""
+        """Returns the body of the Management Address: an IPv4 address without interface and OID."""
         return b"\5\1" + bytes(map(int, self.options.management.split("."))) + b"\1\0\0\0\0\0"
 
     def frame(self, port, kind):
@@ -301,7 +301,7 @@ class Agent:
         return octets + spelled(END, b"")
 
     def meet(self, ports, event):
-        """Gives ports an event, in their order, and returns the lines of the frames that they send."""
+        """Applies an event to the ports in order. Returns the lines of the frames sent."""
         lines = []
         for port in ports:
             kind = event(port)
@@ -315,7 +315,7 @@ class Agent:
         return self.meet(self.ports, Port.tick)
 
     def local_change(self):
-        """Takes an accepted command that each active port answers with a frame."""
+        """Handles a command after which each active port requests a frame."""
         return self.meet(self.ports, lambda port: port.transmitter.local_change())
 
 # ------------------------------------------------------------------------------------- values of shown lines
@@ -327,7 +327,7 @@ CAPABILITY_NAMES = ("Other Repeater Bridge Wlan Router Tel Docsis Station Cvlan 
                     "bit11 bit12 bit13 bit14 bit15").split()
 
 def escaped(octets):
-    """Returns printable octets unchanged, a backslash twice, all others as two digits."""
+    """Returns a text: printable octets unchanged, a backslash doubled, others in hexadecimal."""
     return "".join("\\\\" if octet == 0x5c else chr(octet) if 0x20 <= octet <= 0x7e else f"\\x{octet:02x}"
                    for octet in octets)
 
@@ -375,7 +375,7 @@ def shown_tlv(tlv):
 
 # ----------------------------------------------------------------------------------------------------- shows
 def show_neighbors(agent):
-    """Returns each port's neighbors, in the table's order, with all that they say."""
+    """Yields the lines of each port's neighbors, in the order of the table."""
     for port in agent.ports:
         held = port.table.held.values()
         yield f"lldp.{port.name}.neighbors={len(held)}"
@@ -390,7 +390,7 @@ def show_neighbors(agent):
             yield from (front + shown_tlv(tlv) for tlv in lldpdu.kept)
 
 def show_statistics(agent):
-    """Returns each port's counters, which wrap around at 2 to the 32."""
+    """Yields each port's counters, which wrap around at 2 to the 32."""
     for port in agent.ports:
         yield from (f"lldp.{port.name}.{name}={port.counters[name] % 2 ** 32}" for name in COUNTERS)
 
@@ -403,7 +403,7 @@ def show_chassis(agent):
         yield f"local-chassis.mgmt={shown_management(agent.management())}"
 
 def show_configuration(agent):
-    """Returns the numbers in force, and each port's status."""
+    """Yields the current numbers, and each port's status."""
     options = agent.options
     numbers = {name: getattr(agent, attribute(name)) for name in SETTINGS}
     numbers |= {"ttl": agent.ttl(), "reinit-delay": options.reinit_delay, "tx-fast-init": options.tx_fast_init,
@@ -420,11 +420,11 @@ WORD = re.compile(r'(?:"([^"]*)"|([^ \t"]+))(?=[ \t]|\Z)')
 NUMBER, HEXADECIMAL, TEXT = "[0-9]+", "([0-9a-fA-F]{2})*", "[ -~]{0,255}"
 
 class RefusedLine(Exception):
-    """A line that is refused, with its text."""
+    """A line is refused. The argument is the text that follows `error: `."""
 
 class Words:
-    """The words of a line, taken from left to right; the first that fails decides the line's fault. Octets are the
-    characters of the same numbers."""
+    """The words of a line, read from left to right. The first wrong word decides the line's fault.
+    Each octet is the character with the same number."""
 
     def __init__(self, line):
         self.left, at = [], 0
@@ -436,20 +436,20 @@ class Words:
             at = word.end()
 
     def next(self, choices=None):
-        """Takes the next word, which must be one of the choices, if some are given."""
+        """Reads the next word, which must be one of the choices, if there are any."""
         if not self.left or choices and self.left[0] not in choices:
             raise RefusedLine("unknown command")
         return self.left.pop(0)
 
     def spelled(self, pattern, fault):
-        """Takes the next word, which must be spelled as the pattern says."""
+        """Reads the next word, which must match the pattern."""
         word = self.next()
         if not re.fullmatch(pattern, word):
             raise RefusedLine(fault)
         return word
 
     def number(self, most):
-        """Takes the next word as a number from 1 on."""
+        """Reads the next word as a number from 1 to `most`."""
         value = int(self.spelled(NUMBER, "not a number"))
         if not 1 <= value <= most:
             raise RefusedLine("out of range")
@@ -469,7 +469,7 @@ class Words:
         return value
 
 def obey(agent, words):
-    """Does what the words of a line ask for, and returns the lines that it writes."""
+    """Executes the words of a line, and returns the lines that it writes."""
     form = words.next(("tick", "rx", "up", "down", "show", "configure", "update"))
     if form == "tick":
         ticks = words.end(words.number(65535) if words.left else 1)
@@ -494,7 +494,7 @@ def set_text(agent, words):
     return agent.local_change()
 
 def set_number(agent, words):
-    """Sets a number or the limit; the limit cannot be lower than what a port holds."""
+    """Sets a number. max-neighbors cannot be less than the number of neighbors of a port."""
     greatest = {name: setting.greatest for name, setting in SETTINGS.items()}
     greatest["max-neighbors"] = agent.options.max_neighbors
     name = words.next(greatest)
@@ -512,7 +512,7 @@ def set_status(agent, words):
     return agent.meet([port], lambda port: port.set_status(status))
 
 def answer(agent, line):
-    """Returns the lines that answer one line of a trace."""
+    """Returns the lines that answer a line of a trace."""
     if len(line) > 4096:
         return ["error: line too long"]
     if line.lstrip(" \t")[:1] in ("", "#"):
@@ -524,10 +524,10 @@ def answer(agent, line):
 
 # ----------------------------------------------------------------------------------------------- the program
 class NoRun(Exception):
-    """Words with which no trace is run: the status, and the line on standard error, or None if that is the text of
-    lldpa's reader of words."""
+    """Arguments with which no trace is run: the status, and the line on standard error, or None if
+    lldpa's parser of arguments writes it."""
 
-# the numbers of options: those that the agent is opened with, and those of the sockets
+# the greatest numbers of options: those with which the agent is opened, and those of sockets
 OPENING = {"max_neighbors": 128, "tx_credit_max": 10, "tx_fast_init": 8, "reinit_delay": 10}
 GREATEST = {**OPENING, "listen": 65535, "connections": 65535}
 VALUED = (*GREATEST, "mac", "hostname", "management", "role")
@@ -536,11 +536,11 @@ BELOW_256 = "(25[0-5]|2[0-4][0-9]|1[0-9][0-9]|[1-9]?[0-9])"
 IPV4 = BELOW_256 + (r"\." + BELOW_256) * 3
 
 def option_word(name):
-    """Returns the option of this name, as it is written."""
+    """Returns the option with this name, as it is written on a command line."""
     return "--" + name.replace("_", "-")
 
 def option_value(name, word):
-    """Returns the value of an option, as far as the reader of words checks it."""
+    """Returns the value of an option, checked as far as the parser of arguments does."""
     is_number = name in GREATEST and re.fullmatch("[+-]?[0-9]+", word) is not None
     if name in GREATEST and not (is_number and 1 <= int(word) <= GREATEST[name]):
         raise NoRun(2, None)
@@ -549,7 +549,7 @@ def option_value(name, word):
     return int(word) if is_number else word
 
 def read_words(words):
-    """Returns the options given, by name, and the ports. A word that begins with `-` is an option, up to a `--`."""
+    """Returns the options by name, and the ports. After a `--` all arguments are ports."""
     given, ports, left = {}, [], list(words)
     while left:
         word = left.pop(0)
@@ -572,7 +572,7 @@ def read_words(words):
     return given, ports
 
 def opened(words):
-    """Returns the agent that the words ask for; the first check that fails says why there is none."""
+    """Returns the agent of these arguments, or raises the fault of the first check that fails."""
     if re.search("[\ud800-\udfff]", " ".join(words)):  # octets that are not UTF-8
         raise NoRun(2, "lldpa: no memory")
     given, ports = read_words(words)
@@ -589,8 +589,8 @@ def opened(words):
     return Agent(options, ports)
 
 def run(words, trace):
-    """Returns what lldpa does with words and a trace: its status, its output, and its line on standard error, which is
-    empty if there is none and None if the model does not know it."""
+    """Returns what lldpa does with these arguments and this trace: its status, its output, and its
+    line on standard error (empty if there is none, None if the model does not know it)."""
     try:
         agent = opened(words)
     except NoRun as why:
@@ -603,7 +603,7 @@ def main():
     status, output, complaint = run(sys.argv[1:], sys.stdin.buffer.read())
     sys.stdout.write(output)
     if complaint != "":
-        print(complaint or "model: words that lldpa's reader of words answers", file=sys.stderr)
+        print(complaint or "model: lldpa's parser of arguments answers these", file=sys.stderr)
     return status
 
 if __name__ == "__main__":

@@ -1,9 +1,9 @@
-"""Words that are nearly right: a letter more, less or another, letters exchanged, a front of a word, another case, and
-words of ordinary English, of other command lines and of lldpcli. A program that accepts one accepts too much."""
+"""Words that are nearly right: with a letter added, removed, replaced or exchanged, cut short or in
+another case; and words of English, other commands and lldpcli. None should be accepted."""
 
 LETTERS = "abcdefghijklmnopqrstuvwxyz0189-_.=+;:/?!"
 
-# words that the program or lldpcli has at some place, and those that might be written instead
+# words that the program or lldpcli accepts somewhere, and words that users might write instead
 WORDS = """
 tick tock ticks second seconds sec s time timer wait sleep step next clock advance elapse pause delay minute age hour now
 rx tx recv receive received frame packet in input hear get read send transmit output out write tx-frame rx-frame pdu
@@ -35,10 +35,10 @@ quiet silent verbose-mode daemon foreground config-file no-mac oneshot dry-run h
 
 UNITS = ("s", "sec", "secs", "ms", "m", "min", "h", "x", "%")
 
-# what may precede or follow a port's name, if a program looks at a part of it
+# may come before or after a port's name, if a program reads only a part of the word
 FILLINGS = "@.:/-_0xe%*~"
 
-# what begins a comment elsewhere, or is ignored there
+# begins a comment elsewhere, or is ignored there
 MARKS = [bytes([octet]) for octet in range(256) if octet != 0x0a] + [b"//", b"--", b"/*", b"REM ", b"> ", b"$ ", b"\xef\xbb\xbf"]
 
 PORT = "eth0"
@@ -55,7 +55,7 @@ LINES = [line.split() for line in (
 
 
 def misspelled(word):
-    """Returns each word that is one slip away from a word."""
+    """Yields each word that is one slip away from this word."""
     for place in range(len(word) + 1):
         front, rest = word[:place], word[place:]
         yield front
@@ -67,8 +67,7 @@ def misspelled(word):
 
 
 def otherwise_written(word):
-    """Returns a word in other letters and quotes, and joined otherwise. Octets beyond ASCII are not letters, and have
-    no case."""
+    """Yields a word in upper case, quoted, and joined differently. Only ASCII has case here."""
     octets = word.encode("latin-1")
     yield from (octets.upper().decode("latin-1"), octets.capitalize().decode("latin-1"))
     yield from (word + word, word.replace("-", "_"), word.replace("-", ""))
@@ -76,7 +75,7 @@ def otherwise_written(word):
 
 
 def numbers(word):
-    """Returns a number with zeros before it, up to more digits than any integer has, and with digits after it."""
+    """Yields a number with zeros before or after it, numbers of nines, and with units."""
     for count in (*range(1, 70), 255, 1000):
         yield "0" * count + word
         yield word + "0" * count
@@ -85,7 +84,7 @@ def numbers(word):
 
 
 def longer_names(name):
-    """Returns a port's name with up to 16 octets before or after it."""
+    """Yields a port's name with up to 16 octets before or after it."""
     for filling in FILLINGS:
         for count in range(1, 17):
             yield filling * count + name
@@ -93,7 +92,7 @@ def longer_names(name):
 
 
 def slips(word):
-    """Returns what may be written for a word by a slip, in a fixed order."""
+    """Returns what a slip may make of a word, in a fixed order."""
     found = list(otherwise_written(word))
     if len(word) < len(FRAME):
         found += misspelled(word)
@@ -103,17 +102,17 @@ def slips(word):
 
 
 def near(word):
-    """Returns each word that is nearly one, none twice and not the word itself."""
+    """Returns each word that is nearly this one, without repetitions."""
     return [other for other in dict.fromkeys([*WORDS, *slips(word)]) if other != word]
 
 
 def some_near(dice, word):
-    """Returns one of them. The words of the list are together as likely as all slips."""
+    """Returns a word that is nearly this one: half of the time one of WORDS, else a slip."""
     return dice.choice(WORDS if dice.happens(2) else slips(word))
 
 
 def lines_near(words):
-    """Returns the lines that are nearly a line: one word another, one more, one less, or one word for all of it."""
+    """Yields lines nearly like this one: a word replaced, added or removed, or one alone."""
     yield from ([other] for other in WORDS)
     for place, word in enumerate(words):
         front, behind = words[:place], words[place + 1:]

@@ -1,16 +1,15 @@
 #!/bin/sh
 # Builds the program and the library for an architecture, in a folder.
 #     tools/release/build.sh [--arch amd64|arm64] [FOLDER]
-# FOLDER is crates/lldpa/out/ARCH unless given. The architecture is that of this machine unless given; another one needs
-# its gcc and binutils, such as the package gcc-aarch64-linux-gnu. What is built for amd64 runs on any processor of it.
-# In FOLDER are then
+# By default FOLDER is crates/lldpa/out/ARCH and the architecture is that of this machine. Another
+# one needs its gcc and binutils, such as the package gcc-aarch64-linux-gnu. What is built for amd64
+# runs on every such processor. Prints the name of FOLDER, which then has
 #     lldpa          the program, linked to the GNU C library of the system, 2.34 or later
-#     lldpa-static   the same with all that it needs, for any Linux: it runs in an empty folder. It contains the GNU C
-#                    library, whose licence (LGPL) requires lldpa.o with it, so that it can be linked again
+#     lldpa-static   the same for any Linux, with all that it needs; it runs in an empty folder. The
+#                    licence of the GNU C library in it (LGPL) requires lldpa.o, to link it again
 #     lldpa.o        the program before it is linked
 #     lib            what tools/library/library.sh makes
-# What is built was proved for that architecture: the crates below `lldpa` and `lldpa_c` are proved once for all. Prints
-# the name of FOLDER.
+# They are proved for that architecture; crates below `lldpa` and `lldpa_c` are proved once for all.
 set -eu
 cd "$(dirname "$0")/../.."
 fail() {
@@ -28,7 +27,7 @@ mkdir -p "$folder"
 room=$(mktemp -d)
 trap 'rm -rf "$room"' EXIT
 
-# Lists the crates that crates.txt names behind a crate, and those below them.
+# named_by lists the crates that crates.txt names for a crate; below adds all below these.
 named_by() {
     sed -n "s/^$1\( [a-z]*\)*: *//p" crates.txt
 }
@@ -61,7 +60,7 @@ compile_program() {
     (cd crates/lldpa && "$kit/bin/rattle" build "$@" --target $target)
 }
 
-# The library is built beside the program. It says by itself why it is not.
+# The library is built at the same time. If that fails, its script says why.
 tools/library/library.sh --arch "$arch" "$folder/lib" > /dev/null &
 library=$!
 compile_program > "$room/said" 2>&1 || {

@@ -1,16 +1,16 @@
 #!/bin/sh
-# Installs lldpa under a prefix, /usr/local unless given: the program, lldpa-live, those of bin/ with the Python package
-# that they need, the manual pages, completions for bash and zsh, the service with its configuration, a timer that writes its
-# metrics, alerts for Prometheus, and the pages for operators.
+# Installs lldpa under a prefix: the program, lldpa-live, the programs of bin/ with their Python
+# package, the manual pages, completions for bash and zsh, the service with its configuration, a
+# timer that writes its metrics, alerts for Prometheus, and the pages for operators.
 #     tools/release/install.sh [--list] [--uninstall] [--python FOLDER] [--library] [PREFIX]
-# With --list it only lists what it would install, and nothing need be built for that: mode, name and source of each
-# file, and where each link leads. With --uninstall it removes what it installs, except a configuration that was
-# changed. `import lldpa` works for the python3 that looks into FOLDER, by default the first folder below the prefix
-# into which python3 looks. If DESTDIR is set, it is put in front. LLDPA names the program, crates/lldpa/out/lldpa
-# unless it is set, and LLDPA_LIVE lldpa-live, rust/live/out/lldpa-live unless it is set.
-# With --library it installs the library for C instead: the header, the archive, the shared object and
-# their description for pkg-config.
-# LLDPA_LIB_DIR names the folder that tools/library/library.sh made, crates/lldpa_c/out/lib unless it is set.
+# The default prefix is /usr/local. --list only lists what would be installed, and needs nothing
+# built: mode, name and source of each file, and the target of each link. --uninstall removes what
+# it installs, except a configuration that was changed. `import lldpa` works for a python3 that
+# searches FOLDER, by default the first folder below the prefix that python3 searches. DESTDIR, if
+# set, comes before all paths. LLDPA names the program (default crates/lldpa/out/lldpa), and
+# LLDPA_LIVE lldpa-live (default rust/live/out/lldpa-live). --library installs the library for C
+# instead: the header, the archive, the shared object and their file for pkg-config. LLDPA_LIB_DIR
+# names the folder that tools/library/library.sh made (default crates/lldpa_c/out/lib).
 # tools/release/package.sh makes its packages of what this installs under /usr.
 set -eu
 usage() {
@@ -46,25 +46,25 @@ umask 022
 root=${DESTDIR:-}
 packages=$prefix/lib/lldpa
 documents=$prefix/share/doc/lldpa
-# Debian's own folders are below /usr, and the configuration of what is below /usr and /usr/local is in /etc.
+# Debian has its own folders below /usr. For /usr and /usr/local the configuration is in /etc.
 case $prefix in
     /usr) etc=/etc zsh=vendor-completions interpreter='/usr/bin/python3 -I' ;;
     /usr/local) etc=/etc zsh=site-functions interpreter='/usr/bin/env -S python3 -I' ;;
     *) etc=$prefix/etc zsh=site-functions interpreter='/usr/bin/env -S python3 -I' ;;
 esac
 
-# The folder of archives: below /usr it is that of the architecture.
+# The folder of the archive: below /usr it is that of the architecture.
 archives=$prefix/lib
 [ "$prefix" != /usr ] || archives=$prefix/lib/$(dpkg-architecture -qDEB_HOST_MULTIARCH 2> /dev/null || true)
 archives=${archives%/}
 
-# The pages for operators. The others of docs stay in the sources.
+# The pages for operators. The other pages of docs are not installed.
 pages="README.md SECURITY.md docs/OPERATORS.md docs/PROGRAMS.md docs/CAPTURES.md docs/LLDPD.md audit/README.md"
 others=$(for file in docs/*.md; do
     case " $pages " in *" $file "*) ;; *) basename "$file" .md ;; esac
 done | paste -sd '|')
 
-# Lists files that are installed in one way into one folder.
+# each WAY FOLDER FILE..: lists files that are installed in this way into this folder.
 each() {
     way=$1 into=$2
     shift 2
@@ -84,7 +84,7 @@ library_files() {
     each plain "$documents-dev/examples/python" examples/python/*.py
 }
 
-# Lists each file: how it is installed, its source and its place. The programs of bin/ stay beside their package.
+# Lists each file: how it is installed, its source and its destination.
 files() {
     if [ -n "$library" ]; then
         library_files
@@ -120,8 +120,8 @@ files() {
     done
 }
 
-# Lists each link: where it leads, and its place. lldpctl and lldpcli are only beside their package, since lldpd has
-# programs of those names. The linker looks for the shared object by its name without a number.
+# Lists each link: its target and its name. lldpctl and lldpcli get no link, since lldpd has
+# programs of these names. The linker looks for the shared object by its name without a number.
 links() {
     if [ -n "$library" ]; then
         echo "liblldpa.so.1 $archives/liblldpa.so"
@@ -140,11 +140,11 @@ mode_of() {
     case $1 in program | script) echo 755 ;; *) echo 644 ;; esac
 }
 
-# Writes what is installed of a file.
+# written WAY FILE: prints a file as it is installed.
 written() {
     case $1 in
         script) sed "1s,.*,#!$interpreter," "$2" ;;
-        page) # a link to a page that is not installed becomes its name; of other links only the text stays
+        page) # a link to a page that is not installed becomes its name; other links become their text
             sed -zE "s,\[([^]]*)\]\((\.\./)?(docs/)?($others)\.md[^)]*\),\1 (docs/\4.md in the sources),g
                 s,\[([^]]*)\]\((\.\./)?(crates|examples|man|tools|share|python|CONTRIBUTING|CHANGELOG|lldpa-audit\.1)[^)]*\),\1,g" \
                 "$2"
@@ -159,7 +159,7 @@ written() {
     esac
 }
 
-# Whether a file is a configuration that is there already.
+# Succeeds if a file is a configuration that exists already.
 is_kept() {
     [ "$1" = configuration ] && [ -e "$2" ]
 }
@@ -180,7 +180,7 @@ fi
 if [ -n "$uninstall" ]; then
     files | while read -r way source name; do
         if is_kept "$way" "$root$name" && ! cmp -s "$source" "$root$name"; then
-            echo "$root$name was changed, and stays"
+            echo "$root$name was changed, so it stays"
         else
             rm -f "$root$name"
         fi
@@ -218,5 +218,5 @@ links | while read -r target name; do
     mkdir -p "$(dirname "$root$name")"
     ln -sfn "$target" "$root$name"
 done
-[ -n "$looks" ] || echo "for import lldpa, put $packages/python and $packages/audit on PYTHONPATH: python3 does not look below $prefix"
+[ -n "$looks" ] || echo "to import lldpa, put $packages/python and $packages/audit on PYTHONPATH: python3 does not search $prefix"
 echo "installed under $root$prefix"

@@ -1,12 +1,13 @@
 #!/bin/sh
-# Builds lldpa-live, which needs the library that tools/library/library.sh makes.
+# Builds lldpa-live, which needs the library that tools/library/library.sh makes, and prints its
+# path.
 #     tools/release/live.sh [--arch amd64|arm64] [--dynamic]
-# rust/live/out/lldpa-live is then the program for this machine, rust/live/out/ARCH/lldpa-live that for another
-# architecture. It contains all that it needs and runs in an empty folder. With --dynamic it uses the GNU C library of
-# the system, and is in the folder `dynamic` beside it, from which tools/release/package.sh takes it. LLDPA_LIB_DIR names
-# the folder of liblldpa.a if that is elsewhere. Needs cargo, and no network. Another architecture needs its gcc and
-# Rust's standard library for it, such as Debian's libstd-rust-dev:arm64, which Debian's own cargo uses; without that
-# library the status is 3. Prints the path of the program.
+# The program is rust/live/out/lldpa-live for this machine, rust/live/out/ARCH/lldpa-live for
+# another architecture. It runs in an empty folder. With --dynamic it uses the GNU C library of the
+# system, and is in the folder `dynamic` beside it, where tools/release/package.sh looks for it.
+# LLDPA_LIB_DIR names the folder of liblldpa.a if that is elsewhere. Needs cargo, and no network.
+# Another architecture needs its gcc and its standard library of Rust, such as libstd-rust-dev:arm64
+# for Debian's cargo; without it the status is 3.
 set -eu
 cd "$(dirname "$0")/../.."
 fail() {
@@ -22,14 +23,14 @@ while [ $# -gt 0 ]; do
     case $1 in
         --arch) arch=${2-} && shift ;;
         --dynamic) flags='' dynamic=/dynamic ;;
-        *) fail "$1 is no option" ;;
+        *) fail "unknown option $1" ;;
     esac
     shift
 done
 case ${arch:-$machine} in
     amd64 | x86_64) arch=amd64 triple=x86_64-unknown-linux-gnu ;;
     arm64 | aarch64) arch=arm64 triple=aarch64-unknown-linux-gnu ;;
-    *) fail "there is no architecture $arch" ;;
+    *) fail "unknown architecture $arch" ;;
 esac
 command -v cargo > /dev/null || fail "there is no cargo"
 has_library() { [ -d "$("$1" --print sysroot)/lib/rustlib/$triple/lib" ]; }

@@ -1,13 +1,15 @@
 #!/bin/sh
-# Makes a Debian package, lldpa_VERSION-REVISION_ARCH.deb, of what tools/release/install.sh installs under /usr; or of
-# what tools/release/install.sh --library installs: with --shared lldpa1_VERSION-REVISION_ARCH.deb, which has the shared
-# object, and with --library lldpa-dev_VERSION-REVISION_ARCH.deb, which has the rest.
+# Makes a Debian package, lldpa_VERSION-REVISION_ARCH.deb, of what tools/release/install.sh installs
+# under /usr. With --shared or --library it packs what install.sh --library installs: lldpa1 is the
+# shared object, and lldpa-dev the rest.
 #     tools/release/package.sh [--library | --shared] [--arch ARCH] [--revision N] [FOLDER]
-# The package is written to FOLDER, the present one unless given, and its name to standard output. VERSION is the newest
-# of CHANGELOG.md and must be what the program says of itself. N is the Debian revision, by default 1. It takes what tools/release/build.sh made for the architecture, amd64 or arm64: that of this machine unless
-# --arch is given; and the lldpa-live that tools/release/live.sh --dynamic made for it. To learn the version of a program for another
-# machine, it runs it under qemu. LLDPA and LLDPA_LIVE, if they are set, name the programs. DEBFULLNAME and DEBEMAIL
-# name the maker, by default who made the last commit. It needs dpkg-deb, dpkg and binutils, but not root.
+# It writes the package to FOLDER (default: the current one) and prints its name. VERSION is the
+# newest in CHANGELOG.md, which the program must report too. N is the Debian revision (default 1).
+# It packs what tools/release/build.sh and tools/release/live.sh --dynamic made for the
+# architecture, amd64 or arm64 (default: this machine's), or the programs LLDPA and LLDPA_LIVE. qemu
+# runs a program for another machine, to get its version. DEBFULLNAME and DEBEMAIL name the
+# maintainer (default: the author of the last commit). Needs dpkg-deb, dpkg and binutils, but not
+# root.
 set -eu
 usage() {
     echo "usage: tools/release/package.sh [--library | --shared] [--arch ARCH] [--revision N] [FOLDER]" >&2
@@ -60,7 +62,7 @@ cd "$(dirname "$0")/../.."
 version=$(sed -n 's/^## \([0-9][0-9.]*\)$/\1/p' CHANGELOG.md | head -n 1)
 # shellcheck disable=SC2086 # the emulator is several words
 said=$($emulator "$program" --version)
-[ "$said" = "lldpa $version" ] || fail "CHANGELOG.md begins with $version, and the program says: $said"
+[ "$said" = "lldpa $version" ] || fail "CHANGELOG.md begins with $version, but the program reports: $said"
 version=$version-$revision
 maker="${DEBFULLNAME:-$(git log -1 --format=%an)} <${DEBEMAIL:-$(git log -1 --format=%ae)}>"
 # The same sources give the same package: its time is that of the last commit.

@@ -1,6 +1,6 @@
 /*
- * What the program needs of C on a platform for which the toolchain has no archive, besides memory: its arguments, and
- * the number of the last error.
+ * The C functions, besides memory, that the program needs on a platform without an archive of the
+ * toolchain: its arguments, and the number of the last error.
  */
 #include <errno.h>
 #include <string.h>
@@ -15,7 +15,7 @@ __attribute__((constructor)) static void keep_arguments(int count, char **words)
     arguments = words;
 }
 
-/* Copies the argument at a place. Returns its length, -1 if there is none, or -2 if it has more than `most` octets. */
+/* Copies argument `at`. Returns its length, -1 if there is none, -2 if it is longer than `most`. */
 long rattle_arg(size_t at, char *room, size_t most)
 {
     if (at >= argument_count) {

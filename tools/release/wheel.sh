@@ -1,9 +1,9 @@
 #!/bin/sh
-# Makes a wheel of the Python packages that holds the program lldpa too, so that pip installs all of it at once.
+# Makes a wheel of the Python packages with the program lldpa, so that pip installs all at once.
 #     tools/release/wheel.sh [FOLDER]
-# The wheel is written to FOLDER, the present one unless given, and its name to standard output. It is for
-# the machine that the program was built for, linux_x86_64 or linux_aarch64. LLDPA names the program,
-# crates/lldpa/out/lldpa unless it is set. `pip install ./python` makes a wheel for any machine, without the program.
+# It writes the wheel to FOLDER (default: the current one) and prints its name. The wheel is for the
+# machine of the program: linux_x86_64 or linux_aarch64. LLDPA names the program (default
+# crates/lldpa/out/lldpa). `pip install ./python` makes a wheel without it, for any machine.
 set -eu
 [ $# -le 1 ] || { echo "usage: tools/release/wheel.sh [FOLDER]" >&2; exit 2; }
 folder=$(realpath -- "${1:-.}")

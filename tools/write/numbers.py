@@ -1,20 +1,20 @@
 #!/usr/bin/env python3
-"""Counts what docs/TESTING.md says of how this is tested.
+"""Counts what docs/TESTING.md says in numbers.
 
     tools/write/numbers.py [--check | --parts [FOLDER]]
 
-Without --check it prints the table. With it, it fails if a number of the page is off by more than
-a twentieth, or if people keep more lines by hand than tools/write/lines.txt says; the last line is
-then `N passed, M failed`. --parts prints how many lines people keep by hand, part by part, here or
-in another checkout of the repository. Who adds lines takes away others in the same step. When they
-have become fewer, this keeps it so:
+Without --check it prints the table. With --check it fails if a number of the page is off by more
+than a twentieth, or if people keep more lines by hand than tools/write/lines.txt says; the last
+line is then `N passed, M failed`. --parts prints how many lines people keep by hand, part by part,
+here or in another checkout. If you add lines, remove others in the same change. If there are fewer,
+save them:
 
     tools/write/numbers.py --parts > tools/write/lines.txt
 
-Lines are those that are not blank. People keep by hand what git keeps as text, without the imports
-of `.antt`, which `rt check --fix-imports` writes, and without what a script or a program wrote:
-theorems of transcripts, vectors, declarations of the library for Rust, figures and pictures,
-expected outputs, recorded answers of other programs, and locks of other packages.
+Blank lines do not count. People keep by hand what git stores as text, except the imports of
+`.antt`, which `rt check --fix-imports` writes, and what a script or a program wrote: theorems of
+transcripts, vectors, declarations of the library for Rust, figures and pictures, expected outputs,
+recorded answers of other programs, and locks of other packages.
 """
 import collections
 import fnmatch
@@ -45,12 +45,11 @@ FUNCTION = r"^\s*(?:pub(?:\(\w+\))? )?(?:const )?fn \w+"
 
 
 def is_written(name):
-    """Returns whether a script or a program wrote a file."""
     return any(fnmatch.fnmatch(name, pattern) for pattern in WRITTEN)
 
 
 def files(pattern, without="lldp_tests"):
-    """Returns the files kept by hand with that pattern whose paths lack the other text."""
+    """Returns the files of a pattern that people keep by hand, except paths with `without`."""
     found = [path.relative_to(CRATES).as_posix() for path in sorted(CRATES.glob(pattern))]
     return [CRATES / name for name in found if without not in name and not is_written(name)]
 
@@ -65,7 +64,7 @@ def occurrences(pattern, paths):
 
 
 def numbers():
-    """Returns what is counted, and how much it is."""
+    """Returns what is counted, with the numbers."""
     sources = files("*/src/**/*.rt")
     tests = sorted([*TOP.glob("python/tests/test_*.py"), *TOP.glob("audit/tests/test_*.py")])
     traces = re.search(r"fuzz\.py .*--traces (\d+)", (TOP / "tools/gate/check.sh").read_text())[1]
@@ -93,7 +92,7 @@ def part_of(name):
 
 
 def kept_by_hand(top):
-    """Returns how many lines of each part people keep by hand, in a checkout."""
+    """Returns how many lines of each part people keep by hand in a checkout."""
     names = subprocess.run(["git", "ls-files", "-z"], cwd=top, stdout=subprocess.PIPE, text=True,
                            check=True).stdout
     found = collections.Counter()
@@ -112,7 +111,7 @@ def sum_of(found):
 
 
 def print_parts(top):
-    """Prints the lines of each part that people keep by hand, their sum, and the imports."""
+    """Prints how many lines of each part people keep by hand, their sum, and the imports."""
     found = kept_by_hand(top)
     imports = found[IMPORTS]
     for part, number in found.most_common():
@@ -122,13 +121,13 @@ def print_parts(top):
 
 
 def judge_lines(counts):
-    """Counts whether people keep no more lines by hand than the file says."""
+    """Checks that people keep no more lines by hand than tools/write/lines.txt says."""
     most = int(re.search(rf"^ *([\d,]+)  {SUM}$", LINES.read_text(), re.M)[1].replace(",", ""))
     more = sum_of(kept_by_hand(TOP)) - most
-    fault = f"{more} more than in tools/write/lines.txt: take away as many, see --parts"
+    fault = f"{more} more than in tools/write/lines.txt: remove as many, see --parts"
     counts.judge(fault if more > 0 else None, "lines that people keep by hand")
     if more < 0:
-        print(f"{-more} lines fewer: keep it so by tools/write/numbers.py --parts > tools/write/lines.txt")
+        print(f"{-more} lines fewer: save this with tools/write/numbers.py --parts > tools/write/lines.txt")
 
 
 def main():

@@ -1,13 +1,15 @@
 #!/usr/bin/env python3
-"""Writes the transcripts of examples/ as theorems over the definitions alone, which the check of lldpa computes: from
-the words of the program to the options that they ask for, and from the octets of the input to those of the output, or
-to its lines that pass the filter of the transcript. Each row of receive-counters.rows is a theorem too, of the options
-and the input of its transcript: which lines of its counters `show statistics` writes after that input.
+"""Writes the transcripts of examples/ as theorems about the definitions, which rt check computes.
 
     python3 tools/write/transcripts.py [FILE]
 
-They are written to FILE, crates/lldpa/proofs/Transcripts.antt unless given. A transcript of more than MOST_TICKS ticks
-is left out: for each moment the definitions look at all before it.
+A theorem leads from the program's arguments to its options, and from the octets of the input to
+those of the output, or to the lines that pass the transcript's filter. Each row of
+receive-counters.rows is a theorem too: which of its counters `show statistics` writes after the
+transcript's input.
+
+FILE is crates/lldpa/proofs/Transcripts.antt by default. A transcript of more than MOST_TICKS ticks
+is left out: for each moment the definitions look at all moments before.
 """
 import pathlib
 import re
@@ -20,7 +22,7 @@ from examples import ROWS, rows, transcripts  # noqa: E402
 
 FILE = TOP / "crates/lldpa/proofs/Transcripts.antt"
 MOST_TICKS = 60
-WIDTH = 105  # columns of a line of texts, without what is between two
+WIDTH = 105  # columns of a line of terms, without the operators
 
 HEAD = """\
 -- The transcripts of examples/, computed from the definitions alone. tools/write/transcripts.py writes this file.
@@ -132,7 +134,7 @@ unfolding digits encode_with decode_pairs
 computed = tt
 """
 
-# what a row says of its transcript, of the counters between
+# what the theorems of the rows are stated with; the counters are put in between
 COUNTED = f"""
 -- the counters that {ROWS.name} checks
 abbrev counters : List Text
@@ -156,7 +158,7 @@ def octets(values):
 
 
 def codes(line):
-    """Returns a line as antt has it: its printable octets and LF in quotes, each other octet by itself."""
+    """Returns a line as a term: printable octets and LF in quotes, each other octet by itself."""
     parts = []
     for part in re.findall(rb"[ -~\n]+|[^ -~\n]+", line):
         quoted = part.decode("latin-1").replace("\\", "\\\\").replace('"', '\\"').replace("\n", "\\n")
@@ -169,7 +171,7 @@ def joined(lines):
 
 
 def packed(between, terms):
-    """Returns terms with an operator between them: as many on a line of the file as fit."""
+    """Returns the terms with an operator between them, as many on each line as fit."""
     rows = []
     for term in terms:
         if rows and "\n" not in rows[-1] + term and len(rows[-1]) + len(term) < WIDTH:
@@ -190,7 +192,7 @@ FIELDS = {
 
 
 def options(words):
-    """Returns the options of some words, as what differs from the usual ones, and the management address among them."""
+    """Returns the options as a term, compared with the usual ones, and the management address."""
     given, names = model.read_words(words)
     fields = [FIELDS[name](value) if name in FIELDS
               else f"{name.removeprefix('tx_').removesuffix('_delay')} = {value}" for name, value in given.items()]
@@ -205,7 +207,7 @@ def listed(texts):
 
 
 def asked(name, words):
-    """Returns a theorem that the words ask for their options."""
+    """Returns the theorem that these arguments give their options."""
     given, management = options(words)
     dotted = "refl"
     if management:
@@ -229,7 +231,7 @@ def list_of_words(words):
 
 
 def theorem(name, words, sought, trace, steps, asks):
-    """Returns a transcript as a theorem and its proof, of words that ask for their options by a theorem before it."""
+    """Returns the theorem of a transcript with its proof; `asks` is that of its arguments."""
     if isinstance(steps, str):
         sys.exit(f"{name}: {steps}")
     lines = re.findall(rb"[^\n]*\n|[^\n]+", trace)
@@ -246,7 +248,7 @@ unfolding computed
 
 
 def theorems(shown):
-    """Returns the theorems of some transcripts, each list of words before the first transcript that has it."""
+    """Yields the theorems of transcripts and, before the first with the same arguments, theirs."""
     names = {}
     for name, words, sought, trace, steps in shown:
         name = name.replace("-", "_")
@@ -257,7 +259,7 @@ def theorems(shown):
 
 
 def theorems_of_rows():
-    """Returns the theorems of the rows, behind what they say of their transcripts."""
+    """Yields the definitions of counters, and then the theorem of each row."""
     table = list(rows([]))
     yield COUNTED % listed(f"lldp.eth0.{counter}=".encode() for counter, _ in table[0][1])
     for name, values, found in table:

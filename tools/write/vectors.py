@@ -1,11 +1,10 @@
 #!/usr/bin/env python3
-"""Writes the rows of examples/vectors.rows that are about LLDPDUs as theorems of lldp_pdu, or all
-rows as a table of lldp_tests.
+"""Writes rows of examples/vectors.rows as theorems of lldp_pdu, or all as a table of lldp_tests.
 
     tools/write/vectors.py [--table] [FILE]
 
-FILE is crates/lldp_pdu/proofs/Vectors/Rows.antt unless given, and with --table
-crates/lldp_tests/src/rows.rt.
+The theorems are of the rows about LLDPDUs. FILE is crates/lldp_pdu/proofs/Vectors/Rows.antt by
+default, and with --table crates/lldp_tests/src/rows.rt.
 """
 from __future__ import annotations
 
@@ -18,7 +17,7 @@ TOP = pathlib.Path(__file__).resolve().parents[2]
 ROWS = TOP / "examples" / "vectors.rows"
 FILE = TOP / "crates" / "lldp_pdu" / "proofs" / "Vectors" / "Rows.antt"
 TABLE = TOP / "crates" / "lldp_tests" / "src" / "rows.rt"
-# So many equal octets are written as so many times one.
+# This many equal octets, or more, are written with `replicate`.
 LONG_RUN = 8
 FAULTS = ("Truncated", "NoChassis", "ChassisLength", "NoPort", "PortLength", "NoTtl", "TtlLength", "Repeated")
 UNFOLDED = ("cut_within cut extent ended_incomplete ttl_of msap_of later_tlvs is_well_formed fault_of kept_of "
@@ -45,13 +44,13 @@ def all_rows() -> list[str]:
 
 
 def rows_of(kind: str) -> list[list[str]]:
-    """Returns the rows of a kind, each as its fields behind the kind."""
+    """Returns the rows of a kind, each as its fields after the kind."""
     rows = [line.split("\t") for line in all_rows()]
     return [row[1:] for row in rows if row[0] == kind]
 
 
 def listed(digits: str) -> str:
-    """Writes octets, `-` for none, as a list, long runs of one octet as replicate."""
+    """Returns octets (`-` for none) as a list term, long runs of one octet with `replicate`."""
     parts, single = [], ""
     for octet, run in groupby(bytes.fromhex(digits.strip("-"))):
         count = len(list(run))
@@ -73,12 +72,11 @@ def tlvs_of(fields: list[str]) -> str:
 
 
 def name_of(prefix: str, name: str) -> str:
-    """Returns a name of a row as one of a theorem."""
     return f"{prefix}_" + re.sub(r"\W+", "_", name).strip("_")
 
 
 def table_of(name: str, function: str, rows: list[tuple[str, str, str]]) -> str:
-    """Writes rows, each a name, an argument and what the function gives."""
+    """Returns a table of rows: the name, an argument, and the value of the function."""
     lines = [f"({given}, {gives})  -- {row}" for row, given, gives in rows]
     return f"\n{name} : Gives {function}\n    (" + "\n    ∷ ".join(lines) + "\n    ∷ [])\n"
 

@@ -1,4 +1,4 @@
--- The octets of an address two by two.
+-- The pairs of octets of an address, counted one by one.
 use Rattle.std.proofs.Common.{◌≡◌, ℕ, ◌+◌, ◌*◌, ◌≤◌, List, [], ◌∷◌, ◌++◌, length, take, drop, map, refl, ap, ◌∙◌, arith, suc, zero}
 use Rattle.std.specs.List.{join_with_byte}
 use Rattle.std.proofs.lemmas.List.{map-append, length-map}
@@ -7,7 +7,7 @@ use Rattle.lldp_text.specs.Text.{separator}
 use Rattle.lldp_text.specs.Addresses.{pairs, ipv6_text}
 use Rattle.lldp_text.proofs.TextJoined.{join_push}
 
--- i pairs, and one more
+-- the first i + 1 pairs are the first i pairs and the next one
 pairs_more : (i : ℕ) (xs : List ℕ) → 2 * i + 2 ≤ length xs → pairs (take (2 * i + 2) xs) ≡ pairs (take (2 * i) xs) ++ take 2 (drop (2 * i) xs) ∷ []
 pairs_more zero [] h = absurd (omega arith)
 pairs_more zero (a ∷ []) h = absurd (omega arith)

@@ -1,4 +1,4 @@
--- Identifiers are read back: what they are by their keys, then their octets.
+-- Identifiers can be read back from show lines: the kind from the key, then the octets.
 use Rattle.std.proofs.Common.{◌≡◌, ℕ, ◌≤◌, ◌==◌, Bool, true, false, List, [], ◌∷◌, ◌++◌, length, drop, refl, sym, ap, ◌∙◌, arith}
 use Rattle.std.specs.Prelude.{if◌then◌else◌, codes, slice_index}
 use Rattle.std.specs.List.{list_any}
@@ -17,9 +17,9 @@ use Rattle.lldp_text.proofs.ReadBack.{unescaped, plain, text_back, unhex, hex_ba
 use Rattle.lldp_text.proofs.AddressesBack.{pairs_read, mac_back, fours_read, ipv6_back, numbers_read, ipv4_back, is_colon, ipv4_without, ipv6_with}
 use Rattle.std.proofs.lemmas.Grind.{common_steps}
 
--- ## How an identifier is shown
+-- ## Forms of an identifier
 
--- as a text of its kind, as an address of six, four or sixteen octets, or whole
+-- a text with the key of its kind, a MAC, IPv4 or IPv6 address, or the whole body
 data Shown : Type 0 where
   text : IdentifierKind → Shown
   mac : Shown
@@ -27,7 +27,7 @@ data Shown : Type 0 where
   ipv6 : Shown
   whole : Shown
 
--- a kind, whether there are seven octets, and what the address is
+-- the form, by the kind, whether the body has seven octets, and the kind of the address
 abbrev shown_as : IdentifierKind → Bool → AddressKind → Shown
 shown_as Mac true address = mac
 shown_as Mac false address = whole
@@ -57,9 +57,9 @@ is_written : (kind : IdentifierKind) (body : List ℕ) (seven : Bool) (address :
     → identifier_text kind body ≡ written (shown_as kind seven address) body
 is_written kind body seven address e f = grind (arith, common_steps)
 
--- ## What was shown, by its key
+-- ## The form of a line, by its key
 
--- the first and the third octet of a key, and of an address whether it has a colon
+-- the form, by the first and third octets of the key and, for addresses, whether there is a colon
 shown_by : List ℕ → Shown
 shown_by line =
     if slice_index line 2 == 109 then text Component
@@ -70,14 +70,14 @@ shown_by line =
     else if slice_index line 2 == 61 then (if list_any is_colon line then ipv6 else ipv4)
     else whole
 
--- ## What the body is
+-- ## The body of each form
 
--- the subtype of a kind is this number, and addresses have their family and length
+-- the subtype is the number of the kind
 abbrev HasSubtype : (IdentifierKind → ℕ) → IdentifierKind → ℕ → Type 0
 HasSubtype number Other subtype = Unit {0}
 HasSubtype number kind subtype = subtype ≡ number kind
 
--- and a text is one of a kind that has texts
+-- the body has the subtype, the family and the length of its form; only some kinds are texts
 abbrev IsShownAs : (IdentifierKind → ℕ) → Shown → List ℕ → Type 0
 IsShownAs number (text Mac) body = ⊥
 IsShownAs number (text Network) body = ⊥
@@ -100,7 +100,7 @@ is_shown_as : (number : IdentifierKind → ℕ) (kind : IdentifierKind) (body : 
     → IsAddress address (slice_index body 1) (length (drop 2 body)) → IsShownAs number (shown_as kind seven address) body
 is_shown_as number kind body seven address s a = grind (arith, common_steps)
 
--- ## Reading it back
+-- ## Reading the body back
 
 by_key : (number : IdentifierKind → ℕ) (shown : Shown) (body : List ℕ) → IsShownAs number shown body → AreOctets (drop 2 body) → shown_by (written shown body) ≡ shown
 unfolding shown_by
@@ -111,7 +111,7 @@ by_key number ipv4 body s o = ap (λ (b : Bool). if b then ipv6 else ipv4) (ipv4
 by_key number ipv6 body s o = ap (λ (b : Bool). if b then ipv6 else ipv4) (ipv6_with (drop 2 body) (let n = s.2 in omega arith))
 by_key number shown body s o = refl
 
--- the body of a line that is shown so
+-- the body of a line that has this form
 read_as : (IdentifierKind → ℕ) → Shown → List ℕ → List ℕ
 read_as number (text kind) line = number kind ∷ unescaped plain (drop (length (key_of kind)) line)
 read_as number mac line = number Mac ∷ pairs_read (drop 4 line)
@@ -137,7 +137,7 @@ read_back number ipv4 t u rest s o = behind_two _ t _ u rest _ s.0 s.1 (ipv4_bac
 read_back number ipv6 t u rest s o = behind_two _ t _ u rest _ s.0 s.1 (ipv6_back 8 rest s.2 o.1.1)
 read_back number whole t u rest s o = hex_back (t ∷ u ∷ rest) o
 
--- the body that a line shows
+-- the body that a line shows, whatever its form
 body_of : (IdentifierKind → ℕ) → List ℕ → List ℕ
 body_of number line = read_as number (shown_by line) line
 
@@ -157,7 +157,7 @@ identifier_back number kind (t ∷ u ∷ rest) s long o =
 
 -- ## Chassis IDs and port IDs
 
--- the subtypes of table 8-2, and a number that no octet is if there is none
+-- the subtypes of table 8-2; 256 stands for a kind that a chassis ID cannot have
 abbrev chassis_number : IdentifierKind → ℕ
 chassis_number Component = 1
 chassis_number InterfaceAlias = 2
@@ -169,7 +169,7 @@ chassis_number Local = 7
 chassis_number CircuitId = 256
 chassis_number Other = 256
 
--- those of table 8-3
+-- the subtypes of table 8-3; 256 stands for a kind that a port ID cannot have
 abbrev port_number : IdentifierKind → ℕ
 port_number InterfaceAlias = 1
 port_number Component = 2

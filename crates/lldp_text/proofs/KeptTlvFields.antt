@@ -1,4 +1,4 @@
--- What is known of the bodies of kept TLVs.
+-- Properties of the bodies of kept TLVs.
 use Rattle.std.proofs.Common.{◌≡◌, ℕ, ◌≤◌, Bool, true, cond, leb, eqb, List, length, Some, None, is_some, refl, arith}
 use Rattle.std.proofs.lemmas.Bool.{and_parts, leb-true, eqb-true}
 use Rattle.std.proofs.lemmas.List.{length-drop, length-take}
@@ -8,7 +8,7 @@ use Rattle.lldp_pdu.specs.Capabilities.{caps_of, caps_fields}
 use Rattle.lldp_text.specs.KeptTlv.{HasAddress}
 use Rattle.std.proofs.lemmas.Grind.{common_steps}
 
--- a text of at most 255 octets
+-- a description has at most 255 octets
 pub description_short : (body : List ℕ) → IsKeptTlv (record { kind = 4; body = body }) → length body ≤ 255
 unfolding is_well_formed
 description_short body h = leb-true (length body) 255 h.well_formed

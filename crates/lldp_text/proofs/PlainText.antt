@@ -1,4 +1,4 @@
--- Text of plain octets alone is escaped as it is.
+-- Escaping leaves a text of plain octets unchanged.
 use Rattle.std.proofs.Common.{◌≡◌, ℕ, ◌==◌, ◌&&◌, Bool, true, false, List, [], ◌∷◌, ◌++◌, refl, ap, ◌∙◌, arith}
 use Rattle.std.specs.Prelude.{not, nat_le, if◌then◌else◌, codes}
 use Rattle.std.specs.List.{list_all}

@@ -1,4 +1,4 @@
--- Escaped texts and hexadecimal digits are read back.
+-- Escaped texts and hexadecimal digits can be read back.
 use Rattle.std.proofs.Common.{◌≡◌, ℕ, ◌+◌, ◌*◌, ◌/◌, ◌%◌, ◌<◌, ◌==◌, ◌&&◌, Bool, List, [], ◌∷◌, ◌++◌, refl, sym, ap, ◌∙◌, arith}
 use Rattle.std.specs.Prelude.{nat_le, if◌then◌else◌, codes, slice_index, unwrap_or}
 use Rattle.std.proofs.lemmas.Bool.{eqb-true}
@@ -24,7 +24,7 @@ value_is : (d : ℕ) → d < 16 → value (slice_index lower_digits d) ≡ d
 unfolding value
 value_is d lt = ap (λ o. unwrap_or o 0) (IsDigits-lower_digits d lt)
 
--- the octet of two digits
+-- the octet that two digits write
 pub octet : ℕ → ℕ → ℕ
 octet h l = value h * 16 + value l
 
@@ -32,7 +32,7 @@ pub octet_is : (c : ℕ) → c < 256 → octet (high c) (low c) ≡ c
 unfolding octet
 octet_is c lt = grind (arith, common_steps, value_is)
 
--- the octets of digits two by two
+-- the octets of pairs of digits
 pub unhex : List ℕ → List ℕ
 unhex [] = []
 unhex (h ∷ []) = []
@@ -45,7 +45,7 @@ hex_back (c ∷ cs) h = ap (λ x. x ∷ unhex (encode_lower cs)) (octet_is c h.0
 
 -- ## Escaped text
 
--- where a reader of escaped text stands: at an octet, after a backslash, before the first of two digits, after it
+-- the position of a reader: at an octet, after a backslash, before the first digit or the second
 pub data Place : Type 0 where
   plain : Place
   slash : Place

@@ -1,11 +1,11 @@
--- How joined texts grow.
+-- Joined texts after one more item.
 use Rattle.std.proofs.Common.{◌≡◌, ℕ, ◌+◌, ◌<◌, List, [], ◌∷◌, ◌++◌, length, get_or, take, map, refl, ap, sym, ◌∙◌, append_assoc, arith}
 use Rattle.std.specs.List.{join_with_byte}
 use Rattle.std.proofs.lemmas.List.{take_more, length-take-le, length-map, map-append}
 use Rattle.lldp_text.specs.Text.{separator}
 use Rattle.std.proofs.lemmas.Grind.{common_steps}
 
--- one item more
+-- a list of items with one more item at its end
 pub join_push : (c : ℕ) (xs : List (List ℕ)) (x : List ℕ) → join_with_byte c (xs ++ x ∷ []) ≡ join_with_byte c xs ++ (separator c (length xs) ++ x)
 join_push c [] x = refl
 join_push c (y ∷ []) x = refl
@@ -15,7 +15,7 @@ join_push c (y ∷ z ∷ zs) x = ap (λ l. y ++ (c ∷ l)) (join_push c (z ∷ z
 pub grown : (old cur mid new j s x j' : List ℕ) → cur ≡ old ++ j → mid ≡ cur ++ s → new ≡ mid ++ x → j' ≡ j ++ (s ++ x) → new ≡ old ++ j'
 grown old cur mid new j s x j' a b c d = rw (c, b, a, d) (simp append_assoc)
 
--- the items up to place i, and that at i
+-- the items before place i, and the item at i
 pub joined_more : {A : Type 0} (c : ℕ) (f : A → List ℕ) (xs : List A) (i : ℕ) (d : A) → i < length xs → join_with_byte c (map f (take (i + 1) xs)) ≡ join_with_byte c (map f (take i xs)) ++ (separator c i ++ f (get_or xs i d))
 joined_more c f xs i d h = grind (arith, common_steps, length-map, length-take-le, take_more, map-append, join_push)
 

@@ -32,7 +32,7 @@ words_left-short line = spelled_or_none line (words_of line) refl
 is_some-mapped : (w : List ℕ) (o : Option (List (List ℕ))) → is_some (option_map (λ words. w ∷ words) o) ≡ is_some o
 is_some-mapped w o = grind (arith, common_steps)
 
--- if no octet is a quote there are words, between words and in an unquoted one
+-- if no octet is a quote, a reader between words or in an unquoted word finds no misplaced quote
 unquoted : (line : List ℕ) → ByRecursion (λ c. is_quote c ≡ false) line → (is_some (words_from between line) ≡ true) × ((w : List ℕ) → is_some (words_from (bare w) line) ≡ true)
 unfolding words_from
 unquoted [] h = (refl, λ w. refl)

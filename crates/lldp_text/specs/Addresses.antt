@@ -13,17 +13,17 @@ mac_text octets = join_with_byte 58 (map (λ octet. encode_lower (octet ∷ []))
 abbrev pub ipv4_text : List ℕ → List ℕ
 ipv4_text octets = join_with_byte 46 (map decimal octets)
 
--- the octets two by two
+-- the octets in pairs; a single one at the end is left out
 abbrev pub pairs : List ℕ → List (List ℕ)
 pairs [] = []
 pairs (a ∷ []) = []
 pairs (a ∷ b ∷ octets) = (a ∷ b ∷ []) ∷ pairs octets
 
--- An IPv6 address: groups of four hexadecimal digits joined by colons, none left out.
+-- An IPv6 address: groups of four hexadecimal digits joined by colons, never shortened.
 abbrev pub ipv6_text : List ℕ → List ℕ
 ipv6_text octets = join_with_byte 58 (map encode_lower (pairs octets))
 
--- What an address is, by its family and its number of octets: 1 is IPv4, with 4 octets, and 2 is IPv6, with 16.
+-- The kind of an address: family 1 with 4 octets is IPv4, family 2 with 16 octets is IPv6.
 abbrev pub address_kind : ℕ → ℕ → AddressKind
 address_kind family len =
     if (family == 1) && (len == 4) then Ipv4

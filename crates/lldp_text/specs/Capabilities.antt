@@ -4,7 +4,7 @@ use Rattle.std.specs.List.{join_with_byte, filter, range_with_len}
 use Rattle.std.specs.Int.{bit_at}
 use Rattle.lldp_pdu.specs.declared.fields.Caps.{Caps}
 
--- the names of the bits, the least first
+-- the names of the bits, from bit 0 on
 abbrev pub capability_names : List (List ℕ)
 capability_names =
     codes "Other" ∷ codes "Repeater" ∷ codes "Bridge" ∷ codes "Wlan"
@@ -20,15 +20,15 @@ capability_name bit = slice_index_or capability_names bit []
 abbrev pub capability_bits : List ℕ
 capability_bits = range_with_len 0 16
 
--- a bit of a number is one
+-- the bit of the number is 1
 abbrev pub is_set : ℕ → ℕ → Bool
 is_set n bit = bit_at n bit == 1
 
--- whether a capability is enabled, as shown
+-- `on` for a capability that is enabled, else `off`
 abbrev pub on_or_off : Bool → List ℕ
 on_or_off on = if on then codes "on" else codes "off"
 
--- a name, a colon, and whether it is enabled
+-- the name of a capability, a colon, and `on` or `off`
 abbrev pub capability_text : Caps → ℕ → List ℕ
 capability_text caps bit = capability_name bit ++ codes ":" ++ on_or_off (is_set caps.enabled bit)
 

@@ -1,2 +1,2 @@
--- What is shaped like the code: digits, sixteen octets at a time.
+-- Definitions that follow the code: digits, sixteen octets at a time.
 pub mod Digits

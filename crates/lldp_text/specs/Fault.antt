@@ -3,7 +3,7 @@ use Rattle.std.specs.Prelude.{ℕ, List, codes}
 use Rattle.lldp_text.specs.declared.fault.CommandFault.{CommandFault}
 use Rattle.lldp_text.specs.declared.fault.CommandFault.TheVariants.{Unknown, NoSuchPort, Number, Range, Text, Extra, Quote, InUse}
 
--- The line that reports a fault, without its end.
+-- The line that reports a fault, without its line feed.
 abbrev pub text_of : CommandFault → List ℕ
 text_of Unknown = codes "error: unknown command"
 text_of NoSuchPort = codes "error: no such port"
@@ -14,7 +14,7 @@ text_of Extra = codes "error: extra word"
 text_of Quote = codes "error: bad quote"
 text_of InUse = codes "error: too many held"
 
--- the number of a fault of a command
+-- the number of a fault
 abbrev pub number_of_fault : CommandFault → ℕ
 number_of_fault Unknown = 1
 number_of_fault NoSuchPort = 2

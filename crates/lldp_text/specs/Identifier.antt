@@ -8,7 +8,7 @@ use Rattle.lldp_text.specs.declared.addresses.AddressKind.TheVariants.{Ipv4, Ipv
 use Rattle.lldp_text.specs.declared.identifier.IdentifierKind.{IdentifierKind}
 use Rattle.lldp_text.specs.declared.identifier.IdentifierKind.TheVariants.{Component, InterfaceAlias, PortComponent, Mac, Network, InterfaceName, CircuitId, Local, Other}
 
--- what a chassis ID is, by its subtype
+-- the kind of a chassis ID, by its subtype
 abbrev pub chassis_kind : ℕ → IdentifierKind
 chassis_kind subtype =
     if subtype == 1 then Component
@@ -20,7 +20,7 @@ chassis_kind subtype =
     else if subtype == 7 then Local
     else Other
 
--- what a port ID is, by its subtype
+-- the kind of a port ID, by its subtype
 abbrev pub port_kind : ℕ → IdentifierKind
 port_kind subtype =
     if subtype == 1 then InterfaceAlias
@@ -32,11 +32,11 @@ port_kind subtype =
     else if subtype == 7 then Local
     else Other
 
--- the whole body, its subtype included
+-- the whole body in hexadecimal, its subtype included
 abbrev pub unhandled_text : List ℕ → List ℕ
 unhandled_text body = codes "unhandled=" ++ encode_lower body
 
--- A network address: a subtype, a family and the address.
+-- A network address. The body is a subtype, a family and the address.
 abbrev pub network_text : AddressKind → List ℕ → List ℕ
 network_text Ipv4 body = codes "ip=" ++ ipv4_text (drop 2 body)
 network_text Ipv6 body = codes "ip=" ++ ipv6_text (drop 2 body)

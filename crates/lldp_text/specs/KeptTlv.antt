@@ -9,11 +9,11 @@ use Rattle.lldp_text.specs.Text.{escaped}
 use Rattle.lldp_text.specs.Capabilities.{capabilities_text}
 use Rattle.lldp_text.specs.ManagementAddress.{management_text}
 
--- the System Capabilities
+-- a System Capabilities TLV
 abbrev pub system_capabilities_text : List ℕ → List ℕ
 system_capabilities_text body = codes "chassis.caps=" ++ capabilities_text (caps_fields body)
 
--- a Management Address
+-- a Management Address TLV
 abbrev pub management_tlv_text : List ℕ → List ℕ
 management_tlv_text body = codes "chassis.mgmt=" ++ management_text (address_fields body (slice_index body 0))
 
@@ -27,7 +27,7 @@ organizational_text body =
 abbrev pub unknown_text : TlvUnit → List ℕ
 unknown_text tlv = codes "unknown." ++ decimal tlv.kind ++ codes "=" ++ encode_lower tlv.body
 
--- A kept TLV as key and value, by its type; those of the reserved types are unknown.
+-- A kept TLV as key and value, by its type. The key of a reserved type is `unknown.` and the type.
 abbrev pub tlv_text : TlvUnit → List ℕ
 tlv_text tlv =
     if tlv.kind == port_description_type then codes "port.descr=" ++ escaped tlv.body
@@ -38,7 +38,7 @@ tlv_text tlv =
     else if tlv.kind == organizationally_specific_type then organizational_text tlv.body
     else unknown_text tlv
 
--- the body has a management address, of at most 31 octets, with an OID of at most 128
+-- the body holds a management address of at most 31 octets, and an OID of at most 128 octets
 pub record HasAddress (body : List ℕ) : Type 0 where
   pub address : address_of body ≡ Some (address_fields body (slice_index body 0))
   pub short : length (address_fields body (slice_index body 0)).address ≤ 31

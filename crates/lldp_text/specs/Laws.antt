@@ -1,3 +1,3 @@
--- What only laws say: the forms of values, and what is written alike.
+-- Definitions that only the laws use: how values are written, and what is shown alike.
 pub mod Alike
 pub mod Forms

@@ -6,7 +6,7 @@ use Rattle.lldp_text.specs.Addresses.{ipv4_text, ipv6_text, address_kind}
 use Rattle.lldp_text.specs.declared.addresses.AddressKind.{AddressKind}
 use Rattle.lldp_text.specs.declared.addresses.AddressKind.TheVariants.{Ipv4, Ipv6, Unknown}
 
--- an address of a kind; one of another family or length is `af`, the family, a colon and its octets in hexadecimal
+-- an address, by its kind; an unknown kind is `af`, the family, a colon and hexadecimal digits
 abbrev pub address_text : AddressKind → ℕ → List ℕ → List ℕ
 address_text Ipv4 family octets = ipv4_text octets
 address_text Ipv6 family octets = ipv6_text octets

@@ -6,19 +6,19 @@ use Rattle.std.specs.Str.Parse.{digits_value}
 use Rattle.lldp_text.specs.declared.fault.CommandFault.{CommandFault}
 use Rattle.lldp_text.specs.declared.fault.CommandFault.TheVariants.{Number, Range}
 
--- One or more decimal digits; zeros may lead.
+-- One or more decimal digits; leading zeros are allowed.
 abbrev pub is_number : List ℕ → Bool
 is_number word = nat_lt 0 (length word) && list_all is_ascii_digit word
 
--- A number that lies in the range, both ends included.
+-- The number if it is in the range, both ends included, or else the fault Range.
 abbrev pub in_range : ℕ → ℕ → ℕ → Result ℕ CommandFault
 in_range least greatest n = if nat_le least n && nat_le n greatest then Ok n else Err Range
 
--- The number that a word writes, however many digits it has, or the first fault.
+-- The value of a word of digits, however many digits it has, or its first fault.
 abbrev pub number_of : List ℕ → ℕ → ℕ → Result ℕ CommandFault
 number_of word least greatest = if is_number word then in_range least greatest (digits_value 10 word) else Err Number
 
--- The word has some octet, and each is a decimal digit.
+-- The word has at least one octet, and each octet is a decimal digit.
 pub record IsOfDigits (word : List ℕ) : Type 0 where
   pub some : 0 < length word
   pub each : AllPass is_ascii_digit word

@@ -7,27 +7,27 @@ use Rattle.hex.specs.Hex.{encode_lower}
 abbrev pub is_text : List ℕ → Bool
 is_text text = nat_le (length text) 255 && list_all (λ c. nat_le 32 c && nat_le c 126) text
 
--- what is unchanged in escaped text: an octet from the space to the tilde, except the backslash
+-- an octet that is unchanged in escaped text: from the space to the tilde, except the backslash
 abbrev pub is_plain : ℕ → Bool
 is_plain octet = nat_le 32 octet && (nat_le octet 126 && not (octet == 92))
 
--- An octet of escaped text: a backslash is written twice, one from the space to the tilde is unchanged, and every other
--- is written as a backslash, `x` and two hexadecimal digits.
+-- An octet of escaped text: a backslash is doubled, an octet from the space to the tilde is
+-- unchanged, and any other octet is a backslash, `x` and two hexadecimal digits.
 abbrev pub escape : ℕ → List ℕ
 escape octet =
     if octet == 92 then codes "\\\\"
     else if nat_le 32 octet && nat_le octet 126 then octet ∷ []
     else codes "\\x" ++ encode_lower (octet ∷ [])
 
--- Escaped text.
+-- Each octet is escaped by itself.
 abbrev pub escaped : List ℕ → List ℕ
 escaped octets = flat_map escape octets
 
--- What precedes an item of a list that has this many items before it: nothing before the first.
+-- The separator before an item of a list, after this many items: nothing before the first.
 abbrev pub separator : ℕ → ℕ → List ℕ
 separator octet zero = []
 separator octet (suc before) = octet ∷ []
 
--- a line and its LF
+-- a line and its line feed
 abbrev pub ended : List ℕ → List ℕ
 ended line = line ++ 10 ∷ []

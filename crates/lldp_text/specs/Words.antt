@@ -7,26 +7,26 @@ use Rattle.std.specs.Option.{option_map}
 abbrev pub is_separator : ℕ → Bool
 is_separator c = c == 32 || c == 9
 
--- The double quote.
+-- The quote is `"`.
 abbrev pub is_quote : ℕ → Bool
 is_quote c = c == 34
 
--- What a quoted word is made of.
+-- An octet of a quoted word: any except a quote.
 abbrev pub is_unquote : ℕ → Bool
 is_unquote c = not (is_quote c)
 
--- What an unquoted word is made of.
+-- An octet of an unquoted word: any except a separator or a quote.
 abbrev pub is_bare : ℕ → Bool
 is_bare c = not (is_separator c) && not (is_quote c)
 
--- How a word is spelled: as its octets, at least one, none of them a separator or a quote; or as any octets except
--- quotes between two quotes.
+-- A word is spelled as its octets, if it has some and none is a separator or a quote, or as its
+-- octets between two quotes, if none is a quote.
 abbrev pub IsSpelling : List ℕ → List ℕ → Type 0
 IsSpelling text word =
     ((0 < length word) × AllPass is_bare word × (text ≡ word))
     ⊎ (AllPass is_unquote word × (text ≡ 34 ∷ word ++ 34 ∷ []))
 
--- Whether a word may end before this: the line ends, or a separator follows.
+-- Whether a word may end before these octets: the line ends, or a separator follows.
 abbrev pub may_end_word : List ℕ → Bool
 may_end_word [] = true
 may_end_word (c ∷ _) = is_separator c
@@ -41,8 +41,8 @@ abbrev pub begins_bare : List ℕ → Bool
 begins_bare [] = false
 begins_bare (c ∷ _) = is_bare c
 
--- The line is these words and no others: only separators if there is none; else separators, a spelling of the first,
--- its end, and the words that follow.
+-- The line consists of exactly these words: without words, it has only separators; otherwise
+-- separators, a spelling of the first word, its end, and the other words.
 abbrev pub AreWords : List ℕ → List (List ℕ) → Type 0
 AreWords line [] = AllPass is_separator line
 AreWords line (word ∷ words) =
@@ -57,7 +57,7 @@ pub data Place : Type 0 where
   quoted : List ℕ → Place
   closed : Place
 
--- The words of what is left of a line, None if a quote is misplaced.
+-- The words of the rest of a line, read from this place on; None if a quote is misplaced.
 unfoldable pub words_from : Place → List ℕ → Option (List (List ℕ))
 words_from between [] = Some []
 words_from (bare word) [] = Some (word ∷ [])
@@ -76,6 +76,6 @@ words_from (quoted word) (c ∷ cs) =
     else words_from (quoted (word ++ c ∷ [])) cs
 words_from closed (c ∷ cs) = if is_separator c then words_from between cs else None
 
--- The words of a line, None if a quote is misplaced.
+-- The words of a line; None if a quote is misplaced.
 abbrev pub words_of : List ℕ → Option (List (List ℕ))
 words_of line = words_from between line

@@ -13,12 +13,12 @@ pub(crate) enum AddressKind {
     Unknown,
 }
 
-/// Address family numbers.
+/// The address family numbers of IPv4 and IPv6.
 const FAMILY_IPV4: u8 = 1;
 
 const FAMILY_IPV6: u8 = 2;
 
-/// Returns the kind of an address of this many octets.
+/// Returns the kind of an address, by its family and its number of octets.
 pub(crate) fn kind_of_address(family: u8, len: usize) -> AddressKind
     ensures { result ≡ address_kind family len }
 {
@@ -58,7 +58,7 @@ pub fn write_ipv4(line: &mut Writer, octets: &[u8])
     }
 }
 
-/// Writes an IPv6 address of sixteen octets.
+/// Writes an IPv6 address of sixteen octets, in at most 40 octets.
 pub(crate) fn write_ipv6(line: &mut Writer, octets: &[u8])
     requires room { length line.old + 40 ≤ ROOM }
     requires sixteen { length octets.now ≡ 16 }

@@ -1,4 +1,4 @@
-//! System Capabilities.
+//! Writes System Capabilities.
 ghost use Rattle.std.specs.Prelude.{◌≡◌, ◌+◌, ◌*◌, ◌<◌, ◌≤◌, ◌++◌, length};
 ghost use Rattle.lldp_text.specs.declared.writing.TheConstants.{ROOM};
 ghost use Rattle.lldp_text.specs.Capabilities.{capability_name, is_set, on_or_off, capability_text, capabilities_text};
@@ -6,7 +6,7 @@ ghost use Rattle.lldp_text.specs.Capabilities.{capability_name, is_set, on_or_of
 use crate::writing::Writer;
 use lldp_pdu::Caps;
 
-/// How many bits there are.
+/// The number of capability bits.
 const BITS: u8 = 16;
 
 /// Returns the name of a bit.

@@ -1,40 +1,38 @@
-//! Hexadecimal digits, sixteen octets at a time and without a branch for each.
+//! Reads and writes hexadecimal digits sixteen octets at a time, without a branch for each.
 //!
 //! The definitions of the crate `hex` say what is read and written. This module only makes it fast:
 //! if it returns false, or if there are fewer than sixteen octets to read or write, `hex` itself
 //! decides and does the work.
 //!
 //! **Reading.** Thirty-two digits `c` are in the lanes of one vector, and each lane becomes the
-//! value of its digit, or 16 or more if `c` is not a digit. Lanes wrap around at 256. Two values
-//! are computed, and the lesser one is taken:
+//! value of its digit, or 16 or more if `c` is not a digit. Lanes wrap around at 256. Each table
+//! computes one number, and the value is the lesser of the two:
 //!
-//! | `c` | `c - 58` | less 6, never below 0 | less 240 |
+//! | `c` | `c - 58` | less 6, at least 0 | less 240 |
 //! |---|---|---|---|
 //! | 0 to 47 | 198 to 245 | 192 to 239 | 208 to 255 |
 //! | `0` to `9`, 48 to 57 | 246 to 255 | 240 to 249 | **0 to 9** |
 //! | 58 to 255 | 0 to 197 | 0 to 191 | 16 to 207 |
 //!
-//! | `c` with its bit 32 set | `c - 97` | at most 245 | and 10 |
+//! | `c` with the bit 0x20 set | `c - 97` | at most 245 | plus 10 |
 //! |---|---|---|---|
 //! | `a` to `f`, 97 to 102, and so `A` to `F` | 0 to 5 | 0 to 5 | **10 to 15** |
 //! | every other | 6 to 255 | 6 to 245 | 16 to 255 |
 //!
-//! No `c` is below 16 in both. A pair of values, high and low, is then one number of 16 bits, `high
-//! + 256 * low`; times 4097 it is `high + 256 * (16 * high + low)` and what is cut off, so its
-//! upper half is the octet.
+//! No `c` is below 16 in both tables. A pair of values, high and low, is one number of 16 bits,
+//! `high + 256 * low`. Multiplied by 4097 it is `high + 256 * (16 * high + low)`, without the bits
+//! above the 16, so its upper half is the octet.
 //!
-//! **What was met.** The values of all blocks are joined by `
+//! **Wrong digits.** The values of all blocks are combined with `|`, lane by lane. The result is
+//! below 16 exactly if all the values are, so one comparison at the end shows whether any octet was
+//! not a digit. Until then wrong octets may have been written, which nobody reads.
 //!
-//! `, lane by lane. The union is below 16 exactly if each part is, so one comparison at the end
-//! shows whether any octet was not a digit. Until then wrong octets may have been written, which
-//! nobody reads.
-//!
-//! **Writing.** The digit of a value up to 9 is the value plus `0`. For a greater one 39 more are
+//! **Writing.** The digit of a value up to 9 is the value plus `0`. For a greater value 39 more is
 //! added, so that 10 becomes `a`. The digits of the upper and of the lower four bits alternate.
 //!
-//! **The last block** begins sixteen octets before the end, wherever that is, so it may overlap the
-//! one before it. The octets under both are read from the same digits, or written from the same
-//! octets, a second time, with the same result. So nothing is left to do octet by octet.
+//! **The last block** begins sixteen octets before the end, so it may overlap the block before it.
+//! Octets in both blocks are read or written twice, with the same result. So nothing is left to do
+//! octet by octet.
 ghost use Rattle.std.specs.Prelude.{◌≡◌, ℕ, ◌↔◌, ◌<◌, ◌≤◌, ◌+◌, ◌*◌, length, true, slice_index, IsOk, IsTrue};
 ghost use Rattle.std.specs.List.{AllPass};
 ghost use Rattle.hex.specs.Hex.{decode_pairs, encode_lower, is_hex_digit, lower_digits};
@@ -58,7 +56,7 @@ fn values_of(digits: u8x32) -> u8x32
     numeral.simd_min(letter)
 }
 
-/// Returns the octets of pairs of values.
+/// Returns the octet of each pair of values, the high one first.
 #[inline(always)]
 fn octets_of(values: u8x32) -> u8x16
     ensures len { length result ≡ 16 }
@@ -70,7 +68,7 @@ fn octets_of(values: u8x32) -> u8x16
     (pairs >> u16x16::splat(8)).cast::<u8>()
 }
 
-/// Returns the bits that either has.
+/// Returns the bits that are set in either vector.
 #[inline(always)]
 fn either(a: u8x32, b: u8x32) -> u8x32
     ensures { AreSmall result ↔ (AreSmall a × AreSmall b) }
@@ -86,7 +84,7 @@ fn are_small(values: u8x32) -> bool
     values.simd_ge(u8x32::splat(16)).to_bitmask() == 0
 }
 
-/// Reads sixteen octets, of the digits from there on. Returns the values that were met.
+/// Reads sixteen octets, from octet `at` on. Returns the values of their digits.
 #[inline(always)]
 fn decode_block(digits: &[u8], octets: &mut [u8], at: usize) -> u8x32
     requires fits { at + 16 ≤ length octets.old }
@@ -102,9 +100,9 @@ fn decode_block(digits: &[u8], octets: &mut [u8], at: usize) -> u8x32
     values
 }
 
-/// Reads pairs of digits into the octets, as `hex` reads them, and returns whether it did: exactly
-/// if there are sixteen octets or more and each digit is one. If it returns false, nothing is
-/// promised of the octets.
+/// Reads pairs of digits into the octets, as `hex` does. Returns true exactly if there are sixteen
+/// octets or more and all of `digits` are hexadecimal digits. If it returns false, the octets may
+/// hold anything.
 pub fn decode_digits(digits: &[u8], octets: &mut [u8]) -> bool
     requires { length digits.now ≡ 2 * length octets.old }
     ensures octets { result ≡ true → decode_pairs 0 digits.now ≡ Ok octets.new }
@@ -123,7 +121,7 @@ pub fn decode_digits(digits: &[u8], octets: &mut [u8]) -> bool
     are_small(either(met, decode_block(digits, octets, last)))
 }
 
-/// Returns the digits of values.
+/// Returns the digit of each value up to 15.
 #[inline(always)]
 fn digits_of(values: u8x16) -> u8x16
     ensures { (k : ℕ) → k < 16 → slice_index values k < 16 →
@@ -134,7 +132,7 @@ fn digits_of(values: u8x16) -> u8x16
     values + u8x16::splat(b'0') + more
 }
 
-/// Returns one of the first and one of the second, alternately.
+/// Returns the octets of both vectors alternately, one of the first vector first.
 #[inline(always)]
 fn by_turns(first: u8x16, second: u8x16) -> u8x32
     ensures len { length result ≡ 32 }
@@ -151,7 +149,7 @@ fn by_turns(first: u8x16, second: u8x16) -> u8x32
     )
 }
 
-/// Writes the digits of sixteen octets, of those from there on.
+/// Writes the digits of sixteen octets, from octet `at` on.
 #[inline(always)]
 fn encode_block(octets: &[u8], digits: &mut [u8], at: usize)
     requires fits { at + 16 ≤ length octets.now }

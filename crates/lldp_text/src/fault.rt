@@ -2,12 +2,12 @@
 ghost use Rattle.std.specs.Prelude.{◌≡◌, ◌≤◌, length};
 ghost use Rattle.lldp_text.specs.Fault.{text_of, number_of_fault};
 
-/// Why a command is refused. If a line has several faults, the first in reading order is reported:
-/// a bad quote anywhere, then the first word from the left that no form has, then a word too many,
-/// then a limit in use.
+/// Why a command is refused. If a line has several faults, the first of these is reported: a bad
+/// quote anywhere, then the leftmost word that fits no command, then a word too many, then a limit
+/// in use.
 #[derive(Clone, Copy, Debug, PartialEq, Eq)]
 pub enum CommandFault {
-    /// A word is missing, or no form has it there.
+    /// A word is missing, or no command has that word there.
     Unknown = 1,
     /// No port has that name.
     NoSuchPort = 2,
@@ -17,11 +17,11 @@ pub enum CommandFault {
     Range = 4,
     /// The text has more than 255 octets, or one that is not printable ASCII.
     Text = 5,
-    /// A word follows a complete form.
+    /// A word follows a complete command.
     Extra = 6,
-    /// A quote is inside a word, is not closed, or is closed with no separator after it.
+    /// A quote is inside a word, is not closed, or is closed right before another word.
     Quote = 7,
-    /// Some port holds more neighbors than the limit.
+    /// Some port holds more neighbors than the new limit.
     InUse = 8,
 }
 
@@ -33,7 +33,7 @@ impl CommandFault {
         self as u8
     }
 
-    /// Returns the line that reports the fault, without its end.
+    /// Returns the line that reports the fault, without its line feed.
     pub fn text(self) -> &'static [u8]
         ensures text { result.now ≡ text_of self }
         ensures short { length result.now ≤ 2048 }

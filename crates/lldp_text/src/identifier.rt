@@ -1,4 +1,4 @@
-//! Chassis IDs and port IDs.
+//! Writes chassis IDs and port IDs.
 ghost use Rattle.std.specs.Prelude.{◌≡◌, ◌+◌, ◌*◌, ◌≤◌, ◌++◌, length, codes, slice_index, drop};
 ghost use Rattle.lldp_pdu.specs.Msap.{IsIdentifier};
 ghost use Rattle.lldp_text.specs.declared.writing.TheConstants.{ROOM, VALUE_ROOM};
@@ -52,7 +52,7 @@ fn kind_of_port(subtype: u8) -> IdentifierKind
     }
 }
 
-/// Writes a whole body, its subtype included.
+/// Writes a whole body in hexadecimal, its subtype included.
 fn write_unhandled(line: &mut Writer, body: &[u8])
     requires fits { length body.now ≤ 256 }
     requires room { length line.old + VALUE_ROOM ≤ ROOM }
@@ -63,7 +63,7 @@ fn write_unhandled(line: &mut Writer, body: &[u8])
     line.hex(body);
 }
 
-/// Writes a network address, if it has the length of its family.
+/// Writes a network address, or the whole body if its length is not that of its family.
 fn write_network(line: &mut Writer, body: &[u8])
     requires fits { IsIdentifier body.now }
     requires room { length line.old + VALUE_ROOM ≤ ROOM }
@@ -86,7 +86,7 @@ fn write_network(line: &mut Writer, body: &[u8])
     }
 }
 
-/// Writes an identifier of a kind. The body has its subtype too.
+/// Writes an identifier of this kind. The body begins with its subtype.
 fn write_identifier(line: &mut Writer, kind: IdentifierKind, body: &[u8])
     requires fits { IsIdentifier body.now }
     requires room { length line.old + VALUE_ROOM ≤ ROOM }

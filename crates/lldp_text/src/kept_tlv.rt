@@ -1,4 +1,4 @@
-//! Kept TLVs.
+//! Writes kept TLVs.
 ghost use Rattle.std.specs.Prelude.{◌≡◌, ◌+◌, ◌≤◌, ◌++◌, length, Some};
 ghost use Rattle.lldp_pdu.specs.Kept.{IsKeptTlv};
 ghost use Rattle.lldp_pdu.specs.Capabilities.{caps_of, caps_fields};

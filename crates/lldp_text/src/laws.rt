@@ -1,4 +1,4 @@
-//! Laws of the definitions of text: forms of values, words, and that no two are written alike.
+//! Laws of text: how values are written and lines split, and that neighbors are shown differently.
 pub mod alike;
 pub mod forms;
 pub mod words;

@@ -1,4 +1,4 @@
-//! Text, as commands are read and shows are written: the words of a line and their numbers, digits,
+//! Reads the text of commands and writes the text of shows: words and numbers of a line, digits,
 //! and neighbors' identifiers, addresses, capabilities and kept TLVs (IEEE 802.1AB-2009, clause 8).
 #![tactic(auto)]
 

@@ -1,4 +1,4 @@
-//! Management Addresses.
+//! Writes management addresses.
 ghost use Rattle.std.specs.Prelude.{◌≡◌, ◌+◌, ◌≤◌, ◌++◌, length};
 ghost use Rattle.lldp_pdu.specs.View.{address_view};
 ghost use Rattle.lldp_text.specs.declared.writing.TheConstants.{ROOM};

@@ -14,7 +14,7 @@ fn all_printable(text: &[u8]) -> bool
     true
 }
 
-/// Returns whether these are at most 255 octets, each from the space to the tilde.
+/// Returns whether the text has at most 255 octets, each from the space to the tilde.
 pub fn is_printable_text(text: &[u8]) -> bool
     ensures value { result ≡ is_text text.now }
     ensures short { IsTrue result → length text.now ≤ 255 }

@@ -1,4 +1,4 @@
-//! The words of a line, separated by spaces and tabs, plain or between quotes.
+//! Splits a line into words, which are separated by spaces and tabs and may be quoted.
 ghost use Rattle.std.specs.Prelude.{◌≡◌, ℕ, ◌<◌, ◌≤◌, List, [], ◌∷◌, ◌++◌, length, false, is_some, is_ok, IsTrue, IsSomeAnd, IfOk, IfErr, IfSome, IfNone, MatchResult, MatchOption, Some, None};
 ghost use Rattle.std.specs.Option.{option_map};
 ghost use Rattle.std.specs.List.{AllPass, AllByRecursion};
@@ -16,7 +16,7 @@ fn separates(octet: u8) -> bool
     octet == b' ' || octet == b'\t'
 }
 
-/// Returns a word and what follows it, if a separator or the end of the line does.
+/// Returns the word and the rest of the line, which must be empty or begin with a separator.
 fn ended_word<'l>(
     word: &'l [u8],
     rest: &'l [u8],
@@ -45,7 +45,7 @@ fn split_at_word(line: &[u8]) -> (&[u8], &[u8])
     line.split_at(start)
 }
 
-/// Returns the octets before the next quote, and what follows that quote.
+/// Returns the octets before the next quote and those after it, or None if there is no quote.
 fn split_at_quote(text: &[u8]) -> Option<(&[u8], &[u8])>
     ensures found { IfSome result (λ x. AllPass is_unquote x.0.now
         × (text.now ≡ x.0.now ++ 34 ∷ x.1.now)) }
@@ -55,8 +55,8 @@ fn split_at_quote(text: &[u8]) -> Option<(&[u8], &[u8])>
     Some((&text[..end], &text[end + 1..]))
 }
 
-/// Returns the octets before the next space, tab or `"`, and what follows them: the first word and
-/// the rest of a text that begins with an unquoted word.
+/// Returns the octets before the next space, tab or `"`, and the rest. If the text begins with an
+/// unquoted word, these are that word and what follows it.
 pub fn split_at_bare(text: &[u8]) -> (&[u8], &[u8])
     ensures bare { AllPass is_bare result.0.now }
     ensures whole { text.now ≡ result.0.now ++ result.1.now }
@@ -68,7 +68,7 @@ pub fn split_at_bare(text: &[u8]) -> (&[u8], &[u8])
     }
 }
 
-/// Returns the first word, without its quotes, and what follows it.
+/// Returns the first word, without its quotes, and what follows it, or None if there is no word.
 fn first_word(line: &[u8]) -> Result<Option<(&[u8], &[u8])>, CommandFault>
     ensures first { MatchResult result
         (λ found. MatchOption found (words_of line.now ≡ Some [])
@@ -91,7 +91,7 @@ fn first_word(line: &[u8]) -> Result<Option<(&[u8], &[u8])>, CommandFault>
     }
 }
 
-/// The words of a line that are left.
+/// The words of a line that have not been returned yet.
 #[derive(Drop)]
 pub struct Words<'l> {
     rest: &'l [u8],
@@ -126,7 +126,7 @@ impl<'l> Iterator for Words<'l> {
     }
 }
 
-/// Checks that each quote of a line is in its place.
+/// Checks that no quote of a line is misplaced.
 fn check_quotes(line: &[u8]) -> Result<(), CommandFault>
     ensures ok { is_ok result ≡ is_some (words_of line.now) }
     ensures err { IfErr result (λ fault. fault ≡ CommandFault.Quote) }
@@ -142,13 +142,12 @@ fn check_quotes(line: &[u8]) -> Result<(), CommandFault>
     Ok(())
 }
 
-/// Splits a line into its words, in order, a quoted one as its content.
-///
+/// Splits a line into its words, in order. A quoted word is returned without its quotes.
 ///
 /// Spaces and tabs separate words. A word is a longest run of octets other than space, tab and `"`,
-/// or the octets between two `"`; there are no escapes. A `"` inside an unquoted word, one that is
-/// not closed, and a closing one that is followed by anything but a separator or the end of the
-/// line are the fault `Quote`. No word is longer than its line.
+/// or the octets between two `"`; there are no escapes. The fault is `Quote` if a `"` is inside an
+/// unquoted word or is not closed, or if a closing `"` is followed by anything but a separator or
+/// the end of the line. No word is longer than its line.
 pub fn split(line: &[u8]) -> Result<Words<'_>, CommandFault>
     ensures words { result ≡ or_fault (words_of line.now) CommandFault.Quote }
     ensures short { IfOk result (λ words.

@@ -1,4 +1,4 @@
-//! Lines that are written piece by piece, one after another.
+//! Writes lines piece by piece into one buffer.
 ghost use Rattle.std.specs.Prelude.{◌≡◌, ◌+◌, ◌*◌, ◌≤◌, ◌∷◌, ◌++◌, [], length, decimal};
 ghost use Rattle.hex.specs.Hex.{encode_lower};
 ghost use Rattle.std.specs.List.{list_all};
@@ -11,17 +11,17 @@ use std::marker::Model;
 /// A line, at most 2,048 octets, without its line feed.
 pub type Line = ArrayVec<u8, 2048>;
 
-/// The room that a line takes at most, with its line feed.
+/// The greatest length of a line with its line feed, in octets.
 pub const LINE_ROOM: usize = 2049;
 
-/// The room that a value takes at most. It fits in a line after at most 64 octets.
+/// The greatest length of a value, in octets. With up to 64 octets before it, it fits in a line.
 pub const VALUE_ROOM: usize = 1050;
 
-/// How many octets a writer holds at most.
+/// The greatest number of octets that a writer holds.
 pub const ROOM: usize = 8192;
 
-/// Octets that are written one after another. Each method requires the room that it needs, so no
-/// octet is cut off. Clearing leaves the octets as they are, which an `ArrayVec` would overwrite.
+/// A buffer to which octets are appended. Each method requires the room that it needs, so no octet
+/// is cut off. Clearing it does not overwrite the octets, as clearing an `ArrayVec` would.
 #[derive(Drop)]
 pub struct Writer {
     room: [u8; ROOM],
@@ -38,8 +38,8 @@ impl Model for Writer {
     ghost invariant = { λ w. w.len ≤ 8192 };
 }
 
-/// Returns whether each of these octets is unchanged in escaped text. All are checked, since
-/// without a branch for each many are checked at a time.
+/// Returns whether each of these octets is unchanged in escaped text. The loop does not end early:
+/// without branches many octets are checked at a time.
 fn are_plain(octets: &[u8]) -> bool
     ensures { result ≡ list_all is_plain octets.now }
 {
@@ -51,7 +51,7 @@ fn are_plain(octets: &[u8]) -> bool
 }
 
 impl Writer {
-    /// Begins with no octets.
+    /// Returns a writer with no octets.
     pub fn new() -> Self
         ensures { result ≡ [] }
     {
@@ -61,21 +61,21 @@ impl Writer {
         }
     }
 
-    /// Returns how many more octets there is room for.
+    /// Returns how many more octets fit.
     pub fn room_left(&self) -> usize
         ensures { length self.now + result ≡ ROOM }
     {
         ROOM - self.len
     }
 
-    /// Forgets what was written.
+    /// Discards what was written.
     pub fn clear(&mut self)
         ensures { self.new ≡ [] }
     {
         self.len = 0;
     }
 
-    /// Ends a line by its line feed.
+    /// Ends a line with a line feed.
     pub fn end_line(&mut self)
         requires { length self.old + 1 ≤ ROOM }
         ensures value { self.new ≡ self.old ++ 10 ∷ [] }
@@ -95,7 +95,7 @@ impl Writer {
         self.len = end;
     }
 
-    /// Writes the separator between the items of a list: nothing before the first.
+    /// Writes the separator between the items of a list, or nothing before the first item.
     pub fn separator(&mut self, between: u8, before: usize)
         requires { length self.old + 1 ≤ ROOM }
         ensures value { self.new ≡ self.old ++ separator between before }
@@ -132,7 +132,7 @@ impl Writer {
         }
     }
 
-    /// Writes escaped text. Most texts need no escape, and are written at once.
+    /// Writes escaped text. Most texts need no escape, and are copied in one piece.
     pub fn escaped(&mut self, octets: &[u8])
         requires { length self.old + 4 * length octets.now ≤ ROOM }
         ensures value { self.new ≡ self.old ++ escaped octets.now }

@@ -1,4 +1,4 @@
--- Active, rested, start and stop, read by positions.
+-- Active, rested, start and stop in terms of positions.
 use Rattle.std.specs.Prelude.{◌≡◌, ℕ, ◌+◌, ◌≤◌, ◌↔◌, Bool, true, false, cond, not, ◌&&◌, ◌||◌, IsTrue, List, [], ◌∷◌, ◌++◌}
 use Rattle.std.specs.List.{list_any}
 use Rattle.std.proofs.Common.{refl, ap, ap₂, ◌∙◌, arith}
@@ -18,7 +18,7 @@ use Rattle.std.proofs.lemmas.Grind.{common_steps}
 
 -- ---- an active port
 
--- no start is a stop or a lost link, and at each the link is up
+-- no start is also a stop or a Down, and the link is up at each start
 abbrev AreApart : List Moment → Type 0
 AreApart [] = Unit {0}
 AreApart (m ∷ past) = (m.start ≡ true → (ends m ≡ false) × (is_up (m ∷ past) ≡ true)) × AreApart past
@@ -36,7 +36,7 @@ apart_rest : (after rest : List Moment) → AreApart (after ++ rest) → AreApar
 apart_rest [] rest a = a
 apart_rest (x ∷ after) rest a = apart_rest after rest a.1
 
--- some start has no stop and no lost link at it or after it
+-- A port is active exactly if some start has no stop and no Down at it or after it.
 active_lasts : (ms : List Moment) → IsTrue (is_active ms) ↔ Lasts (λ m. m.start) (λ _. false) ends ms
 active_lasts = lasts_reads is_active (λ m. m.start) (λ _. false) ends refl is_active-cons
 
@@ -88,7 +88,7 @@ apart_reads ms are_apart = (forth, back)
 pub active_reads : (s : Settings) (h : History) → IsTrue (is_active (moments s h)) ↔ HasStarted (moments s h)
 active_reads s h = apart_reads (moments s h) (apart_moments s h)
 
--- ---- a choice of marks, which changes neither starts nor links
+-- ---- another choice of marks changes neither starts nor links
 
 same_up : (s : Settings) (bs : List Bool) (ms : List Moment) → AreTimely s bs ms → is_up (with_marks bs ms) ≡ is_up ms
 same_up s [] [] t = refl
@@ -140,7 +140,7 @@ rested_reads s past = (forth, λ h. back h (list_any (λ m. m.stop) past) refl)
 pub through : (A B C : Type 0) → (A ↔ B) → (B ↔ C) → A ↔ C
 through A B C f g = (λ a. g.0 (f.0 a), λ c. f.1 (g.1 c))
 
--- two tests, each read by itself
+-- a conjunction of two tests holds exactly if the propositions of both hold
 pub and_reads : (a b : Bool) (P Q : Type 0) → (IsTrue a ↔ P) → (IsTrue b ↔ Q) → IsTrue (a && b) ↔ (P × Q)
 and_reads a b P Q f g = (λ h. let p = and_parts a b h in (f.0 p.0, g.0 p.1), λ w. and_from a b (f.1 w.0) (g.1 w.1))
 

@@ -1,4 +1,4 @@
--- A step of the machine carries what it stands for from every history to that history and the event.
+-- One step of the machine changes its counters as the labels of the next moment say.
 use Rattle.std.specs.Prelude.{◌≡◌, ℕ, ◌+◌, ◌-◌, ◌≤◌, Bool, true, false, cond, not, ◌&&◌, ◌||◌, ◌==◌, nat_le, nat_lt, min}
 use Rattle.std.proofs.Common.{refl, arith}
 use Rattle.std.proofs.lemmas.Bool.Decides.{nat_tests}
@@ -10,7 +10,7 @@ use Rattle.lldp_transmit.specs.History.{is_tick, is_change, is_neighbor, is_down
 use Rattle.lldp_transmit.specs.Moments.{allowed_after, up_after}
 use Rattle.lldp_transmit.proofs.Windows.{one_if}
 
--- the labels of the next moment, by the counters
+-- the labels of the next moment, computed from the counters
 abbrev pub start_of : Machine → Cause → Bool
 start_of t c = is_tick c && (allowed_after c t.allowed && (up_after c t.up && (not t.active && nat_lt t.wait 2)))
 
@@ -38,7 +38,7 @@ spends_of t c = signal_of t c && (is_neighbor c || (is_tick c && not (start_of t
 abbrev pub left_of : Machine → Cause → ℕ
 left_of t c = cond (start_of t c) 0 (cond (opening_of t c) t.fast_init t.left - one_if (spends_of t c))
 
--- what a step makes of the counters
+-- the counters after a step, computed from those before
 pub record Makes (t : Machine) (c : Cause) (n : ℕ) (r : Machine × Mark) : Type 0 where
   pub credit : r.0.credit ≡ room_of t c - one_if (sent_of t c)
   pub wait : r.0.wait ≡ cond (stop_of t c) t.reinit (t.wait - one_if (is_tick c))
@@ -57,12 +57,12 @@ module _ (t : Machine) (n : ℕ) (few : t.credit ≤ t.credit_max) where
   abbrev so : (waiting active allowed up : Bool) → Machine
   so waiting active allowed up = record t { waiting = waiting; active = active; allowed = allowed; up = up }
 
-  -- whatever a port is: not allowed, inactive or active, with a frame that waits or without
+  -- for each state of a port: not allowed, inactive or active, with or without a waiting frame
   on : (c : Cause) (wt ac al up : Bool) → (ac ≡ true → al ≡ true) → (ac ≡ true → wt ≡ true → t.credit ≡ 0) → Makes (so wt ac al up) c n (stepped (so wt ac al up) c n)
   on c wt true false up i j = cc (i refl)
   on c true true true up i j = let none : t.credit ≡ 0 = j refl refl in grind (arith, nat_tests)
   on _ _ _ _ _ i j = grind (arith, nat_tests)
 
--- A step of the machine makes of its counters what the labels of the next moment say.
+-- A step changes the counters as the labels of the next moment say.
 pub step_makes : (t : Machine) (c : Cause) (n : ℕ) → t.credit ≤ t.credit_max → (t.active ≡ true → t.allowed ≡ true) → (t.active ≡ true → t.waiting ≡ true → t.credit ≡ 0) → Makes t c n (stepped t c n)
 step_makes t c n few i j = on t n few c t.waiting t.active t.allowed t.up i j

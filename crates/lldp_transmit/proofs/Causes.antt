@@ -1,4 +1,4 @@
--- What is given and taken by causes, and which causes have frames.
+-- States that causes turn on and off, and the causes at which frames are sent.
 use Rattle.std.specs.Prelude.{◌≡◌, ℕ, ◌⊎◌, ◌↔◌, Bool, true, false, not, ◌&&◌, ◌||◌, IsTrue, List, [], ◌∷◌, ◌++◌, map}
 use Rattle.std.proofs.Common.{refl, ap, sym, ◌∙◌, inl, inr, arith, subst}
 use Rattle.lldp_transmit.specs.declared.event.Cause.{Cause}
@@ -18,9 +18,9 @@ use Rattle.std.proofs.lemmas.Bool.{true_from_ne_false}
 use Rattle.std.proofs.lemmas.Grind.{common_steps}
 use Rattle.lldp_transmit.specs.Laws.Causes.{HasCause, IsGiven, MayTransmit, IsLinked, CanSend, CanStop}
 
--- ---- given and taken
+-- ---- turned on and off
 
--- what a cause does to it: it gives, or takes, or neither
+-- the effect of a cause on a state: it turns the state on, turns it off, or leaves it
 abbrev Reads : (Cause → Bool → Bool) → Cause → Cause → Cause → Type 0
 Reads f gives takes c =
     ((c ≡ gives) × ((b : Bool) → f c b ≡ true))
@@ -40,12 +40,12 @@ nowhere : {X : Type 0} (after before : List X) (x : X) → [] ≡ after ++ x ∷
 nowhere [] before x p = cc p
 nowhere (y ∷ after) before x p = cc p
 
--- whether it is there after some events
+-- whether the state is on after some events
 abbrev held : (Cause → Bool → Bool) → Bool → History → Bool
 held f b [] = b
 held f b (e ∷ h) = f e.cause (held f b h)
 
--- what holds at the newest position and at each older one holds at each
+-- if a property holds at the newest position and at each older one, it holds at every position
 by_position : (P : Event → History → Type 0) (e : Event) (h : History) → P e [] → ((q : Position h) → P q.there (e ∷ q.after)) → (p : Position (e ∷ h)) → P p.there p.after
 by_position P e h first rest p = go p.after p.is
   where
@@ -58,7 +58,7 @@ by_position P e h first rest p = go p.after p.is
 later : (c : Cause) (e : Event) (h : History) → HasCause c h → HasCause c (e ∷ h)
 later c e h g = (older e g.0, g.1)
 
--- the newest event has another cause, so an earlier one has this
+-- if the newest event has another cause, an earlier event has this cause
 earlier : (c : Cause) (e : Event) (h : History) → ¬ (e.cause ≡ c) → HasCause c (e ∷ h) → HasCause c h
 earlier c e h n g = by_position (λ x after. x.cause ≡ c → HasCause c h) e h (λ q. absurd (n q)) (λ p q. (p, q)) g.0 g.1
 
@@ -97,7 +97,7 @@ module _ (f : Cause → Bool → Bool) (gives takes : Cause) (reads : (c : Cause
   given_reads : (h : History) → (held f b h ≡ true) ↔ IsGiven gives takes b h
   given_reads h = (is_given h, is_held h)
 
--- ---- the right to transmit, and the link
+-- ---- whether a port may transmit, and whether its link is up
 
 allowed_held : (s : Settings) (h : History) → is_allowed s (moments s h) ≡ held allowed_after s.allowed h
 unfolding moment
@@ -117,7 +117,7 @@ up_reads s h = rw (up_held s h) (given_reads up_after Up Down reads_up (λ q. cc
 
 -- ---- frames
 
--- a step answers an ordinary frame at these causes alone
+-- the answer to an event is an ordinary frame only at these causes
 ordinary_cause : (t : Machine) (c : Cause) (n : ℕ) → (stepped t c n).1 ≡ Ordinary → (c ≡ Tick) ⊎ ((c ≡ Change) ⊎ (c ≡ Neighbor))
 ordinary_cause t Tick n q = inl refl
 ordinary_cause t Change n q = inr (inl refl)
@@ -125,7 +125,7 @@ ordinary_cause t Neighbor n q = inr (inr refl)
 ordinary_cause t Stop n q = grind (arith, common_steps)
 ordinary_cause t _ n q = cc q
 
--- at a start the link is up, and later a lost link would have ended it
+-- at a start the link is up; a later Down makes the port inactive
 up_at : (c : Cause) (x l u r : Bool) → (not ((x && not l) || is_down c) && ((is_tick c && (l && (up_after c u && (not x && r)))) || x)) ≡ true → (x ≡ true → u ≡ true) → up_after c u ≡ true
 up_at Up x l u r e i = refl
 up_at other x l u r e i = grind (arith, common_steps)

@@ -9,7 +9,7 @@ use Rattle.lldp_transmit.specs.History.{Settings, Event, settings, event}
 use Rattle.lldp_transmit.specs.Moments.{moment, moments, mark_of}
 use Rattle.lldp_transmit.specs.Remaining.{credit_left}
 
--- events of these causes, with the interval in force
+-- events with these causes, all with the same interval
 abbrev at : ℕ → List Cause → List Event
 at interval causes = map (λ c. event c interval) causes
 
@@ -25,7 +25,7 @@ Q = Quiet
 abbrev X : Mark
 X = Shutdown
 
--- settings, events and their marks
+-- settings, events and the marks of the events; the first 16 rows have the names of the examples
 abbrev rows : List (Settings × List Event × List Mark)
 rows =
     -- changes beyond the credit
@@ -60,46 +60,46 @@ rows =
     ∷ (usual, at 30 (Tick ∷ Down ∷ Up ∷ Tick ∷ []), O ∷ Q ∷ Q ∷ O ∷ [])
     -- status while down
     ∷ (usual, at 30 (Tick ∷ Down ∷ Stop ∷ Allow ∷ Up ∷ Tick ∷ []), O ∷ Q ∷ Q ∷ Q ∷ Q ∷ O ∷ [])
-    -- the want waits for the tick's credit, and the timer of the change ends there too: one frame for both
+    -- the waiting frame and the end of the change's timer come at one tick: one frame for both
     ∷ (settings 1 4 2 true, at 1 (Tick ∷ Change ∷ Tick ∷ Tick ∷ []), O ∷ Q ∷ O ∷ O ∷ [])
-    -- the timer runs from the change on, not from its frame
+    -- the timer runs from the change, not from its frame
     ∷ (settings 1 4 2 true, at 2 (Tick ∷ Change ∷ Tick ∷ Tick ∷ Tick ∷ Tick ∷ []), O ∷ Q ∷ O ∷ O ∷ Q ∷ O ∷ [])
-    -- wants that wait are one
+    -- several signals that wait get one frame
     ∷ (settings 1 4 2 true, at 30 (Tick ∷ Change ∷ Neighbor ∷ Change ∷ Tick ∷ []), O ∷ Q ∷ Q ∷ Q ∷ O ∷ [])
-    -- the events between a change and its frame are no signals
+    -- the events between a change and its frame are not signals
     ∷ (settings 1 4 2 true, at 30 (Tick ∷ Change ∷ Nothing ∷ Up ∷ Allow ∷ Tick ∷ Allow ∷ Up ∷ Nothing ∷ Tick ∷ []), O ∷ Q ∷ Q ∷ Q ∷ Q ∷ O ∷ Q ∷ Q ∷ Q ∷ Q ∷ [])
-    -- a burst goes on while its frames wait
+    -- a burst continues while its frames wait
     ∷ (settings 1 3 2 true, at 3 (Tick ∷ Neighbor ∷ replicate 6 Tick), O ∷ Q ∷ O ∷ O ∷ Q ∷ Q ∷ O ∷ Q ∷ [])
-    -- burst of one
+    -- a burst of one signal
     ∷ (settings 5 1 2 true, at 3 (Tick ∷ Neighbor ∷ replicate 4 Tick), O ∷ O ∷ Q ∷ Q ∷ O ∷ Q ∷ [])
     -- a new neighbor after a burst opens another
     ∷ (settings 9 2 2 true, at 3 (Tick ∷ Neighbor ∷ Tick ∷ Neighbor ∷ Tick ∷ replicate 3 Tick), O ∷ O ∷ O ∷ O ∷ O ∷ Q ∷ Q ∷ O ∷ [])
-    -- a start ends the burst before it
+    -- a start ends an earlier burst
     ∷ (usual, at 2 (Tick ∷ Neighbor ∷ Down ∷ Up ∷ Tick ∷ Tick ∷ Tick ∷ []), O ∷ O ∷ Q ∷ Q ∷ O ∷ Q ∷ O ∷ [])
-    -- a new neighbor of a port that is not active opens none
+    -- a new neighbor of an inactive port opens no burst
     ∷ (usual, at 3 (Neighbor ∷ Tick ∷ replicate 3 Tick), Q ∷ O ∷ Q ∷ Q ∷ O ∷ [])
-    -- an interval counts from the next signal on
+    -- a new interval applies from the next signal on
     ∷ (usual, at 3 (Tick ∷ []) ++ at 1 (Nothing ∷ replicate 4 Tick), O ∷ Q ∷ Q ∷ Q ∷ O ∷ O ∷ [])
-    -- wait of three ticks
+    -- a wait of three ticks
     ∷ (settings 5 4 3 true, at 30 (Tick ∷ Stop ∷ Tick ∷ Allow ∷ Tick ∷ Tick ∷ []), O ∷ X ∷ Q ∷ Q ∷ Q ∷ O ∷ [])
-    -- a stop of a port that is not active begins no wait anew
+    -- a stop of an inactive port does not restart the wait
     ∷ (usual, at 30 (Tick ∷ Stop ∷ Tick ∷ Stop ∷ Allow ∷ Tick ∷ []), O ∷ X ∷ Q ∷ Q ∷ Q ∷ O ∷ [])
-    -- down ends the want
+    -- the loss of the link cancels the waiting frame
     ∷ (settings 1 4 2 true, at 30 (Tick ∷ Change ∷ Down ∷ Up ∷ Tick ∷ Tick ∷ []), O ∷ Q ∷ Q ∷ Q ∷ O ∷ Q ∷ [])
-    -- credit fills while the port is stopped, to txCreditMax and no further
+    -- credit grows while the port is stopped, up to txCreditMax
     ∷ (usual, at 30 (Tick ∷ replicate 4 Change ++ Stop ∷ replicate 7 Tick ++ Allow ∷ Tick ∷ replicate 5 Change), replicate 5 O ++ X ∷ replicate 8 Q ++ replicate 5 O ++ Q ∷ []) ∷ []
 
--- The definitions give each row its marks.
+-- The definitions give the events of each row these marks.
 all_marked : map (λ row. reverse (map mark_of (moments row.0 (reverse row.1)))) rows ≡ map (λ row. row.2) rows
 unfolding moment
 all_marked = refl
 
--- the credit at the second tick after the stop, with its frame taken
+-- the credit after the frame of the restart, at the second tick after the stop
 credit_at_the_restart : credit_left usual (moments usual (reverse (at 30 (Tick ∷ replicate 4 Change ++ Stop ∷ Allow ∷ Tick ∷ Tick ∷ [])))) ≡ 1
 unfolding moment
 credit_at_the_restart = refl
 
--- the shutdown frame takes no credit
+-- the shutdown frame uses no credit
 credit_after_a_shutdown : credit_left usual (moments usual (reverse (at 30 (Tick ∷ Change ∷ Stop ∷ [])))) ≡ 3
 unfolding moment
 credit_after_a_shutdown = refl

@@ -1,4 +1,4 @@
--- Answers that the clauses of an event refuse, each by itself.
+-- Wrong answers, each of which a contract of `event` rules out.
 use Rattle.std.specs.Prelude.{◌≡◌, ◌↔◌, true, [], ◌∷◌}
 use Rattle.std.proofs.Common.{refl, arith}
 use Rattle.lldp_transmit.specs.declared.event.Cause.TheVariants.{Tick, Change, Stop}
@@ -13,7 +13,7 @@ use Rattle.lldp_transmit.proofs.Sending.{sent_reads}
 abbrev usual : Settings
 usual = settings 5 4 2 true
 
--- To answer Quiet at the first tick, where the port starts, is not Sent, and not the earliest service.
+-- To answer Quiet at the first tick, where the port starts, breaks `ordinary` and `earliest`.
 quiet_is_not_sent : (Quiet ≡ Ordinary) ↔ IsDueAndOpen usual [] (event Tick 30) → ⊥
 unfolding moment
 quiet_is_not_sent clause =
@@ -24,12 +24,12 @@ quiet_is_not_earliest : IsEarliestWith usual [] (event Tick 30) Quiet → ⊥
 unfolding moment
 quiet_is_not_earliest clause = omega (arith, clause (true ∷ []) (λ _. refl, tt))
 
--- With one credit, a second frame before the next tick is one too many.
+-- With one credit, a second frame before the next tick breaks `bounded`.
 second_frame_is_not_bounded : IsBoundedWith (settings 1 4 2 true) (event Tick 30 ∷ []) (event Change 30) Ordinary → ⊥
 unfolding moment
 second_frame_is_not_bounded clause = omega (arith, clause (moments (settings 1 4 2 true) (event Tick 30 ∷ [])) [] refl)
 
--- A second shutdown frame in the same second is one too many, and no stop.
+-- A second shutdown frame in the same second breaks `few_stops` and `shutdown`.
 second_shutdown_is_not_rare : StopsRarelyWith usual (event Stop 30 ∷ event Tick 30 ∷ []) (event Stop 30) Shutdown → ⊥
 unfolding moment
 second_shutdown_is_not_rare clause = omega (arith, clause (moment usual (moments usual (event Tick 30 ∷ [])) (event Stop 30) ∷ []) (moments usual (event Tick 30 ∷ [])) refl)

@@ -1,4 +1,4 @@
--- Waiting, due, open, sent and the credit, read by positions.
+-- Waiting, due, open, sent and the credit in terms of positions.
 use Rattle.std.specs.Prelude.{◌≡◌, ℕ, ◌+◌, ◌≤◌, ◌<◌, ◌↔◌, ◌⊎◌, Bool, true, false, IsTrue, List, [], ◌∷◌, ◌++◌}
 use Rattle.std.specs.List.{list_all}
 use Rattle.std.proofs.Common.{refl, ap, ◌∙◌, arith, inl, inr, subst}
@@ -17,7 +17,7 @@ use Rattle.std.proofs.lemmas.Grind.{common_steps}
 
 -- ---- open windows
 
--- what holds of each front holds of each run
+-- if a test passes on each front, it passes on each run
 all_runs : {X : Type 0} (p : List X → Bool) (xs : List X) → ((run before : List X) → xs ≡ run ++ before → p run ≡ true) → list_all p (runs xs) ≡ true
 all_runs p [] h = refl
 all_runs p (x ∷ xs) h =
@@ -50,7 +50,7 @@ open_reads s past m most = (forth, back)
 
 -- ---- the credit
 
--- some run leaves just what is in the bucket
+-- some run leaves exactly what is in the bucket
 one_leaves : (s : Settings) (ms : List Moment) → IsPaid s ms → (run before : List Moment) × (ms ≡ run ++ before) × (bucket s ms + frames run ≡ s.credit_max + ticks (after_first run))
 one_leaves s [] paid = ([], [], refl, omega arith)
 one_leaves s (m ∷ past) paid = go (cases_lt (bucket s past + one_if (is_tick m.cause)) s.credit_max) (one_leaves s past paid.1)
@@ -78,25 +78,25 @@ least_bucket s ms paid = record { most = bucket_le s ms; each = each; one = one_
 pub credit_reads : (s : Settings) (h : History) → 1 ≤ s.credit_max → IsLeastRoom s (moments s h) (credit_left s (moments s h))
 credit_reads s h most = grind (arith, common_steps, paid_moments, credit_is, least_bucket)
 
--- the least room is one number
+-- there is only one least room
 pub least_once : (s : Settings) (ms : List Moment) (credit other : ℕ) → IsLeastRoom s ms credit → IsLeastRoom s ms other → credit ≡ other
 least_once s ms credit other c d = grind (arith, common_steps)
 
--- ---- a frame that waits
+-- ---- a waiting frame
 
 pub waiting_reads : (ms : List Moment) → IsTrue (is_waiting ms) ↔ HasWanted ms
 waiting_reads = lasts_reads is_waiting (λ m. m.signal) (λ m. m.start) (λ m. m.sent) refl is_waiting-cons
 
--- ---- a frame that goes
+-- ---- a sent frame
 
--- a frame is due on an active port on which one waits
+-- a frame is due exactly on an active port with a waiting frame
 pub due_reads : (s : Settings) (h : History) (e : Event) → IsTrue (due (moments s h) (moment s (moments s h) e)) ↔ IsDue (moments s h) (moment s (moments s h) e)
 due_reads s h e =
     let m = moment s (moments s h) e in
     let active : IsTrue (is_active (record m { sent = false } ∷ moments s h)) ↔ HasStarted (m ∷ moments s h) = rw (same_active (moments s h) m m.signal m.opening false) (active_reads s (e ∷ h)) in
     and_reads _ _ _ _ active (waiting_reads (record m { sent = false } ∷ moments s h))
 
--- and so it is with the marks of a choice in place of the frames
+-- the same with the marks of another choice in place of the frames
 pub chosen_due_reads : (s : Settings) (h : History) (e : Event) (bs : List Bool) → AreTimely s bs (moments s h) →
     IsTrue (due (with_marks bs (moments s h)) (moment s (moments s h) e)) ↔ IsDue (with_marks bs (moments s h)) (moment s (moments s h) e)
 chosen_due_reads s h e bs t =
@@ -105,7 +105,7 @@ chosen_due_reads s h e bs t =
     let active : IsTrue (is_active (record m { sent = false } ∷ past)) ↔ HasStarted (m ∷ past) = rw (same_active past m m.signal m.opening false) (chosen_reads s h e bs t) in
     and_reads _ _ _ _ active (waiting_reads (record m { sent = false } ∷ past))
 
--- An ordinary frame goes exactly if one is due and the window open.
+-- An ordinary frame is sent exactly if one is due and the window is open.
 pub sent_reads : (s : Settings) (h : History) (e : Event) → 1 ≤ s.credit_max →
     IsTrue (moment s (moments s h) e).sent ↔ (IsDue (moments s h) (moment s (moments s h) e) × IsOpen s (moments s h) (moment s (moments s h) e))
 unfolding moment

@@ -1,4 +1,4 @@
--- The law: a step carries standing from every history to that history and the event.
+-- If a machine represents a history, then after a step it represents that history with the event.
 use Rattle.std.specs.Prelude.{◌≡◌, ℕ, ◌-◌, ◌≤◌, Bool, true, false, cond, not, ◌&&◌, nat_le, List, [], ◌∷◌, IsTrue, ◌↔◌}
 use Rattle.std.proofs.Common.{refl, ap, sym, subst, ◌∙◌, arith}
 use Rattle.std.proofs.lemmas.Bool.Decides.{nat_tests}
@@ -15,7 +15,7 @@ use Rattle.lldp_transmit.proofs.Carrying.{start_of, stop_of, signal_of, opening_
 use Rattle.lldp_transmit.proofs.Labels.{Counts, starts_is, stops_is, active_is, signals_is, opens_is, sent_is}
 use Rattle.std.proofs.lemmas.Grind.{common_steps}
 
--- the labels of a moment are those that the counters say
+-- the labels of the moment are those computed from the counters
 pub record Labelled (t : Machine) (c : Cause) (n : ℕ) (m : Moment) : Type 0 where
   pub cause : m.cause ≡ c
   pub interval : m.interval ≡ n
@@ -44,7 +44,7 @@ module _ (s : Settings) (past : List Moment) (t : Machine) (e : Event) (h : Coun
         sent = sent_is s past t e.cause h m2 refl start stop signal most paid;
       }
 
--- counters that a step makes stand for one more moment with such labels
+-- if a step changes the counters as the labels say, they are right for one more moment
 counted_on : (s : Settings) (past : List Moment) (t : Machine) (c : Cause) (n : ℕ) (m : Moment) (u : Machine × Mark) → Counts s past t → Labelled t c n m → Makes t c n u → Counts s (m ∷ past) u.0
 counted_on s past t c n m u h l k = grind (arith, common_steps, until_start-cons, until_signal-cons, signals_left-cons, is_waiting-cons, active_is)
 
@@ -60,7 +60,7 @@ allowed_if_active s (e ∷ h) a = grind (arith, common_steps, is_active-cons)
 none_left : (x y o : Bool) (n : ℕ) → x ≡ true → (not ((x && y) && o) && y) ≡ true → o ≡ nat_le 1 n → n - one_if ((x && y) && o) ≡ 0
 none_left x y o n a w e = grind (arith, nat_tests)
 
--- A frame waits on an active port only for want of credit.
+-- A frame waits on an active port only if there is no credit.
 none_if_waiting : (s : Settings) (h : History) → 1 ≤ s.credit_max → is_active (moments s h) ≡ true → is_waiting (moments s h) ≡ true → bucket s (moments s h) ≡ 0
 unfolding moment
 none_if_waiting s [] most a w = cc
@@ -73,7 +73,7 @@ none_if_waiting s (e ∷ h) most a w =
     (ap (λ b. not n.sent && b) (wanted-cons m past) ∙ sym (is_waiting-cons n past) ∙ w)
     (open_is s past m most (paid_moments s h most))
 
--- The law for the counters.
+-- A step keeps the counters right.
 pub carries_counts : (s : Settings) (h : History) (t : Machine) (e : Event) → 1 ≤ s.credit_max → Counts s (moments s h) t →
     Counts s (moments s (e ∷ h)) (stepped t e.cause e.interval).0 × ((stepped t e.cause e.interval).1 ≡ mark_of (moment s (moments s h) e))
 carries_counts s h t e most counts =
@@ -83,8 +83,8 @@ carries_counts s h t e most counts =
     let makes = step_makes t e.cause e.interval few (λ a. counts.allowed ∙ allowed_if_active s h (sym counts.active ∙ a)) (λ a w. counts.credit ∙ none_if_waiting s h most (sym counts.active ∙ a) (sym counts.waiting ∙ w)) in
     (counted_on s past t e.cause e.interval (moment s past e) (stepped t e.cause e.interval) counts labels makes, marked_on s past t e.cause e.interval (moment s past e) (stepped t e.cause e.interval) labels makes)
 
--- between what the machine stands for, by the windows, and its counters, by the bucket
--- the machine that events leave has such counters
+-- `Stands` uses windows, `Counts` uses the bucket: the lemmas below lead from one to the other
+-- the machine that a history leaves has the right counters
 counts_left : (s : Settings) (h : History) → AreSettings s → Counts s (moments s h) (machine_of s h)
 unfolding machine_of
 counts_left s h r = grind (arith, common_steps, credit_is, paid_moments)
@@ -98,24 +98,24 @@ stands_of s h t r k =
     let credit = credit_is s (moments s h) (paid_moments s h r.some_credit) in
     record { in_range = r; is = rw (credit, ← k.credit, ← k.wait, ← k.timer, ← k.left, ← k.waiting, ← k.active, ← k.allowed, ← k.up, ← k.credit_max, ← k.fast_init, ← k.reinit) refl }
 
--- A step carries standing from every history to that history and the event.
+-- If a machine represents a history, then after a step it represents that history with the event.
 pub carries : (s : Settings) (h : History) (t : Machine) (e : Event) → Stands s h t → Stands s (e ∷ h) (stepped t e.cause e.interval).0
 carries s h t e k = stands_of s (e ∷ h) _ k.in_range (carries_counts s h t e k.in_range.some_credit (counts_of s h t k)).0
 
--- A step answers the mark of the event.
+-- The answer of a step is the mark of the event.
 pub marks : (s : Settings) (h : History) (t : Machine) (e : Event) → Stands s h t → (stepped t e.cause e.interval).1 ≡ mark_at s (e ∷ h)
 marks s h t e k = (carries_counts s h t e k.in_range.some_credit (counts_of s h t k)).1
 
--- A machine as it is opened stands for no events.
+-- A machine just opened represents the empty history.
 pub stands_at_first : (s : Settings) → AreSettings s → Stands s [] (opened s)
 unfolding machine_of
 stands_at_first s r = record { in_range = r; is = refl }
 
--- The machine that a history leaves stands for it.
+-- The machine that a history leaves represents it.
 pub stands_left : (s : Settings) (h : History) → AreSettings s → Stands s h (machine_of s h)
 stands_left s h r = record { in_range = r; is = refl }
 
--- At a stop no ordinary frame goes.
+-- No ordinary frame is sent at a stop.
 pub apart : (s : Settings) (past : List Moment) (e : Event) → (moment s past e).stop ≡ true → (moment s past e).sent ≡ false
 unfolding moment
 apart s past e p = grind (arith, common_steps, is_active-cons)
@@ -123,6 +123,6 @@ apart s past e p = grind (arith, common_steps, is_active-cons)
 ordinary_by : (x y : Bool) (r : Mark) → (x ≡ true → y ≡ false) → r ≡ cond x Shutdown (cond y Ordinary Quiet) → ((r ≡ Ordinary) ↔ IsTrue y) × ((r ≡ Shutdown) ↔ IsTrue x)
 ordinary_by x y r a e = grind (arith, common_steps)
 
--- The mark is Ordinary exactly if a frame is due and the window open, and Shutdown exactly at a stop.
+-- The mark is Ordinary exactly if a frame is due in an open window, and Shutdown exactly at a stop.
 pub exact : (s : Settings) (past : List Moment) (e : Event) (r : Mark) → r ≡ mark_of (moment s past e) → ((r ≡ Ordinary) ↔ IsTrue (moment s past e).sent) × ((r ≡ Shutdown) ↔ IsTrue (moment s past e).stop)
 exact s past e r p = ordinary_by (moment s past e).stop (moment s past e).sent r (apart s past e) p

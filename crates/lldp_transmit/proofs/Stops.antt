@@ -21,7 +21,7 @@ rested_if : (x d l tick w r : Bool) (re n : ℕ) → r ≡ nat_lt n 2 → (x ≡
     (not ((x && not l) || d) && ((tick && (l && (w && (not x && r)))) || x)) ≡ true → cond (x && not l) re (n - one_if tick) ≡ 0
 rested_if x d l tick w r re n e i a = grind (arith, nat_tests)
 
--- An active port waits for nothing.
+-- An active port has no wait left.
 rested_if_active : (s : Settings) (h : History) → is_active (moments s h) ≡ true → until_start s (moments s h) ≡ 0
 unfolding moment
 rested_if_active s [] a = cc
@@ -32,12 +32,12 @@ rested_if_active s (e ∷ h) a =
     ∙ rested_if (is_active past) (is_down e.cause) (allowed_after e.cause (is_allowed s past)) (is_tick e.cause) (up_after e.cause (is_up past)) (rested s past) s.reinit (until_start s past)
     (rested_is s past) (rested_if_active s h) (sym (is_active-cons m past) ∙ a)
 
--- the stops of a run are so far apart, and the last is so long ago, as its ticks allow
+-- the ticks of a run bound its number of stops and the time since the last one
 spaced_after : (r : ℕ) (stop some : Bool) (n w t k : ℕ) → (some ≡ true → r * n + w ≤ t + r) → (some ≡ false → n ≡ 0) → (stop ≡ true → some ≡ true → r ≤ w) →
     (stop || some) ≡ true → r * (one_if stop + n) + cond stop 0 (k + w) ≤ k + t + r
 spaced_after r stop some n w t k i j l o = grind (arith, common_steps)
 
--- what comes since the last stop of a run comes since the last stop of the history that it ends
+-- if a run that ends now has a stop, its last stop is the last stop of the whole history
 any_front : (run before : List Moment) → list_any (λ m. m.stop) run ≡ true → list_any (λ m. m.stop) (run ++ before) ≡ true
 any_front run before e = list_any-append (λ m. m.stop) run before ∙ or_left _ _ e
 
@@ -53,7 +53,7 @@ pub ticks_since : (m : Moment) (run : List Moment) → ticks (since (λ x. x.sto
 ticks_since m run = elim m.stop as (λ b. ticks (cond b [] (m ∷ since (λ x. x.stop) run)) ≡ cond b 0 (one_if (is_tick m.cause) + ticks (since (λ x. x.stop) run))) [ true ↦ refl | false ↦ refl ]
 
 module _ (s : Settings) where
-  -- a stop of an active port comes late enough after the stop before it
+  -- a stop of an active port comes at least reinitDelay ticks after the stop before it
   late : (h : History) (e : Event) (run before : List Moment) → moments s h ≡ run ++ before → (moment s (moments s h) e).stop ≡ true → list_any (λ m. m.stop) run ≡ true → s.reinit ≤ ticks (since (λ m. m.stop) run)
   unfolding moment
   late h e run before i p q =
@@ -76,6 +76,6 @@ few_from : (r n t : ℕ) → 1 ≤ r → r * n ≤ t + r → n ≤ 1 + t / r
 few_from r zero t p b = omega arith
 few_from r (suc n) t p b = let q : n ≤ t / r = le-div n t r p (omega arith) in omega arith
 
--- A run has at most one stop, and one more for each reinitDelay ticks in it.
+-- A run has at most one stop plus one for each reinitDelay ticks in it.
 pub stops_rarely : (s : Settings) (h : History) → 1 ≤ s.reinit → StopsRarely s h
 stops_rarely s h most later run before i = grind (arith, common_steps, earlier, spaced, few_from, none_counted)

@@ -1,5 +1,5 @@
--- The windows of a history and the bucket that stands for them: what is left in the bucket is the least that any
--- run which ends now leaves of its bound.
+-- The windows of a history, computed with a bucket. Its contents are the least that any run that
+-- ends now leaves of its bound.
 use Rattle.std.specs.Prelude.{◌≡◌, ℕ, suc, ◌+◌, ◌-◌, ◌≤◌, ◌<◌, Bool, true, false, cond, ◌&&◌, nat_le, min, List, [], ◌∷◌, ◌++◌, map}
 use Rattle.std.specs.List.{list_all, fold}
 use Rattle.std.proofs.Common.{refl, ap, ap₂, sym, ◌∙◌, arith}
@@ -13,11 +13,11 @@ use Rattle.lldp_transmit.specs.Moments.{moment, Moment, ticks, frames, within, o
 use Rattle.lldp_transmit.specs.Remaining.{room, credit_left}
 use Rattle.std.proofs.lemmas.Grind.{common_steps}
 
--- one if the test passes
+-- 1 if the test passes, else 0
 abbrev pub one_if : Bool → ℕ
 one_if b = cond b 1 0
 
--- the bucket: a tick adds one, at most to txCreditMax, and a frame takes one
+-- the bucket: a tick adds one, up to txCreditMax, and a frame removes one
 abbrev pub filled : Settings → ℕ → Bool → ℕ
 filled s n tick = min s.credit_max (n + one_if tick)
 
@@ -25,12 +25,12 @@ abbrev pub bucket : Settings → List Moment → ℕ
 bucket s [] = s.credit_max
 bucket s (m ∷ past) = filled s (bucket s past) (is_tick m.cause) - one_if m.sent
 
--- each frame found something in the bucket
+-- the bucket was not empty at any frame
 abbrev pub IsPaid : Settings → List Moment → Type 0
 IsPaid s [] = Unit {0}
 IsPaid s (m ∷ past) = (one_if m.sent ≤ filled s (bucket s past) (is_tick m.cause)) × IsPaid s past
 
--- every run that ends now is within its bound, if it goes on with a frames and b ticks
+-- every run that ends now is within its bound, also with a more frames and b more ticks
 abbrev pub fits : ℕ → ℕ → ℕ → List Moment → Bool
 fits max a b [] = true
 fits max a b (m ∷ past) =
@@ -40,7 +40,7 @@ pub list_all-map : {X Y : Type 0} (p : Y → Bool) (f : X → Y) (xs : List X) �
 list_all-map p f [] = refl
 list_all-map p f (x ∷ xs) = ap (λ b. p (f x) && b) (list_all-map p f xs)
 
--- runs have a first event, so tests that agree on such runs agree on all
+-- runs are not empty, so tests that agree on non-empty lists agree on all runs
 same_on_runs : {X : Type 0} (p q : List X → Bool) → ((x : X) (xs : List X) → p (x ∷ xs) ≡ q (x ∷ xs)) → (xs : List X) → list_all p (runs xs) ≡ list_all q (runs xs)
 same_on_runs p q h [] = refl
 same_on_runs p q h (x ∷ xs) = grind (arith, common_steps, ap₂, list_all-map, same_on_runs (λ r. p (x ∷ r)) (λ r. q (x ∷ r)) (λ y ys. h x (y ∷ ys)) xs)
@@ -59,7 +59,7 @@ all_fit max a b (m ∷ past) =
     (λ z zs. ap₂ nat_le (omega arith) (omega arith)) past
     ∙ all_fit max (x + a) (y + b) past)
 
--- The runs fit exactly if the bucket has enough.
+-- The runs fit if the bucket holds enough.
 pub fits_enough : (s : Settings) (a b : ℕ) (ms : List Moment) → IsPaid s ms → a ≤ bucket s ms + b → fits s.credit_max a b ms ≡ true
 fits_enough s a b [] paid h = refl
 fits_enough s a b (m ∷ past) paid h = grind (arith, common_steps, and_from, le-leb, fits_enough s (one_if m.sent + a) (one_if (is_tick m.cause) + b) past paid.1 (omega arith))
@@ -75,7 +75,7 @@ enough_fits s a b (m ∷ past) paid h f =
 pub within_is : (s : Settings) (ms : List Moment) → list_all (within s) (runs ms) ≡ fits s.credit_max 0 0 ms
 within_is s ms = same_on_runs (within s) (bounded s.credit_max 0 0) (λ z zs. ap₂ nat_le (omega arith) (omega arith)) ms ∙ all_fit s.credit_max 0 0 ms
 
--- A window is open exactly if the bucket, after this event's tick, isn't empty.
+-- A window is open exactly if the bucket, after this event's tick, is not empty.
 pub open_is : (s : Settings) (past : List Moment) (m : Moment) → 1 ≤ s.credit_max → IsPaid s past → open_at s past m ≡ nat_le 1 (filled s (bucket s past) (is_tick m.cause))
 open_is s past m most paid = within_is s (record m { sent = true } ∷ past) ∙ go _ refl
   where
@@ -90,12 +90,12 @@ open_is s past m most paid = within_is s (record m { sent = true } ∷ past) ∙
 le_min : (c d e : ℕ) → nat_le c (min d e) ≡ (nat_le c d && nat_le c e)
 le_min c d e = grind (arith, nat_tests)
 
--- A number is at most the least of some exactly if it is at most each.
+-- A number is at most a minimum exactly if it is at most each of the numbers.
 least_is : {X : Type 0} (c d : ℕ) (f : X → ℕ) (xs : List X) → nat_le c (fold min d (map f xs)) ≡ (nat_le c d && list_all (λ x. nat_le c (f x)) xs)
 least_is c d f [] = sym (and-true (nat_le c d))
 least_is c d f (x ∷ xs) = grind (arith, common_steps, le_min, and_assoc, least_is c (min d (f x)) f xs)
 
--- what a run leaves of its bound is at least c, if c isn't 0, exactly if the run fits with c more
+-- for c > 0: a run leaves at least c of its bound exactly if it fits with c more frames
 room_is : (s : Settings) (c : ℕ) (run : List Moment) → nat_le (suc c) (room s run) ≡ bounded s.credit_max (suc c) 0 run
 room_is s c run = grind (arith, nat_tests)
 
@@ -109,7 +109,7 @@ bucket_le s (m ∷ past) = omega arith
 has : (s : Settings) (a : ℕ) (ms : List Moment) → IsPaid s ms → (nat_le a s.credit_max && fits s.credit_max a 0 ms) ≡ nat_le a (bucket s ms)
 has s a ms paid = grind (arith, common_steps, leb-true, bucket_le, and_from, le-leb, fits_enough, leb-false, false_from_ne_true, and_parts, enough_fits)
 
--- The credit is what is left in the bucket.
+-- The credit is what the bucket holds.
 pub credit_is : (s : Settings) (ms : List Moment) → IsPaid s ms → credit_left s ms ≡ bucket s ms
 credit_is s ms paid = same_from_below _ _ (λ c.
     least_is (suc c) s.credit_max (room s) (runs ms)
@@ -122,7 +122,7 @@ credit_is s ms paid = same_from_below _ _ (λ c.
 pub all_within : (s : Settings) (ms : List Moment) → IsPaid s ms → list_all (within s) (runs ms) ≡ true
 all_within s ms paid = within_is s ms ∙ fits_enough s 0 0 ms paid (omega arith)
 
--- what holds of each run holds of each front of the list that isn't empty
+-- if a test passes on each run, it passes on each front that is not empty
 pub run_holds : {X : Type 0} (p : List X → Bool) (x : X) (xs before : List X) → list_all p (runs ((x ∷ xs) ++ before)) ≡ true → p (x ∷ xs) ≡ true
 run_holds p x [] before h = (and_parts _ _ h).0
 run_holds p x (y ∷ ys) before h =
@@ -145,7 +145,7 @@ front_bounded s h most (m ∷ run) before e =
     let all : list_all (within s) (runs (moments s h)) ≡ true = all_within s (moments s h) (paid_moments s h most) in
     leb-true _ _ (run_holds (within s) m run before (rw e at all))
 
--- what comes before some moments of a history is the moments of an earlier one
+-- the older moments of a history are all the moments of an earlier history
 pub earlier : (s : Settings) (h : History) (later rest : List Moment) → moments s h ≡ later ++ rest → (g : History) × (moments s g ≡ rest)
 earlier s h [] rest e = (h, e)
 earlier s [] (m ∷ later) rest e = cc e

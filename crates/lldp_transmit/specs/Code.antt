@@ -1,3 +1,2 @@
--- What the code is shaped like: what a machine holds, and one step of it. Callers compute with it, and `Standing` says
--- what it means, without a counter.
+-- Definitions that follow the code: the fields of a machine, and one step of it.
 pub mod Machine

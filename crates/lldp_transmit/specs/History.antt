@@ -1,9 +1,9 @@
--- What one port has seen since it was opened: its events, newest first.
+-- The events of one port since it was opened, newest first.
 use Rattle.std.specs.Prelude.{ℕ, Bool, true, false, List}
 use Rattle.lldp_transmit.specs.declared.event.Cause.{Cause}
 use Rattle.lldp_transmit.specs.declared.event.Cause.TheVariants.{Tick, Change, Neighbor, Down}
 
--- what a port is opened with
+-- the settings that a port is opened with
 pub record Settings : Type 0 where
   pub credit_max : ℕ  -- txCreditMax
   pub fast_init : ℕ  -- txFastInit
@@ -15,7 +15,6 @@ pub record Event : Type 0 where
   pub cause : Cause
   pub interval : ℕ
 
--- the settings of these four
 abbrev pub settings : ℕ → ℕ → ℕ → Bool → Settings
 settings credit_max fast_init reinit allowed = record {
   credit_max = credit_max;
@@ -24,15 +23,14 @@ settings credit_max fast_init reinit allowed = record {
   allowed = allowed;
 }
 
--- the event of these two
 abbrev pub event : Cause → ℕ → Event
 event cause interval = record { cause = cause; interval = interval }
 
--- all events so far, the newest first; none is the port as it was opened
+-- all events so far, the newest first; empty for a port just opened
 abbrev pub History : Type 0
 History = List Event
 
--- a second has passed
+-- one second has passed
 abbrev pub is_tick : Cause → Bool
 is_tick Tick = true
 is_tick _ = false
@@ -47,7 +45,7 @@ abbrev pub is_neighbor : Cause → Bool
 is_neighbor Neighbor = true
 is_neighbor _ = false
 
--- the link is lost
+-- the link went down
 abbrev pub is_down : Cause → Bool
 is_down Down = true
 is_down _ = false

@@ -1,2 +1,2 @@
--- What only laws say: the right to transmit and the link, by the positions of causes.
+-- Definitions that only the laws use: whether a port may transmit, and whether its link is up.
 pub mod Causes

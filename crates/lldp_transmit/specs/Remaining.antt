@@ -1,25 +1,25 @@
--- What is left after the moments so far: of the credit, of a wait, of the time to the next signal.
+-- What is left after the moments so far: credit, ticks until a start, ticks until the next signal.
 use Rattle.std.specs.Prelude.{ℕ, ◌+◌, ◌-◌, if◌then◌else◌, min, List, map}
 use Rattle.std.specs.List.{list_any, fold}
 use Rattle.lldp_transmit.specs.Fronts.{since, up_to_last, runs, after_first}
 use Rattle.lldp_transmit.specs.History.{Settings}
 use Rattle.lldp_transmit.specs.Moments.{Moment, ticks, frames, distance}
 
--- what a run leaves of its bound: txCreditMax and the ticks after its first event, less its ordinary frames
+-- what a run leaves of its bound, which is txCreditMax plus the ticks after its first event
 abbrev pub room : Settings → List Moment → ℕ
 room s run = s.credit_max + ticks (after_first run) - frames run
 
--- the credit (txCredit): the least of txCreditMax and, over the runs that end now, of what each leaves of its bound
+-- the credit (txCredit): the least of txCreditMax and what each run that ends now leaves
 abbrev pub credit_left : Settings → List Moment → ℕ
 credit_left s ms = fold min s.credit_max (map (room s) (runs ms))
 
--- ticks until a start is possible again: what is left of reinitDelay since the last stop. Without a stop, none.
+-- ticks until a start is possible: what is left of reinitDelay since the last stop; 0 without one
 abbrev pub until_start : Settings → List Moment → ℕ
 until_start s ms =
     if list_any (λ m. m.stop) ms
     then s.reinit - ticks (since (λ m. m.stop) ms)
     else 0
 
--- ticks until the timer ends (txTTR): what is left of the distance chosen at the last signal
+-- ticks until the timer ends (txTTR): what is left of the distance set at the last signal
 abbrev pub until_signal : Settings → List Moment → ℕ
 until_signal s ms = distance s (up_to_last (λ m. m.signal) ms) - ticks (since (λ m. m.signal) ms)

@@ -1,11 +1,11 @@
--- What a machine is after a history.
+-- The machine that a history leaves, and when a machine represents a history.
 use Rattle.std.specs.Prelude.{◌≡◌, ◌≤◌}
 use Rattle.lldp_transmit.specs.History.{Settings, History}
 use Rattle.lldp_transmit.specs.Code.Machine.{Machine}
 use Rattle.lldp_transmit.specs.Moments.{moments, is_active, is_allowed, is_up, is_waiting, signals_left}
 use Rattle.lldp_transmit.specs.Remaining.{credit_left, until_start, until_signal}
 
--- the ranges of what a port is opened with: txCreditMax 1 to 10, txFastInit 1 to 8, reinitDelay 1 to 10
+-- the ranges of a port's settings: txCreditMax 1 to 10, txFastInit 1 to 8, reinitDelay 1 to 10
 pub record AreSettings (s : Settings) : Type 0 where
   pub some_credit : 1 ≤ s.credit_max
   pub most_credit : s.credit_max ≤ 10
@@ -14,7 +14,7 @@ pub record AreSettings (s : Settings) : Type 0 where
   pub some_wait : 1 ≤ s.reinit
   pub most_wait : s.reinit ≤ 10
 
--- the machine that these events leave, by the definitions alone
+-- the machine after these events, by the definitions alone
 unfoldable pub machine_of : Settings → History → Machine
 machine_of s h =
     let past = moments s h in
@@ -32,11 +32,11 @@ machine_of s h =
       up = is_up past;
     }
 
--- The machine stands for these settings, each in its range, and this history: it is the one that these events leave.
+-- The settings are in their ranges, and the machine is the one after these events.
 pub record Stands (s : Settings) (h : History) (t : Machine) : Type 0 where
   pub in_range : AreSettings s
   pub is : t ≡ machine_of s h
 
--- for each history that the machine stands for
+-- the property holds for each history that the machine represents
 abbrev pub ForEachHistory : Machine → (Settings → History → Type 0) → Type 0
 ForEachHistory t P = (s : Settings) (h : History) → Stands s h t → P s h

@@ -6,15 +6,15 @@ use Rattle.lldp_transmit.specs.Fronts.{count, after_first}
 use Rattle.lldp_transmit.specs.History.{Settings, Event, History}
 use Rattle.lldp_transmit.specs.Moments.{Moment, moment, moments, ticks, frames, due, open_at}
 
--- ---- choices of marks
+-- ---- marks: another choice of the moments at which frames are sent
 
--- the moments with these marks in place of the ordinary frames; no other label depends on the frames
+-- the moments with these marks as their labels `sent`; no other label depends on `sent`
 abbrev pub with_marks : List Bool → List Moment → List Moment
 with_marks (b ∷ bs) (m ∷ ms) = record m { sent = b } ∷ with_marks bs ms
 with_marks _ _ = []
 
--- one mark for each moment, and true only if a frame is due and the window open, both read with the marks for the
--- frames
+-- there is one mark for each moment, and it is true only if a frame is due and the window is open,
+-- both computed with the marks as the frames sent
 abbrev pub AreTimely : Settings → List Bool → List Moment → Type 0
 AreTimely s [] [] = Unit {0}
 AreTimely s (b ∷ bs) (m ∷ ms) =
@@ -27,60 +27,60 @@ marked marks = count (λ b. b) marks
 
 -- ---- the windows of a history
 
--- A run of events is a part of the history: these events, between later ones and earlier ones.
--- Bound on every run: it has at most txCreditMax ordinary frames, and one more for each tick after its first event.
+-- A run is a part of the history, with later and earlier events around it. Each run has at most
+-- txCreditMax ordinary frames plus one for each tick after its first event.
 abbrev pub IsBounded : Settings → History → Type 0
 IsBounded s h =
     (later run before : List Moment) → moments s h ≡ later ++ (run ++ before) →
     frames run ≤ s.credit_max + ticks (after_first run)
 
--- Few stops: a run has at most one stop, and one more for each reinitDelay ticks in it.
+-- Few stops: each run has at most one stop plus one for each reinitDelay ticks in it.
 abbrev pub StopsRarely : Settings → History → Type 0
 StopsRarely s h =
     (later run before : List Moment) → moments s h ≡ later ++ (run ++ before) →
     count (λ m. m.stop) run ≤ 1 + ticks run / s.reinit
 
--- Earliest service: no other choice of due and open moments has had more frames up to now.
+-- Earliest service: no other choice of moments that are due and open has more frames up to now.
 abbrev pub IsEarliest : Settings → History → Type 0
 IsEarliest s h = (marks : List Bool) → AreTimely s marks (moments s h) → marked marks ≤ frames (moments s h)
 
--- and so it was after each event so far
+-- Earliest service holds after each event so far.
 abbrev pub IsAlwaysEarliest : Settings → History → Type 0
 IsAlwaysEarliest s h = (later earlier : History) → h ≡ later ++ earlier → IsEarliest s earlier
 
--- all three, the last after each event of the history
+-- all three properties hold, the last after each event of the history
 pub record WindowsHold (s : Settings) (h : History) : Type 0 where
   pub bounded : IsBounded s h
   pub few_stops : StopsRarely s h
   pub earliest : IsAlwaysEarliest s h
 
--- ---- the same of one event, with what a machine answered there
+-- ---- the same for one event, with the machine's answer to it
 
--- how many ordinary frames are sent in a run and, by the answer, now
+-- how many ordinary frames a run has, with the one that the answer sends now
 abbrev pub frames_with : Mark → List Moment → ℕ
 frames_with Ordinary run = 1 + frames run
 frames_with _ run = frames run
 
--- how many stops are in a run and, if the answer is a shutdown frame, now
+-- how many stops a run has, with the one now if the answer is a shutdown frame
 abbrev pub stops_with : Mark → List Moment → ℕ
 stops_with Shutdown run = 1 + count (λ m. m.stop) run
 stops_with _ run = count (λ m. m.stop) run
 
--- with this answer each run that ends with the event has at most txCreditMax frames, and one more for each tick after
--- its first event
+-- with this answer each run that ends with the event has at most txCreditMax frames plus one for
+-- each tick after its first event
 abbrev pub IsBoundedWith : Settings → History → Event → Mark → Type 0
 IsBoundedWith s past e answer =
     (run before : List Moment) → moments s past ≡ run ++ before →
     frames_with answer run ≤ s.credit_max + ticks (after_first (moment s (moments s past) e ∷ run))
 
--- with this answer each run that ends with the event has at most one stop, and one more for each reinitDelay ticks in
--- it
+-- with this answer each run that ends with the event has at most one stop plus one for each
+-- reinitDelay ticks in it
 abbrev pub StopsRarelyWith : Settings → History → Event → Mark → Type 0
 StopsRarelyWith s past e answer =
     (run before : List Moment) → moments s past ≡ run ++ before →
     stops_with answer run ≤ 1 + ticks (moment s (moments s past) e ∷ run) / s.reinit
 
--- with this answer no other choice of due and open moments, the event's among them, has had more frames
+-- with this answer no other choice of due and open moments, this one included, has more frames
 abbrev pub IsEarliestWith : Settings → History → Event → Mark → Type 0
 IsEarliestWith s past e answer =
     (marks : List Bool) → AreTimely s marks (moments s (e ∷ past)) → marked marks ≤ frames_with answer (moments s past)

@@ -1,4 +1,4 @@
-//! What happens to a port, and what it sends.
+//! What an event means for transmitting, and the frame that is sent.
 
 /// What an event means to the transmit machine of a port.
 #[derive(Clone, Copy, Debug, PartialEq, Eq)]
@@ -9,25 +9,25 @@ pub enum Cause {
     Change,
     /// A new neighbor was stored.
     Neighbor,
-    /// The right to transmit was taken away.
+    /// The port may no longer transmit.
     Stop,
-    /// The right to transmit was given.
+    /// The port may transmit.
     Allow,
     /// The link went down.
     Down,
     /// The link came up.
     Up,
-    /// Nothing that concerns transmitting.
+    /// The event does not concern transmitting.
     Nothing,
 }
 
 /// The frame that is sent at an event.
 #[derive(Clone, Copy, Debug, Default, PartialEq, Eq)]
 pub enum Mark {
-    /// None.
+    /// No frame.
     #[default]
     Quiet,
-    /// An ordinary frame, with the whole configuration.
+    /// An ordinary frame, with all configured TLVs.
     Ordinary,
     /// A shutdown frame, with a time to live of 0.
     Shutdown,

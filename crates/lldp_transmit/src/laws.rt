@@ -1,4 +1,4 @@
-//! Laws of the definitions alone, for proofs over the machine and for readers of the definitions.
+//! Laws of the definitions alone, for proofs about the machine and for readers of the definitions.
 
 ghost use Rattle.std.specs.Prelude.{◌≡◌, ◌≤◌, ◌↔◌, Bool, IsTrue, ℕ, List, [], ◌∷◌, map};
 ghost use Rattle.lldp_transmit.specs.History.{Settings, Event, History, settings, event};
@@ -13,14 +13,14 @@ ghost use Rattle.lldp_transmit.specs.Windows.{AreTimely, with_marks, WindowsHold
 ghost use Rattle.lldp_transmit.specs.declared.event.Cause.{Cause};
 ghost use Rattle.lldp_transmit.specs.declared.event.Mark.{Mark};
 
-/// A machine as it is opened, with settings in their ranges (`AreSettings`), stands for no events.
+/// A machine just opened, with settings in range (`AreSettings`), represents the empty history.
 #[tactic(auto, using(crate::proofs::Standing::stands_at_first))]
 pub fn opened_machines_stand()
     ensures { (s : Settings) → AreSettings s → Stands s [] (opened s) }
 {}
 
-/// A step carries standing from every history to that history with the event, and its mark is that
-/// of the event.
+/// If a machine represents a history, then after a step it represents that history with the event,
+/// and the answer of the step is the event's mark.
 pub fn steps_carry_standing()
     ensures stands { (s : Settings) (past : History) (t : Machine) (e : Event) →
         Stands s past t → Stands s (e ∷ past) (stepped t e.cause e.interval).0 }
@@ -28,8 +28,8 @@ pub fn steps_carry_standing()
         Stands s past t → (stepped t e.cause e.interval).1 ≡ mark_at s (e ∷ past) }
 {}
 
-/// An event that means nothing to the machine needs no call: the machine stands for that event too,
-/// and no frame is sent.
+/// An event whose cause is `Nothing` needs no call: the machine represents the history with that
+/// event too, and no frame is sent.
 pub fn causeless_events_change_nothing()
     ensures stands { (s : Settings) (past : History) (t : Machine) (interval : ℕ) →
         Stands s past t → Stands s (event Cause.Nothing interval ∷ past) t }
@@ -37,24 +37,23 @@ pub fn causeless_events_change_nothing()
         Stands s past t → mark_at s (event Cause.Nothing interval ∷ past) ≡ Mark.Quiet }
 {}
 
-/// Whatever a port has seen, if its settings are in their ranges, its windows hold: no run of
-/// events has more ordinary frames than txCreditMax plus the ticks after its first event, nor more
-/// stops than one plus one for each reinitDelay ticks; and up to no event has another choice of due
-/// and open events had more frames.
+/// If a port's settings are in their ranges, the windows of each history hold: no run of events has
+/// more ordinary frames than txCreditMax plus the ticks after its first event, or more stops than
+/// one plus one for each reinitDelay ticks; and after each event, no other choice of due and open
+/// events has had more frames.
 pub fn windows_hold()
     ensures { (s : Settings) (h : History) → AreSettings s → WindowsHold s h }
 {}
 
-/// The ordinary frames are themselves a choice of due and open events, so none that is earlier can
-/// be better.
+/// The ordinary frames that are sent are themselves a choice of due and open events.
 #[tactic(auto, using(crate::proofs::Earliest::timely))]
 pub fn frames_are_timely()
     ensures { (s : Settings) (h : History) →
         AreTimely s (map (λ m. m.sent) (moments s h)) (moments s h) }
 {}
 
-/// Active, rested, start and stop, in terms of positions: an active port has a start with no stop
-/// and no lost link since; it has rested if each stop is long enough ago.
+/// Active, rested, start and stop, in terms of positions: a port is active if it had a start with
+/// no stop and no lost link since; it has rested if each stop is long enough ago.
 pub fn positions_tell_activity()
     ensures active { (s : Settings) (h : History) →
         IsTrue (is_active (moments s h)) ↔ HasStarted (moments s h) }
@@ -67,8 +66,8 @@ pub fn positions_tell_activity()
         IsTrue (moment s (moments s h) e).stop ↔ IsStop s (moments s h) (moment s (moments s h) e) }
 {}
 
-/// Signals, bursts, distances and the end of the timer, in terms of positions: of the last signal
-/// and the last opening of a burst.
+/// Signals, bursts, distances and the end of the timer, in terms of the positions of the last
+/// signal and of the last opening of a burst.
 pub fn positions_tell_signals()
     ensures signal { (s : Settings) (h : History) (e : Event) →
         IsTrue (moment s (moments s h) e).signal
@@ -85,11 +84,11 @@ pub fn positions_tell_signals()
 {}
 
 /// Waiting, due, open, sent and the credit, in terms of positions. A frame waits if a signal since
-/// the start has had none, and is due if the port is also active, with respect to the frames of any
-/// other choice (`chosen`) whose marks are timely as well. If the settings are in their ranges, a
-/// window is open if, with one frame more, each run that ends now is within its bound; the credit
-/// is the least that any run leaves of its bound, and no other number is; and a frame is sent if it
-/// is due and the window is open.
+/// the start has had none. It is due if the port is also active (`chosen`: with the frames of any
+/// other timely choice too). If the settings are in their ranges, the window is open if each run
+/// that ends now stays within its bound with one more frame; the credit is the least that these
+/// runs leave of their bounds, and no other number is; and a frame is sent if it is due and the
+/// window is open.
 pub fn positions_tell_sending()
     ensures waiting { (ms : List Moment) → IsTrue (is_waiting ms) ↔ HasWanted ms }
     ensures due { (s : Settings) (h : History) (e : Event) →
@@ -111,9 +110,9 @@ pub fn positions_tell_sending()
         × IsOpen s (moments s h) (moment s (moments s h) e)) }
 {}
 
-/// Whether a port may transmit, and whether its link is up, by the causes in its history: each
-/// `Stop` has an `Allow` after it and, if the port was opened without the right, some `Allow` came;
-/// each `Down` has an `Up` after it.
+/// A port may transmit exactly if each `Stop` has an `Allow` after it and, if the port was opened
+/// without the right to transmit, there is an `Allow`. Its link is up exactly if each `Down` has an
+/// `Up` after it.
 pub fn causes_tell_allowed_and_up()
     ensures allowed { (s : Settings) (h : History) →
         IsTrue (is_allowed s (moments s h)) ↔ MayTransmit s h }
@@ -127,21 +126,21 @@ pub fn ordinary_frames_go_on_active_ports()
         mark_at s (e ∷ past) ≡ Mark.Ordinary → CanSend s e past }
 {}
 
-/// Shutdown frames are sent exactly when a port that was active is told to stop.
+/// A shutdown frame is sent exactly at a `Stop` of a port that was active.
 pub fn shutdown_frames_go_at_stops()
     ensures { (s : Settings) (past : History) (e : Event) →
         (mark_at s (e ∷ past) ≡ Mark.Shutdown) ↔ CanStop s e past }
 {}
 
-/// The moments of a history are its events in their order, each with the tx-interval given with it.
+/// The moments of a history are its events in their order, each with its own tx-interval.
 #[tactic(auto, using(crate::proofs::Causes::events_kept))]
 pub fn moments_keep_their_events()
     ensures { (s : Settings) (h : History) →
         map (λ m. event m.cause m.interval) (moments s h) ≡ h }
 {}
 
-/// The constants are the greatest numbers that a port can be opened with, all three at once, as the
-/// definitions write them out.
+/// A port can be opened with all three constants at once, and each is the greatest value that the
+/// definitions accept.
 pub fn constants_are_the_greatest_settings()
     ensures allowed { (allowed : Bool) →
         AreSettings (settings MOST_CREDIT MOST_FAST MOST_REINIT allowed) }

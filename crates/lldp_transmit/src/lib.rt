@@ -1,9 +1,9 @@
-//! When a port sends: the transmit machine of one port (IEEE 802.1AB-2009, clause 9). No call takes
-//! memory or refuses.
+//! The transmit machine, which decides when a port sends (IEEE 802.1AB-2009, clause 9). No call
+//! allocates memory, and no event is refused.
 //!
-//! A port is given its events one by one and returns the frame to send. The whole list of events
-//! decides it, without a counter: an ordinary frame is sent exactly if one is due and its window is
-//! open, a shutdown frame exactly if an active port loses the right to transmit.
+//! A machine receives the events of its port one by one and returns the frame to send. In the
+//! definitions the whole list of events decides it: an ordinary frame is sent exactly if one is due
+//! and its window is open, a shutdown frame exactly if an active port may no longer transmit.
 #![tactic(auto)]
 
 mod event;

@@ -1,4 +1,4 @@
-//! The transmit machine of one port: a few counters, a few machine words.
+//! The transmit machine of one port: a few counters and flags.
 
 ghost use Rattle.std.specs.Prelude.{◌≡◌, ◌≤◌, ◌+◌, ◌-◌, ◌↔◌, [], ◌∷◌, min, IfSome, IsSome};
 ghost use Rattle.lldp_transmit.specs.History.{settings, event};
@@ -33,9 +33,8 @@ impl Model for Transmit {
 }
 
 impl Transmit {
-    /// Makes a machine with full credit, on a port whose link is up and that is not active: it
-    /// stands for no events.
-    ///
+    /// Returns a machine with full credit, for a port whose link is up and that is not active. It
+    /// represents the empty history.
     ///
     /// `credit_max` is txCreditMax, 1 to 10; `fast_init` is txFastInit, 1 to 8; `reinit` is
     /// reinitDelay in seconds, 1 to 10; `allowed` is whether the port may transmit from the start.
@@ -61,7 +60,7 @@ impl Transmit {
         }
     }
 
-    /// Returns its fields.
+    /// Returns the fields of the machine.
     pub fn parts(&self) -> Parts
         ensures { result ≡ self.now }
     {
@@ -69,8 +68,8 @@ impl Transmit {
         *parts
     }
 
-    /// Returns the machine with these fields, or None exactly if the credit is above `credit_max`,
-    /// which no machine has.
+    /// Returns the machine with these fields, or None exactly if the credit is above `credit_max`.
+    /// No machine has such a credit.
     pub fn of_parts(parts: &Parts) -> Option<Transmit>
         ensures some { IfSome result (λ machine. machine ≡ parts.now) }
         ensures exists { IsSome result ↔ (parts.now.credit ≤ parts.now.credit_max) }
@@ -81,32 +80,30 @@ impl Transmit {
         Some(Transmit { parts: *parts })
     }
 
-    /// Takes one event, with the tx-interval in force after it (1 to 3600 seconds), and returns
-    /// which frame is sent. The machine then stands for its history with the event.
+    /// Applies one event, with the tx-interval in force after it (1 to 3600 seconds), and returns
+    /// which frame is sent. The machine then represents its history with the event.
     ///
+    /// Ordinary exactly if a frame is due and the window is open: the port is active, some signal
+    /// since its start has had no frame yet, and with this frame no run of events that ends here
+    /// has more ordinary frames than txCreditMax plus the ticks after its first event. Shutdown
+    /// exactly if the port was active and may no longer transmit. Quiet if neither is sent. With
+    /// this answer no run that ends here has more ordinary frames than that bound, or more stops
+    /// than one plus one for each reinitDelay ticks in it; and no other choice of due events with
+    /// open windows has had more frames up to here.
     ///
-    /// Ordinary exactly if a frame is due and the window open: the port is active, some signal
-    /// since its start has had no frame yet, and no run of events that ends here would hold more
-    /// ordinary frames than txCreditMax plus the ticks after its first event. Shutdown exactly if
-    /// an active port loses the right to transmit. Quiet if neither is sent. With this answer no
-    /// run that ends here has more ordinary frames than that bound, nor more stops than one plus
-    /// one for each reinitDelay ticks in it; and no other choice of due events with open windows
-    /// has had more frames up to here.
-    ///
-    ///
-    /// If the port is not active, only a tick can send. An `Allow`, a `Down`, an `Up` and `Nothing`
-    /// never do.
+    /// If the port is not active, only a tick can send a frame. `Allow`, `Down`, `Up` and `Nothing`
+    /// never send one.
     pub fn event(&mut self, cause: Cause, interval: u16) -> Mark
-        // What the machine is after the event, and its answer, computed from what it was.
+        // The machine after the event, and the answer, computed from the machine before.
         ensures next { self.new ≡ (stepped self.old cause interval).0 }
         ensures answer { result ≡ (stepped self.old cause interval).1 }
 
-        // Whatever the machine stood for, it now stands for that and this event.
+        // If the machine represented a history, it now represents that history with this event.
         ensures stands { ForEachHistory self.old (λ s past.
             Stands s (event cause interval ∷ past) self.new) }
 
-        // The mark is that of the event: Ordinary exactly if a frame is due and its window open,
-        // Shutdown exactly at a stop.
+        // The answer is the event's mark: Ordinary exactly if a frame is due and its window is
+        // open, Shutdown exactly at a stop.
         ensures mark { ForEachHistory self.old (λ s past. result
             ≡ mark_at s (event cause interval ∷ past)) }
         ensures ordinary { ForEachHistory self.old (λ s past.
@@ -114,8 +111,8 @@ impl Transmit {
         ensures shutdown { ForEachHistory self.old (λ s past.
             (result ≡ Mark.Shutdown) ↔ StopsAt s past (event cause interval)) }
 
-        // No run of events up to this one has more frames than txCreditMax and the ticks after its
-        // first event, or more stops than one and one for each reinitDelay ticks. No other choice
+        // No run of events up to this one has more frames than txCreditMax plus the ticks after its
+        // first event, or more stops than one plus one for each reinitDelay ticks. No other choice
         // of due and open events has had more frames.
         ensures bounded { ForEachHistory self.old (λ s past.
             IsBoundedWith s past (event cause interval) result) }
@@ -146,7 +143,7 @@ impl Transmit {
         self.parts.active
     }
 
-    /// Returns whether the port may transmit: by the last `Stop` or `Allow`, or else as it was
+    /// Returns whether the port may transmit: as the last `Stop` or `Allow` says, or else as it was
     /// opened.
     pub fn is_allowed(&self) -> bool
         ensures value { result ≡ self.now.allowed }
@@ -156,7 +153,7 @@ impl Transmit {
         self.parts.allowed
     }
 
-    /// Returns whether the link is up: by the last `Down` or `Up`, or else true.
+    /// Returns whether the link is up: as the last `Down` or `Up` says, or else true.
     pub fn is_up(&self) -> bool
         ensures value { result ≡ self.now.up }
         ensures up { ForEachHistory self.now (λ s past. result ≡ is_up (moments s past)) }
@@ -224,7 +221,7 @@ impl Parts {
         }
     }
 
-    /// Adds a credit for a tick, up to txCreditMax.
+    /// Adds one credit for a tick, up to txCreditMax.
     fn refill(&mut self)
         requires { self.old.credit ≤ self.old.credit_max }
         ensures { self.new
@@ -235,7 +232,7 @@ impl Parts {
         }
     }
 
-    /// Runs both clocks down.
+    /// Counts both clocks down by one tick.
     fn run_down(&mut self)
         ensures { self.new
             ≡ record self.old { wait = self.old.wait - 1; timer = self.old.timer - 1 } }
@@ -259,7 +256,7 @@ impl Parts {
         Mark::Shutdown
     }
 
-    /// Chooses the distance to the next signal, and requests a frame.
+    /// Sets the timer to the distance to the next signal, and requests a frame.
     fn signal(&mut self, interval: u16) -> Mark
         ensures next { self.new ≡ (signalled self.old interval).0 }
         ensures answer { result ≡ (signalled self.old interval).1 }
@@ -268,7 +265,7 @@ impl Parts {
         self.serve()
     }
 
-    /// Sends the requested frame if credit is left. Otherwise it waits.
+    /// Sends the requested frame if credit is left. Otherwise the frame waits.
     fn serve(&mut self) -> Mark
         ensures next { self.new ≡ (served self.old).0 }
         ensures answer { result ≡ (served self.old).1 }

@@ -1,6 +1,6 @@
 //! The fields of a transmit machine.
 
-/// What a transmit machine holds, as a struct that C can keep too.
+/// The fields of a transmit machine, as a struct that C code can store.
 #[repr(C)]
 #[derive(Clone, Copy, Debug, PartialEq, Eq)]
 pub struct Parts {
@@ -15,7 +15,7 @@ pub struct Parts {
     pub wait: u8,
     /// Signals left in the burst.
     pub left: u8,
-    /// A signal has had no frame yet.
+    /// True if a signal has had no frame yet.
     pub waiting: bool,
     pub active: bool,
     pub allowed: bool,

@@ -1,5 +1,5 @@
-/* What the programs of this folder share: counts of what holds, and octets in hexadecimal. Each block of octets has a
- * size of its own, so that valgrind and AddressSanitizer see what is read behind its end. */
+/* Counts of checks, and blocks of octets, for the programs of this folder. Each block is allocated
+ * with its exact size, so that valgrind and AddressSanitizer notice reads beyond its end. */
 #ifndef CHECKS_H
 #define CHECKS_H
 
@@ -32,7 +32,7 @@ typedef struct octets {
     size_t length;
 } octets;
 
-/* Returns memory, or ends the program. */
+/* Returns allocated memory, or ends the program. */
 static inline void *taken(size_t size)
 {
     void *block = malloc(size > 0 ? size : 1);
@@ -50,7 +50,7 @@ static inline octets copied(const void *at, size_t length)
     return block;
 }
 
-/* Returns the octets that so many hexadecimal digits spell, in small letters, or ends the program. */
+/* Returns the octets of `count` lower-case hexadecimal digits, or ends the program. */
 static inline octets spelled(const char *digits, size_t count)
 {
     static const char values[] = "0123456789abcdef";

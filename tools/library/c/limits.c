@@ -1,13 +1,13 @@
 /*
- * Tries what rows and transcripts do not reach: words of faults, TLVs and texts in rooms that are just large enough,
- * and octets that are no LLDPDU, frame or command.
+ * Tries what rows and transcripts do not reach: texts of faults, TLVs and texts in buffers that are
+ * just large enough, and octets that are not an LLDPDU, a frame or a command.
  *     limits
- * What does not hold is reported; the last line is `N passed, M failed`.
+ * Failed checks are reported; the last line is `N passed, M failed`.
  */
 #include "checks.h"
 #include "lldpa.h"
 
-/* The longest words just fit into LLDPA_FAULT_ROOM. A law says which number has which. */
+/* The longest text of a fault just fits in LLDPA_FAULT_ROOM. A law fixes each number's text. */
 static void try_words(void)
 {
     uint8_t room[LLDPA_FAULT_ROOM];
@@ -15,13 +15,13 @@ static void try_words(void)
     for (uint32_t fault = 0; fault < 300; fault++) {
         if (lldpa_fault_text(fault, room, sizeof room, &length) == LLDPA_OK) {
             longest = length > longest ? length : longest;
-            holds(lldpa_fault_text(fault, room, length - 1, &length) == LLDPA_NO_ROOM, "too small a room for words");
+            holds(lldpa_fault_text(fault, room, length - 1, &length) == LLDPA_NO_ROOM, "a buffer too small for a fault's text");
         }
     }
-    holds(longest == LLDPA_FAULT_ROOM, "the longest words");
+    holds(longest == LLDPA_FAULT_ROOM, "the longest text of a fault");
     holds(lldpa_fault_text(256 + LLDPA_MEMORY, room, sizeof room, &length) == LLDPA_OUT_OF_RANGE, "a fault over 255");
     holds(lldpa_fault_text(LLDPA_NO_CHASSIS, room, sizeof room, &length) == LLDPA_OK && length == 33 &&
-              memcmp(room, "the first TLV is not a Chassis ID", 33) == 0, "the words of a fault");
+              memcmp(room, "the first TLV is not a Chassis ID", 33) == 0, "the text of a fault");
 }
 
 /* Writes a TLV, or a text if the type is 0. */
@@ -31,7 +31,7 @@ static uint8_t value_of(uint32_t kind, octets body, uint8_t *room, size_t room_l
                      : lldpa_tlv_text(kind, body.at, body.length, room, room_length, length);
 }
 
-/* What is written of TLVs and texts, worked out by hand; NULL if nothing is. */
+/* TLVs and texts, with what must be written for each, worked out by hand; NULL if it is refused. */
 static void try_values(void)
 {
     static const struct {
@@ -72,13 +72,13 @@ static void try_values(void)
         } else {
             int is_so = length == wanted && memcmp(room, rows[at].wanted, wanted) == 0;
             holds(answer == LLDPA_OK && is_so, rows[at].wanted);
-            holds(wanted == 0 || value_of(kind, body, room, wanted - 1, &length) == LLDPA_NO_ROOM, "too small a room");
+            holds(wanted == 0 || value_of(kind, body, room, wanted - 1, &length) == LLDPA_NO_ROOM, "a buffer that is too small");
         }
         free(body.at);
     }
 }
 
-/* Octets that look like nothing, the same ones in each run. */
+/* Returns random octets, the same ones in each run. */
 static uint8_t odd(void)
 {
     static uint32_t state = 1;
@@ -95,7 +95,7 @@ static octets odd_octets(size_t length)
     return block;
 }
 
-/* Whatever a walk is over and however it began, the bodies are in the octets, and it ends and stays as it is. */
+/* A walk over any octets, from any start, only returns bodies inside them, and it ends. */
 static void try_odd_walks(void)
 {
     for (unsigned done = 0; done < 500; done++) {

@@ -1,14 +1,14 @@
 /*
- * Calls each function of the library with NULL for each of its pointers, with handles that are not open, and with
- * numbers, ports and rooms that are out of range: it says so, and writes nothing. NULL with a length of 0 means no
- * octets, no TLVs, no ports or no room.
+ * Calls each function of the library with NULL for each of its pointers, with handles that are not
+ * open, and with numbers, ports and buffers that are out of range. It must report this and write
+ * nothing. NULL with a length of 0 means no octets, no TLVs, no ports or no buffer.
  *     nulls
- * What does not hold is reported; the last line is `N passed, M failed`.
+ * Failed checks are reported; the last line is `N passed, M failed`.
  */
 #include "checks.h"
 #include "lldpa.h"
 
-/* All that a call may write to except an agent, and how it was before. */
+/* Everything that a call may write to, except an agent. */
 typedef struct written {
     lldpa_place place;
     lldpa_examined examined;
@@ -49,7 +49,7 @@ static int is_as_before(void)
     return memcmp(&now, &before, sizeof now) == 0;
 }
 
-/* A call answers that, and writes nothing. */
+/* Checks that a call returns this answer and writes nothing. */
 #define ANSWERS(call, wanted)                                                                                          \
     do {                                                                                                               \
         begin();                                                                                                       \
@@ -79,7 +79,7 @@ static void read_nulls(void)
     ANSWERS(lldpa_mgmt((const uint8_t *)"\5\1\n\0\0\1\2\0\0\0\1", 11, &now.management), false);
 }
 
-/* Only the source address of a frame may be any. */
+/* A frame may have any source address; the rest of the header is fixed. */
 static void read_headers(void)
 {
     for (size_t at = 0; at < 14; at++) {
@@ -96,7 +96,7 @@ static void read_headers(void)
               now.examined.port.start == 11, "the places of the identifiers");
 }
 
-/* lldpa_build with the identifiers of the frame, and all else as it is given. */
+/* Calls lldpa_build with the identifiers of the frame and with these other arguments. */
 static uint8_t built(const lldpa_tlv *tlvs, size_t count, uint8_t *faults, size_t fault_count, uint8_t *room,
                      size_t room_length, size_t *length)
 {
@@ -104,7 +104,7 @@ static uint8_t built(const lldpa_tlv *tlvs, size_t count, uint8_t *faults, size_
                        length);
 }
 
-/* A TLV with NULL for its body is put, or has its fault, as one with an address and no octets. */
+/* A TLV whose body is NULL is treated like one whose body is not NULL but has no octets. */
 static void build_empty_bodies(void)
 {
     for (int kind = 0; kind < 256; kind++) {
@@ -169,11 +169,11 @@ static void machine_numbers(void)
     ANSWERS(lldpa_transmit_event(machine, LLDPA_CAUSE_TICK, 0, &now.octet), LLDPA_OUT_OF_RANGE);
     ANSWERS(lldpa_transmit_event(machine, LLDPA_CAUSE_TICK, 3601, &now.octet), LLDPA_OUT_OF_RANGE);
     ANSWERS(lldpa_transmit_event(machine, LLDPA_CAUSE_TICK, 65566, &now.octet), LLDPA_OUT_OF_RANGE);
-    machine->credit = 6; /* more than its credit_max */
+    machine->credit = 6; /* above its credit_max */
     holds(lldpa_transmit_event(machine, LLDPA_CAUSE_TICK, 30, &now.octet) == LLDPA_OUT_OF_RANGE, "too much credit");
 }
 
-/* A handle that opening has refused is not open. */
+/* Checks that opening refuses these options, and that the handle is not open. */
 #define REFUSES(options, wanted)                                                                                       \
     do {                                                                                                               \
         lldpa_agent handle = {0};                                                                                      \
@@ -285,7 +285,7 @@ static void show_nulls(void)
     ANSWERS(lldpa_frame_of(&agent, 0, LLDPA_ORDINARY, room, 1514, NULL), LLDPA_NULL);
 }
 
-/* A handle that is not open. What only reads an agent does not write to it, even if it could not be written. */
+/* Uses handles that are not open. Calls that only read accept a handle in read-only memory. */
 static void use_closed(void)
 {
     static const lldpa_agent none = {NULL, false};
@@ -308,7 +308,7 @@ static void use_closed(void)
     holds(!closed.open, "a handle is open after it was closed");
 }
 
-/* Ports, marks and shows that the agent does not have, and rooms that are too small by an octet. */
+/* Uses ports, marks and shows that do not exist, and buffers that are one octet too small. */
 static void use_badly(void)
 {
     static const uint32_t ports[] = {1, 255, 256, 65536, UINT32_MAX};

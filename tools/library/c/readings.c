@@ -1,7 +1,7 @@
 /*
- * Measures how long the library takes to read frames, each a line of hexadecimal digits in FILE.
- *     readings bench FILE N     examines N frames, in turn, and walks over all that is kept, with each capability and
- *                               management address read
+ * Measures how long the library takes to read frames. FILE has a frame in hexadecimal on each line.
+ *     readings bench FILE N     examines N frames in turn, and walks over all kept TLVs, reading
+ *                               each capability and management address
  *     readings examine FILE N   the same without the walk
  */
 #define _POSIX_C_SOURCE 200809L
@@ -23,7 +23,7 @@ static void read_frames(const char *path)
     }
 }
 
-/* Returns a number that depends on all that is read of the kept TLVs, so that no call can be left out. */
+/* Returns a number that depends on all kept TLVs, so that the compiler cannot remove a call. */
 static uint64_t read_kept(const uint8_t *extent, size_t length)
 {
     uint64_t sum = 0;

@@ -1,9 +1,10 @@
 /*
- * Refuses memory to the library: each allocation of an opening in turn, and then all later ones. An opening without
- * memory says so and keeps none, an open agent asks for none, and a close frees all.
+ * Refuses memory to the library: each allocation of an opening in turn, and then all allocations.
+ * An opening without memory must report it and keep none, an open agent must request none, and a
+ * close must free all.
  *     refused
- * It is linked with --wrap=malloc, --wrap=realloc and --wrap=free, so that it sees each call of the library. The last
- * line is `N passed, M failed`.
+ * It is linked with --wrap=malloc, --wrap=realloc and --wrap=free, to see each call of the library.
+ * The last line is `N passed, M failed`.
  */
 #include "calls.h"
 
@@ -11,7 +12,7 @@ void *__real_malloc(size_t size);
 void *__real_realloc(void *block, size_t size);
 void __real_free(void *block);
 
-/* How many blocks were asked for, which of them is refused (0: none, ALL: each), and how many are held. */
+/* The blocks requested so far, which is refused (0: none, ALL: each), and the blocks allocated. */
 #define ALL (~0ul)
 static unsigned long asked;
 static unsigned long refused;
@@ -46,7 +47,7 @@ void __wrap_free(void *block)
 #define RUN(name, most, call) (void)(call);
 #define USE(name, most, call) holds((call) == LLDPA_OK, #name);
 
-/* All that an open agent does, with more neighbors than there is room for, and commands that are refused. */
+/* Makes all calls on an open agent, with more neighbors than fit, and with refused commands. */
 static void use(void)
 {
     static const char *const refused_lines[] = {"configure lldp max-neighbors 1", "show neighbors x", "\"", "tick"};

@@ -1,10 +1,10 @@
 /*
- * Gives events to an agent of the library, and writes what the program lldpa writes.
+ * Passes events to an agent of the library, and writes what the program lldpa would write.
  *     transcript MAC ADDRESS HOSTNAME ROLE MAX-NEIGHBORS CREDIT-MAX FAST-INIT REINIT RECEIVE-ONLY PORT ..
- * MAC and ADDRESS are hexadecimal, ADDRESS is empty for none, and ROLE and RECEIVE-ONLY are numbers. Each line of
- * standard input is an event: `tick SECONDS`, `rx PORT FRAME`, `link PORT UP`, `leave`, or `command LINE`, with the
- * numbers of ports and hexadecimal octets. tools/library/library_transcripts.py writes them. At each show the structs of
- * the agent are compared with its lines. If something is wrong, it says so, and the status is 2.
+ * MAC and ADDRESS are hexadecimal, ADDRESS may be empty, ROLE and RECEIVE-ONLY are numbers. A line
+ * of standard input is an event: `tick SECONDS`, `rx PORT FRAME`, `link PORT UP`, `leave` or
+ * `command LINE`, with port numbers and hexadecimal octets. library_transcripts.py writes them. At
+ * each show the agent's structs are compared with its lines. If a check fails, the status is 2.
  */
 #define _POSIX_C_SOURCE 200809L
 #include "checks.h"
@@ -56,7 +56,7 @@ static void open_agent(char **words, int count)
     free(address.at);
 }
 
-/* Writes which ports send, each with its frame. */
+/* Writes the frames that the marked ports send. */
 static void write_marks(uint8_t answer, const lldpa_marks *marks)
 {
     static uint8_t frame[LLDPA_FRAME_ROOM];
@@ -74,19 +74,19 @@ static void write_marks(uint8_t answer, const lldpa_marks *marks)
     }
 }
 
-/* A line of a show is this text: it alone, in a room that is just large enough. */
+/* Checks that a line of a show, read alone into a buffer of its exact size, is this text. */
 static void see_line(uint32_t show, uint32_t line, const char *wanted, size_t length)
 {
     octets room = {taken(length), length};
     lldpa_lines one;
     must(lldpa_show_lines(&agent, show, line, room.at, length, &one) == LLDPA_OK && one.length == length &&
-             one.next == line + 1 && memcmp(room.at, wanted, length) == 0, "a line of a show is another one");
+             one.next == line + 1 && memcmp(room.at, wanted, length) == 0, "a line of a show differs");
     free(room.at);
 }
 
 /*
- * Lines of a show from one on have the numbers of a struct, in the order of its fields. The names of the fields are
- * compared with the keys of the lines by rust/lldpa/examples/transcript.rs.
+ * Checks that the lines of a show from `line` on have the numbers of a struct, in the order of its
+ * fields. rust/lldpa/examples/transcript.rs compares the names of the fields with the keys.
  */
 static void see_numbers(uint32_t show, uint32_t line, const uint32_t *numbers, uint32_t count)
 {
@@ -128,7 +128,7 @@ static void see_configuration(void)
     }
 }
 
-/* Writes a show, by as many lines as fit into a room each time. */
+/* Writes a show, each time with as many lines as fit into a buffer. */
 static void write_show(uint32_t show)
 {
     static uint8_t room[LLDPA_LINE_ROOM];
@@ -145,7 +145,7 @@ static void write_show(uint32_t show)
     }
 }
 
-/* Gives seconds: one if their number is odd, and then all at once, up to each at which something is due. */
+/* Lets seconds pass: one if their number is odd, else all, but stops when something is due. */
 static void tick(uint32_t seconds)
 {
     lldpa_ticks_taken done = {0, 0};
@@ -166,7 +166,7 @@ static uint32_t count_of(uint32_t port)
     return count;
 }
 
-/* Whether the news of a frame are of a neighbor. */
+/* Returns whether the news of a frame are about this neighbor. */
 static int is_of(const lldpa_news *news, octets frame, const lldpa_examined *pdu, const uint8_t *room)
 {
     return news->chassis.length == pdu->chassis.length && news->port.length == pdu->port.length &&
@@ -174,7 +174,7 @@ static int is_of(const lldpa_news *news, octets frame, const lldpa_examined *pdu
            memcmp(frame.at + news->port.start, room + pdu->port.start, news->port.length) == 0;
 }
 
-/* A frame comes on a port, and the neighbors of the port afterwards are those that its news say. */
+/* Receives a frame on a port, and checks that its neighbors then are those that the news imply. */
 static void hear(uint32_t port, octets frame)
 {
     static uint8_t room[LLDPA_NEIGHBOR_ROOM];
@@ -191,7 +191,7 @@ static void hear(uint32_t port, octets frame)
         found += is_of(&news, frame, &held.pdu, room);
     }
     must(found == (news.what >= LLDPA_NEWS_NEW && news.what <= LLDPA_NEWS_SAME), "the neighbor of the news");
-    must(lldpa_neighbor(&agent, port, after, room, sizeof room, &held) == LLDPA_OUT_OF_RANGE, "one neighbor more");
+    must(lldpa_neighbor(&agent, port, after, room, sizeof room, &held) == LLDPA_OUT_OF_RANGE, "there is one neighbor more");
 }
 
 static void command(const char *line, size_t length)
@@ -203,7 +203,7 @@ static void command(const char *line, size_t length)
     free(exact.at);
     if (answer >= LLDPA_UNKNOWN && answer <= LLDPA_IN_USE) {
         uint8_t room[LLDPA_FAULT_ROOM];
-        must(lldpa_fault_text(answer, room, sizeof room, &length) == LLDPA_OK, "the words of a refusal");
+        must(lldpa_fault_text(answer, room, sizeof room, &length) == LLDPA_OK, "the text of a fault");
         printf("error: %.*s\n", (int)length, (const char *)room);
         return;
     }

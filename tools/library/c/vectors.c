@@ -1,17 +1,17 @@
 /*
- * Writes each row of a file as the library has it: with what it reads of the octets, builds of the TLVs, or answers to
- * the causes or to the ports. If the library is right, these are the rows of the file.
+ * Writes each row of a file with the library's results: what it reads in octets, builds from TLVs,
+ * or answers to causes or to ports. If the library is right, these are the rows of the file.
  *     vectors FILE
- * The head of examples/vectors.rows says what rows are. tools/library/check-library.py compares.
+ * The head of examples/vectors.rows describes the rows; tools/library/check-library.py compares.
  */
 #include "checks.h"
 #include "lldpa.h"
 
-/* The longest row, and the most fields that one has. */
+/* The greatest length of a row, and the most fields of a row. */
 #define MOST_OCTETS 65536
 #define MOST_FIELDS 128
 
-/* The fields of the row that is written. */
+/* The fields of the current row. */
 static char *fields[MOST_FIELDS];
 static size_t field_count;
 
@@ -20,7 +20,7 @@ static uint32_t number(size_t field)
     return (uint32_t)strtoul(fields[field], NULL, 10);
 }
 
-/* Returns the octets that are spelled up to the end of a field or to a colon, `-` for none. */
+/* Returns the octets of the digits up to a colon or the end of the field; `-` is no octets. */
 static octets octets_of(const char *digits)
 {
     return spelled(digits, *digits == '-' ? 0 : strcspn(digits, ":"));
@@ -41,7 +41,7 @@ static void write_octets(char before, const uint8_t *at, size_t length)
     }
 }
 
-/* Writes a number of lldpa.h as rows have it: 0, or from 1 on for the first of its faults. */
+/* Writes a fault as in the rows: 0 for LLDPA_OK, 1 for the fault `first`, and so on. */
 static void write_fault(char before, unsigned first, unsigned fault)
 {
     printf("%c%u", before, fault == LLDPA_OK ? 0 : fault - first + 1);
@@ -106,7 +106,7 @@ static void write_management(void)
     free(body.at);
 }
 
-/* build NAME TTL CHASSIS PORT LENGTH LLDPDU [KIND:BODY:ANSWER ..], in a room of that length */
+/* build NAME TTL CHASSIS PORT LENGTH LLDPDU [KIND:BODY:ANSWER ..], in a buffer of LENGTH octets */
 static void write_built(void)
 {
     octets chassis = octets_of(fields[3]), port = octets_of(fields[4]);
@@ -135,7 +135,7 @@ static void write_built(void)
     free(chassis.at);
 }
 
-/* machine NAME CREDIT_MAX [CAUSE:TIMES:INTERVAL:MARK ..]; if the marks of a cause differ, it writes them all */
+/* machine NAME CREDIT_MAX [CAUSE:TIMES:INTERVAL:MARK ..]; writes all differing marks of a cause */
 static void write_machine(void)
 {
     lldpa_machine machine = {0};

@@ -1,8 +1,8 @@
--- Digits and octets, place by place.
+-- Digits and octets, one position at a time.
 use Rattle.std.specs.Prelude.{◌≡◌, ℕ, ◌<◌, ◌+◌, ◌*◌, ◌/◌, ◌%◌, List, slice_index, nat_lt, if◌then◌else◌, Some, None, Ok}
 use Rattle.hex.specs.Hex.{hex_digit_value, pair_value, lower_digits}
 
--- v is the digit's value, or not below 16 if c is not a digit
+-- v is the value of the digit c, or 16 or more if c is not a digit
 abbrev pub IsValue : ℕ → ℕ → Type 0
 IsValue c v = hex_digit_value c ≡ (if nat_lt v 16 then Some v else None)
 
@@ -10,12 +10,12 @@ IsValue c v = hex_digit_value c ≡ (if nat_lt v 16 then Some v else None)
 abbrev pub AreSmall : List ℕ → Type 0
 AreSmall values = (k : ℕ) → slice_index values k < 16
 
--- the two digits of that place are read as its octet
+-- the two digits at position i are read as octet i
 abbrev pub ArePairs : List ℕ → List ℕ → ℕ → Type 0
 ArePairs digits octets i =
     pair_value (slice_index digits (2 * i)) (slice_index digits (2 * i + 1)) (2 * i) ≡ Ok (slice_index octets i)
 
--- the octet of that place is written as its two digits
+-- octet i is written as the two digits at position i
 abbrev pub AreDigits : List ℕ → List ℕ → ℕ → Type 0
 AreDigits octets digits i =
     (slice_index digits (2 * i) ≡ slice_index lower_digits (slice_index octets i / 16))

@@ -4,11 +4,11 @@ use Rattle.lldp_pdu.specs.Tlv.{AreOctets}
 use Rattle.lldp_pdu.specs.Msap.{IsIdentifier, MsapId}
 use Rattle.lldp_text.specs.Identifier.{chassis_text, port_text}
 
--- Of octets, as those of any received TLV, no two lists are written alike.
+-- Different lists of octets, if both have the property, are written differently.
 abbrev pub TellsApart : (List ℕ → Type 0) → (List ℕ → List ℕ) → Type 0
 TellsApart Has text = (one other : List ℕ) → AreOctets one → AreOctets other → Has one → Has other → text one ≡ text other → one ≡ other
 
--- A name as frames give it: octets, and 2 to 256 of them in each identifier.
+-- The identifiers are as frames carry them: 2 to 256 octets each.
 pub record IsNameOfOctets (name : MsapId) : Type 0 where
   pub chassis_octets : AreOctets name.chassis
   pub port_octets : AreOctets name.port

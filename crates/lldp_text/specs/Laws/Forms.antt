@@ -17,16 +17,16 @@ pub record IsText (text : List ℕ) : Type 0 where
   pub most : length text ≤ 255
   pub printable : AllByRecursion (λ octet. (0x20 ≤ octet) × (octet ≤ 0x7e)) text
 
--- How a text is written, from its first octet: a backslash is doubled, what is from the space to the tilde is
--- unchanged, and any other octet is a backslash, `x` and its two hexadecimal digits.
+-- How a text is written, from its first octet: a backslash is doubled, an octet from the space to
+-- the tilde is unchanged, and any other octet is a backslash, `x` and its two hexadecimal digits.
 pub record IsEscaped (octet : ℕ) (text : List ℕ) : Type 0 where
   pub none : escaped [] ≡ []
   pub backslash : escaped (0x5c ∷ text) ≡ 0x5c ∷ 0x5c ∷ escaped text
   pub plain : 0x20 ≤ octet → octet ≤ 0x7e → ¬ (octet ≡ 0x5c) → escaped (octet ∷ text) ≡ octet ∷ escaped text
   pub other : (octet < 0x20) ⊎ (0x7e < octet) → escaped (octet ∷ text) ≡ 0x5c ∷ 0x78 ∷ encode_lower (octet ∷ []) ++ escaped text
 
--- An address, from its front: an octet in hexadecimal (MAC), one in decimal (IPv4) or two in hexadecimal (IPv6), then a
--- colon, a point or a colon, and the others.
+-- How an address is written, from its front: each octet in hexadecimal (MAC), each octet in decimal
+-- (IPv4), or each two octets in hexadecimal (IPv6), joined by colons, points or colons.
 pub record IsJoined (a b c d : ℕ) (octets : List ℕ) : Type 0 where
   pub mac_end : mac_text (a ∷ []) ≡ encode_lower (a ∷ [])
   pub mac : mac_text (a ∷ b ∷ octets) ≡ encode_lower (a ∷ []) ++ 0x3a ∷ mac_text (b ∷ octets)
@@ -35,7 +35,7 @@ pub record IsJoined (a b c d : ℕ) (octets : List ℕ) : Type 0 where
   pub ipv6_end : ipv6_text (a ∷ b ∷ []) ≡ encode_lower (a ∷ b ∷ [])
   pub ipv6 : ipv6_text (a ∷ b ∷ c ∷ d ∷ octets) ≡ encode_lower (a ∷ b ∷ []) ++ 0x3a ∷ ipv6_text (c ∷ d ∷ octets)
 
--- It has the length of its family: 1 is IPv4, with 4 octets, and 2 is IPv6, with 16.
+-- An IPv4 address has family 1 and 4 octets, an IPv6 address family 2 and 16 octets.
 abbrev pub IsIpv4 : ℕ → List ℕ → Type 0
 IsIpv4 family octets = (family ≡ 1) × (length octets ≡ 4)
 
@@ -58,8 +58,8 @@ pub record IsManaged (a : Address) : Type 0 where
 abbrev pub unhandled : List ℕ → List ℕ
 unhandled body = 0x75 ∷ 0x6e ∷ 0x68 ∷ 0x61 ∷ 0x6e ∷ 0x64 ∷ 0x6c ∷ 0x65 ∷ 0x64 ∷ 0x3d ∷ encode_lower body
 
--- Identifiers that are not texts, by the subtypes of a MAC address and a network address: `mac=` and six octets, `ip=`
--- and an address of its length, and `unhandled=` and all octets of every other, also of the subtypes 0 and 8 to 255.
+-- How identifiers that are not texts are written: `mac=` and six octets, `ip=` and an address of
+-- its family's length, or else `unhandled=` and all octets, also for the subtypes 0 and 8 to 255.
 pub record IsIdentified (mac network : ℕ) (text : List ℕ → List ℕ) (subtype family : ℕ) (octets : List ℕ) : Type 0 where
   pub mac_address : length octets ≡ 6 → text (mac ∷ octets) ≡ 0x6d ∷ 0x61 ∷ 0x63 ∷ 0x3d ∷ mac_text octets
   pub no_mac_address : ¬ (length octets ≡ 6) → text (mac ∷ octets) ≡ unhandled (mac ∷ octets)
@@ -68,8 +68,8 @@ pub record IsIdentified (mac network : ℕ) (text : List ℕ → List ℕ) (subt
   pub other_network : ¬ (IsIpv4 family octets) → ¬ (IsIpv6 family octets) → text (network ∷ family ∷ octets) ≡ unhandled (network ∷ family ∷ octets)
   pub other : (subtype ≡ 0) ⊎ (7 < subtype) → text (subtype ∷ octets) ≡ unhandled (subtype ∷ octets)
 
--- What is shown of the bits from one on, by their names: of a bit that is available its name, a colon, and `on` if it
--- is enabled, else `off`; of any other nothing.
+-- How the bits from `bit` on are shown, given their names: an available bit as its name, a colon,
+-- and `on` if it is enabled, else `off`; other bits are not shown.
 abbrev pub shown_from : Caps → ℕ → List (List ℕ) → List (List ℕ)
 shown_from caps bit [] = []
 shown_from caps bit (name ∷ names) =
@@ -90,6 +90,6 @@ pub record HasKeys (body : List ℕ) : Type 0 where
   -- unknown.KIND=
   pub reserved : (kind : ℕ) → 9 ≤ kind → kind ≤ 126 →
       tlv_text (record { kind = kind; body = body }) ≡ (codes "unknown.") ++ decimal kind ++ (0x3d ∷ []) ++ encode_lower body
-  -- org.OUI.SUBTYPE=, with what follows these four octets as the body
+  -- org.OUI.SUBTYPE=, and then the octets after these four
   pub specific : (a b c subtype : ℕ) →
       tlv_text (record { kind = 127; body = a ∷ b ∷ c ∷ subtype ∷ body }) ≡ (codes "org.") ++ encode_lower (a ∷ b ∷ c ∷ []) ++ (0x2e ∷ []) ++ decimal subtype ++ (0x3d ∷ []) ++ encode_lower body

@@ -1,12 +1,12 @@
-//! What is shown of neighbors distinguishes them.
+//! Different neighbors are shown differently.
 ghost use Rattle.std.specs.Prelude.{◌≡◌, ℕ, List, ⊤};
 ghost use Rattle.lldp_pdu.specs.Msap.{IsIdentifier, MsapId};
 ghost use Rattle.lldp_text.specs.Text.{escaped};
 ghost use Rattle.lldp_text.specs.Identifier.{chassis_text, port_text};
 ghost use Rattle.lldp_text.specs.Laws.Alike.{TellsApart, IsNameOfOctets, AreShownAlike};
 
-/// Two texts are never escaped alike, nor two chassis IDs or two port IDs written alike. So if the
-/// identifiers of two neighbors are shown alike, the neighbors have the same name.
+/// Different texts are escaped differently, and different chassis IDs and port IDs are written
+/// differently. So if the identifiers of two neighbors are shown alike, they are the same.
 pub fn neighbors_are_never_shown_alike()
     ensures texts { TellsApart (λ _. ⊤) escaped }
     ensures chassis { TellsApart (λ body. IsIdentifier body) chassis_text }

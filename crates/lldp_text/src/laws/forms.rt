@@ -8,14 +8,13 @@ ghost use Rattle.lldp_text.specs.Capabilities.{capability_names, capabilities_te
 ghost use Rattle.lldp_text.specs.Identifier.{chassis_text, port_text};
 ghost use Rattle.lldp_text.specs.Laws.Forms.{IsText, IsEscaped, IsJoined, IsManaged, IsIdentified, shown_from, HasKeys};
 
-/// A text has at most 255 octets, each from the space to the tilde, and anything else is not a
-/// text.
+/// Octets are a text exactly if there are at most 255 and each is from the space to the tilde.
 pub fn texts_are_printable()
     ensures { (text : List ℕ) → (is_text text ≡ true) ↔ IsText text }
 {}
 
-/// Texts, addresses, capabilities, identifiers and kept TLVs are written in these forms, whatever
-/// their octets; all sixteen capabilities, and kept TLVs of every type.
+/// Texts, addresses, all sixteen capabilities, identifiers and kept TLVs of every type are written
+/// in these forms, whatever their octets.
 pub fn values_have_their_forms()
     ensures texts { (octet : ℕ) (text : List ℕ) → IsEscaped octet text }
     ensures addresses { (a b c d : ℕ) (octets : List ℕ) → IsJoined a b c d octets }

@@ -1,4 +1,4 @@
-//! Laws of words, of numbers among them, and of the numbers of faults.
+//! Laws of words, of the numbers among them, and of the fault numbers.
 ghost use Rattle.std.specs.Prelude.{◌≡◌, ℕ, ◌<◌, ◌≤◌, List, [], ◌∷◌, ◌++◌, false, ◌↔◌, map, Some, Ok, Err};
 ghost use Rattle.std.specs.List.{filter, range_with_len};
 ghost use Rattle.lldp_text.specs.Words.{words_of, AreWords, is_separator, is_quote};
@@ -8,8 +8,8 @@ ghost use Rattle.lldp_text.specs.Number.{number_of, IsOfDigits};
 ghost use Rattle.lldp_text.specs.declared.fault.CommandFault.TheVariants.{Unknown, NoSuchPort, Number, Range, Text, Extra, Quote, InUse};
 ghost use Rattle.lldp_text.specs.Fault.{number_of_fault};
 
-/// The words of a line are those that the grammar gives it, both ways, and it has none if a quote
-/// is misplaced. Of the 256 octets a tab and a space separate words, and `"` alone is a quote.
+/// A line is split into these words exactly if the grammar spells the line with them. Among the 256
+/// octets only tab and space separate words, and only `"` is a quote.
 #[tactic(auto, using(crate::proofs::WordsGrammar::words_spelled))]
 pub fn words_are_spelled()
     ensures words { (line : List ℕ) (words : List (List ℕ)) →
@@ -18,8 +18,8 @@ pub fn words_are_spelled()
     ensures quotes { filter is_quote (range_with_len 0 256) ≡ 0x22 ∷ [] }
 {}
 
-/// A word of digits alone writes its value, however many digits it has, and is out of the range
-/// exactly if its value is. Every other word is not a number.
+/// A word of digits alone is read as its value, however many digits it has, and is out of range
+/// exactly if that value is. Any other word is not a number.
 pub fn words_of_digits_alone_are_numbers()
     ensures within { (word : List ℕ) (least greatest : ℕ) → IsOfDigits word →
         least ≤ digits_value 10 word → digits_value 10 word ≤ greatest →

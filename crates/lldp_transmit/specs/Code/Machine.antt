@@ -1,5 +1,5 @@
--- The machine: what it holds, and one step of it. Callers compute with it; `Moments` says what it means, and `Standing`
--- joins the two.
+-- The fields of a machine, and one step of it. Proofs of callers compute with these definitions.
+-- `Moments` says what a port sends, and `Standing` connects the two.
 use Rattle.std.specs.Prelude.{ℕ, ◌+◌, ◌-◌, true, false, ◌&&◌, ◌==◌, nat_lt, min, if◌then◌else◌}
 use Rattle.lldp_transmit.specs.History.{Settings}
 use Rattle.lldp_transmit.specs.declared.parts.Parts.{Parts}
@@ -8,11 +8,11 @@ use Rattle.lldp_transmit.specs.declared.event.Cause.TheVariants.{Tick, Change, N
 use Rattle.lldp_transmit.specs.declared.event.Mark.{Mark}
 use Rattle.lldp_transmit.specs.declared.event.Mark.TheVariants.{Quiet, Ordinary, Shutdown}
 
--- what a machine holds
+-- a machine is its fields
 abbrev pub Machine : Type 0
 Machine = Parts
 
--- as it is opened: full credit, its link up, and not active
+-- the machine of a port just opened: full credit, the link up, not active
 abbrev pub opened : Settings → Machine
 opened s = record {
   credit_max = s.credit_max;
@@ -28,15 +28,15 @@ opened s = record {
   up = true;
 }
 
--- a wanted frame is sent if credit is left, else it waits
+-- sends the requested frame if credit is left; otherwise the frame waits
 abbrev pub served : Machine → Machine × Mark
 served t = (record t { waiting = t.credit == 0; credit = t.credit - 1 }, if t.credit == 0 then Quiet else Ordinary)
 
--- a signal chooses the distance to the next one, and wants a frame
+-- a signal: sets the timer to the distance to the next signal, and requests a frame
 abbrev pub signalled : Machine → ℕ → Machine × Mark
 signalled t interval = served (record t { timer = if nat_lt 0 t.left then 1 else interval })
 
--- a second has passed: it adds one credit, at most to txCreditMax, and both clocks run down
+-- one second passes: the credit grows by 1, up to txCreditMax; `wait` and `timer` go down by 1
 abbrev pub counted : Machine → Machine
 counted t =
     record t {
@@ -45,7 +45,7 @@ counted t =
       timer = t.timer - 1;
     }
 
--- a tick: the timer of an active port may end, and a frame that waits may be sent; another port may start
+-- a tick: an active port's timer may end or its waiting frame be sent; an inactive port may start
 abbrev pub ticked : Machine → ℕ → Machine × Mark
 ticked t interval =
     if t.active
@@ -56,18 +56,18 @@ ticked t interval =
     then signalled (record (counted t) { active = true; left = 0 }) interval
     else (counted t, Quiet))
 
--- a new neighbor opens a burst if no signals are left, and takes one of them
+-- a new neighbor: opens a burst if no signals are left, and uses one signal of the burst
 abbrev pub neighbored : Machine → ℕ → Machine × Mark
 neighbored t interval = signalled (record t { left = (if t.left == 0 then t.fast_init else t.left) - 1 }) interval
 
--- the right to transmit is taken away: an active port stops, sends a shutdown frame and begins its wait
+-- the port may no longer transmit: if active, it stops, sends a shutdown frame and begins its wait
 abbrev pub stopped : Machine → Machine × Mark
 stopped t =
     if t.active
     then (record t { allowed = false; active = false; wait = t.reinit }, Shutdown)
     else (record t { allowed = false }, Quiet)
 
--- one event, with the tx-interval in force after it: the machine that it leaves, and the frame that is sent
+-- one event and the tx-interval in force then: the machine after it, and the frame that is sent
 abbrev pub stepped : Machine → Cause → ℕ → Machine × Mark
 stepped t Tick interval = ticked t interval
 stepped t Change interval = if t.active then signalled t interval else (t, Quiet)

@@ -1,5 +1,4 @@
--- When a port may transmit, whether its link is up, and when frames are sent, in terms of the causes in its history
--- only.
+-- Whether a port may transmit, whether its link is up, and when frames are sent, by the causes.
 use Rattle.std.specs.Prelude.{◌≡◌, ◌⊎◌, Bool, true, false, ◌∷◌}
 use Rattle.lldp_transmit.specs.declared.event.Cause.{Cause}
 use Rattle.lldp_transmit.specs.declared.event.Cause.TheVariants.{Tick, Change, Neighbor, Stop, Allow, Down, Up}
@@ -12,13 +11,13 @@ use Rattle.lldp_transmit.specs.Positions.{HasStarted}
 abbrev pub HasCause : Cause → History → Type 0
 HasCause cause h = (p : Position h) × (p.there.cause ≡ cause)
 
--- what one cause gives and another takes away is there: each that takes has one that gives after it, and if it was
--- not there at first, some event has given it
+-- True if a state that `gives` turns on and `takes` turns off is on: each `takes` has a `gives`
+-- after it, and if the state was off at first, there is some `gives`.
 pub record IsGiven (gives takes : Cause) (at_first : Bool) (h : History) : Type 0 where
   pub since : (p : Position h) → p.there.cause ≡ takes → HasCause gives p.after
   pub once : at_first ≡ false → HasCause gives h
 
--- Allowed: each Stop has an Allow after it, and a port that was opened without the right has had an Allow.
+-- Allowed: each Stop has an Allow after it, and a port not allowed at first has had some Allow.
 abbrev pub MayTransmit : Settings → History → Type 0
 MayTransmit s h = IsGiven Allow Stop s.allowed h
 
@@ -26,15 +25,15 @@ MayTransmit s h = IsGiven Allow Stop s.allowed h
 abbrev pub IsLinked : History → Type 0
 IsLinked h = IsGiven Up Down true h
 
--- the newest event can have an ordinary frame: it is a tick, a local change or a new neighbor, on a port that is
--- active, may transmit and has its link up
+-- an ordinary frame may be sent at the newest event: it is a tick, a local change or a new
+-- neighbor, on a port that is active, may transmit and has its link up
 pub record CanSend (s : Settings) (e : Event) (past : History) : Type 0 where
   pub cause : (e.cause ≡ Tick) ⊎ ((e.cause ≡ Change) ⊎ (e.cause ≡ Neighbor))
   pub active : HasStarted (moments s (e ∷ past))
   pub allowed : MayTransmit s (e ∷ past)
   pub up : IsLinked (e ∷ past)
 
--- the newest event can have a shutdown frame: it is a Stop, on a port that was active
+-- a shutdown frame is sent at the newest event: it is a Stop, on a port that was active
 pub record CanStop (s : Settings) (e : Event) (past : History) : Type 0 where
   pub cause : e.cause ≡ Stop
   pub active : HasStarted (moments s past)

@@ -6,7 +6,6 @@ use Rattle.lldp_text.proofs.KeptTlvFields.{description_short, name_short, system
 use Rattle.lldp_text.proofs.kept_tlv.write_kept_tlv.Goals as goal
 use Rattle.std.proofs.lemmas.Grind.{common_steps}
 
--- a TLV of a type
 abbrev unit : List ℕ → ℕ → TlvUnit
 unit body kind = record { kind = kind; body = body }
 
