@@ -10,7 +10,7 @@
 
 typedef enum sd_lldp_rx_event { ADDED, UPDATED, REFRESHED, REMOVED } sd_lldp_rx_event;
 
-/* A neighbor: octets, and the ranges of its identifiers in them. */
+/* A neighbor: octets, and where its identifiers are in these octets. */
 typedef struct sd_lldp_neighbor {
     const uint8_t *octets;
     lldpa_place chassis, port;

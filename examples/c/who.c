@@ -17,7 +17,7 @@ static uint32_t number(const uint8_t *at, int is_little)
                      : at[3] | at[2] << 8 | at[1] << 16 | (uint32_t)at[0] << 24;
 }
 
-/* Prints an address in hexadecimal, and another identifier or a text as characters. */
+/* Prints an address in hexadecimal, and other identifiers and texts as characters. */
 static void print_octets(const uint8_t *octets, size_t length, int is_address)
 {
     for (size_t at = 0; at < length; at++) {
@@ -26,7 +26,7 @@ static void print_octets(const uint8_t *octets, size_t length, int is_address)
     }
 }
 
-/* True if an LLDPDU has a new sender, whose identifiers are in the first `length` octets. */
+/* True if no earlier LLDPDU began with these `length` octets, which identify the sender. */
 static int is_new(const uint8_t *pdu, size_t length)
 {
     for (size_t at = 0; at < seen_count; at++) {

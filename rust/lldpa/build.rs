@@ -1,4 +1,4 @@
-//! Finds liblldpa.a for the linker. If there is none, says what to do and ends the build.
+//! Finds liblldpa.a for the linker. If it finds no archive, it says what to do and ends the build.
 
 use std::env;
 use std::fs;
@@ -10,10 +10,10 @@ const ARCHIVE: &str = "liblldpa.a";
 /// The first two numbers of the crate's version. Those of the archive must be the same.
 const WANTED: &str = concat!(env!("CARGO_PKG_VERSION_MAJOR"), ".", env!("CARGO_PKG_VERSION_MINOR"));
 
-/// The octets in the archive before its version, which is a little-endian number of four octets.
+/// The octets before the version in the archive. The version is a little-endian u32.
 const BEFORE_VERSION: &[u8] = b"liblldpa version\0\0\0\0";
 
-/// Returns the folder in `LLDPA_LIB_DIR`, if it is set.
+/// Returns the folder that `LLDPA_LIB_DIR` names, if this variable is set.
 fn named() -> Option<PathBuf> {
     let folder = PathBuf::from(env::var_os("LLDPA_LIB_DIR")?);
     if !folder.join(ARCHIVE).is_file() {
@@ -22,14 +22,14 @@ fn named() -> Option<PathBuf> {
     Some(folder)
 }
 
-/// Returns the output folder of tools/library/library.sh in this repository, if it has an archive.
+/// Returns the output folder of tools/library/library.sh, if it contains an archive.
 fn built() -> Option<PathBuf> {
     let top = Path::new(env!("CARGO_MANIFEST_DIR")).join("../..");
     let folder = top.join("crates/lldpa_c/out/lib").canonicalize().ok()?;
     folder.join(ARCHIVE).is_file().then_some(folder)
 }
 
-/// Returns the library folder that pkg-config reports, if it has an archive.
+/// Returns the library folder that pkg-config reports, if it contains an archive.
 fn installed() -> Option<PathBuf> {
     let asked = Command::new("pkg-config").args(["--variable=libdir", "lldpa"]).output().ok()?;
     let folder = PathBuf::from(String::from_utf8(asked.stdout).ok()?.trim());

@@ -8,7 +8,7 @@
  */
 #include "lldpa.h"
 
-/* ---- The sizes of the structs in the proved functions, the same on each platform ----------------------------------- */
+/* ---- The sizes that the structs have in the proved functions, on each platform ------------------------------------- */
 
 #define SIZE(name, octets) _Static_assert(sizeof(lldpa_##name) == (octets), "the size of lldpa_" #name);
 
@@ -18,10 +18,10 @@ SIZE(news, 40) SIZE(held, 72) SIZE(statistics_told, 36) SIZE(configuration_told,
 
 /* ---- NULL ---------------------------------------------------------------------------------------------------------- */
 
-/* The proved function reads at most this many names of ports. */
+/* The proved lldpa_open reads at most this many names of ports. */
 #define MOST_NAMES 65
 
-/* Replaces a NULL with a length of 0. Nothing is read or written here. */
+/* The address of this variable replaces a NULL that has a length of 0. Nothing is read or written here. */
 static lldpa_tlv nowhere;
 
 /* True if a pointer is NULL, but its length is not 0. */
@@ -165,7 +165,7 @@ CHECKED(uint8_t, lldpa_ticks, (lldpa_agent *agent, uint32_t count, lldpa_marks *
 CHECKED(uint8_t, lldpa_due, (const lldpa_agent *agent, uint32_t *seconds),
         agent == NULL || seconds == NULL, LLDPA_NULL, (COPY(agent), seconds))
 
-/* The first proved function writes no news, the second does. */
+/* The first of these proved functions writes no news, and the second writes news. */
 extern uint8_t proved_lldpa_frame(lldpa_agent *agent, uint32_t port, const uint8_t *octets, size_t length,
                                   lldpa_marks *marks);
 extern __typeof__(lldpa_frame) proved_lldpa_frame_news;

@@ -1,13 +1,13 @@
 /* The allocator of agents, which uses malloc. */
 #include <stdlib.h>
 
-/* The result of an allocation: whether there was memory, and its address, which is never NULL. */
+/* The result of an allocation: whether it succeeded, and an address that is never NULL. */
 struct memory {
     unsigned long ok;
     void *at;
 };
 
-/* The address if there was no memory. */
+/* The address of this variable is the result if there was no memory. */
 static char nowhere;
 
 static struct memory found(void *at)
@@ -15,7 +15,7 @@ static struct memory found(void *at)
     return (struct memory){at != NULL, at != NULL ? at : &nowhere};
 }
 
-/* Allocates `align` octets if it is asked for 0, so that the address is not NULL and not in use. */
+/* Allocates `align` octets instead of 0, so that the address is not NULL and not in use. */
 struct memory rattle_alloc(size_t octets, size_t align)
 {
     return found(malloc(octets > 0 ? octets : align));

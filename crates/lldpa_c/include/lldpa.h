@@ -1,31 +1,31 @@
 /*
- * lldpa: a formally verified LLDP reader, transmit machine and agent (IEEE 802.1AB-2009), for C and what can call C.
+ * lldpa: a formally verified LLDP reader, transmit machine and agent (IEEE 802.1AB-2009), for C and other languages.
  *
  * Link with liblldpa.so.1 (`pkg-config --cflags --libs lldpa`), or with liblldpa.a (`-l:liblldpa.a` instead of
  * `-llldpa`). The library uses malloc and free. The header is valid C99 and C++.
  *
- * Rules for the caller, for every function:
+ * Rules for the caller of any function:
  *  - A pointer that is not NULL points to existing, aligned memory of its type. Memory that a call reads is
  *    initialized; memory that it only writes need not be. If a length follows a pointer in the list of parameters,
- *    or in a struct, the pointer has at least that many elements. No length is over SIZE_MAX / 2.
- *  - Memory that a call writes does not overlap its other arguments, and nobody else reads or writes it during the
- *    call. A call does not write through its pointers to const.
+ *    or in a struct, the memory has at least that many elements. No length is over SIZE_MAX / 2.
+ *  - Memory that a call writes does not overlap the other arguments, and no other thread reads or writes it during the
+ *    call. A call does not write through pointers to const.
  *  - A bool is 0 or 1.
- * If a number or an index is out of its range, a function returns an error and changes nothing.
+ * A function returns an error and changes nothing if a number or an index is out of its range.
  *
- * NULL is safe. A NULL array of length 0 is an empty array, also inside a struct. A NULL `news` of lldpa_frame means
- * that you do not want the news. With any other NULL a function writes nothing and returns LLDPA_NULL, or false if
- * it returns a bool; lldpa_close does nothing. NULL is checked first, except that lldpa_open checks `size` before the
- * pointers in the options.
+ * NULL is safe. A NULL array of length 0 is an empty array, also inside a struct. You may pass NULL as `news` of
+ * lldpa_frame if you do not want the news. With any other NULL, a function that returns a number returns LLDPA_NULL, a
+ * function that returns a bool returns false, and nothing is written or closed. NULL is checked first, except that
+ * lldpa_open checks `size` before the pointers in the options.
  *
  * Stack: a call needs at most 12 KB.
  *
  * Memory: only lldpa_open allocates memory, and only lldpa_close frees it. No call keeps a pointer that you pass to
- * it. Texts that a function writes do not end in a 0.
+ * it. Texts that a function writes have no 0 at the end.
  *
- * Threads: no function keeps state of its own, waits, or starts a thread. Calls on different memory may run at the same
- * time. Two calls on the same lldpa_machine or lldpa_agent may not. Use and close an agent on the thread that opened
- * it. Call no function of an agent from a signal handler, or after a fork in the child of a process with threads.
+ * Threads: the library has no state of its own, never waits, and starts no threads. Calls on different memory may run
+ * at the same time, but calls on the same lldpa_machine or lldpa_agent may not. Use and close an agent on the thread
+ * that opened it. Do not call its functions in a signal handler, or in a forked child of a process with threads.
  *
  * ABI: in all releases 1.x, existing functions, parameters, numbers and fields of structs stay the same. A release may
  * add functions and fault numbers, so treat a number that you do not know as a fault. Only lldpa_options may get new
@@ -49,8 +49,8 @@ extern "C" {
 uint32_t lldpa_version(void);
 
 /*
- * ---- Return values. 0 means success. The other numbers are the errors below, and the faults that are listed before
- * the functions that return them: 1 to 8 by reading, 11 to 13 by building, 21 to 26 by opening, 31 to 38 by commands.
+ * ---- Return values. 0 means success. Other numbers are the errors below, and the faults that are listed before the
+ * functions that return them: 1 to 8 for reading, 11 to 13 for building, 21 to 26 for opening, 31 to 38 for commands.
  */
 
 #define LLDPA_OK 0
@@ -65,11 +65,11 @@ uint32_t lldpa_version(void);
  * Writes the description of an error number, such as "the first TLV is not a Chassis ID".
  *   fault   a number other than 0 that a function of this header returns or writes as a fault
  *   length  the number of octets written, at most LLDPA_FAULT_ROOM
- * Returns 0; LLDPA_OUT_OF_RANGE if there is no such error; or LLDPA_NO_ROOM. It writes only on success.
+ * Returns 0, LLDPA_OUT_OF_RANGE if no error has this number, or LLDPA_NO_ROOM. It writes only on success.
  */
 uint8_t lldpa_fault_text(uint32_t fault, uint8_t *room, size_t room_length, size_t *length);
 
-/* ---- Sizes of `room` that are always enough, in octets ------------------------------------------------------------ */
+/* ---- Sizes of `room`, in octets, that are always enough ---------------------------------------------------------- */
 
 #define LLDPA_PDU_ROOM 1500      /* for lldpa_build */
 #define LLDPA_FRAME_ROOM 1514    /* for lldpa_frame_of */
@@ -88,7 +88,7 @@ typedef struct lldpa_place {
 
 /*
  * Finds the LLDPDU in an Ethernet frame.
- *   frame, length  the frame from its destination address on, without a VLAN tag and without the check sequence
+ *   frame, length  the frame from the destination address on, without a VLAN tag and without the check sequence
  *   pdu            written if the result is true: the octets after the EtherType, at most 1500
  * Returns true exactly for an LLDP frame: 14 to 1514 octets, sent to 01-80-C2-00-00-0E, with the EtherType 88-CC.
  */
@@ -109,7 +109,7 @@ bool lldpa_frame_pdu(const uint8_t *frame, size_t length, lldpa_place *pdu);
  * type and, if the type is 4 to 7, is the first such TLV of that type.
  */
 typedef struct lldpa_examined {
-    lldpa_place chassis; /* the body of the Chassis ID, 2 to 256 octets, its subtype first */
+    lldpa_place chassis; /* the body of the Chassis ID, 2 to 256 octets that begin with the subtype */
     lldpa_place port;    /* the body of the Port ID, in the same form */
     size_t extent;       /* the number of octets before the End Of LLDPDU, or before an incomplete TLV */
     size_t discarded;    /* how many TLVs are discarded, including an incomplete one at the end */
@@ -128,7 +128,7 @@ uint8_t lldpa_examine(const uint8_t *pdu, size_t length, lldpa_examined *told);
 typedef struct lldpa_kept {
     size_t next;      /* the offset where the walk continues; 0 for the first TLV after the three mandatory ones */
     lldpa_place body; /* the body of the TLV that was found last */
-    bool met[4];      /* for the types 4, 5, 6 and 7: whether a well-formed TLV was found */
+    bool met[4];      /* for each of the types 4 to 7, whether a well-formed TLV was found */
     uint8_t kind;     /* the type of the TLV that was found last, 4 to 127 */
 } lldpa_kept;
 
@@ -136,10 +136,10 @@ typedef struct lldpa_kept {
 
 /*
  * Finds the next kept TLV.
- *   extent, length  an LLDPDU for which lldpa_examine returned 0, with a TTL above 0, and its lldpa_examined.extent
- *                   as the length; the same in every call of a walk
+ *   extent, length  the start of an LLDPDU for which lldpa_examine returned 0 and a TTL above 0: as many octets as its
+ *                   lldpa_examined.extent. Pass the same octets in every call of a walk
  *   walk            is advanced to the TLV; it is unchanged if no TLV is left
- * Returns whether there is one. If the octets are not such an LLDPDU, it finds some TLV in them, or none.
+ * Returns true if it found a TLV. If the octets are not such an LLDPDU, it may find any TLV in them, or none.
  */
 bool lldpa_next_kept(const uint8_t *extent, size_t length, lldpa_kept *walk);
 
@@ -161,7 +161,7 @@ typedef struct lldpa_management {
     lldpa_place address; /* 1 to 31 octets */
     lldpa_place oid;     /* 0 to 128 octets */
     uint32_t interface;  /* the interface number */
-    uint8_t family;      /* the address's family: 1 IPv4, 2 IPv6, 6 all 802 media, .. */
+    uint8_t family;      /* the address family, such as 1 for IPv4, 2 for IPv6 and 6 for all 802 media */
     uint8_t numbering;   /* the interface numbering subtype */
 } lldpa_management;
 
@@ -174,7 +174,7 @@ bool lldpa_mgmt(const uint8_t *body, size_t length, lldpa_management *told);
 
 /*
  * Writes a TLV as text, as the command `show neighbors` does: "chassis.mac=00:11:22:33:44:55", "port.ifname=eth0",
- * "chassis.mgmt=192.0.2.1,2,3,". The value follows the first '='. Texts are escaped as lldpa_escape does.
+ * "chassis.mgmt=192.0.2.1,2,3,". The value follows the first '='. Texts are escaped as by lldpa_escape.
  *   kind    the type of the TLV: 1 for a Chassis ID, 2 for a Port ID, or 4 to 127
  *   body    its body, which must be well formed for the type and have at most 511 octets
  *   room    LLDPA_VALUE_ROOM octets are always enough
@@ -190,7 +190,7 @@ uint8_t lldpa_tlv_text(uint32_t kind, const uint8_t *body, size_t body_length, u
  *   text    at most 511 octets
  *   room    four times as many octets are always enough
  *   length  the number of octets written, on success
- * Returns the first of these that applies: LLDPA_OUT_OF_RANGE for the length of the text, LLDPA_NO_ROOM; otherwise 0.
+ * Returns the first of these that applies: LLDPA_OUT_OF_RANGE if the text is too long, LLDPA_NO_ROOM; otherwise 0.
  */
 uint8_t lldpa_escape(const uint8_t *text, size_t text_length, uint8_t *room, size_t room_length, size_t *length);
 
@@ -205,20 +205,20 @@ typedef struct lldpa_tlv {
 
 /* Why a TLV is left out. The checks come in the order KIND, BODY, FULL. */
 #define LLDPA_FULL 11 /* the TLV and the End Of LLDPDU do not fit in 1500 octets */
-#define LLDPA_KIND 12 /* its type is not 4 to 127, or is 4 to 7 and was put before; or the LLDPDU has a TTL of 0 */
-#define LLDPA_BODY 13 /* its body is over 511 octets, or not well formed for its type */
+#define LLDPA_KIND 12 /* the type is not 4 to 127, or is 4 to 7 and was put before; or the LLDPDU has a TTL of 0 */
+#define LLDPA_BODY 13 /* the body is over 511 octets, or not well formed for the type */
 
 /*
  * Builds an LLDPDU in the caller's buffer `room`.
- *   chassis, port  the bodies of the Chassis ID and the Port ID, their subtypes first, 2 to 256 octets each
+ *   chassis, port  the bodies of the Chassis ID and the Port ID, 2 to 256 octets each, beginning with the subtype
  *   ttl            the time to live in seconds; 0 makes a shutdown LLDPDU, which has no other TLVs
- *   tlvs           the TLVs to put after the Time To Live, in their order; any number
+ *   tlvs           any number of TLVs to put after the Time To Live, in this order
  *   faults         receives a number for each TLV: 0 if it was put, or 11 to 13 if it is left out
  *   room           LLDPA_PDU_ROOM octets are always enough
  *   length         the number of octets of the LLDPDU, including its End Of LLDPDU
  * Returns the first of these that applies: LLDPA_OUT_OF_RANGE for the length of an identifier; LLDPA_NO_ROOM if
- * faults has fewer elements than tlvs; LLDPA_NO_ROOM if the LLDPDU is longer than room; otherwise 0. The second
- * LLDPA_NO_ROOM writes faults, but not room and length; the other errors write nothing.
+ * faults has fewer elements than tlvs; LLDPA_NO_ROOM if the LLDPDU is longer than room; otherwise 0. If the LLDPDU is
+ * longer than room, only faults is written. The other errors write nothing.
  */
 uint8_t lldpa_build(const uint8_t *chassis, size_t chassis_length, const uint8_t *port, size_t port_length,
                     uint16_t ttl, const lldpa_tlv *tlvs, size_t tlv_count, uint8_t *faults, size_t fault_count,
@@ -234,9 +234,9 @@ typedef struct lldpa_machine {
     uint8_t reinit;     /* reinitDelay, in seconds */
     uint8_t credit;     /* how many ordinary frames may be sent before the next tick, 0 to credit_max */
     uint8_t wait;       /* ticks until the port may start again */
-    uint8_t left;       /* txFast: frames left of a fast transmission */
+    uint8_t left;       /* txFast: how many frames of a fast transmission are left */
     bool waiting;       /* a frame is wanted and was not sent yet */
-    bool active;        /* the port has started, and since then has neither stopped nor lost its link */
+    bool active;        /* the port has started, and has neither stopped nor lost its link since */
     bool allowed;       /* the port may transmit */
     bool up;            /* its link is up */
 } lldpa_machine;
@@ -272,14 +272,14 @@ uint8_t lldpa_transmit_new(lldpa_machine *machine, uint32_t credit_max, uint32_t
  *   cause     LLDPA_CAUSE_TICK to LLDPA_CAUSE_NOTHING
  *   interval  the tx-interval in force after the event, 1 to 3600 seconds
  *   mark      LLDPA_QUIET, LLDPA_ORDINARY or LLDPA_SHUTDOWN, written on success
- * Returns 0; or LLDPA_OUT_OF_RANGE for the cause or the interval, or for a machine whose credit is above its
- * credit_max. An error writes nothing.
+ * Returns 0; or LLDPA_OUT_OF_RANGE for the cause or the interval, or if the machine's credit is above its
+ * credit_max. On an error nothing is written.
  */
 uint8_t lldpa_transmit_event(lldpa_machine *machine, uint32_t cause, uint32_t interval, uint8_t *mark);
 
 /* ---- The agent -------------------------------------------------------------------------------------------------- */
 
-/* A text. It does not end in a 0. */
+/* A text, without a 0 at the end. */
 typedef struct lldpa_text {
     const uint8_t *octets;
     size_t length;
@@ -293,7 +293,7 @@ typedef struct lldpa_text {
 /* The options of lldpa_open. */
 typedef struct lldpa_options {
     size_t size;             /* sizeof(lldpa_options) */
-    const lldpa_text *ports; /* the names of the ports in order: 1 to 15 letters, digits, '-', '_', '/' and ':' */
+    const lldpa_text *ports; /* the names of the ports in order, each 1 to 15 letters, digits, '-', '_', '/' or ':' */
     size_t port_count;       /* 1 to 64 */
     lldpa_text hostname;     /* at most 255 octets, printable ASCII */
     uint8_t mac[6];          /* the source address and the chassis ID of every frame */
@@ -313,8 +313,8 @@ typedef struct lldpa_options {
       32, 5, 4, 2 }
 
 /*
- * A handle of an agent. Begin with one that is all 0: lldpa_agent agent = {0}. Do not read or change its fields, and
- * do not copy it while it is open. After lldpa_close you may open it again.
+ * A handle of an agent. Initialize it with zeros: lldpa_agent agent = {0}. Do not read or change its fields, and do
+ * not copy it while it is open. After lldpa_close you may open it again.
  */
 typedef struct lldpa_agent {
     void *held;
@@ -330,12 +330,12 @@ typedef struct lldpa_agent {
 #define LLDPA_TEXT 26           /* the hostname is over 255 octets, or has an octet that is not printable */
 
 /*
- * Opens an agent, and allocates all memory that it will ever need: about 1.6 KB for each of max_neighbors on each port.
- * Each port has its link up. Returns the first of these that applies: LLDPA_OUT_OF_RANGE if the library does not
- * know an lldpa_options of this `size`; LLDPA_IS_OPEN; LLDPA_OUT_OF_RANGE for role, max_neighbors, credit_max,
- * fast_init or reinit, or for a text that is not UTF-8; the first fault, 22 to 26; LLDPA_MEMORY; otherwise 0, and
- * the agent is open. An error leaves the handle unchanged. With more than 64 names the call fails, and names after
- * the 65th are not read.
+ * Opens an agent, and allocates all memory that it will ever need: about 1.6 KB for each of max_neighbors neighbors on
+ * each port. At first the link of each port is up. Returns the first of these that applies: LLDPA_OUT_OF_RANGE if the
+ * library does not know an lldpa_options of this `size`; LLDPA_IS_OPEN; LLDPA_OUT_OF_RANGE for role, max_neighbors,
+ * credit_max, fast_init or reinit, or for a text that is not UTF-8; the first fault, 22 to 26; LLDPA_MEMORY;
+ * otherwise 0, and the agent is open. An error leaves the handle unchanged. With more than 64 names the call fails, and
+ * names after the 65th are not read.
  */
 uint8_t lldpa_open(const lldpa_options *options, lldpa_agent *agent);
 
@@ -354,12 +354,12 @@ typedef struct lldpa_marks {
 /* What lldpa_ticks did. A tick is one second. */
 typedef struct lldpa_ticks_taken {
     uint32_t taken;    /* the number of seconds that were counted */
-    uint32_t aged_out; /* the number of neighbors that aged out at the last of them */
+    uint32_t aged_out; /* the number of neighbors that aged out at the last of these seconds */
 } lldpa_ticks_taken;
 
 /*
- * Tells the agent that `count` seconds have passed. The call stops early, after the first second at which a port sends
- * or a neighbor ages out. Returns 0 or LLDPA_NOT_OPEN.
+ * Reports to the agent that `count` seconds have passed. The call stops early after the first second at which a port
+ * sends or a neighbor ages out. Returns 0 or LLDPA_NOT_OPEN.
  *   count  the seconds that passed; do not pass LLDPA_NEVER, which could take minutes
  *   marks  the frames to send at the last second counted, on success
  *   told   written on success. Send the frames of marks; then, if told->taken is less than count, call lldpa_ticks
@@ -391,10 +391,7 @@ uint8_t lldpa_due(const lldpa_agent *agent, uint32_t *seconds);
 #define LLDPA_NEWS_GONE 8     /* a neighbor that was held leaves */
 #define LLDPA_NEWS_UNKNOWN 9  /* a neighbor that is not held leaves */
 
-/*
- * What a frame did. The octets of both ranges together identify the neighbor: no two neighbors of a port have the same
- * ones.
- */
+/* What a frame did. The octets of both ranges together identify the neighbor among all neighbors of its port. */
 typedef struct lldpa_news {
     lldpa_place chassis; /* in the frame: the body of the Chassis ID; 0 and 0 if `what` is below LLDPA_NEWS_NEW */
     lldpa_place port;    /* in the frame: the body of the Port ID, in the same form */
@@ -403,10 +400,10 @@ typedef struct lldpa_news {
 } lldpa_news;
 
 /*
- * Gives the agent a frame that a port received. You may pass any octets: if they are not an LLDP frame, nothing
+ * Passes to the agent a frame that a port received. You may pass any octets: if they are not an LLDP frame, nothing
  * changes. Returns 0, LLDPA_NOT_OPEN or LLDPA_NO_PORT. First report the seconds that passed before the frame arrived
- * (lldpa_ticks): its time to live starts at this call, and seconds that you report later count against it. A full
- * table accepts no new neighbor, but the neighbors that it holds are still refreshed.
+ * (lldpa_ticks): the neighbor's time to live starts at this call, and seconds that you report later reduce it. A full
+ * table accepts no new neighbor, but the neighbors in it are still refreshed.
  *   port   the number of the port, from 0, in the order of the options
  *   marks  the frames to send, on success
  *   news   what the frame did, on success; or NULL
@@ -414,7 +411,7 @@ typedef struct lldpa_news {
 uint8_t lldpa_frame(lldpa_agent *agent, uint32_t port, const uint8_t *octets, size_t length, lldpa_marks *marks,
                     lldpa_news *news);
 
-/* Tells the agent that the link of a port came up or went down. port, marks and results are as for lldpa_frame. */
+/* Reports that the link of a port came up or went down. port, marks and the results are as for lldpa_frame. */
 uint8_t lldpa_link(lldpa_agent *agent, uint32_t port, bool up, lldpa_marks *marks);
 
 /*
@@ -436,7 +433,8 @@ typedef struct lldpa_held {
 
 /*
  * Writes a neighbor of a port. lldpa_next_kept reads its TLVs from the octets.
- *   index  from 0, in the order in which neighbors were stored (LLDPA_NEWS_NEW). If one is removed, later ones move up
+ *   index  from 0, in the order in which neighbors were stored (LLDPA_NEWS_NEW). When a neighbor is removed, the index
+ *          of each later neighbor decreases by 1
  *   room   receives told->pdu.extent octets: the neighbor's LLDPDU without the End Of LLDPDU. LLDPA_NEIGHBOR_ROOM
  *          octets are always enough
  *   told   written on success
@@ -503,10 +501,10 @@ uint8_t lldpa_configuration(const lldpa_agent *agent, lldpa_configuration_told *
 
 /*
  * Runs a command, "configure ..", "update" or "show ..", without a line feed; lldpa(1) describes the commands. A show
- * command changes nothing: pass its number to lldpa_show_lines to get its lines.
+ * command changes nothing: pass the number of the show to lldpa_show_lines to get the lines.
  *   show   LLDPA_SHOW_NOTHING, or the number of the show, on success
  *   marks  the frames to send, on success
- * Returns 0; or 31 to 38 or LLDPA_NOT_OPEN, which change nothing.
+ * Returns 0, or 31 to 38 or LLDPA_NOT_OPEN. On an error nothing changes.
  */
 uint8_t lldpa_command(lldpa_agent *agent, const uint8_t *line, size_t length, uint32_t *show, lldpa_marks *marks);
 

@@ -1,4 +1,4 @@
--- The types for proofs that a handle's parts own the same as a box of an agent.
+-- Definitions for the proofs that a handle's parts own what a box of the agent owns.
 use mir.Syntax.{impl, tnil, dnil}
 use mathlib.Core.List.{[]}
 use denote.Signature.{Slot, plain}

@@ -1,4 +1,4 @@
--- The names of the logic that the hand-written proofs about the handle use.
+-- Re-exports the names that the hand-written proofs about the handle use.
 pub use mathlib.Core.Path.{◌≡◌, refl, sym, subst, ap, ◌∙◌}
 pub use mathlib.Core.List.{List, [], ◌∷◌, ◌++◌}
 pub use lib.Dec.{T}

@@ -1,4 +1,4 @@
--- The lines that are in a buffer after a show was written.
+-- The lines that a buffer contains after a show was written to it.
 use Rattle.std.proofs.Common.{◌≡◌, ℕ, zero, suc, ◌+◌, ◌-◌, ◌%◌, ◌^◌, ◌<◌, ◌≤◌, Bool, true, false, List, [], ◌∷◌, ◌++◌, length, take, drop, Some, None, refl, sym, ap, subst, ◌∙◌, append-nil, append_assoc, arith}
 use Rattle.std.specs.Prelude.{Option, max, slice_get, nat_le}
 use Rattle.std.specs.Option.{option_map}
@@ -14,7 +14,7 @@ use Rattle.lldpa_c.specs.Filling.{View, begun, put_if, put_unless, come_at, come
 use Rattle.lldpa_c.specs.Answer.{is_over}
 use Rattle.lldpa_c.specs.Filled.{Fills, IsFull}
 
--- From `v` to `r`, `count` of these lines are written: all, or the next one does not fit.
+-- `r` is `v` with the first `count` lines added: all lines, or the next one does not fit.
 pub record Comes (size : ℕ) (v r : View) (lines : List (List ℕ)) : Type 0 where
   pub count : ℕ
   pub next : r.next ≡ v.next + count
@@ -40,7 +40,7 @@ none_comes size v within room = record {
   full = λ full. absurd cc;
 }
 
--- a line that fits is written, and then the others are
+-- the first line is added if it fits, and then the others; otherwise no line is added
 one_comes : (b : Bool) (size : ℕ) (v : View) (line : List ℕ) (lines : List (List ℕ)) → nat_le (v.used + length (ended line)) size ≡ b
     → v.skip ≡ 0 → v.is_full ≡ false → v.used ≤ size → v.next + length (line ∷ lines) < 2 ^ 32
     → ((w : View) → w.skip ≡ 0 → w.is_full ≡ false → w.used ≤ size → w.next + length lines < 2 ^ 32 → Comes size w (come_all size w lines) lines)
@@ -77,7 +77,7 @@ come_open size (line ∷ lines) v skip room within few =
     ap (λ (b : Bool). come b size v text) room ∙ ap (λ (n : ℕ). come_at n size v text) skip ∙ ap (λ (b : Bool). put_unless b size v text) room in
     subst (λ (w : View). Comes size v (come_all size w lines) (line ∷ lines)) (sym here) (one_comes _ size v line lines refl skip room within few (λ w. come_open size lines w))
 
--- the first k lines are skipped
+-- if k lines are to be skipped, the lines after the first k are added
 pub come_behind : (size k : ℕ) (lines : List (List ℕ)) (v : View) → v.skip ≡ k → v.is_full ≡ false → v.used ≤ size → v.next + length (drop k lines) < 2 ^ 32 → Comes size v (come_all size v lines) (drop k lines)
 come_behind size zero lines v skip room within few = come_open size lines v skip room within few
 come_behind size (suc k) [] v skip room within few = none_comes size v within room
@@ -88,7 +88,7 @@ come_behind size (suc k) (line ∷ lines) v skip room within few =
     let c = come_behind size k lines w refl room within few in
     subst (λ (x : View). Comes size v (come_all size x lines) (drop k lines)) (sym here) record { count = c.count; next = c.next; text = c.text; within = c.within; done = c.done; full = c.full }
 
--- all lines of a show arrive
+-- from the initial state, the lines of a show from number `from` on are added
 pub all_come : (lines : List (List ℕ)) (from size n : ℕ) (a r : View) → n ≡ size → a ≡ begun from → r ≡ come_all n a lines → from < 2 ^ 32 → length lines ≤ 6127808
     → Comes size (begun from) r (drop from lines)
 all_come lines from size n a r e b is fits few =
@@ -111,7 +111,7 @@ further u k xs ys h e =
     let n : u + (k - u) ≡ k = omega arith in
     ap (λ (m : ℕ). drop m xs) (sym n) ∙ sym (drop-drop (k - u) u xs) ∙ ap (drop (k - u)) e ∙ drop-drop (k - u) u ys ∙ ap (λ (m : ℕ). drop m ys) n
 
--- lines leave the octets unchanged after those that they use
+-- accepting lines leaves the octets after the used ones unchanged
 pub rest_left : (a b : Filling) (lines : List (List ℕ)) → Takes TakesLine a b lines → LeavesRest a b
 unfolding Takes
 rest_left a b [] h = record { grows = omega (arith, ap (λ (f : Filling). f.used) h); rest = ap (λ (f : Filling). drop b.used f.room.now) (sym h) }
@@ -123,7 +123,7 @@ rest_left a b (line ∷ lines) h =
 pub both_leave : (a b c : Filling) → LeavesRest a b → LeavesRest b c → LeavesRest a c
 both_leave a b c f g = record { grows = omega (arith, f.grows, g.grows); rest = g.rest ∙ further b.used c.used _ _ g.grows f.rest }
 
--- ---- the octets that were written of a show
+-- ---- the octets of the lines that were written
 
 get_behind : {X : Type 0} (k n : ℕ) (xs : List X) → slice_get (drop k xs) n ≡ slice_get xs (k + n)
 get_behind zero n xs = ap (slice_get xs) (omega arith)

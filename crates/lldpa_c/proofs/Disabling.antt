@@ -48,20 +48,20 @@ is_sent : (items : List Sending) (b is_empty : Bool) (i : ℕ) → items ≡ shu
 is_sent items true is_empty i is e = rw (e, is) refl
 is_sent items false is_empty i is e = rw (e, is) refl
 
--- a port that sends anything when it is disabled sends a shutdown frame
+-- disabling a port sends nothing, or one shutdown frame
 pub told_sent : (agent : AgentState) (i : ℕ) (items : List Sending) (is_empty : Bool) → i < length agent.ports → items ≡ agent_marks (disables i) agent → is_empty ≡ (length items == 0)
     → shutdown_if (not is_empty) i ≡ agent_marks (disables i) agent
 told_sent agent i items is_empty lt is e =
     let p = there_is agent.ports i lt in
     is_sent items (stops p.0) is_empty i (is ∙ marks_disabled agent i p.0 lt (sym (get_or_from_slice_get agent.ports i p.0 p.0 p.1))) e ∙ is
 
--- ---- each port in order
+-- ---- the ports, one after another
 
 module _ (agent : AgentState) where
   abbrev disabled : PortState → PortState
   disabled p = port_step (status Disabled) agent.configuration.interval p
 
-  -- the first n of these ports are disabled
+  -- these ports, after the first n of them were disabled
   abbrev so_far : ℕ → List PortState → List PortState
   so_far n ports = map disabled (take n ports) ++ drop n ports
 

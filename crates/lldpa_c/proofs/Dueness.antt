@@ -1,4 +1,4 @@
--- The tick at which something is due.
+-- The next tick at which a port sends or a neighbor ages out.
 use Rattle.std.proofs.Common.{◌≡◌, ℕ, zero, suc, ◌+◌, ◌-◌, ◌^◌, ◌<◌, ◌≤◌, Bool, true, false, inl, inr, List, [], ◌∷◌, length, map, drop, Some, refl, sym, ap, subst, ◌∙◌, arith}
 use Rattle.std.specs.Prelude.{◌⊎◌, Option, None, max, nat_lt, slice_get}
 use Rattle.std.specs.List.{filter_map}
@@ -39,7 +39,7 @@ pub sooner_assoc : (a b c : Option ℕ) → sooner (sooner a b) c ≡ sooner a (
 sooner_assoc (Some a) (Some b) (Some c) = ap (λ (n : ℕ). Some n) (omega arith)
 sooner_assoc _ _ _ = refl
 
--- k ticks fewer
+-- a number of ticks, reduced by k
 abbrev fewer_by : ℕ → Option ℕ → Option ℕ
 fewer_by k None = None
 fewer_by k (Some d) = Some (d - k)
@@ -74,7 +74,7 @@ both_fewer a a' b b' e f = rw (e, f) (fewer_sooner a b)
 
 -- ---- a machine
 
--- the machine waits at a tick: it sends nothing, one tick fewer is left, and only clocks change
+-- a tick sends nothing, leaves one tick fewer, and changes only the credit and the clocks
 record Waits (n : ℕ) (m : Machine) : Type 0 where
   sends : (machine_ticked m n).1 ≡ Quiet
   due : until_sends (machine_ticked m n).0 ≡ fewer_by 1 (until_sends m)
@@ -101,7 +101,7 @@ module _ (n : ℕ) (m : Machine) where
 
 -- ---- neighbors
 
--- no neighbor ages out at a tick, and only their seconds change
+-- at a tick no neighbor ages out, and only the seconds that are left change
 record Stay (ns : List Neighbor) : Type 0 where
   number : length (filter_map aged ns) ≡ length ns
   due : least_left (filter_map aged ns) ≡ fewer_by 1 (least_left ns)
@@ -138,7 +138,7 @@ due_of p = sooner (least_left p.table.neighbors) (until_sends p.machine)
 abbrev next : ℕ → PortState → PortState
 next n p = port_step port_tick n p
 
--- at a tick no port sends and no neighbor ages out, one tick fewer is left, and only clocks change
+-- at a tick no port sends, no neighbor ages out, and only credits and clocks change
 record AreQuiet (n i : ℕ) (ports : List PortState) : Type 0 where
   sends : marks_step (each_port port_tick) n i ports ≡ []
   ages : held_by (ports_step (each_port port_tick) n i ports) ≡ held_by ports
@@ -213,12 +213,12 @@ after_less : (k : ℕ) (o : Option ℕ) → IsAfter (suc k) o → IsAfter k o ×
 after_less k None h = (tt, tt)
 after_less k (Some d) h = (omega arith, omega arith)
 
--- after k ticks, before anything is due: k ticks fewer are left, and only clocks have changed
+-- k ticks leave k ticks fewer until something is due, and change only credits and clocks
 record Waited (k : ℕ) (agent : AgentState) : Type 0 where
   due : due_in (ticked k agent) ≡ fewer_by k (due_in agent)
   same : timeless (ticked k agent) ≡ timeless agent
 
--- the tick after k ticks is quiet, if nothing is due at it
+-- if nothing is due within k + 1 ticks, the last of these ticks is quiet
 quiet_behind : (k : ℕ) (agent : AgentState) → IsAfter (suc k) (due_in agent) → Waited k agent → AreQuiet (ticked k agent).configuration.interval 0 (ticked k agent).ports
 quiet_behind k agent h before = are_quiet _ 0 (ticked k agent).ports (subst (IsAfter 1) (sym before.due) (after_less k (due_in agent) h).1)
 
@@ -234,7 +234,7 @@ quiet_before k agent h =
     let quiet = quiet_behind k agent h (waited k agent (after_less k (due_in agent) h).0) in
     record { sends = quiet.sends; ages = quiet.ages }
 
--- ---- agents that stand for a past
+-- ---- agents that result from a past
 
 credit_of : (o : Options) (past : List Happened) (name : List ℕ) → (port_after o past name).machine.credit_max ≡ o.credit_max
 unfolding port_after machine_of
@@ -275,7 +275,7 @@ none_is_due agent e = record {
   there = λ less. absurd (omega arith);
 }
 
--- ---- in the loops over neighbors and ports
+-- ---- steps of the loops over neighbors and ports
 
 sooner_none : (o : Option ℕ) → sooner o None ≡ o
 sooner_none None = refl

@@ -1,4 +1,4 @@
--- The news of a frame with an LLDPDU that a port receives.
+-- The news of a received frame that has an LLDPDU.
 use Rattle.std.proofs.Common.{◌≡◌, ℕ, ◌+◌, ◌≤◌, true, List, length, take, drop, Some, None, refl, sym, ap, ◌∙◌, subst, arith}
 use Rattle.std.proofs.lemmas.List.{drop-drop}
 use Rattle.lldp_pdu.specs.declared.fault.PduFault.{PduFault}
@@ -15,7 +15,7 @@ use Rattle.lldpa_c.specs.Examined.{Holds, chassis_place, port_place}
 use Rattle.lldpa_c.specs.News.{pdu_news, hears, heard_pdu, news_on, in_frame, HoldsName, TellsNoName, Reports}
 use Rattle.lldpa_c.proofs.Places.{header_off, chassis_lies, port_lies}
 
--- the news of an LLDPDU, with ranges given by the places in it
+-- the news of an LLDPDU, with the computed ranges of its identifiers in the frame
 pub record TellsPdu (table : Contents) (pdu : List ℕ) (told : LldpaNews) : Type 0 where
   pub what : told.what ≡ pdu_news table pdu (fault_of pdu)
   pub refused : (fault : PduFault) → fault_of pdu ≡ Some fault → (told.fault ≡ pdu_fault_number fault) × TellsNoName told

@@ -1,4 +1,4 @@
--- Where the LLDPDU is in a frame, and where the identifiers are in an LLDPDU.
+-- The position of the LLDPDU in a frame, and of the identifiers in an LLDPDU.
 use Rattle.std.proofs.Common.{◌≡◌, ℕ, ◌+◌, ◌-◌, ◌*◌, ◌%◌, ◌≤◌, ◌⊎◌, Bool, true, false, cond, List, [], ◌∷◌, length, take, drop, Option, Some, None, refl, sym, ap, ◌∙◌, inl, inr, arith}
 use Rattle.std.proofs.lemmas.Bool.{cases_lt, lt-ltb, le-ltb, leb-true}
 use Rattle.std.proofs.lemmas.List.{length-take-le, length-drop, drop-drop, take_at}
@@ -20,7 +20,7 @@ has_fourteen : (frame : List ℕ) → is_lldp_frame frame ≡ true → 14 ≤ le
 unfolding is_lldp_frame
 has_fourteen frame h = grind (arith, common_steps, leb-true)
 
--- the LLDPDU begins after 14 octets
+-- the LLDPDU is the part of a frame after its first 14 octets
 pub header_off : (frame pdu : List ℕ) → Some pdu ≡ lldpdu_of frame → (pdu ≡ drop 14 frame) × (14 + length pdu ≡ length frame)
 header_off frame pdu h = at (is_lldp_frame frame) refl h
   where
@@ -51,7 +51,7 @@ body_at (high ∷ low ∷ octets) u others h =
 
 -- ---- an LLDPDU without a fault begins with two TLVs
 
--- an LLDPDU with fewer TLVs has a fault
+-- an LLDPDU with no TLV, or with only one, has a fault
 none_is_fault : (octets : List ℕ) → (cut octets).tlvs ≡ [] → fault_of octets ≡ None → ⊥
 none_is_fault octets e h = absurd cc (fault_from octets [] (ttl_of octets) e refl, h)
 
@@ -107,7 +107,7 @@ port_lies octets h =
     let same : drop (2 + length b.chassis.body + 2) octets ≡ drop 2 b.behind = sym (ap (drop 2) behind ∙ drop-drop _ _ octets) in
     rw (name_of octets b) (record { within = omega (arith, len, one.1, two.1); held = ap (take (length b.port.body)) same ∙ two.0 })
 
--- ---- the extent is the start of the octets
+-- ---- the extent is a prefix of the octets
 
 pub extent_lies : (octets : List ℕ) → AreOctets octets → take (length (extent octets)) octets ≡ extent octets
 extent_lies octets fits =

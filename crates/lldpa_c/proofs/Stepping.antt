@@ -1,4 +1,4 @@
--- The news of a frame agree with what the frame does to the table.
+-- The news of a frame agrees with the change of the table.
 use Rattle.std.proofs.Common.{◌≡◌, ◌≢◌, ℕ, zero, suc, ◌+◌, Bool, true, false, inl, inr, List, [], ◌∷◌, ◌++◌, length, map, Option, Some, None, refl, sym, ap, subst, ◌∙◌, arith}
 use Rattle.std.specs.Prelude.{◌==◌, not, nat_lt, if◌then◌else◌, filter, find, is_some, slice_get, option_and_then}
 use Rattle.std.specs.List.{list_any, AllByRecursion, IsDistinct}
@@ -30,7 +30,7 @@ use Rattle.lldp_engine.specs.Code.Step.{ports_step, agent_after}
 use Rattle.lldpa_c.specs.News.{stored_of, life_news, leave_news, pdu_news, frame_news, hears, news_on, HearsSound}
 use Rattle.lldpa_c.specs.NewsStep.{octets_held, telling_news, step_news, TellsStep, TellsStepAt}
 
--- ---- neighbors with one MSAP identifier
+-- ---- the neighbors with a given MSAP identifier
 
 module _ (name : MsapId) where
   abbrev found : List Neighbor → Option Neighbor
@@ -75,7 +75,7 @@ module _ (name : MsapId) where
 
 -- ---- the news, case by case
 
--- the number of neighbors stays the same, and the news are neither NEW nor GONE
+-- news other than NEW and GONE is right if the number of neighbors stays the same
 steady : (hears : Bool) (heard : Option Heard) (before after : Contents) (what : ℕ) → what ≡ step_news hears heard before after → what ≢ 4 → what ≢ 8
     → length after.neighbors ≡ length before.neighbors → TellsStep hears heard before after what
 steady hears heard before after what is new gone same = record {
@@ -144,7 +144,7 @@ module _ (table : Contents) where
   tells true None sound = steady true None table table 1 refl (λ h. absurd cc) (λ h. absurd cc) refl
   tells false o sound = steady false None table table 2 refl (λ h. absurd cc) (λ h. absurd cc) refl
 
--- ---- on a port of an agent
+-- ---- one port of an agent
 
 own_step : (event : PortEvent) (n s k q : ℕ) (ports : List PortState) → q ≡ s + k → slice_get (ports_step (one_port q event) n s ports) k ≡ option_map (port_step event n) (slice_get ports k)
 own_step event n s k q [] e = refl

@@ -1,4 +1,4 @@
--- Ticks of an agent, and how many neighbors it holds.
+-- The effect of ticks on an agent, and on the number of its neighbors.
 use Rattle.std.proofs.Common.{◌≡◌, ℕ, zero, suc, ◌+◌, ◌<◌, ◌≤◌, inl, inr, List, [], ◌∷◌, length, drop, Some, refl, sym, ap, subst, ◌∙◌, arith}
 use Rattle.std.specs.Prelude.{Option, None, slice_get}
 use Rattle.std.specs.List.{filter_map, cons_option}

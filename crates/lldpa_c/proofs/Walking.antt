@@ -1,4 +1,4 @@
--- One step of a walk over TLVs, and the places of the TLVs.
+-- One step of a walk over TLVs, and where the TLVs are in the octets.
 use Rattle.std.proofs.Common.{◌≡◌, ℕ, ◌+◌, ◌-◌, ◌<◌, ◌≤◌, inl, inr, Bool, true, false, eqb, List, [], ◌∷◌, length, take, drop, refl, sym, ap, subst, ◌∙◌, arith}
 use Rattle.std.proofs.lemmas.List.{length-drop, drop-drop}
 use Rattle.lldp_pdu.specs.Tlv.{TlvUnit, AreOctets}
@@ -23,7 +23,7 @@ abbrev first_of : TlvUnit → List TlvUnit → TlvUnit
 first_of u [] = u
 first_of u (v ∷ vs) = v
 
--- the place of the first TLV's body
+-- the body of the first TLV begins after two octets
 front_body : (octets left : List ℕ) (u : TlvUnit) → cut octets ≡ in_front u left
     → (take (length u.body) (drop 2 octets) ≡ u.body) × (2 + length u.body ≤ length octets)
 front_body octets left u h = elim (cases_Option (first_tlv octets)) [
@@ -35,7 +35,7 @@ front_body octets left u h = elim (cases_Option (first_tlv octets)) [
       subst (λ (v : TlvUnit). (take (length v.body) (drop 2 octets) ≡ v.body) × (2 + length v.body ≤ length octets)) same (body_at octets x.0 x.1 e)
 ]
 
--- the octets also end with what follows the first TLV
+-- if octets end with `a`, they also end with the part of `a` after its first TLV
 pub still_ends : (octets a left : List ℕ) (u : TlvUnit) → EndsWith octets a → cut a ≡ in_front u left → left ≡ drop (2 + length u.body) a → EndsWith octets left
 still_ends octets a left u ends h is =
     let b = front_body a left u h in
@@ -60,7 +60,7 @@ gives_kept octets a left u ends h is =
       behind = e.is;
     }
 
--- if the first TLV is kept, it is the first of the kept TLVs
+-- if the first TLV is kept, the kept TLVs are this TLV and the kept TLVs after it
 pub kept_first : (seen after : List Bool) (octets left : List ℕ) (u : TlvUnit) → cut octets ≡ in_front u left → true ≡ is_kept_seen seen u → after ≡ seen_after seen u
     → kept_seen seen (cut octets).tlvs ≡ u ∷ kept_seen after (cut left).tlvs
 kept_first seen after octets left u h k m = ap (λ (c : Cut). kept_seen seen c.tlvs) h ∙ step (cut left).tlvs
@@ -83,7 +83,7 @@ gives_within octets rest body others e g =
       behind = g.behind ∙ ap (drop (length rest - length others)) e.is ∙ drop-drop _ _ octets ∙ ap (λ (n : ℕ). drop n octets) behind;
     }
 
--- the TLVs from an offset other than 0
+-- from an offset other than 0, the TLVs are those of the octets from that offset on
 pub from_place : (octets others : List ℕ) (next : ℕ) → 0 < next → others ≡ drop next octets → tlvs_from octets next ≡ (cut others).tlvs
 from_place octets others next some is = rw (gt-neq next some) (ap (λ (os : List ℕ). (cut os).tlvs) (sym is))
   where

@@ -1,4 +1,4 @@
--- Events of the agent that a handle holds.
+-- The contract of events that C passes to an agent.
 use Rattle.std.specs.Prelude.{◌≡◌, ℕ, true, false, List, map}
 use Rattle.std.specs.List.{AllByRecursion}
 use Rattle.lldp_transmit.specs.declared.event.Mark.{Mark}
@@ -15,12 +15,12 @@ use Rattle.lldpa_c.specs.declared.holder.LldpaAgent.{LldpaAgent}
 use Rattle.lldpa_c.specs.declared.marks.LldpaMarks.{LldpaMarks}
 use Rattle.lldpa_c.specs.Marks.{numbered, marks_told}
 
--- the event of a happening on a port
+-- the event for a frame or a link change on a port
 abbrev pub happening_on : ℕ → Happening → Event
 happening_on port (Frame octets) = frame port octets.now
 happening_on port (Link up) = link port up
 
--- The contract of an agent's step: the event takes `agent` to `after`, and sends these frames.
+-- The contract of a step: the event changes `agent` to `after`, and `sent` are the frames to send.
 pub record Steps (agent : AgentState) (event : Event) (after : AgentState) (sent : List (ℕ × Mark)) : Type 0 where
   pub next : after ≡ agent_after event agent
   pub marks : sent ≡ agent_marks event agent
@@ -29,7 +29,7 @@ pub record Steps (agent : AgentState) (event : Event) (after : AgentState) (sent
   pub marks_past : (past : Past) → Stands past agent → sent ≡ marks_of (with_event past event)
   pub headline : (past : Past) → Stands past agent → PromisedStep past event sent after
 
--- the event was applied, and the frames to send are written for C
+-- the event was applied, and the frames to send were written to the struct for C
 pub record Takes (before : LldpaAgent) (event : Event) (after : LldpaAgent) (told : LldpaMarks) : Type 0 where
   pub open_before : before.is_open ≡ true
   pub open_after : after.is_open ≡ true
@@ -38,7 +38,7 @@ pub record Takes (before : LldpaAgent) (event : Event) (after : LldpaAgent) (tol
   pub told_are : marks_told told ≡ map numbered sent
   pub steps : Steps before.held.agent event after.held.agent sent
 
--- An allowed event is applied. Otherwise nothing changes or is written, and `answer` says why.
+-- An open agent applies an allowed event. Otherwise nothing changes, and `answer` says why.
 pub record Answers (before : LldpaAgent) (event : Event) (told_before : LldpaMarks) (answer : ℕ) (after : LldpaAgent) (told : LldpaMarks) : Type 0 where
   pub taken : answer ≡ 0 → Takes before event after told
   pub closed : before.is_open ≡ false → (answer ≡ 102) × (after.is_open ≡ false) × (told ≡ told_before)

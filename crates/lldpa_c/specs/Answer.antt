@@ -3,12 +3,12 @@ use Rattle.std.specs.Prelude.{ℕ, Bool, false, nat_lt, List, [], ◌∷◌, len
 use Rattle.lldp_pdu.specs.Check.{Check}
 use Rattle.lldpa_c.specs.declared.answer.TheConstants.{OK}
 
--- the fault of the first of these checks that fails, or 0
+-- the fault of the first check that fails, or 0 if none fails
 abbrev pub answer_of : List (Check ℕ) → ℕ
 answer_of [] = OK
 answer_of (c ∷ cs) = if c.fails then c.fault else answer_of cs
 
--- true if there are octets, and more of them than fit in the room
+-- true if there are octets, and they do not fit in a buffer of this size
 abbrev pub is_over : ℕ → Option (List ℕ) → Bool
 is_over room None = false
 is_over room (Some octets) = nat_lt room (length octets)

@@ -1,4 +1,4 @@
--- The fields of two TLV bodies, in the structs for C.
+-- The fields of System Capabilities and Management Address TLVs, in the structs for C.
 use Rattle.std.specs.Prelude.{ℕ, ◌+◌, ◌≤◌, List, length}
 use Rattle.lldp_pdu.specs.declared.fields.Caps.{Caps}
 use Rattle.lldp_pdu.specs.ManagementAddress.{Address}
@@ -25,7 +25,7 @@ pub record IsWithin (body : List ℕ) (m : LldpaManagement) : Type 0 where
   pub address : m.address.start + m.address.length ≤ length body
   pub oid : m.oid.start + m.oid.length ≤ length body
 
--- where the code finds the fields: two octets, the address, six octets, the object identifier
+-- the struct for an address, whose body is 2 octets, the address, 6 octets, the object identifier
 abbrev pub management_of : Address → LldpaManagement
 management_of a = record {
   address = record { start = 2; length = length a.address };

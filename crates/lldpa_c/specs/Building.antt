@@ -1,4 +1,4 @@
--- TLVs that are put into an LLDPDU one after another.
+-- Puts TLVs into an LLDPDU, one after another.
 use Rattle.std.specs.Prelude.{ℕ, List, [], ◌∷◌, Option, Some, None}
 use Rattle.lldp_pdu.specs.declared.fault.BuildFault.{BuildFault}
 use Rattle.lldp_pdu.specs.Tlv.{TlvUnit}
@@ -15,16 +15,16 @@ abbrev pub fault_number : Option BuildFault → ℕ
 fault_number None = 0
 fault_number (Some fault) = tlv_fault_number fault
 
--- an LLDPDU with its mandatory TLVs alone
+-- an LLDPDU that has only its mandatory TLVs
 abbrev pub begun : List ℕ → List ℕ → ℕ → Draft
 begun chassis port ttl = record { msap = record { chassis = chassis; port = port }; ttl = ttl; tlvs = [] }
 
--- a TLV with a fault is left out
+-- the LLDPDU with this TLV added, unless the TLV has a fault
 abbrev pub put_unless : Option BuildFault → Draft → TlvUnit → Draft
 put_unless None d u = with_tlv d u
 put_unless (Some fault) d u = d
 
--- the LLDPDU after these TLVs were put in their order, without those that have a fault
+-- the LLDPDU with these TLVs added in order, except those that have a fault
 abbrev pub put_all : Draft → List TlvUnit → Draft
 put_all d [] = d
 put_all d (u ∷ us) = put_all (put_unless (put_fault d u) d u) us

@@ -1,4 +1,4 @@
--- Commands to the agent that a handle holds.
+-- The contract of commands that C passes to an agent.
 use Rattle.std.specs.Prelude.{◌≡◌, ℕ, ◌==◌, true, false, List, [], map, Option, Some, None, Result, Ok, Err, if◌then◌else◌}
 use Rattle.lldp_transmit.specs.declared.event.Mark.{Mark}
 use Rattle.lldp_text.specs.declared.fault.CommandFault.{CommandFault}
@@ -14,14 +14,14 @@ use Rattle.lldpa_c.specs.Marks.{numbered, marks_told}
 use Rattle.lldpa_c.specs.Faults.{command_fault_number}
 use Rattle.lldpa_c.specs.Agent.{Steps}
 
--- the numbers of shows
+-- the number of a show
 abbrev pub show_number : Show → ℕ
 show_number Neighbors = 1
 show_number Statistics = 2
 show_number Chassis = 3
 show_number Configuration = 4
 
--- the shows by their numbers
+-- the show with this number, if there is one
 abbrev pub show_numbered : ℕ → Option Show
 show_numbered n =
     if n == 1 then Some Neighbors
@@ -30,14 +30,14 @@ show_numbered n =
     else if n == 4 then Some Configuration
     else None
 
--- the setting is applied, and the frames to send are written for C
+-- the setting was applied, and the frames to send were written to the struct for C
 pub record CarriesOut (setting : event.Setting) (agent after : AgentState) (told : LldpaMarks) : Type 0 where
   pub sent : List (ℕ × Mark)
   pub told_are : marks_told told ≡ map numbered sent
   pub steps : Steps agent (event.set setting) after sent
 
--- What a command does. If it has a fault, its number is returned and nothing changes. A show writes
--- its number, and no port sends. A setting is applied.
+-- If the command has a fault, the fault's number is returned and nothing changes. For a show, the
+-- show's number is written and no port sends. A setting is applied.
 abbrev pub Obeys : Result command.Command CommandFault → AgentState → ℕ → LldpaMarks → ℕ → AgentState → ℕ → LldpaMarks → Type 0
 Obeys (Err fault) agent show told answer after show_after told_after =
     (answer ≡ command_fault_number fault) × (after ≡ agent) × (show_after ≡ show) × (told_after ≡ told)
@@ -46,7 +46,7 @@ Obeys (Ok (command.show what)) agent show told answer after show_after told_afte
 Obeys (Ok (command.set setting)) agent show told answer after show_after told_after =
     (answer ≡ 0) × (show_after ≡ 0) × CarriesOut setting agent after told_after
 
--- A line is run if the handle is open. Otherwise nothing is written.
+-- The command line is run if the handle is open. Otherwise nothing is written.
 pub record Obeyed (before : LldpaAgent) (line : List ℕ) (show : ℕ) (told : LldpaMarks) (answer : ℕ) (after : LldpaAgent) (show_after : ℕ) (told_after : LldpaMarks) : Type 0 where
   pub obeyed : before.is_open ≡ true →
       (after.is_open ≡ true)

@@ -1,4 +1,4 @@
--- The number of ticks until something happens, if there is no other event.
+-- The number of ticks until a port sends or a neighbor ages out, if there is no other event.
 use Rattle.std.specs.Prelude.{◌≡◌, ℕ, ◌+◌, ◌-◌, ◌<◌, ◌≤◌, ◌&&◌, nat_lt, min, if◌then◌else◌, List, [], ◌∷◌, map, Option, Some, None}
 use Rattle.lldp_table.specs.Events.{Neighbor}
 use Rattle.lldp_transmit.specs.Code.Machine.{Machine}
@@ -10,7 +10,7 @@ use Rattle.lldp_engine.specs.Standing.{Stands}
 use Rattle.lldpa_c.specs.declared.due.TheConstants.{NEVER}
 use Rattle.lldpa_c.specs.Ticks.{ticked, IsQuiet}
 
--- the smaller number of ticks; None stands for no number
+-- the smaller of two numbers of ticks; None means that nothing is due
 abbrev pub sooner : Option ℕ → Option ℕ → Option ℕ
 sooner None b = b
 sooner (Some a) None = Some a
@@ -33,8 +33,8 @@ abbrev pub due_on : List PortState → Option ℕ
 due_on [] = None
 due_on (port ∷ ports) = sooner (sooner (least_left port.table.neighbors) (until_sends port.machine)) (due_on ports)
 
--- a machine, the counters, neighbors, a port and an agent without what ticks alone change: the
--- credit, the two clocks, the seconds left, and the part of `ageouts` above 32 bits
+-- the state without the parts that a tick changes even if nothing is due: the credit, the two
+-- clocks, the seconds left, and the part of `ageouts` above 32 bits
 abbrev pub timeless_machine : Machine → Machine
 timeless_machine m = record m { credit = 0; wait = 0; timer = 0 }
 
@@ -61,9 +61,9 @@ timeless_port p = record {
 abbrev pub timeless : AgentState → AgentState
 timeless agent = record { configuration = agent.configuration; ports = map timeless_port agent.ports }
 
--- Something is due after this many ticks, and not before: until then only clocks change. At the
--- last tick something happens if the agent stands for a past. NEVER means that nothing ever
--- happens.
+-- Nothing is due before tick number `seconds`: until then only credits and clocks change. At that
+-- tick a port sends or a neighbor ages out, if the agent results from a past. NEVER means that
+-- nothing is ever due.
 pub record IsDue (agent : AgentState) (seconds : ℕ) : Type 0 where
   pub first : 1 ≤ seconds
   pub quiet : (k : ℕ) → k + 1 < seconds → IsQuiet (ticked k agent)

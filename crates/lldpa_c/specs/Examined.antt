@@ -15,25 +15,25 @@ abbrev pub fault_number : Option PduFault → ℕ
 fault_number None = 0
 fault_number (Some fault) = pdu_fault_number fault
 
--- the range lies in the octets, and its octets are this body
+-- the range lies within the octets, and contains this body
 pub record Holds (octets : List ℕ) (place : LldpaPlace) (body : List ℕ) : Type 0 where
   pub within : place.start + place.length ≤ length octets
   pub held : octets_at octets place ≡ body
 
--- the fields other than the identifiers, if the TTL is above 0
+-- for a TTL above 0, the extent and the two numbers of TLVs are those of the LLDPDU
 pub record TellsLife (octets : List ℕ) (told : LldpaExamined) : Type 0 where
   pub within : told.extent ≤ length octets
   pub extent : take told.extent octets ≡ extent octets
   pub discarded : told.discarded ≡ discarded_of octets
   pub unrecognized : told.unrecognized ≡ count_unrecognized (kept_of octets)
 
--- the same fields, if the TTL is 0
+-- for a TTL of 0, the extent and the two numbers of TLVs are 0
 pub record TellsNothing (told : LldpaExamined) : Type 0 where
   pub extent : told.extent ≡ 0
   pub discarded : told.discarded ≡ 0
   pub unrecognized : told.unrecognized ≡ 0
 
--- All fields of an LLDPDU without a fault.
+-- `told` has the fields of an LLDPDU without a fault.
 pub record Tells (octets : List ℕ) (told : LldpaExamined) : Type 0 where
   pub ttl : told.ttl ≡ ttl_of octets
   pub chassis : Holds octets told.chassis (msap_of octets).chassis
@@ -41,7 +41,7 @@ pub record Tells (octets : List ℕ) (told : LldpaExamined) : Type 0 where
   pub life : 0 < ttl_of octets → TellsLife octets told
   pub gone : ttl_of octets ≡ 0 → TellsNothing told
 
--- ---- where the code finds the identifiers: in the first two TLVs, after a header of 2 octets
+-- ---- the ranges of the identifiers: each body comes after a TLV header of 2 octets
 
 abbrev pub chassis_place : MsapId → LldpaPlace
 chassis_place msap = record { start = 2; length = length msap.chassis }
@@ -49,7 +49,7 @@ chassis_place msap = record { start = 2; length = length msap.chassis }
 abbrev pub port_place : MsapId → LldpaPlace
 port_place msap = record { start = 2 + length msap.chassis + 2; length = length msap.port }
 
--- ---- the structs that the code writes: if the TTL is 0, and if it is above 0
+-- ---- the structs that the code writes for a TTL of 0, and for a TTL above 0
 
 abbrev pub told_gone : MsapId → LldpaExamined
 told_gone msap = record {

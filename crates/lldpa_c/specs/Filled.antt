@@ -18,15 +18,15 @@ pub record Fills (lines : List (List ℕ)) (from next : ℕ) (octets : List ℕ)
   pub order : from ≤ next
   pub are : octets ≡ flat_map ended (take (next - from) (drop from lines))
 
--- line `next` exists, and does not fit in a buffer of `room` octets after the used ones
+-- line `next` exists, and does not fit after the first `used` octets of a buffer of `room` octets
 pub record IsFull (lines : List (List ℕ)) (next room used : ℕ) : Type 0 where
   pub line : List ℕ
   pub is : slice_get lines next ≡ Some line
   pub over : room < used + length line + 1
 
--- What was written of a show to the start of a buffer: the lines `from` to `next` - 1. If it is
--- `done`, no line is left, and `next` is the number of lines, or `from` if that is greater.
--- Otherwise at least one line was written, and line `next` does not fit.
+-- The lines `from` to `next` - 1 of a show were written to the start of a buffer. If `done` is
+-- true, no line is left, and `next` is the number of lines, or `from` if that is greater. Otherwise
+-- at least one line was written, and line `next` does not fit.
 pub record Filled (agent : AgentState) (number from : ℕ) (told : LldpaLines) (room : List ℕ) : Type 0 where
   pub show : Show
   pub numbered : show_numbered number ≡ Some show
@@ -35,12 +35,12 @@ pub record Filled (agent : AgentState) (number from : ℕ) (told : LldpaLines) (
   pub some : told.done ≡ false → from < told.next
   pub full : told.done ≡ false → IsFull (lines_of show agent) told.next (length room) told.length
 
--- this line of the show with this number, if there is one
+-- a line of the show with this number, if the show and the line exist
 abbrev pub line_numbered : AgentState → ℕ → ℕ → Option (List ℕ)
 line_numbered agent number line = option_and_then (λ show. slice_get (lines_of show agent) line) (show_numbered number)
 
--- Why no lines are written: no show has this number, the handle is not open, or the first wanted
--- line exists and does not fit in this many octets with its line feed.
+-- No lines are written if no show has this number, the handle is not open, or line `from` exists
+-- and does not fit in `room` octets with its line feed.
 abbrev pub lines_checks : LldpaAgent → ℕ → ℕ → ℕ → List (Check ℕ)
 lines_checks handle number from room =
     record { fails = is_none (show_numbered number); fault = OUT_OF_RANGE }

@@ -1,4 +1,4 @@
--- The frames that a port sends, for the agent that a handle holds.
+-- The contract of the frames that an agent writes for a port.
 use Rattle.std.specs.Prelude.{◌≡◌, ℕ, ◌==◌, true, not, nat_lt, Bool, List, [], ◌∷◌, length, Option, Some, None, is_none, slice_get, if◌then◌else◌}
 use Rattle.std.specs.Option.{option_map}
 use Rattle.lldp_pdu.specs.Check.{Check}
@@ -12,11 +12,11 @@ use Rattle.lldpa_c.specs.declared.holder.LldpaAgent.{LldpaAgent}
 use Rattle.lldpa_c.specs.declared.answer.TheConstants.{OUT_OF_RANGE, NO_ROOM, NOT_OPEN, NO_PORT}
 use Rattle.lldpa_c.specs.Answer.{is_over}
 
--- the marks that stand for frames, by their numbers
+-- the mark with this number, if there is such a mark and it asks for a frame
 abbrev pub mark_numbered : ℕ → Option Mark
 mark_numbered n = if n == 1 then Some Ordinary else if n == 2 then Some Shutdown else None
 
--- The contract of an agent's frame: these octets are what the port sends.
+-- The contract of a frame: these octets are the frame that the mark asks for on the port.
 pub record Writes (agent : AgentState) (port : ℕ) (mark : Mark) (octets : List ℕ) : Type 0 where
   pub are : octets ≡ frame_of agent.configuration (name_of agent port) mark
   pub says : SaysBack (draft_of agent.configuration (name_of agent port) mark) octets
@@ -31,8 +31,8 @@ frame_numbered agent port mark = option_map (frame_of agent.configuration (name_
 abbrev pub has_no_port : AgentState → ℕ → Bool
 has_no_port agent port = not (nat_lt port (length agent.ports))
 
--- Why a frame is not written: no mark has this number, the handle is not open, there is no such
--- port, or the frame does not fit in this many octets.
+-- A frame is not written if no mark has this number, the handle is not open, there is no such port,
+-- or the frame does not fit in this many octets.
 abbrev pub frame_checks : LldpaAgent → ℕ → ℕ → ℕ → List (Check ℕ)
 frame_checks handle port mark room =
     record { fails = is_none (mark_numbered mark); fault = OUT_OF_RANGE }

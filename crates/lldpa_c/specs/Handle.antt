@@ -1,4 +1,4 @@
--- What a handle owns: nothing, or the agent behind its pointer and the right to free it.
+-- A handle owns nothing, or the agent that its pointer points to and the right to free the agent.
 use Rattle.std.specs.Prelude.{Bool, true, false}
 use base.Fml.{Fml, ftrue}
 use base.Stored.{Coded}

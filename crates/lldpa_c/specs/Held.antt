@@ -19,19 +19,19 @@ neighbors_on (Some port) = port.table.neighbors
 abbrev pub neighbors_at : AgentState → ℕ → List Neighbor
 neighbors_at agent port = neighbors_on (slice_get agent.ports port)
 
--- why nothing is written about an agent: the handle is not open
+-- nothing is written about an agent if the handle is not open
 abbrev pub open_checks : LldpaAgent → List (Check ℕ)
 open_checks handle = record { fails = not handle.is_open; fault = NOT_OPEN } ∷ []
 
--- Why nothing is written about a port: the handle is not open, or there is no such port.
+-- Nothing is written about a port if the handle is not open, or if there is no such port.
 abbrev pub count_checks : LldpaAgent → ℕ → List (Check ℕ)
 count_checks handle port =
     record { fails = not handle.is_open; fault = NOT_OPEN }
     ∷ record { fails = has_no_port handle.held.agent port; fault = NO_PORT }
     ∷ []
 
--- Why a neighbor is not written: the handle is not open, there is no such port, the port has no
--- neighbor with this index, or its LLDPDU does not fit in this many octets.
+-- A neighbor is not written if the handle is not open, there is no such port, the port has no
+-- neighbor with this index, or the neighbor's LLDPDU does not fit in this many octets.
 abbrev pub neighbor_checks : LldpaAgent → ℕ → ℕ → ℕ → List (Check ℕ)
 neighbor_checks handle port index room =
     let found = slice_get (neighbors_at handle.held.agent port) index in
@@ -41,7 +41,7 @@ neighbor_checks handle port index room =
     ∷ record { fails = is_over room (option_map (λ neighbor. neighbor.octets) found); fault = NO_ROOM }
     ∷ []
 
--- What is written about a neighbor: its last stored LLDPDU, the fields, and the seconds left.
+-- The neighbor's last stored LLDPDU, the fields of that LLDPDU and the seconds left are written.
 pub record TellsNeighbor (neighbor : Neighbor) (room : List ℕ) (told : LldpaHeld) : Type 0 where
   pub octets : take told.pdu.extent room ≡ neighbor.octets
   pub pdu : Tells neighbor.octets told.pdu

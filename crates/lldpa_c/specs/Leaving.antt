@@ -1,4 +1,4 @@
--- Leaving: the ports are disabled one after another.
+-- An agent leaves: its ports are disabled one after another.
 use Rattle.std.specs.Prelude.{◌≡◌, ℕ, zero, suc, ◌+◌, ◌&&◌, Bool, true, false, List, [], ◌∷◌, ◌++◌, length, map}
 use Rattle.std.specs.List.{AllByRecursion}
 use Rattle.lldp_transmit.specs.declared.event.Mark.{Mark}
@@ -18,7 +18,7 @@ use Rattle.lldpa_c.specs.Marks.{numbered, marks_told}
 abbrev pub disables : ℕ → Event
 disables port = set (status port Disabled)
 
--- an agent after its first n ports were disabled, and the frames that were sent
+-- an agent after its first n ports were disabled, and the frames that this sends
 abbrev pub left : ℕ → AgentState → AgentState
 left zero agent = agent
 left (suc n) agent = agent_after (disables n) (left n agent)
@@ -27,7 +27,7 @@ abbrev pub sent_leaving : ℕ → AgentState → List (ℕ × Mark)
 sent_leaving zero agent = []
 sent_leaving (suc n) agent = sent_leaving n agent ++ agent_marks (disables n) (left n agent)
 
--- the past with these events added
+-- the past with the events added that disable the first n ports
 abbrev pub with_leaving : ℕ → Past → Past
 with_leaving zero past = past
 with_leaving (suc n) past = with_event (with_leaving n past) (disables n)
@@ -37,7 +37,7 @@ abbrev pub shutdown_if : Bool → ℕ → List (ℕ × Mark)
 shutdown_if true i = (i, Shutdown) ∷ []
 shutdown_if false i = []
 
--- a shutdown frame on each of these ports that may transmit and is active, numbered from i on
+-- a shutdown frame on each port that may transmit and is active; port numbers begin with i
 abbrev pub shutdowns : ℕ → List PortState → List (ℕ × Mark)
 shutdowns i [] = []
 shutdowns i (port ∷ ports) =

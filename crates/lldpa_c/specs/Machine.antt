@@ -11,7 +11,7 @@ use Rattle.lldp_transmit.specs.Standing.{Stands, ForEachHistory}
 use Rattle.lldp_transmit.specs.Windows.{IsBoundedWith, StopsRarelyWith, IsEarliestWith}
 use Rattle.lldp_transmit.specs.Code.Machine.{Machine, stepped}
 
--- the causes by their numbers
+-- the cause with this number, if there is one
 abbrev pub cause_numbered : ℕ → Option Cause
 cause_numbered n =
     if n == 0 then Some Tick
@@ -24,7 +24,7 @@ cause_numbered n =
     else if n == 7 then Some Nothing
     else None
 
--- the numbers of marks
+-- the number of a mark
 abbrev pub mark_number : Mark → ℕ
 mark_number Quiet = 0
 mark_number Ordinary = 1
@@ -36,7 +36,7 @@ pub record CanTake (machine : Machine) (interval : ℕ) : Type 0 where
   pub least : 1 ≤ interval
   pub most : interval ≤ 3600
 
--- The contract of a machine's event: it takes machine `t` to `after` and sends `answer`.
+-- The contract of an event: it changes machine `t` to `after`, and `answer` is the frame to send.
 pub record Takes (t : Machine) (cause : Cause) (interval : ℕ) (after : Machine) (answer : Mark) : Type 0 where
   pub next : after ≡ (stepped t cause interval).0
   pub told : answer ≡ (stepped t cause interval).1

@@ -9,6 +9,6 @@ use Rattle.lldpa_c.specs.Machine.{mark_number}
 abbrev pub numbered : ℕ × Mark → LldpaMark
 numbered x = record { port = x.0; mark = mark_number x.1 }
 
--- the frames to send that the struct lists
+-- the frames to send: the first `count` items of the struct
 abbrev pub marks_told : LldpaMarks → List LldpaMark
 marks_told t = take t.count t.items

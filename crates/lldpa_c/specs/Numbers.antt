@@ -26,7 +26,7 @@ item_numbered zero items n = slice_get items n
 item_numbered (suc first) items zero = None
 item_numbered (suc first) items (suc n) = item_numbered first items n
 
--- Each number that C passes stands for one of these, in this order, or for nothing.
+-- The numbers that C passes mean these values, in this order. Other numbers mean nothing.
 pub record AreGiven : Type 0 where
   pub causes : (n : ℕ) → cause_numbered n
       ≡ item_numbered 0 (cause.Tick ∷ cause.Change ∷ cause.Neighbor ∷ cause.Stop ∷ cause.Allow ∷ cause.Down ∷ cause.Up ∷ cause.Nothing ∷ []) n

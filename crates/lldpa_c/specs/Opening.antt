@@ -10,7 +10,7 @@ use Rattle.lldp_engine.specs.Past.{opened}
 use Rattle.lldp_engine.specs.Standing.{Stands}
 use Rattle.lldpa_c.specs.declared.options.LldpaOptions.{LldpaOptions}
 
--- the roles by their numbers
+-- the role with this number, if there is one
 abbrev pub role_numbered : ℕ → Option Role
 role_numbered n = if n == 0 then Some Station else if n == 1 then Some Bridge else if n == 2 then Some Router else None
 

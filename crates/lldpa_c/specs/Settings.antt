@@ -8,7 +8,7 @@ use Rattle.lldp_engine.specs.AgentState.{AgentState}
 use Rattle.lldpa_c.specs.declared.settings.LldpaStatistics.{LldpaStatistics}
 use Rattle.lldpa_c.specs.declared.settings.LldpaConfiguration.{LldpaConfiguration}
 
--- each counter under its own name
+-- the counters in the struct for C
 abbrev pub statistics_of : Counters → LldpaStatistics
 statistics_of c = record {
   sent = c.sent;
@@ -22,7 +22,7 @@ statistics_of c = record {
   drops = c.drops;
 }
 
--- the numbers of statuses
+-- the number of a status
 abbrev pub status_number : Status → ℕ
 status_number RxAndTx = 0
 status_number RxOnly = 1

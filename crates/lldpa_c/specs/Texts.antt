@@ -40,7 +40,7 @@ words_of n =
     else if n == 105 then Some (codes "a pointer is NULL")
     else None
 
--- Why a description is not written: there is no such error, or it does not fit in this room.
+-- A description is not written if no error has this number, or if the text does not fit.
 abbrev pub words_checks : ℕ → ℕ → List (Check ℕ)
 words_checks number room =
     record { fails = is_none (words_of number); fault = OUT_OF_RANGE }

@@ -1,4 +1,4 @@
--- Seconds that pass: one tick, or several.
+-- The contract of ticks: each tick is one second that passes.
 use Rattle.std.specs.Prelude.{◌≡◌, ℕ, zero, suc, ◌+◌, ◌<◌, ◌≤◌, true, false, List, [], ◌∷◌, length, map}
 use Rattle.lldp_transmit.specs.declared.event.Mark.{Mark}
 use Rattle.lldp_engine.specs.AgentState.{AgentState, PortState}
@@ -40,12 +40,12 @@ pub record IsQuiet (agent : AgentState) : Type 0 where
   pub sends : agent_marks tick agent ≡ []
   pub ages : neighbors_held (agent_after tick agent) ≡ neighbors_held agent
 
--- What the last of n ticks sent, and how many neighbors aged out at it. Nothing if n is 0.
+-- These frames were sent and this many neighbors aged out at the last of n ticks: none if n is 0.
 abbrev pub LastDid : ℕ → AgentState → List (ℕ × Mark) → ℕ → Type 0
 LastDid zero agent sent gone = (sent ≡ []) × (gone ≡ 0)
 LastDid (suc n) agent sent gone = (sent ≡ agent_marks tick (ticked n agent)) × AgesOut (ticked n agent) (ticked (suc n) agent) gone
 
--- What is promised for the last of n ticks, if the agent stood for this past before them.
+-- The promise for the last of n ticks, if this past led to the agent before the ticks.
 abbrev pub LastPromised : ℕ → Past → List (ℕ × Mark) → AgentState → Type 0
 LastPromised zero past sent after = Unit {0}
 LastPromised (suc n) past sent after = (sent ≡ marks_of (with_ticks (suc n) past)) × PromisedStep (with_ticks n past) tick sent after

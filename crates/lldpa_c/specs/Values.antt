@@ -22,18 +22,18 @@ value_of kind body =
     else if kind == 2 then codes "port." ++ port_text body
     else tlv_text (record { kind = kind; body = body })
 
--- the same, if the TLV can be written
+-- the text of a TLV, if the TLV can be written
 abbrev pub tlv_value : ℕ → List ℕ → Option (List ℕ)
 tlv_value kind body = if may_write kind body then Some (value_of kind body) else None
 
--- Why a TLV is not written: it cannot be written, or its text does not fit in this many octets.
+-- A TLV is not written if `may_write` is false, or if its text does not fit in this many octets.
 abbrev pub value_checks : ℕ → List ℕ → ℕ → List (Check ℕ)
 value_checks kind body room =
     record { fails = is_none (tlv_value kind body); fault = OUT_OF_RANGE }
     ∷ record { fails = is_over room (tlv_value kind body); fault = NO_ROOM }
     ∷ []
 
--- Why a text is not escaped: it is over 511 octets, or the result does not fit in this room.
+-- A text is not escaped if it is over 511 octets, or if the result does not fit in this buffer.
 abbrev pub escape_checks : List ℕ → ℕ → List (Check ℕ)
 escape_checks text room =
     record { fails = nat_lt 511 (length text); fault = OUT_OF_RANGE }

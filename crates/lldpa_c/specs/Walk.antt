@@ -1,4 +1,4 @@
--- A walk over the kept TLVs of an extent (an LLDPDU up to its end or an incomplete TLV).
+-- A walk over the kept TLVs of an extent: an LLDPDU up to its end, or up to an incomplete TLV.
 use Rattle.std.specs.Prelude.{◌≡◌, ℕ, ◌+◌, ◌-◌, ◌<◌, ◌≤◌, ◌==◌, List, length, take, drop, None, if◌then◌else◌}
 use Rattle.lldp_pdu.specs.Tlv.{TlvUnit}
 use Rattle.lldp_pdu.specs.Cut.{cut}
@@ -17,7 +17,7 @@ pub record IsExtent (octets : List ℕ) : Type 0 where
 abbrev pub tlvs_from : List ℕ → ℕ → List TlvUnit
 tlvs_from octets next = if next == 0 then drop 3 (cut octets).tlvs else (cut (drop next octets)).tlvs
 
--- the kept TLVs from where a walk continues
+-- the kept TLVs that a walk has not found yet
 abbrev pub left_of : List ℕ → LldpaKept → List TlvUnit
 left_of octets walk = kept_seen walk.met (tlvs_from octets walk.next)
 

@@ -1,4 +1,4 @@
-//! Frames and link events for an agent, and closing it.
+//! Passes frames and link events to an agent, and closes agents.
 ghost use Rattle.std.specs.Prelude.{◌≡◌, false};
 ghost use Rattle.lldp_engine.specs.Event.{event_of, frame, link};
 ghost use Rattle.lldpa_c.specs.Agent.{Answers, happening_on};
@@ -20,7 +20,7 @@ enum Happening<'a> {
 }
 
 impl<'a> Happening<'a> {
-    /// Returns the event of this happening on the port with this number.
+    /// Returns the event for this frame or link change on a port.
     fn on(self, port: u8) -> Event<'a>
         ensures { event_of result ≡ happening_on port self.entry }
     {
@@ -31,7 +31,7 @@ impl<'a> Happening<'a> {
     }
 }
 
-/// Gives the agent a happening, if it has the port, and writes which frames to send.
+/// Applies a frame or a link change to a port, and writes which frames to send.
 fn take_on(
     alloc: Global,
     handle: &mut LldpaAgent,
@@ -54,7 +54,7 @@ fn take_on(
     OK
 }
 
-/// Gives the agent octets that a port received, and writes which frames to send.
+/// Passes octets that a port received to the agent, and writes which frames to send.
 #[unsafe(no_mangle)]
 pub extern "C" fn lldpa_frame(
     alloc: Global,

@@ -1,4 +1,4 @@
-//! The numbers, other than those of faults, that the exported functions return.
+//! The numbers that the exported functions return, except those of faults.
 
 /// Success.
 pub const OK: u8 = 0;

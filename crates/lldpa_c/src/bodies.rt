@@ -27,8 +27,8 @@ pub struct LldpaManagement {
     pub numbering: u8,
 }
 
-/// Reads the body of a System Capabilities TLV. Returns false exactly if it is not well formed, and
-/// leaves the struct unchanged then.
+/// Reads the body of a System Capabilities TLV. Returns true if the body is well formed. Otherwise
+/// returns false, and leaves the struct unchanged.
 #[unsafe(no_mangle)]
 pub extern "C" fn lldpa_caps(body: &[u8], told: &mut LldpaCapabilities) -> bool
     ensures value { (if result then Some (caps_told told.new) else None) ≡ caps_of body.now }
@@ -47,7 +47,7 @@ pub extern "C" fn lldpa_caps(body: &[u8], told: &mut LldpaCapabilities) -> bool
 }
 
 /// Returns the fields of a Management Address TLV. In its body the address starts after two octets,
-/// and the object identifier six octets after the address.
+/// and the object identifier starts six octets after the end of the address.
 fn management(fields: &Mgmt<'_>) -> LldpaManagement
     ensures { result ≡ management_of (address_view fields.now) }
 {
@@ -66,8 +66,8 @@ fn management(fields: &Mgmt<'_>) -> LldpaManagement
     }
 }
 
-/// Reads the body of a Management Address TLV. Returns false exactly if it is not well formed, and
-/// leaves the struct unchanged then.
+/// Reads the body of a Management Address TLV. Returns true if the body is well formed. Otherwise
+/// returns false, and leaves the struct unchanged.
 #[unsafe(no_mangle)]
 pub extern "C" fn lldpa_mgmt(body: &[u8], told: &mut LldpaManagement) -> bool
     ensures value { (if result then Some (address_told body.now told.new) else None)

@@ -24,7 +24,7 @@ fn is_identifier(body: &[u8]) -> bool
     2 <= body.len() && body.len() <= 256
 }
 
-/// Puts a TLV into the LLDPDU. Returns 0, or the number of the fault if it is left out.
+/// Puts a TLV into the LLDPDU. Returns 0, or the number of the fault if the TLV is left out.
 fn put_one(builder: &mut Builder, tlv: &LldpaTlv<'_>) -> u8
     ensures put { builder.new ≡ put_all builder.old (tlv_of tlv.now ∷ []) }
     ensures fault { result ≡ fault_number (put_fault builder.old (tlv_of tlv.now)) }
@@ -35,7 +35,7 @@ fn put_one(builder: &mut Builder, tlv: &LldpaTlv<'_>) -> u8
     }
 }
 
-/// Puts the TLVs in their order, leaves out those with a fault, and writes 0 or a fault for each.
+/// Puts the TLVs in order, except those with a fault. Writes 0 or the fault's number for each TLV.
 fn put_each(builder: &mut Builder, tlvs: &[LldpaTlv<'_>], faults: &mut [u8])
     requires { length tlvs.now ≤ length faults.old }
     ensures put { builder.new ≡ put_all builder.old (map tlv_of tlvs.now) }
@@ -48,8 +48,8 @@ fn put_each(builder: &mut Builder, tlvs: &[LldpaTlv<'_>], faults: &mut [u8])
     }
 }
 
-/// Builds an LLDPDU in the caller's buffer. TLVs with a fault are left out; `faults` receives 0 or
-/// a fault for each TLV.
+/// Builds an LLDPDU in the caller's buffer. TLVs with a fault are left out. `faults` receives 0 or
+/// the number of the fault for each TLV.
 #[unsafe(no_mangle)]
 pub extern "C" fn lldpa_build(
     chassis: &[u8],

@@ -15,7 +15,7 @@ use std::alloc::Global;
 /// The number of seconds if nothing is due.
 pub const NEVER: u32 = u32::MAX;
 
-/// Returns the smaller number of ticks. None stands for no number.
+/// Returns the smaller number of ticks. None means that nothing is due.
 fn sooner(a: Option<u16>, b: Option<u16>) -> Option<u16>
     ensures { result ≡ sooner a b }
 {
@@ -25,7 +25,7 @@ fn sooner(a: Option<u16>, b: Option<u16>) -> Option<u16>
     }
 }
 
-/// Returns the ticks until a port sends, if it will.
+/// Returns the ticks until a port sends, or None if no frame is due.
 fn until_sends(machine: &Parts) -> Option<u16>
     ensures { result ≡ until_sends machine.now }
 {
@@ -44,7 +44,7 @@ fn until_sends(machine: &Parts) -> Option<u16>
     }
 }
 
-/// Returns the ticks until the first neighbor of a table ages out, if it has neighbors.
+/// Returns the ticks until the first neighbor of a table ages out, or None if the table is empty.
 fn least_left(table: &Table<Global>) -> Option<u16>
     ensures { result ≡ least_left table.now.shown.neighbors }
 {
@@ -55,7 +55,7 @@ fn least_left(table: &Table<Global>) -> Option<u16>
     least
 }
 
-/// Returns the ticks until a port sends or a neighbor ages out, if that will happen.
+/// Returns the ticks until a port sends or a neighbor ages out, or None if nothing is due.
 fn due_on(agent: &Agent) -> Option<u16>
     ensures { result ≡ due_on agent.now.ports }
 {
@@ -67,7 +67,7 @@ fn due_on(agent: &Agent) -> Option<u16>
     due
 }
 
-/// Returns the seconds until a port sends or a neighbor ages out, or NEVER.
+/// Returns the seconds until a port sends or a neighbor ages out, or NEVER if nothing is due.
 fn seconds_of(agent: &Agent) -> u32
     ensures { IsDue agent.now result }
 {

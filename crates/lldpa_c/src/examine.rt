@@ -11,11 +11,11 @@ use lldp_pdu::{Examined, Info, Msap, examine};
 #[repr(C)]
 #[derive(Clone, Copy)]
 pub struct LldpaExamined {
-    /// The body of the Chassis ID, its subtype first.
+    /// The range of the Chassis ID's body. The body begins with the subtype.
     pub chassis: LldpaPlace,
-    /// The body of the Port ID, its subtype first.
+    /// The range of the Port ID's body. The body begins with the subtype.
     pub port: LldpaPlace,
-    /// The octets before the End Of LLDPDU or an incomplete TLV. 0 if the TTL is 0.
+    /// The number of octets before the End Of LLDPDU or an incomplete TLV. 0 if the TTL is 0.
     pub extent: usize,
     /// How many TLVs are discarded. 0 if the TTL is 0.
     pub discarded: usize,
@@ -25,7 +25,7 @@ pub struct LldpaExamined {
     pub ttl: u16,
 }
 
-/// The octets of a TLV before its body: its type and length.
+/// The size in octets of a TLV's header, which has the type and the length.
 pub(crate) const TLV_HEADER: usize = 2;
 
 /// Returns the range of the Chassis ID's body in the LLDPDU.
@@ -77,8 +77,8 @@ fn alive(info: &Info<'_>) -> LldpaExamined
     }
 }
 
-/// Writes the fields of an LLDPDU of any length, and returns 0. If it has a fault, returns the
-/// fault's number, 1 to 8, and leaves the struct unchanged.
+/// Writes the fields of an LLDPDU of any length, and returns 0. If the LLDPDU has a fault, returns
+/// the fault's number, 1 to 8, and leaves the struct unchanged.
 pub(crate) fn tell_examined(pdu: &[u8], told: &mut LldpaExamined) -> u8
     ensures fault { result ≡ fault_number (fault_of pdu.now) }
     ensures told { fault_of pdu.now ≡ None → Tells pdu.now told.new }

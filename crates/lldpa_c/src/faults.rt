@@ -16,7 +16,7 @@ pub(crate) fn tlv_fault_number(fault: BuildFault) -> u8
     }
 }
 
-/// Returns the number of a fault of opening an agent.
+/// Returns the number of a fault in opening an agent.
 pub(crate) fn refusal_number(fault: OpenFault) -> u8
     ensures { result ≡ refusal_number fault }
 {

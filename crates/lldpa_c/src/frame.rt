@@ -6,7 +6,7 @@ ghost use Rattle.lldpa_c.specs.Place.{octets_at};
 use crate::place::LldpaPlace;
 use lldp_pdu::frame_pdu;
 
-/// The octets of a frame before the LLDPDU: two addresses and the EtherType.
+/// The number of octets before the LLDPDU in a frame: two addresses and the EtherType.
 pub(crate) const HEADER: usize = 14;
 
 /// Returns true if the octets are an LLDP frame, and writes the range of its LLDPDU. Otherwise

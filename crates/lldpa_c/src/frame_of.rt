@@ -14,7 +14,7 @@ use crate::holder::LldpaAgent;
 use lldp_engine::{Agent, Mark};
 use std::alloc::Global;
 
-/// Returns the mark with this number, if it stands for a frame.
+/// Returns the mark with this number, or None if the number does not ask for a frame.
 fn mark_numbered(number: u32) -> Option<Mark>
     ensures value { result ≡ mark_numbered number }
     ensures sent { IfSome result IsSent }
@@ -26,9 +26,9 @@ fn mark_numbered(number: u32) -> Option<Mark>
     }
 }
 
-/// Writes the frame that a port sends into the caller's buffer.
-// Not inlined, since its stack frame exceeds a page. When it was, LLVM moved a branch of the caller
-// before the loop that probes the pages, and the loop overwrote a register of that branch.
+/// Fills the start of the caller's buffer with the frame that a port sends.
+// Not inlined: the stack frame exceeds a page. When it was inlined, LLVM moved a branch of the
+// caller before the loop that probes the pages, and the loop overwrote a register of that branch.
 #[inline(never)]
 fn write(agent: &Agent, port: u32, mark: Mark, room: &mut [u8], written: &mut usize) -> u8
     requires { IsSent mark }
@@ -49,7 +49,7 @@ fn write(agent: &Agent, port: u32, mark: Mark, room: &mut [u8], written: &mut us
     give(agent.frame(port as u8, mark).as_slice(), room, written)
 }
 
-/// Writes the frame of a mark and a port, with the current settings, into the caller's buffer.
+/// Writes the frame that a mark asks for on a port, with the current settings.
 #[unsafe(no_mangle)]
 pub extern "C" fn lldpa_frame_of(
     alloc: Global,

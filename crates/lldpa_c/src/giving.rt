@@ -3,7 +3,7 @@ ghost use Rattle.std.specs.Prelude.{◌≡◌, ◌<◌, ◌≤◌, length, take,
 
 use crate::answer::{NO_ROOM, OK};
 
-/// Copies octets to the start of the buffer if they fit, and writes how many there are.
+/// Copies octets to the start of the buffer if they fit, and writes their number to `written`.
 pub(crate) fn give(octets: &[u8], room: &mut [u8], written: &mut usize) -> u8
     ensures fits { length octets.now ≤ length room.old → result ≡ 0 }
     ensures within { result ≡ 0 → written.new ≤ length room.new }

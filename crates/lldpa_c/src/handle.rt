@@ -1,4 +1,4 @@
-//! A pointer that owns an agent or is empty, in a form that C can hold.
+//! A pointer that owns an agent or nothing, in a form that C can store.
 ghost use Rattle.std.specs.Prelude.{◌≡◌, Bool, true, false};
 ghost use Rattle.lldp_engine.specs.AgentState.{AgentState};
 ghost use Rattle.lldpa_c.specs.Handle.{held_owns, agent_coded};
@@ -10,8 +10,8 @@ use parts::Parts;
 use std::alloc::Global;
 use std::marker::Model;
 
-/// An agent on the heap, behind an untyped pointer, or no agent. The ghost field `owned` says
-/// which. Dropping this value does not free the agent.
+/// An untyped pointer that owns an agent on the heap if the ghost field `owned` is true, and owns
+/// nothing otherwise. Dropping this value does not free the agent.
 #[repr(C)]
 #[derive(Drop)]
 pub struct Held {

@@ -18,9 +18,9 @@ use std::alloc::Global;
 #[repr(C)]
 #[derive(Clone, Copy)]
 pub struct LldpaHeld {
-    /// The fields of its last stored LLDPDU.
+    /// The fields of the neighbor's last stored LLDPDU.
     pub pdu: LldpaExamined,
-    /// The seconds until it ages out.
+    /// The seconds until the neighbor ages out.
     pub left: u32,
 }
 
@@ -49,7 +49,7 @@ pub extern "C" fn lldpa_neighbor_count(
     OK
 }
 
-/// Writes a neighbor's fields, and its octets to the start of the buffer.
+/// Writes a neighbor's fields to `told`, and its LLDPDU to the start of the buffer.
 fn tell_entry(entry: &Entry<'_>, room: &mut [u8], told: &mut LldpaHeld) -> u8
     ensures fits { length entry.now.octets ≤ length room.old → result ≡ 0 }
     ensures over { length room.old < length entry.now.octets → result ≡ 101 }
@@ -93,8 +93,8 @@ fn tell_neighbor(agent: &Agent, port: u8, index: u32, room: &mut [u8], told: &mu
     tell_entry(&table.entry(index as u8), room, told)
 }
 
-/// Writes the neighbor with this index, from 0, in a port's table: its LLDPDU into the caller's
-/// buffer, the LLDPDU's fields, and the seconds left.
+/// Writes the neighbor with this index, from 0, in a port's table: its LLDPDU to the caller's
+/// buffer, and the fields of the LLDPDU and the seconds left to `told`.
 #[unsafe(no_mangle)]
 pub extern "C" fn lldpa_neighbor(
     alloc: Global,

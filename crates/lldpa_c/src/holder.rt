@@ -1,4 +1,4 @@
-//! The handle of an agent that C holds.
+//! The handle through which C holds an agent.
 ghost use Rattle.std.specs.Prelude.{◌≡◌, true, false, IfSome, IfNone};
 
 use crate::handle::Held;
@@ -15,7 +15,7 @@ pub struct LldpaAgent {
 }
 
 impl LldpaAgent {
-    /// Takes the agent out, if there is one, and leaves the handle empty.
+    /// Returns the agent, if there is one, and leaves the handle empty.
     pub(crate) fn take(&mut self, alloc: Global) -> Option<Box<Agent>>
         ensures closed { self.new.is_open ≡ false }
         ensures some { IfSome result (λ agent. (self.old.is_open ≡ true)
@@ -30,7 +30,7 @@ impl LldpaAgent {
         if is_open { Some(held.into_box()) } else { None }
     }
 
-    /// Puts an agent in.
+    /// Puts an agent into the handle.
     pub(crate) fn put(&mut self, agent: Box<Agent>)
         ensures is_open { self.new.is_open ≡ true }
         ensures agent { self.new.held.agent ≡ agent.value }

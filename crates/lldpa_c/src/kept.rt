@@ -24,7 +24,7 @@ pub struct LldpaKept {
     pub kind: u8,
 }
 
-/// A kept TLV, the types found up to and including it, and the octets after it.
+/// A kept TLV, the types found up to and including this TLV, and the octets after the TLV.
 #[derive(Drop)]
 struct Found<'a> {
     tlv: Tlv<'a>,
@@ -32,7 +32,7 @@ struct Found<'a> {
     rest: &'a [u8],
 }
 
-/// Returns the octets after the first TLV.
+/// Returns the octets after the first TLV, or all octets if there is no TLV.
 fn behind_first(octets: &[u8]) -> &[u8]
     ensures tlvs { (cut result.now).tlvs ≡ drop 1 (cut octets.now).tlvs }
     ensures place { EndsWith octets.now result.now }
@@ -44,7 +44,7 @@ fn behind_first(octets: &[u8]) -> &[u8]
     }
 }
 
-/// Returns the octets at which a walk continues.
+/// Returns the octets from the offset at which a walk continues.
 fn rest_from(extent: &[u8], next: usize) -> &[u8]
     ensures tlvs { (cut result.now).tlvs ≡ tlvs_from extent.now next }
     ensures place { EndsWith extent.now result.now }
@@ -56,7 +56,7 @@ fn rest_from(extent: &[u8], next: usize) -> &[u8]
     }
 }
 
-/// Returns the first kept TLV of these octets, after TLVs of the types `met` were found.
+/// Returns the first TLV of these octets that is kept after TLVs of the types in `met`.
 fn first_kept(octets: &[u8], met: Seen) -> Option<Found<'_>>
     ensures none { IfNone result (kept_seen met.types (cut octets.now).tlvs ≡ []) }
     ensures some { IfSome result (λ found. kept_seen met.types (cut octets.now).tlvs
@@ -78,8 +78,8 @@ fn first_kept(octets: &[u8], met: Seen) -> Option<Found<'_>>
     None
 }
 
-/// Advances a walk to the next kept TLV of an extent. Returns false, and leaves the walk unchanged,
-/// if no TLV is left.
+/// Advances a walk to the next kept TLV of an extent (an LLDPDU without its end). Returns false,
+/// and leaves the walk unchanged, if no TLV is left.
 #[unsafe(no_mangle)]
 pub extern "C" fn lldpa_next_kept(extent: &[u8], walk: &mut LldpaKept) -> bool
     ensures given { IsTrue result → left_of extent.now walk.old

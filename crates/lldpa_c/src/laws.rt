@@ -12,20 +12,20 @@ pub fn numbers_stand_for_these()
     ensures told { AreTold }
 {}
 
-/// Each field of the options sets its part of the agent, independently of the other fields.
+/// Each option of the agent has the value of its field in the struct that C passes.
 pub fn options_ask_field_by_field()
     ensures { (o : LldpaOptions) → AsksForEach o }
 {}
 
 /// The numbers in structs and the texts of TLVs equal those in the lines of shows. The fields of
-/// capabilities and management addresses are the octets at their places in a TLV's body.
+/// capabilities and management addresses equal octets of a TLV's body.
 pub fn told_values_are_shown()
     ensures shown { AreShown }
     ensures lines { AreLines }
     ensures read { AreRead }
 {}
 
-/// Each fault and each misuse has its description, and no other number has a description.
+/// Each error number has its description, and no other number has a description.
 pub fn faults_have_words()
     ensures { AreWords }
 {}

@@ -1,4 +1,4 @@
-//! Disables every port of an agent before it is closed.
+//! Disables every port of an agent, before the agent is closed.
 ghost use Rattle.std.specs.Prelude.{◌≡◌};
 ghost use Rattle.lldp_engine.specs.AgentState.{IsPort};
 ghost use Rattle.lldp_engine.specs.Code.Step.{agent_after, agent_marks};
@@ -12,7 +12,7 @@ use crate::marks::{LldpaMarks, tell};
 use lldp_engine::{Agent, Event, Mark, Marks, Setting, Status};
 use std::alloc::Global;
 
-/// Disables a port. Returns whether it sends a shutdown frame.
+/// Disables a port. Returns whether the port sends a shutdown frame.
 fn disable(agent: &mut Agent, port: u8) -> bool
     requires { IsPort agent.old port }
     ensures after { agent.new ≡ agent_after (disables port) agent.old }

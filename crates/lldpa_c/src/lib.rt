@@ -1,7 +1,7 @@
 //! The verified reader, transmit machine and agent, for C and for languages that call C.
 //!
-//! Each exported function calls one function of the crates below and restates its clauses.
-//! `lldpa.h` documents them.
+//! The exported functions call other crates of lldpa, and restate the contracts of those crates.
+//! `lldpa.h` documents the functions.
 #![tactic(auto)]
 
 mod agent;

@@ -18,13 +18,13 @@ use std::alloc::Global;
 pub struct LldpaLines {
     /// How many octets were written, including a line feed after each line.
     pub length: usize,
-    /// The number of the line to continue with.
+    /// The number of the line to continue with, from 0.
     pub next: u32,
     /// True if no line is left.
     pub done: bool,
 }
 
-/// Returns the show with this number.
+/// Returns the show with this number, if there is one.
 fn show_numbered(number: u32) -> Option<Show>
     ensures { result ≡ show_numbered number }
 {
@@ -37,7 +37,7 @@ fn show_numbered(number: u32) -> Option<Show>
     }
 }
 
-/// Writes a text after the used octets of the buffer, if it fits. Returns the new number used.
+/// Copies a text after the used octets of the buffer. Returns its end, or None if it does not fit.
 fn append(room: &mut [u8], used: usize, text: &[u8]) -> Option<usize>
     ensures end { IfSome result (λ end. end ≡ used + length text.now) }
     ensures within { IfSome result (λ end. end ≤ length room.new) }
@@ -55,8 +55,8 @@ fn append(room: &mut [u8], used: usize, text: &[u8]) -> Option<usize>
     Some(end)
 }
 
-/// Copies the lines of a show to the caller's buffer. The last line stays in `line` until the next
-/// one begins; then it is copied if it is wanted and fits.
+/// Copies the lines of a show to the caller's buffer. Each wanted line is first written to `line`,
+/// and is copied when the next line begins or the show ends, if it fits.
 #[derive(Drop)]
 struct Filling<'a> {
     room: &'a mut [u8],
@@ -69,7 +69,7 @@ struct Filling<'a> {
 }
 
 impl<'a> Filling<'a> {
-    /// Returns a state in which nothing is written, and `from` is the first line that is wanted.
+    /// Returns a state in which nothing is written. `from` is the first line that is wanted.
     fn new(room: &'a mut [u8], from: u32) -> Filling<'a>
         ensures room { result.room.now ≡ room.old }
         ensures same { result.room.ghost_name ≡ room.entry.ghost_name }
@@ -87,7 +87,7 @@ impl<'a> Filling<'a> {
         }
     }
 
-    /// Copies `line` to the buffer, if it is wanted and fits.
+    /// Copies `line` to the buffer, if the line is wanted and fits.
     fn settle(&mut self)
         ensures moved { settled self.new ≡ view self.old }
         ensures rest { LeavesRest self.old self.new }
@@ -100,7 +100,7 @@ impl<'a> Filling<'a> {
             match append(self.room, used, self.line.as_slice()) {
                 Some(end) => {
                     self.used = end;
-                    // No show has so many lines that this wraps.
+                    // This never wraps, since a show has far fewer lines than 2^32.
                     self.next = self.next.wrapping_add(1);
                 }
                 None => self.is_full = true,
@@ -109,7 +109,7 @@ impl<'a> Filling<'a> {
         self.is_wanted = false;
     }
 
-    /// Accepts all lines of a show.
+    /// Copies the lines of a show that are wanted, as many as fit.
     fn take(&mut self, agent: &Agent, show: Show)
         ensures lines { settled self.new
             ≡ come_all (length self.old.room.now) (view self.old) (lines_of show agent.now) }
@@ -146,8 +146,8 @@ impl LineSink for Filling<'_> {
 }
 
 /// Writes lines of a show, beginning with line `from`: as many whole lines as fit.
-// Not inlined, since its stack frame exceeds a page. When it was, LLVM moved a branch of the caller
-// before the loop that probes the pages, and the loop overwrote a register of that branch.
+// Not inlined: the stack frame exceeds a page. When it was inlined, LLVM moved a branch of the
+// caller before the loop that probes the pages, and the loop overwrote a register of that branch.
 #[inline(never)]
 fn fill(agent: &Agent, show: Show, from: u32, room: &mut [u8]) -> LldpaLines
     ensures within { result.length ≤ length room.new }

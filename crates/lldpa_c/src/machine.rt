@@ -13,7 +13,7 @@ use lldp_transmit::{Cause, MOST_CREDIT, MOST_FAST, MOST_REINIT, Mark, Parts, Tra
 /// The greatest tx-interval, in seconds.
 const MOST_INTERVAL: u32 = 3600;
 
-/// Returns the cause with this number.
+/// Returns the cause with this number, if there is one.
 fn cause_numbered(number: u32) -> Option<Cause>
     ensures { result ≡ cause_numbered number }
 {

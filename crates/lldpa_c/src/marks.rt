@@ -5,7 +5,7 @@ ghost use Rattle.lldpa_c.specs.Marks.{marks_told, numbered};
 use crate::machine::mark_number;
 use lldp_engine::Marks;
 
-/// A port, and the number of the frame to send on it.
+/// A port, and the number of the mark that says which frame to send.
 #[repr(C)]
 #[derive(Clone, Copy)]
 pub struct LldpaMark {
@@ -21,7 +21,7 @@ pub struct LldpaMarks {
     pub count: u8,
 }
 
-/// Writes the frames to send for C.
+/// Writes the frames to send into the struct for C.
 pub(crate) fn tell(sent: &Marks, told: &mut LldpaMarks)
     ensures { marks_told told.new ≡ map numbered sent.now.items }
 {

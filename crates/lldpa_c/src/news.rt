@@ -32,7 +32,7 @@ pub const REFUSED: u32 = 3;
 /// A neighbor that was not held is stored.
 pub const NEW: u32 = 4;
 
-/// A neighbor that is held sent other octets than before.
+/// A neighbor that is held sent different octets.
 pub const CHANGED: u32 = 5;
 
 /// A neighbor that is held sent the same octets as before.
@@ -51,9 +51,9 @@ pub const UNKNOWN: u32 = 9;
 #[repr(C)]
 #[derive(Clone, Copy)]
 pub struct LldpaNews {
-    /// The range of the Chassis ID's body in the frame, its subtype first.
+    /// The range of the Chassis ID's body in the frame. The body begins with the subtype.
     pub chassis: LldpaPlace,
-    /// The range of the Port ID's body in the frame, its subtype first.
+    /// The range of the Port ID's body in the frame. The body begins with the subtype.
     pub port: LldpaPlace,
     pub what: u32,
     /// The number of the fault of the LLDPDU, or 0.
@@ -65,7 +65,7 @@ const NOWHERE: LldpaPlace = LldpaPlace {
     length: 0,
 };
 
-/// Returns news without a neighbor.
+/// Returns news about no neighbor: both ranges are empty.
 fn unnamed(what: u32, fault: u32) -> LldpaNews
     ensures what { result.what ≡ what }
     ensures fault { result.fault ≡ fault }
@@ -112,7 +112,7 @@ fn is_same(one: &Msap<'_>, other: &Msap<'_>) -> bool
     one.chassis == other.chassis && one.port == other.port
 }
 
-/// Returns the stored octets of the neighbor with this MSAP identifier, if it is held.
+/// Returns the stored octets of the neighbor with this MSAP identifier, if the table has it.
 fn stored<'a>(table: &'a Table<Global>, name: &Msap<'_>) -> Option<&'a [u8]>
     ensures none { IfNone result (stored_of table.now.shown (msap_view name.now) ≡ None) }
     ensures some { IfSome result (λ octets. stored_of table.now.shown (msap_view name.now)
@@ -152,7 +152,7 @@ fn leave_news(table: &Table<Global>, name: &Msap<'_>) -> u32
     }
 }
 
-/// Returns what an LLDPDU that a port receives does to its table.
+/// Returns the news of an LLDPDU that a port with this table receives.
 fn pdu_news(table: &Table<Global>, pdu: &[u8]) -> LldpaNews
     ensures what { result.what ≡ pdu_news table.now.shown pdu.now (fault_of pdu.now) }
     ensures refused { (fault : Fault) → fault_of pdu.now ≡ Some fault →
@@ -171,7 +171,7 @@ fn pdu_news(table: &Table<Global>, pdu: &[u8]) -> LldpaNews
     }
 }
 
-/// Returns what these octets do if a port receives them.
+/// Returns the news of a frame with these octets that arrives on a port.
 pub(crate) fn news_of(agent: &Agent, port: u8, octets: &[u8]) -> LldpaNews
     requires { IsPort agent.now port }
     ensures news { ReportsAt agent.now port octets.now result }

@@ -16,7 +16,7 @@ use arrayvec::ArrayVec;
 use lldp_engine::{Agent, OpenFault, Options, Role};
 use std::alloc::Global;
 
-/// Returns the role with this number.
+/// Returns the role with this number, if there is one.
 fn role_numbered(number: u32) -> Option<Role>
     ensures { result ≡ role_numbered number }
 {
@@ -28,7 +28,7 @@ fn role_numbered(number: u32) -> Option<Role>
     }
 }
 
-/// Returns the first 65 names, one more than an agent may have, or None if one is not UTF-8.
+/// Returns the first 65 names, which are one more than allowed, or None if a name is not UTF-8.
 fn names_of<'a>(ports: &'a [LldpaText<'a>]) -> Option<ArrayVec<&'a str, 65>>
     ensures names { IfSome result (λ names. map (λ name. name.now) names.items
         ≡ map (λ text. text.octets.now) (take (min (length ports.now) 65) ports.now)) }
@@ -56,7 +56,7 @@ fn are_in_range(options: &LldpaOptions<'_>) -> bool
         && (1..=10).contains(&options.reinit)
 }
 
-/// Opens an agent with these options in a box. Otherwise returns the number of the error.
+/// Opens an agent with these options. Returns it in a box, or the number of the error.
 fn opened(alloc: Global, options: &LldpaOptions<'_>) -> Result<Box<Agent>, u8>
     ensures ok { IfOk result (λ agent. Opens options.now agent.value) }
     ensures range { ¬ (IsRead options.now) → IfErr result (λ number. number ≡ 100) }

@@ -1,6 +1,6 @@
 //! The options with which C opens an agent.
 
-/// A text that is not terminated by a 0.
+/// A text without a 0 at the end.
 #[repr(C)]
 #[derive(Clone, Copy)]
 pub struct LldpaText<'a> {
@@ -10,7 +10,7 @@ pub struct LldpaText<'a> {
 #[repr(C)]
 #[derive(Clone, Copy)]
 pub struct LldpaOptions<'a> {
-    /// The octets of the struct. The C front checks this field.
+    /// The size of the struct in octets, which `front/lldpa.c` checks.
     pub size: usize,
     pub ports: &'a [LldpaText<'a>],
     pub hostname: LldpaText<'a>,

@@ -40,7 +40,7 @@ pub struct LldpaConfiguration {
     /// How many neighbors each port may hold.
     pub max_neighbors: u32,
     pub ports: u32,
-    /// The number of each port's status. 0 after the last port.
+    /// The number of each port's status. Elements after the last port are 0.
     pub status: [u8; 64],
 }
 
@@ -99,7 +99,7 @@ fn status_number(status: Status) -> u8
     }
 }
 
-/// Returns the number of each port's status, and 0 after the last port.
+/// Returns the number of each port's status. Elements after the last port are 0.
 fn statuses(agent: &Agent) -> [u8; 64]
     ensures status { take (length agent.now.ports) result
         ≡ map (λ p. status_number p.status) agent.now.ports }

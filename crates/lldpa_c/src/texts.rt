@@ -7,7 +7,7 @@ ghost use Rattle.lldpa_c.specs.Texts.{words_of, words_checks};
 use crate::answer::OUT_OF_RANGE;
 use crate::giving::give;
 
-/// Returns the description of an error number.
+/// Returns the description of an error number, if there is such an error.
 fn words_of(number: u32) -> Option<&'static [u8]>
     ensures words { option_map (λ words. words.now) result ≡ words_of number }
     ensures short { IfSome result (λ words. length words.now ≤ 65) }

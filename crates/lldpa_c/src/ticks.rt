@@ -10,13 +10,13 @@ use crate::marks::{LldpaMarks, tell};
 use lldp_engine::{Agent, Event, Marks};
 use std::alloc::Global;
 
-/// What several ticks did.
+/// The result of several ticks.
 #[repr(C)]
 #[derive(Clone, Copy)]
 pub struct LldpaTicks {
     /// How many ticks were counted.
     pub taken: u32,
-    /// How many neighbors aged out at the last of them.
+    /// How many neighbors aged out at the last counted tick.
     pub aged_out: u32,
 }
 

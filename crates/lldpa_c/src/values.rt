@@ -30,7 +30,7 @@ fn may_write(kind: u32, body: &[u8]) -> bool
     none.keeps(&Tlv { kind, body })
 }
 
-/// Writes a TLV to a line.
+/// Writes a TLV as text to an empty line.
 fn write_value(line: &mut Writer, tlv: Tlv<'_>)
     requires empty { line.old ≡ [] }
     requires may { IsTrue (may_write tlv.kind tlv.body.now) }
@@ -51,8 +51,8 @@ fn write_value(line: &mut Writer, tlv: Tlv<'_>)
 }
 
 /// Writes a TLV as text into the caller's buffer.
-// Not inlined, since its stack frame exceeds a page. When it was, LLVM moved a branch of the caller
-// before the loop that probes the pages, and the loop overwrote a register of that branch.
+// Not inlined: the stack frame exceeds a page. When it was inlined, LLVM moved a branch of the
+// caller before the loop that probes the pages, and the loop overwrote a register of that branch.
 #[inline(never)]
 fn give_value(tlv: Tlv<'_>, room: &mut [u8], written: &mut usize) -> u8
     requires { IsTrue (may_write tlv.kind tlv.body.now) }
@@ -70,7 +70,7 @@ fn give_value(tlv: Tlv<'_>, room: &mut [u8], written: &mut usize) -> u8
     give(line.as_slice(), room, written)
 }
 
-/// Writes a TLV as `show neighbors` does.
+/// Writes a TLV to the caller's buffer, as `show neighbors` does.
 #[unsafe(no_mangle)]
 pub extern "C" fn lldpa_tlv_text(kind: u32, body: &[u8], room: &mut [u8], written: &mut usize) -> u8
     ensures text { result ≡ 0 → tlv_value kind body.now ≡ Some (take written.new room.new) }
@@ -87,7 +87,7 @@ pub extern "C" fn lldpa_tlv_text(kind: u32, body: &[u8], room: &mut [u8], writte
     give_value(Tlv { kind, body }, room, written)
 }
 
-/// Writes the escaped text into the caller's buffer.
+/// Escapes a text, and writes it to the caller's buffer.
 #[inline(never)]
 fn give_escaped(text: &[u8], room: &mut [u8], written: &mut usize) -> u8
     requires { length text.now ≤ 511 }

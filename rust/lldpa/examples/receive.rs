@@ -1,5 +1,5 @@
-//! Reads received frames from standard input, a line of hexadecimal digits for each, and prints
-//! every neighbor that appears, changes, leaves or ages out.
+//! Reads received frames from standard input, one line of hexadecimal digits for each frame, and
+//! prints every neighbor that appears, changes, leaves or ages out.
 
 use lldpa::{tlv_text, Agent, Msap, News, Options};
 use std::error::Error;
@@ -8,7 +8,7 @@ use std::sync::mpsc::{channel, Receiver, RecvTimeoutError};
 use std::thread;
 use std::time::{Duration, Instant};
 
-/// Returns the octets that hexadecimal digits stand for. None if they are not such digits.
+/// Decodes pairs of hexadecimal digits. Returns None if the text is not such pairs.
 fn octets_of(digits: &str) -> Option<Vec<u8>> {
     (0..digits.len()).step_by(2).map(|at| u8::from_str_radix(digits.get(at..at + 2)?, 16).ok()).collect()
 }
@@ -33,7 +33,7 @@ fn pass(agent: &mut Agent, seconds: u32) -> Result<(), Box<dyn Error>> {
     Ok(())
 }
 
-/// Gives the agent a frame, and prints what it did.
+/// Passes a frame to the agent, and prints what the frame did.
 fn hear(agent: &mut Agent, frame: &[u8]) -> Result<(), Box<dyn Error>> {
     match agent.frame_news(0, frame)?.1 {
         News::New(name) => print("new", name),

@@ -1,11 +1,11 @@
-//! Gives an agent events, and prints what the program lldpa prints. Arguments and input are those
-//! of tools/library/c/transcript.c. Each show is compared with the agent's structs.
+//! Reads events for an agent, and prints what the program lldpa would print. Arguments and input
+//! are those of tools/library/c/transcript.c. Each show is compared with the agent's structs.
 
 use lldpa::{Agent, CommandFault, Neighbor, News, Options, Role, Sent, Show, Statistics};
 use std::io::{stdin, BufRead};
 use std::str::from_utf8;
 
-/// Returns the octets that hexadecimal digits stand for.
+/// Decodes pairs of hexadecimal digits.
 fn octets(digits: &str) -> Vec<u8> {
     (0..digits.len())
         .step_by(2)
@@ -77,7 +77,7 @@ fn see_structs(agent: &Agent, ports: &[&str]) {
     assert!(agent.statistics(ports.len() as u8).is_err());
 }
 
-/// Runs a command. If it is a show, also compares its lines with those that are read one by one.
+/// Runs a command. If it is a show, also compares its lines with the same lines read one by one.
 fn command(agent: &mut Agent, ports: &[&str], line: &[u8]) -> Result<(), CommandFault> {
     let done = agent.command(line)?;
     write(agent, ports, &done.sent);
@@ -90,7 +90,7 @@ fn command(agent: &mut Agent, ports: &[&str], line: &[u8]) -> Result<(), Command
     Ok(())
 }
 
-/// Gives the agent a frame, and checks that its news agree with the port's neighbors.
+/// Passes a frame to the agent, and checks that its news agrees with the port's neighbors.
 fn heard(agent: &mut Agent, port: u8, frame: &[u8]) -> Vec<Sent> {
     let before = agent.neighbors(port).expect("a port").len();
     let (sent, news) = agent.frame_news(port, frame).expect("a port");
@@ -104,7 +104,7 @@ fn heard(agent: &mut Agent, port: u8, frame: &[u8]) -> Vec<Sent> {
     sent
 }
 
-/// Reports to the agent that seconds passed, as many at once as it accepts.
+/// Reports to the agent that `left` seconds passed, as many per call as the agent counts.
 fn tick(agent: &mut Agent, ports: &[&str], mut left: u32) {
     while left > 0 {
         let due = agent.due();

@@ -12,11 +12,11 @@ use alloc::vec::Vec;
 use core::mem::size_of;
 use core::ptr;
 
-/// An open agent. [`Agent::open`] allocates all its memory, and dropping it frees it, but sends no
-/// shutdown frames. Calls also allocate what they return. A call fails if its port does not exist.
+/// An open agent. [`Agent::open`] allocates all its memory. Dropping it frees the memory, but sends
+/// no shutdown frames. Calls also allocate what they return, and fail if their port does not exist.
 ///
-/// It stays on the thread that opened it, and is neither `Send` nor `Sync`: its memory is behind
-/// a raw pointer, and it is not proved that another thread may use it and free it.
+/// An agent stays on the thread that opened it, and is neither `Send` nor `Sync`: it owns memory
+/// through a raw pointer, and it is not proved that another thread may use or free this memory.
 ///
 /// ```compile_fail,E0277
 /// fn crosses<T: Send>() {}
@@ -55,11 +55,11 @@ fn text_of(text: &str) -> sys::lldpa_text {
 }
 
 impl Agent {
-    /// Opens an agent, which needs about 1.6 KB for each of `max_neighbors` on each port.
+    /// Opens an agent, which needs about 1.6 KB for each of `max_neighbors` neighbors on each port.
     ///
     /// # Errors
     ///
-    /// The first fault of the options; `Memory`; or `Version` for an archive of another version.
+    /// The first fault of the options, `Memory`, or `Version` if the archive has another version.
     pub fn open(options: &Options<'_>) -> Result<Agent, OpenFault> {
         if !crate::is_of_this_version() {
             return Err(OpenFault::Version);
@@ -88,15 +88,15 @@ impl Agent {
         Ok(Agent { handle, ports })
     }
 
-    /// Tells the agent that one second has passed. Returns the frames to send, by ascending port.
-    /// [`Agent::frame_of`] writes each frame.
+    /// Reports to the agent that one second has passed. Returns the frames to send, by ascending
+    /// port. [`Agent::frame_of`] writes each frame.
     #[must_use = "send the frames that it lists"]
     pub fn tick(&mut self) -> Vec<Sent> {
         self.ticks(1).sent
     }
 
-    /// Tells the agent that `count` seconds passed. It stops after the first at which a port sends
-    /// or a neighbor ages out: send the frames, and call it again for the other seconds.
+    /// Reports that `count` seconds passed. Stops after the first second at which a port sends or a
+    /// neighbor ages out: send the frames, and call this again for the remaining seconds.
     #[must_use = "send the frames that it lists"]
     pub fn ticks(&mut self, count: u32) -> Ticks {
         let (mut marks, mut told) = (sys::lldpa_marks::default(), sys::lldpa_ticks_taken::default());
@@ -105,9 +105,9 @@ impl Agent {
         Ticks { taken: told.taken, aged_out: told.aged_out, sent: sent(&marks) }
     }
 
-    /// Returns the seconds until a port sends or a neighbor ages out if no other call is made, or
-    /// None. You may sleep that long, and then pass these seconds to [`Agent::ticks`]. If a frame
-    /// wakes you, first report the seconds that passed, and then the frame.
+    /// Returns the seconds until a port sends or a neighbor ages out if you make no other call, or
+    /// None. You may sleep that long, and then pass the seconds to [`Agent::ticks`]. If a frame
+    /// wakes you earlier, first report the seconds that passed, and then the frame.
     #[must_use]
     pub fn due(&self) -> Option<u32> {
         let mut seconds = sys::LLDPA_NEVER;
@@ -133,8 +133,8 @@ impl Agent {
         Configuration::of(&told)
     }
 
-    /// Gives the agent a frame that a port received; octets that are not an LLDP frame change
-    /// nothing. First report the seconds that passed before it arrived. Returns the frames to send.
+    /// Passes a received frame to the agent, and returns the frames to send. Octets that are not an
+    /// LLDP frame change nothing. First report the seconds that passed before the frame arrived.
     pub fn frame(&mut self, port: u8, octets: &[u8]) -> Result<Vec<Sent>, PortFault> {
         self.hear(port, octets, ptr::null_mut())
     }
@@ -146,11 +146,11 @@ impl Agent {
         Ok((sent, News::of(&news, octets)))
     }
 
-    /// Gives the agent a frame. Writes what it did to `news`, unless that is null.
+    /// Passes a frame to the agent. Writes what the frame did to `news`, unless `news` is null.
     fn hear(&mut self, port: u8, octets: &[u8], news: *mut sys::lldpa_news) -> Result<Vec<Sent>, PortFault> {
         let mut marks = sys::lldpa_marks::default();
         let (agent, at, length) = (&mut *self.handle, octets.as_ptr(), octets.len());
-        // SAFETY: the handle is open, `length` is the octets', `news` is null or valid.
+        // SAFETY: the handle is open, `length` is that of the octets, and `news` is null or valid.
         PortFault::check(unsafe { sys::lldpa_frame(agent, port.into(), at, length, &mut marks, news) })?;
         Ok(sent(&marks))
     }
@@ -163,7 +163,7 @@ impl Agent {
         Ok(Neighbors::new(self, port, count))
     }
 
-    /// Tells the agent that the link of a port came up or went down. Returns the frames to send.
+    /// Reports that the link of a port came up or went down. Returns the frames to send.
     pub fn link(&mut self, port: u8, up: bool) -> Result<Vec<Sent>, PortFault> {
         let mut marks = sys::lldpa_marks::default();
         // SAFETY: the handle is open, and the other pointer is to a local value.
@@ -171,12 +171,12 @@ impl Agent {
         Ok(sent(&marks))
     }
 
-    /// Runs a command, `configure ..`, `update` or `show ..`, without a line feed. [`Agent::show`]
-    /// writes the lines of a show command. A command with a fault, or for a show, changes nothing.
+    /// Runs a command, `configure ..`, `update` or `show ..`, without a line feed. A show command
+    /// or a command with a fault changes nothing. [`Agent::show`] returns the lines of a show.
     pub fn command(&mut self, line: impl AsRef<[u8]>) -> Result<Commanded, CommandFault> {
         let line = line.as_ref();
         let (mut marks, mut show) = (sys::lldpa_marks::default(), 0);
-        // SAFETY: the handle is open, the length is the line's, and the others point to locals.
+        // SAFETY: the handle is open, the length is that of the line, the others point to locals.
         let answer = unsafe {
             sys::lldpa_command(&mut *self.handle, line.as_ptr(), line.len(), &mut show, &mut marks)
         };
@@ -193,7 +193,7 @@ impl Agent {
         sent(&marks)
     }
 
-    /// Returns the frame of a mark on a port, with the current settings: at most 1514 octets.
+    /// Returns the frame that a mark asks for, with the current settings: at most 1514 octets.
     pub fn frame_of(&self, port: u8, mark: Mark) -> Result<Vec<u8>, PortFault> {
         let mut frame = vec![0u8; sys::LLDPA_FRAME_ROOM as usize];
         let (at, room, mut length) = (frame.as_mut_ptr(), frame.len(), 0);

@@ -26,13 +26,13 @@ pub struct Builder<'a> {
 }
 
 impl<'a> Builder<'a> {
-    /// Begins an LLDPDU with the bodies of its identifiers, 2 to 256 octets each, their subtypes
-    /// first, and its time to live in seconds. With 0 it is a shutdown LLDPDU without other TLVs.
+    /// Begins an LLDPDU with the bodies of its identifiers (2 to 256 octets, subtype first) and its
+    /// time to live in seconds. A time to live of 0 makes a shutdown LLDPDU without other TLVs.
     pub fn new(chassis: &'a [u8], port: &'a [u8], ttl: u16) -> Builder<'a> {
         Builder { chassis, port, ttl, tlvs: Vec::new() }
     }
 
-    /// Adds a TLV. [`Built::faults`] says if it was left out, and why.
+    /// Adds a TLV. [`Built::faults`] says whether the TLV was left out, and why.
     pub fn put(mut self, kind: u8, body: &'a [u8]) -> Builder<'a> {
         self.tlvs.push(Tlv { kind, body });
         self
@@ -80,12 +80,12 @@ pub struct Built {
 }
 
 impl Built {
-    /// Returns its octets, at most 1500, including the End Of LLDPDU.
+    /// Returns the octets of the LLDPDU, at most 1500, including the End Of LLDPDU.
     pub fn octets(&self) -> &[u8] {
         &self.octets
     }
 
-    /// Returns for each TLV, in order, why it was left out, or None if it was put.
+    /// Returns, for each TLV in order, why the TLV was left out, or None if it was put.
     pub fn faults(&self) -> &[Option<BuildFault>] {
         &self.faults
     }

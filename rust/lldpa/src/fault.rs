@@ -1,4 +1,4 @@
-//! The faults of calls.
+//! The faults that calls return.
 
 use crate::sys;
 use alloc::format;
@@ -12,7 +12,7 @@ macro_rules! faults {
         #[derive(Clone, Copy, Debug, PartialEq, Eq, Hash)]
         pub enum $name {
             $($(#[$case_about])* #[doc = concat!("The text is \"", $text, "\".")] $case = $number,)*
-            /// A number that this crate does not know. An archive that fits never returns it.
+            /// A number unknown to this crate. A matching archive never returns such a number.
             Unexpected = 255,
         }
 
@@ -65,9 +65,9 @@ faults! {
     BuildFault {
         /// The TLV and the End Of LLDPDU do not fit in 1500 octets.
         Full = 11, "it does not fit in 1500 octets";
-        /// Its type is not 4 to 127, or is 4 to 7 and was put before; or the TTL is 0.
+        /// The TLV's type is not 4 to 127, or is 4 to 7 and was put before; or the TTL is 0.
         Kind = 12, "a TLV of its type may not be put";
-        /// Its body is over 511 octets, or not well formed for its type.
+        /// The TLV's body is over 511 octets, or not well formed for its type.
         Body = 13, "its body is not well formed for its type";
     }
 }
@@ -129,7 +129,7 @@ pub(crate) fn text_written(
 /// Returns the description of an error number of `lldpa.h`, or None if there is no such number.
 #[must_use]
 pub fn fault_text(number: u32) -> Option<String> {
-    // SAFETY: the length is the buffer's, and the other pointer is to a local value.
+    // SAFETY: the length is that of the buffer, and the other pointer is to a local value.
     text_written(&mut [0; sys::LLDPA_FAULT_ROOM as usize], |room, length| unsafe {
         sys::lldpa_fault_text(number, room.as_mut_ptr(), room.len(), length)
     })
@@ -150,17 +150,17 @@ faults! {
     }
 }
 
-/// Panics, since a call without an error result got a number that this crate does not know.
+/// Panics, since a call that reports no errors returned a number that this crate does not know.
 ///
 /// # Panics
 ///
-/// Always. An archive that fits does not return such a number.
+/// Always. A matching archive does not return such a number.
 #[cold]
 pub(crate) fn unexpected(answer: impl fmt::Display) -> ! {
     panic!("liblldpa answered {answer}, which this crate does not know")
 }
 
-/// Panics if a call that cannot fail returns another number than 0.
+/// Panics if a call that cannot fail returns a number other than 0.
 pub(crate) fn expect_ok(answer: u8) {
     if answer != sys::LLDPA_OK {
         unexpected(answer);
@@ -176,7 +176,7 @@ mod tests {
         fault_text(number).expect("a fault")
     }
 
-    /// Checks that the texts of these faults are those in the archive.
+    /// Checks that the texts of these faults equal those in the archive.
     fn same<F: ToString>(check: fn(u8) -> Result<(), F>, numbers: core::ops::RangeInclusive<u8>) {
         for number in numbers {
             let fault = check(number).expect_err("a fault");

@@ -1,4 +1,4 @@
-//! Safe types over `liblldpa.a`, a formally verified LLDP agent and its parts (IEEE 802.1AB-2009).
+//! Safe types for `liblldpa.a`, a formally verified LLDP agent and its parts (IEEE 802.1AB-2009).
 //!
 //! - Reading: [`frame_pdu`], [`examine`], [`Info::kept`], [`caps`], [`mgmt`]. Nothing is copied.
 //! - Building: [`Builder`].

@@ -52,7 +52,7 @@ pub struct Machine {
 impl Machine {
     /// Returns a machine with full credit, for an inactive port with its link up. `credit_max` is 1
     /// to 10, `fast_init` 1 to 8, `reinit` 1 to 10 seconds. `allowed` says whether the port may
-    /// transmit. Fails for other numbers, and with an archive of another version.
+    /// transmit. Fails if a number is out of its range, or if the archive has another version.
     pub fn new(credit_max: u8, fast_init: u8, reinit: u8, allowed: bool) -> Result<Machine, RangeFault> {
         let mut held = sys::lldpa_machine::default();
         if !crate::is_of_this_version() {
@@ -67,7 +67,7 @@ impl Machine {
     }
 
     /// Applies an event, and returns which frame to send. `interval` is the tx-interval in force
-    /// after it, 1 to 3600 seconds. If it is out of its range, the machine is unchanged.
+    /// after it, 1 to 3600 seconds. If `interval` is out of range, fails and changes nothing.
     pub fn event(&mut self, cause: Cause, interval: u16) -> Result<Option<Mark>, RangeFault> {
         let mut mark = 0;
         // SAFETY: the pointers are to the machine's own struct and to a local value.

@@ -10,11 +10,11 @@ use alloc::vec::Vec;
 /// What a frame did.
 #[derive(Clone, Copy, Debug, PartialEq, Eq)]
 pub enum News<'f> {
-    /// It is not an LLDP frame.
+    /// The frame is not an LLDP frame.
     NotLldp,
     /// The port does not receive, or its link is down: the frame is ignored.
     Deaf,
-    /// Its LLDPDU has a fault.
+    /// The LLDPDU of the frame has a fault.
     Refused(PduFault),
     /// A neighbor that was not held is stored.
     New(Msap<'f>),
@@ -28,7 +28,7 @@ pub enum News<'f> {
     Gone(Msap<'f>),
     /// A neighbor that is not held leaves.
     Unknown(Msap<'f>),
-    /// A number that this crate does not know. An archive that fits never returns it.
+    /// A number unknown to this crate. A matching archive never returns such a number.
     Unexpected,
 }
 
@@ -63,17 +63,17 @@ pub struct Neighbor {
 }
 
 impl Neighbor {
-    /// Returns its LLDPDU without the End Of LLDPDU, at most 1500 octets.
+    /// Returns the neighbor's LLDPDU without the End Of LLDPDU, at most 1500 octets.
     pub fn octets(&self) -> &[u8] {
         &self.octets
     }
 
-    /// Returns the seconds until it ages out, at least 1.
+    /// Returns the seconds until the neighbor ages out, at least 1.
     pub fn left(&self) -> u32 {
         self.left
     }
 
-    /// Returns the fields of its LLDPDU. None only if the archive does not fit the crate.
+    /// Returns the fields of the neighbor's LLDPDU. None if the archive does not match this crate.
     pub fn info(&self) -> Option<Info<'_>> {
         match examine(&self.octets) {
             Ok(Examined::Info(info)) => Some(info),
@@ -104,7 +104,7 @@ impl Iterator for Neighbors<'_> {
     fn next(&mut self) -> Option<Neighbor> {
         let mut octets = vec![0u8; sys::LLDPA_NEIGHBOR_ROOM as usize];
         let mut told = sys::lldpa_held::default();
-        // SAFETY: the handle is open, the length is the buffer's, and `told` is local.
+        // SAFETY: the handle is open, the length is that of the buffer, and `told` is local.
         let answer = unsafe {
             sys::lldpa_neighbor(
                 &*self.agent.handle,

@@ -1,6 +1,6 @@
 //! Enums whose values are the numbers in `lldpa.h`.
 
-/// Declares an enum, and a function that returns its value for a number.
+/// Declares an enum, and a function that returns the enum's value for a number.
 macro_rules! numbered {
     ($(#[$about:meta])* $name:ident { $($(#[$case_about:meta])* $case:ident = $number:literal,)* }) => {
         $(#[$about])*
@@ -10,7 +10,7 @@ macro_rules! numbered {
         }
 
         impl $name {
-            /// Returns the value with this number. Panics if there is none.
+            /// Returns the value with this number. Panics if no value has this number.
             pub(crate) fn of(number: u32) -> $name {
                 match number {
                     $($number => $name::$case,)*

@@ -14,7 +14,7 @@ pub enum Role {
 /// The options of [`crate::Agent::open`].
 #[derive(Clone, Copy, Debug)]
 pub struct Options<'a> {
-    /// The names of the ports in order, 1 to 64: each 1 to 15 letters, digits, `-`, `_`, `/` and `:`.
+    /// The names of 1 to 64 ports, in order: each 1 to 15 letters, digits, `-`, `_`, `/` or `:`.
     pub ports: &'a [&'a str],
     /// The hostname, at most 255 octets of printable ASCII.
     pub hostname: &'a str,

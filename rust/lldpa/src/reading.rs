@@ -1,4 +1,4 @@
-//! Reads frames, LLDPDUs and TLVs. Results are parts of the given octets: nothing is copied.
+//! Reads frames, LLDPDUs and TLVs. Except for texts, the results are parts of the given octets.
 
 use crate::fault::{text_written, PduFault};
 use crate::sys;
@@ -10,8 +10,8 @@ fn at(octets: &[u8], place: sys::lldpa_place) -> &[u8] {
     &octets[place.start..][..place.length]
 }
 
-/// Returns the LLDPDU in an Ethernet frame without VLAN tag and check sequence. None unless it has
-/// 14 to 1514 octets, is sent to 01-80-C2-00-00-0E, and has the EtherType 88-CC.
+/// Returns the LLDPDU in an Ethernet frame without VLAN tag and check sequence. None unless the
+/// frame has 14 to 1514 octets, the destination 01-80-C2-00-00-0E and the EtherType 88-CC.
 #[must_use]
 pub fn frame_pdu(frame: &[u8]) -> Option<&[u8]> {
     let mut place = sys::lldpa_place::default();
@@ -20,7 +20,7 @@ pub fn frame_pdu(frame: &[u8]) -> Option<&[u8]> {
     is_one.then(|| at(frame, place))
 }
 
-/// The sender of an LLDPDU, as the bodies of two TLVs: 2 to 256 octets each, the subtype first.
+/// The sender of an LLDPDU: the bodies of two TLVs, 2 to 256 octets each, beginning with a subtype.
 #[derive(Clone, Copy, Debug, PartialEq, Eq, Hash)]
 pub struct Msap<'a> {
     /// The body of the Chassis ID.
@@ -39,7 +39,7 @@ pub enum Examined<'a> {
 }
 
 impl<'a> Examined<'a> {
-    /// Returns who sent it.
+    /// Returns the sender of the LLDPDU.
     pub fn msap(&self) -> Msap<'a> {
         match self {
             Examined::Shutdown(msap) => *msap,
@@ -59,7 +59,7 @@ pub struct Info<'a> {
 }
 
 impl<'a> Info<'a> {
-    /// Returns who sent it.
+    /// Returns the sender of the LLDPDU.
     pub fn msap(&self) -> Msap<'a> {
         self.msap
     }
@@ -84,13 +84,13 @@ impl<'a> Info<'a> {
         self.unrecognized
     }
 
-    /// Returns the kept TLVs: those well formed and, for types 4 to 7, the first of the type.
+    /// Returns the kept TLVs, which are well formed and, for types 4 to 7, the first of their type.
     pub fn kept(&self) -> Kept<'a> {
         Kept { extent: self.octets, walk: sys::lldpa_kept::default() }
     }
 }
 
-/// Examines an LLDPDU of any length. Returns its fields, or the first fault that was found.
+/// Examines an LLDPDU of any length. Returns the fields of the LLDPDU, or its first fault.
 ///
 /// ```
 /// let pdu = b"\x02\x07\x04\x00\x11\x22\x33\x44\x55\x04\x05\x05eth0\x06\x02\x00\x78\x0a\x03sw1\0\0";
@@ -124,9 +124,9 @@ pub fn examine(pdu: &[u8]) -> Result<Examined<'_>, PduFault> {
 /// A TLV.
 #[derive(Clone, Copy, Debug, PartialEq, Eq, Hash)]
 pub struct Tlv<'a> {
-    /// Its type. A kept TLV has a type of 4 to 127.
+    /// The type of the TLV. A kept TLV has a type of 4 to 127.
     pub kind: u8,
-    /// Its body, 0 to 511 octets.
+    /// The body of the TLV, 0 to 511 octets.
     pub body: &'a [u8],
 }
 
@@ -150,7 +150,7 @@ impl<'a> Iterator for Kept<'a> {
 
 impl core::iter::FusedIterator for Kept<'_> {}
 
-/// The fields of a System Capabilities TLV (type 7): two sets of the standard's bits.
+/// The fields of a System Capabilities TLV (type 7): two sets of bits (table 8-4 of the standard).
 #[derive(Clone, Copy, Debug, PartialEq, Eq, Hash)]
 pub struct Capabilities {
     /// The functions that the system has.
@@ -159,8 +159,8 @@ pub struct Capabilities {
     pub enabled: u16,
 }
 
-/// Reads the body of a System Capabilities TLV. None if it is not well formed: it must have four
-/// octets, and each enabled bit must be available.
+/// Reads the body of a System Capabilities TLV. None if the body is not well formed: it must have
+/// four octets, and each enabled bit must be available.
 #[must_use]
 pub fn caps(body: &[u8]) -> Option<Capabilities> {
     let mut told = sys::lldpa_capabilities::default();
@@ -172,7 +172,7 @@ pub fn caps(body: &[u8]) -> Option<Capabilities> {
 /// The fields of a Management Address TLV (type 8).
 #[derive(Clone, Copy, Debug, PartialEq, Eq, Hash)]
 pub struct Management<'a> {
-    /// The family of the address: 1 IPv4, 2 IPv6, 6 all 802 media, ..
+    /// The family of the address, such as 1 for IPv4, 2 for IPv6 and 6 for all 802 media.
     pub family: u8,
     /// The address, 1 to 31 octets.
     pub address: &'a [u8],
@@ -184,7 +184,7 @@ pub struct Management<'a> {
     pub oid: &'a [u8],
 }
 
-/// Reads the body of a Management Address TLV. None if it is not well formed.
+/// Reads the body of a Management Address TLV. None if the body is not well formed.
 #[must_use]
 pub fn mgmt(body: &[u8]) -> Option<Management<'_>> {
     let mut told = sys::lldpa_management::default();

@@ -7,7 +7,7 @@ use crate::told::Show;
 use alloc::string::String;
 use alloc::vec;
 
-/// The octets that most shows need without their neighbors, and that most neighbors need.
+/// How many octets are enough for most shows without their neighbors, and for most neighbors.
 const SHOW_ROOM: usize = 1 << 16;
 const SHOW_ROOM_OF_NEIGHBOR: usize = 1 << 10;
 
@@ -27,13 +27,13 @@ impl Agent {
         while !lines.done {
             lines = self.show_lines(show, lines.next, &mut room);
             text.push_str(&String::from_utf8_lossy(&room[..lines.length]));
-            // The next call goes through these lines again, so its buffer is larger.
+            // Each call goes through all earlier lines again: a larger buffer needs fewer calls.
             room.resize(2 * room.len(), 0);
         }
         text
     }
 
-    /// Returns one line of a show, without its line feed. Lines count from 0. None after the last.
+    /// Returns a line of a show, from 0, without its line feed. None if there is no such line.
     #[must_use]
     pub fn show_line(&self, show: Show, line: u32) -> Option<String> {
         let mut room = [0u8; sys::LLDPA_LINE_ROOM as usize];
@@ -45,7 +45,7 @@ impl Agent {
     /// Writes lines of a show, beginning with line `from`, as many as fit in the buffer.
     fn show_lines(&self, show: Show, from: u32, room: &mut [u8]) -> sys::lldpa_lines {
         let mut lines = sys::lldpa_lines::default();
-        // SAFETY: the handle is open, the length is the buffer's, and `lines` is local.
+        // SAFETY: the handle is open, the length is that of the buffer, and `lines` is local.
         let answer = unsafe {
             sys::lldpa_show_lines(&*self.handle, show as u32, from, room.as_mut_ptr(), room.len(), &mut lines)
         };

@@ -80,7 +80,7 @@ extern "C" {
     #[doc = " Writes the description of an error number, such as \"the first TLV is not a Chassis ID\"."]
     #[doc = "   fault   a number other than 0 that a function of this header returns or writes as a fault"]
     #[doc = "   length  the number of octets written, at most LLDPA_FAULT_ROOM"]
-    #[doc = " Returns 0; LLDPA_OUT_OF_RANGE if there is no such error; or LLDPA_NO_ROOM. It writes only on success."]
+    #[doc = " Returns 0, LLDPA_OUT_OF_RANGE if no error has this number, or LLDPA_NO_ROOM. It writes only on success."]
     pub fn lldpa_fault_text(
         fault: u32,
         room: *mut u8,
@@ -97,7 +97,7 @@ pub struct lldpa_place {
 }
 extern "C" {
     #[doc = " Finds the LLDPDU in an Ethernet frame."]
-    #[doc = "   frame, length  the frame from its destination address on, without a VLAN tag and without the check sequence"]
+    #[doc = "   frame, length  the frame from the destination address on, without a VLAN tag and without the check sequence"]
     #[doc = "   pdu            written if the result is true: the octets after the EtherType, at most 1500"]
     #[doc = " Returns true exactly for an LLDP frame: 14 to 1514 octets, sent to 01-80-C2-00-00-0E, with the EtherType 88-CC."]
     pub fn lldpa_frame_pdu(frame: *const u8, length: usize, pdu: *mut lldpa_place) -> bool;
@@ -107,7 +107,7 @@ extern "C" {
 #[repr(C)]
 #[derive(Debug, Default, Copy, Clone, Hash, PartialEq, Eq)]
 pub struct lldpa_examined {
-    #[doc = " the body of the Chassis ID, 2 to 256 octets, its subtype first"]
+    #[doc = " the body of the Chassis ID, 2 to 256 octets that begin with the subtype"]
     pub chassis: lldpa_place,
     #[doc = " the body of the Port ID, in the same form"]
     pub port: lldpa_place,
@@ -134,17 +134,17 @@ pub struct lldpa_kept {
     pub next: usize,
     #[doc = " the body of the TLV that was found last"]
     pub body: lldpa_place,
-    #[doc = " for the types 4, 5, 6 and 7: whether a well-formed TLV was found"]
+    #[doc = " for each of the types 4 to 7, whether a well-formed TLV was found"]
     pub met: [bool; 4usize],
     #[doc = " the type of the TLV that was found last, 4 to 127"]
     pub kind: u8,
 }
 extern "C" {
     #[doc = " Finds the next kept TLV."]
-    #[doc = "   extent, length  an LLDPDU for which lldpa_examine returned 0, with a TTL above 0, and its lldpa_examined.extent"]
-    #[doc = "                   as the length; the same in every call of a walk"]
+    #[doc = "   extent, length  the start of an LLDPDU for which lldpa_examine returned 0 and a TTL above 0: as many octets as its"]
+    #[doc = "                   lldpa_examined.extent. Pass the same octets in every call of a walk"]
     #[doc = "   walk            is advanced to the TLV; it is unchanged if no TLV is left"]
-    #[doc = " Returns whether there is one. If the octets are not such an LLDPDU, it finds some TLV in them, or none."]
+    #[doc = " Returns true if it found a TLV. If the octets are not such an LLDPDU, it may find any TLV in them, or none."]
     pub fn lldpa_next_kept(extent: *const u8, length: usize, walk: *mut lldpa_kept) -> bool;
 }
 #[doc = " The fields of a System Capabilities TLV (type 7): two sets of bits, as in table 8-4 of the standard."]
@@ -170,7 +170,7 @@ pub struct lldpa_management {
     pub oid: lldpa_place,
     #[doc = " the interface number"]
     pub interface: u32,
-    #[doc = " the address's family: 1 IPv4, 2 IPv6, 6 all 802 media, .."]
+    #[doc = " the address family, such as 1 for IPv4, 2 for IPv6 and 6 for all 802 media"]
     pub family: u8,
     #[doc = " the interface numbering subtype"]
     pub numbering: u8,
@@ -183,7 +183,7 @@ extern "C" {
 }
 extern "C" {
     #[doc = " Writes a TLV as text, as the command `show neighbors` does: \"chassis.mac=00:11:22:33:44:55\", \"port.ifname=eth0\","]
-    #[doc = " \"chassis.mgmt=192.0.2.1,2,3,\". The value follows the first '='. Texts are escaped as lldpa_escape does."]
+    #[doc = " \"chassis.mgmt=192.0.2.1,2,3,\". The value follows the first '='. Texts are escaped as by lldpa_escape."]
     #[doc = "   kind    the type of the TLV: 1 for a Chassis ID, 2 for a Port ID, or 4 to 127"]
     #[doc = "   body    its body, which must be well formed for the type and have at most 511 octets"]
     #[doc = "   room    LLDPA_VALUE_ROOM octets are always enough"]
@@ -204,7 +204,7 @@ extern "C" {
     #[doc = "   text    at most 511 octets"]
     #[doc = "   room    four times as many octets are always enough"]
     #[doc = "   length  the number of octets written, on success"]
-    #[doc = " Returns the first of these that applies: LLDPA_OUT_OF_RANGE for the length of the text, LLDPA_NO_ROOM; otherwise 0."]
+    #[doc = " Returns the first of these that applies: LLDPA_OUT_OF_RANGE if the text is too long, LLDPA_NO_ROOM; otherwise 0."]
     pub fn lldpa_escape(
         text: *const u8,
         text_length: usize,
@@ -232,15 +232,15 @@ impl Default for lldpa_tlv {
 }
 extern "C" {
     #[doc = " Builds an LLDPDU in the caller's buffer `room`."]
-    #[doc = "   chassis, port  the bodies of the Chassis ID and the Port ID, their subtypes first, 2 to 256 octets each"]
+    #[doc = "   chassis, port  the bodies of the Chassis ID and the Port ID, 2 to 256 octets each, beginning with the subtype"]
     #[doc = "   ttl            the time to live in seconds; 0 makes a shutdown LLDPDU, which has no other TLVs"]
-    #[doc = "   tlvs           the TLVs to put after the Time To Live, in their order; any number"]
+    #[doc = "   tlvs           any number of TLVs to put after the Time To Live, in this order"]
     #[doc = "   faults         receives a number for each TLV: 0 if it was put, or 11 to 13 if it is left out"]
     #[doc = "   room           LLDPA_PDU_ROOM octets are always enough"]
     #[doc = "   length         the number of octets of the LLDPDU, including its End Of LLDPDU"]
     #[doc = " Returns the first of these that applies: LLDPA_OUT_OF_RANGE for the length of an identifier; LLDPA_NO_ROOM if"]
-    #[doc = " faults has fewer elements than tlvs; LLDPA_NO_ROOM if the LLDPDU is longer than room; otherwise 0. The second"]
-    #[doc = " LLDPA_NO_ROOM writes faults, but not room and length; the other errors write nothing."]
+    #[doc = " faults has fewer elements than tlvs; LLDPA_NO_ROOM if the LLDPDU is longer than room; otherwise 0. If the LLDPDU is"]
+    #[doc = " longer than room, only faults is written. The other errors write nothing."]
     pub fn lldpa_build(
         chassis: *const u8,
         chassis_length: usize,
@@ -272,11 +272,11 @@ pub struct lldpa_machine {
     pub credit: u8,
     #[doc = " ticks until the port may start again"]
     pub wait: u8,
-    #[doc = " txFast: frames left of a fast transmission"]
+    #[doc = " txFast: how many frames of a fast transmission are left"]
     pub left: u8,
     #[doc = " a frame is wanted and was not sent yet"]
     pub waiting: bool,
-    #[doc = " the port has started, and since then has neither stopped nor lost its link"]
+    #[doc = " the port has started, and has neither stopped nor lost its link since"]
     pub active: bool,
     #[doc = " the port may transmit"]
     pub allowed: bool,
@@ -303,8 +303,8 @@ extern "C" {
     #[doc = "   cause     LLDPA_CAUSE_TICK to LLDPA_CAUSE_NOTHING"]
     #[doc = "   interval  the tx-interval in force after the event, 1 to 3600 seconds"]
     #[doc = "   mark      LLDPA_QUIET, LLDPA_ORDINARY or LLDPA_SHUTDOWN, written on success"]
-    #[doc = " Returns 0; or LLDPA_OUT_OF_RANGE for the cause or the interval, or for a machine whose credit is above its"]
-    #[doc = " credit_max. An error writes nothing."]
+    #[doc = " Returns 0; or LLDPA_OUT_OF_RANGE for the cause or the interval, or if the machine's credit is above its"]
+    #[doc = " credit_max. On an error nothing is written."]
     pub fn lldpa_transmit_event(
         machine: *mut lldpa_machine,
         cause: u32,
@@ -312,7 +312,7 @@ extern "C" {
         mark: *mut u8,
     ) -> u8;
 }
-#[doc = " A text. It does not end in a 0."]
+#[doc = " A text, without a 0 at the end."]
 #[repr(C)]
 #[derive(Debug, Copy, Clone, Hash, PartialEq, Eq)]
 pub struct lldpa_text {
@@ -334,7 +334,7 @@ impl Default for lldpa_text {
 pub struct lldpa_options {
     #[doc = " sizeof(lldpa_options)"]
     pub size: usize,
-    #[doc = " the names of the ports in order: 1 to 15 letters, digits, '-', '_', '/' and ':'"]
+    #[doc = " the names of the ports in order, each 1 to 15 letters, digits, '-', '_', '/' or ':'"]
     pub ports: *const lldpa_text,
     #[doc = " 1 to 64"]
     pub port_count: usize,
@@ -368,8 +368,8 @@ impl Default for lldpa_options {
         }
     }
 }
-#[doc = " A handle of an agent. Begin with one that is all 0: lldpa_agent agent = {0}. Do not read or change its fields, and"]
-#[doc = " do not copy it while it is open. After lldpa_close you may open it again."]
+#[doc = " A handle of an agent. Initialize it with zeros: lldpa_agent agent = {0}. Do not read or change its fields, and do"]
+#[doc = " not copy it while it is open. After lldpa_close you may open it again."]
 #[repr(C)]
 #[derive(Debug, Copy, Clone, Hash, PartialEq, Eq)]
 pub struct lldpa_agent {
@@ -386,12 +386,12 @@ impl Default for lldpa_agent {
     }
 }
 extern "C" {
-    #[doc = " Opens an agent, and allocates all memory that it will ever need: about 1.6 KB for each of max_neighbors on each port."]
-    #[doc = " Each port has its link up. Returns the first of these that applies: LLDPA_OUT_OF_RANGE if the library does not"]
-    #[doc = " know an lldpa_options of this `size`; LLDPA_IS_OPEN; LLDPA_OUT_OF_RANGE for role, max_neighbors, credit_max,"]
-    #[doc = " fast_init or reinit, or for a text that is not UTF-8; the first fault, 22 to 26; LLDPA_MEMORY; otherwise 0, and"]
-    #[doc = " the agent is open. An error leaves the handle unchanged. With more than 64 names the call fails, and names after"]
-    #[doc = " the 65th are not read."]
+    #[doc = " Opens an agent, and allocates all memory that it will ever need: about 1.6 KB for each of max_neighbors neighbors on"]
+    #[doc = " each port. At first the link of each port is up. Returns the first of these that applies: LLDPA_OUT_OF_RANGE if the"]
+    #[doc = " library does not know an lldpa_options of this `size`; LLDPA_IS_OPEN; LLDPA_OUT_OF_RANGE for role, max_neighbors,"]
+    #[doc = " credit_max, fast_init or reinit, or for a text that is not UTF-8; the first fault, 22 to 26; LLDPA_MEMORY;"]
+    #[doc = " otherwise 0, and the agent is open. An error leaves the handle unchanged. With more than 64 names the call fails, and"]
+    #[doc = " names after the 65th are not read."]
     pub fn lldpa_open(options: *const lldpa_options, agent: *mut lldpa_agent) -> u8;
 }
 #[doc = " A frame that you must send: lldpa_frame_of writes it."]
@@ -425,12 +425,12 @@ impl Default for lldpa_marks {
 pub struct lldpa_ticks_taken {
     #[doc = " the number of seconds that were counted"]
     pub taken: u32,
-    #[doc = " the number of neighbors that aged out at the last of them"]
+    #[doc = " the number of neighbors that aged out at the last of these seconds"]
     pub aged_out: u32,
 }
 extern "C" {
-    #[doc = " Tells the agent that `count` seconds have passed. The call stops early, after the first second at which a port sends"]
-    #[doc = " or a neighbor ages out. Returns 0 or LLDPA_NOT_OPEN."]
+    #[doc = " Reports to the agent that `count` seconds have passed. The call stops early after the first second at which a port"]
+    #[doc = " sends or a neighbor ages out. Returns 0 or LLDPA_NOT_OPEN."]
     #[doc = "   count  the seconds that passed; do not pass LLDPA_NEVER, which could take minutes"]
     #[doc = "   marks  the frames to send at the last second counted, on success"]
     #[doc = "   told   written on success. Send the frames of marks; then, if told->taken is less than count, call lldpa_ticks"]
@@ -452,8 +452,7 @@ extern "C" {
     #[doc = " seconds that passed, and then the frame."]
     pub fn lldpa_due(agent: *const lldpa_agent, seconds: *mut u32) -> u8;
 }
-#[doc = " What a frame did. The octets of both ranges together identify the neighbor: no two neighbors of a port have the same"]
-#[doc = " ones."]
+#[doc = " What a frame did. The octets of both ranges together identify the neighbor among all neighbors of its port."]
 #[repr(C)]
 #[derive(Debug, Default, Copy, Clone, Hash, PartialEq, Eq)]
 pub struct lldpa_news {
@@ -467,10 +466,10 @@ pub struct lldpa_news {
     pub fault: u32,
 }
 extern "C" {
-    #[doc = " Gives the agent a frame that a port received. You may pass any octets: if they are not an LLDP frame, nothing"]
+    #[doc = " Passes to the agent a frame that a port received. You may pass any octets: if they are not an LLDP frame, nothing"]
     #[doc = " changes. Returns 0, LLDPA_NOT_OPEN or LLDPA_NO_PORT. First report the seconds that passed before the frame arrived"]
-    #[doc = " (lldpa_ticks): its time to live starts at this call, and seconds that you report later count against it. A full"]
-    #[doc = " table accepts no new neighbor, but the neighbors that it holds are still refreshed."]
+    #[doc = " (lldpa_ticks): the neighbor's time to live starts at this call, and seconds that you report later reduce it. A full"]
+    #[doc = " table accepts no new neighbor, but the neighbors in it are still refreshed."]
     #[doc = "   port   the number of the port, from 0, in the order of the options"]
     #[doc = "   marks  the frames to send, on success"]
     #[doc = "   news   what the frame did, on success; or NULL"]
@@ -484,7 +483,7 @@ extern "C" {
     ) -> u8;
 }
 extern "C" {
-    #[doc = " Tells the agent that the link of a port came up or went down. port, marks and results are as for lldpa_frame."]
+    #[doc = " Reports that the link of a port came up or went down. port, marks and the results are as for lldpa_frame."]
     pub fn lldpa_link(agent: *mut lldpa_agent, port: u32, up: bool, marks: *mut lldpa_marks) -> u8;
 }
 extern "C" {
@@ -509,7 +508,8 @@ pub struct lldpa_held {
 }
 extern "C" {
     #[doc = " Writes a neighbor of a port. lldpa_next_kept reads its TLVs from the octets."]
-    #[doc = "   index  from 0, in the order in which neighbors were stored (LLDPA_NEWS_NEW). If one is removed, later ones move up"]
+    #[doc = "   index  from 0, in the order in which neighbors were stored (LLDPA_NEWS_NEW). When a neighbor is removed, the index"]
+    #[doc = "          of each later neighbor decreases by 1"]
     #[doc = "   room   receives told->pdu.extent octets: the neighbor's LLDPDU without the End Of LLDPDU. LLDPA_NEIGHBOR_ROOM"]
     #[doc = "          octets are always enough"]
     #[doc = "   told   written on success"]
@@ -596,10 +596,10 @@ extern "C" {
 }
 extern "C" {
     #[doc = " Runs a command, \"configure ..\", \"update\" or \"show ..\", without a line feed; lldpa(1) describes the commands. A show"]
-    #[doc = " command changes nothing: pass its number to lldpa_show_lines to get its lines."]
+    #[doc = " command changes nothing: pass the number of the show to lldpa_show_lines to get the lines."]
     #[doc = "   show   LLDPA_SHOW_NOTHING, or the number of the show, on success"]
     #[doc = "   marks  the frames to send, on success"]
-    #[doc = " Returns 0; or 31 to 38 or LLDPA_NOT_OPEN, which change nothing."]
+    #[doc = " Returns 0, or 31 to 38 or LLDPA_NOT_OPEN. On an error nothing changes."]
     pub fn lldpa_command(
         agent: *mut lldpa_agent,
         line: *const u8,

@@ -10,7 +10,7 @@ use alloc::vec::Vec;
 pub struct Sent {
     /// The number of the port, from 0, in the order of the options.
     pub port: u8,
-    /// The kind of the frame.
+    /// Which kind of frame to send.
     pub mark: Mark,
 }
 
@@ -42,22 +42,22 @@ pub struct Commanded {
 pub struct Ticks {
     /// The number of seconds that were counted.
     pub taken: u32,
-    /// The number of neighbors that aged out at the last of them.
+    /// The number of neighbors that aged out at the last of these seconds.
     pub aged_out: u32,
-    /// The frames to send at the last of them.
+    /// The frames to send at the last of these seconds.
     pub sent: Vec<Sent>,
 }
 
 numbered! {
     /// The status of a port.
     Status {
-        /// It receives and transmits.
+        /// The port receives and transmits.
         RxAndTx = 0,
-        /// It only receives.
+        /// The port only receives.
         RxOnly = 1,
-        /// It only transmits.
+        /// The port only transmits.
         TxOnly = 2,
-        /// It neither receives nor transmits.
+        /// The port neither receives nor transmits.
         Disabled = 3,
     }
 }

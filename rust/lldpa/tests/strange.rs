@@ -1,6 +1,6 @@
-//! Checks that no call accepts an unknown answer or version as success. The archive for this test,
-//! by `tools/library/check-library.py`, returns 77 from each call except `lldpa_open`, and another
-//! version if `LLDPA_STRANGE` is set.
+//! Checks that no call accepts an unknown answer or version as success. In the archive that
+//! `tools/library/check-library.py` builds for this test, `lldpa_open` returns 0, the other calls
+//! return 77, and the version is wrong if `LLDPA_STRANGE` is set.
 
 use lldpa::{
     examine, fault_text, Agent, Builder, CommandFault, Machine, Mark, OpenFault, Options, PduFault,

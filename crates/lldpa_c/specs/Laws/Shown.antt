@@ -23,7 +23,7 @@ use Rattle.lldpa_c.specs.Held.{TellsNeighbor}
 use Rattle.lldpa_c.specs.Settings.{statistics_of, TellsConfiguration}
 use Rattle.lldpa_c.specs.Values.{tlv_value}
 
--- each number with the key of its line
+-- each counter, with the key of its line in `show statistics`
 abbrev pub counters_told : LldpaStatistics → List (List ℕ × ℕ)
 counters_told told =
     (codes "sent=", told.sent)
@@ -58,8 +58,8 @@ pub record AreShown : Type 0 where
       slice_get (neighbor_lines name number neighbor) 3 ≡ Some (neighbor_key name number ++ (codes "expires=" ++ decimal told.left))
   pub ports : (agent : AgentState) (port : ℕ) → (has_no_port agent port ≡ false) ↔ IsPort agent port
 
--- The texts of TLVs equal the lines of `show neighbors` after `lldp.PORT.N.`: a neighbor's first
--- line for its Chassis ID, its second line for its Port ID, and the lines of its kept TLVs.
+-- The text of a TLV is a line of `show neighbors` after `lldp.PORT.N.`: the neighbor's first line
+-- for the Chassis ID, the second line for the Port ID, and a line for each kept TLV.
 pub record AreLines : Type 0 where
   pub chassis : (name : List ℕ) (number : ℕ) (neighbor : Neighbor) → IsIdentifier neighbor.msap.chassis →
       option_map (λ text. neighbor_key name number ++ text) (tlv_value 1 neighbor.msap.chassis) ≡ slice_get (neighbor_lines name number neighbor) 0
@@ -67,7 +67,7 @@ pub record AreLines : Type 0 where
       option_map (λ text. neighbor_key name number ++ text) (tlv_value 2 neighbor.msap.port) ≡ slice_get (neighbor_lines name number neighbor) 1
   pub kept : (key : List ℕ) (tlv : TlvUnit) → IsKeptTlv tlv → option_map (λ text. key ++ text) (tlv_value tlv.kind tlv.body) ≡ Some (kept_line key tlv)
 
--- The fields of the two bodies are these octets: each set of capabilities is a pair of octets; the
+-- The fields equal these octets of the two bodies: each set of capabilities is two octets, the
 -- family is the second octet, and the numbering is the octet after the address.
 pub record AreRead : Type 0 where
   pub capabilities : (body : List ℕ) (told : LldpaCapabilities) → caps_of body ≡ Some (caps_told told) →

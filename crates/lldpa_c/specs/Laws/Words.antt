@@ -5,7 +5,7 @@ use Rattle.lldp_text.specs.declared.fault.CommandFault.TheVariants.{Unknown, NoS
 use Rattle.lldp_text.specs.Fault.{text_of}
 use Rattle.lldpa_c.specs.Texts.{words_of}
 
--- faults of LLDPDUs, from 1 on
+-- descriptions of the faults of LLDPDUs, from number 1 on
 abbrev pub pdu_words : List (List ℕ)
 pdu_words =
     codes "no complete TLV where a mandatory one belongs"
@@ -17,14 +17,14 @@ pdu_words =
     ∷ codes "the Time To Live has fewer than 2 octets"
     ∷ codes "a mandatory TLV is repeated after the third" ∷ []
 
--- faults of TLVs that are built, from 11 on
+-- descriptions of the faults of TLVs that are built, from number 11 on
 abbrev pub tlv_words : List (List ℕ)
 tlv_words =
     codes "it does not fit in 1500 octets"
     ∷ codes "a TLV of its type may not be put"
     ∷ codes "its body is not well formed for its type" ∷ []
 
--- faults of opening, from 21 on
+-- descriptions of the faults of opening, from number 21 on
 abbrev pub opening_words : List (List ℕ)
 opening_words =
     codes "there was no memory"
@@ -34,11 +34,11 @@ opening_words =
     ∷ codes "two ports have the same name"
     ∷ codes "the hostname is over 255 octets, or has one that is not printable" ∷ []
 
--- faults of commands, from 31 on: the lines that report them, without the `error: ` at the start
+-- descriptions of the faults of commands, from 31 on: their error lines without `error: `
 abbrev pub command_words : List (List ℕ)
 command_words = map (λ fault. drop 7 (text_of fault)) (Unknown ∷ NoSuchPort ∷ Number ∷ Range ∷ Text ∷ Extra ∷ Quote ∷ InUse ∷ [])
 
--- misuses, from 100 on
+-- descriptions of the other errors, from number 100 on
 abbrev pub misuse_words : List (List ℕ)
 misuse_words =
     codes "a number or a length is not in its range"
@@ -52,7 +52,7 @@ misuse_words =
 abbrev pub no_words : ℕ → List (Option (List ℕ))
 no_words count = replicate count None
 
--- Each number has this description, and no other number has one.
+-- The numbers of these lists have these descriptions, and no other number has a description.
 pub record AreWords : Type 0 where
   pub few : map words_of (range_with_len 0 106)
       ≡ no_words 1 ++ map Some pdu_words ++ no_words 2 ++ map Some tlv_words ++ no_words 7 ++ map Some opening_words

@@ -1,4 +1,4 @@
-//! A box as its pointer and allocator, which the parent module can read.
+//! A box, split into its pointer and its allocator, which the parent module can read.
 ghost use Rattle.std.specs.Prelude.{◌≡◌};
 ghost use Rattle.std.specs.Box.Ownership.{box_owns};
 

@@ -7,11 +7,11 @@ use Rattle.lldpa_c.specs.declared.build.LldpaTlv.{LldpaTlv}
 use Rattle.lldpa_c.specs.Building.{tlv_of, fault_number, put_unless, put_all, put_faults}
 use Rattle.lldpa_c.proofs.build.put_each.Goals as goal
 
--- the TLVs from index i on
+-- the TLVs from index i on are TLV i, and the TLVs from index i + 1 on
 units_more : (ts : List LldpaTlv) (i : ℕ) (d : LldpaTlv) → i < length ts → drop i (map tlv_of ts) ≡ tlv_of (get_or ts i d) ∷ drop (i + 1) (map tlv_of ts)
 units_more ts i d h = drop-map tlv_of i ts ∙ ap (map tlv_of) (drop_more ts i d h) ∙ ap (λ (us : List TlvUnit). tlv_of (get_or ts i d) ∷ us) (sym (drop-map tlv_of (i + 1) ts))
 
--- the list from index i on is its first element and the list from i + 1 on
+-- if `xs` from index i on is x and ys, then element i is x, and `xs` from i + 1 on is ys
 rest_tells : (xs ys : List ℕ) (i x : ℕ) → x ∷ ys ≡ drop i xs → (get_or xs i 0 ≡ x) × (drop (i + 1) xs ≡ ys)
 rest_tells xs ys i x h = (
   ap (λ (n : ℕ). get_or xs n 0) (omega arith) ∙ sym (get_or-drop i xs 0 0) ∙ ap (λ (zs : List ℕ). get_or zs 0 0) (sym h),

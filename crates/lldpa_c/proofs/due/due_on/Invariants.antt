@@ -2,6 +2,6 @@ use Rattle.std.proofs.Common.{◌≡◌, drop}
 use Rattle.lldpa_c.specs.Due.{sooner, due_on}
 use Rattle.lldpa_c.proofs.due.due_on.Given as goal
 
--- the minimum of the ports so far and of the remaining ports is that of all ports
+-- the minimum over the ports so far and the remaining ports is the minimum over all ports
 abbrev pub invariant-loop-port : goal.invariant-loop-port
 invariant-loop-port l = sooner l.due (due_on (drop l.port l.agent.ports)) ≡ due_on l.agent.ports

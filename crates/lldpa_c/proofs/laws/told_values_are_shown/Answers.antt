@@ -38,7 +38,7 @@ returns-clause-lines c = record {
   kept = λ key tlv h. rw (kept_may tlv h, ne_eqb tlv.kind 1 (λ e. absurd (omega (arith, e, h.least))), ne_eqb tlv.kind 2 (λ e. absurd (omega (arith, e, h.least)))) refl;
 }
 
--- ---- bodies
+-- ---- the bodies of TLVs
 
 there : {X : Type 0} (b : Bool) (fields told : X) → (if b then Some fields else None) ≡ Some told → told ≡ fields
 there true fields told h = cc

@@ -5,7 +5,7 @@ use Rattle.lldpa_c.specs.Filled.{Fills, IsFull}
 use Rattle.lldpa_c.proofs.Coming.{all_come, fills, ends, is_full}
 use Rattle.lldpa_c.proofs.lines.fill.Goals as goal
 
--- the buffer that the sink borrowed is returned as the sink left it
+-- when the sink's borrow ends, the caller's buffer is as the sink left it
 pub returns : goal.returns
 returns c =
     let lines = lines_of c.args.show c.args.agent.now in

@@ -10,13 +10,13 @@ use Rattle.lldpa_c.specs.News.{hears}
 use Rattle.lldpa_c.proofs.Newly.{TellsPdu, hears_it, reports}
 use Rattle.lldpa_c.proofs.news.news_of.Goals as goal
 
--- a field that is read for port i is the field of port i
+-- if field `f` of port i was read as `a`, then `f` of that port is `a`
 own : {A : Type 0} (f : PortState → A) (ports : List PortState) (i : ℕ) (port : PortState) (a : A) → slice_get ports i ≡ Some port → option_map f (slice_get ports i) ≡ Some a → f port ≡ a
 own f ports i port a e h =
     let is : Some (f port) ≡ Some a = sym (ap (option_map f) e) ∙ h in
     cc
 
--- the same for whether the port receives
+-- port i receives if its status, as read, allows receiving and its link, as read, is up
 own_hears : (ports : List PortState) (i : ℕ) (port : PortState) (status : Status) (up : Bool) → slice_get ports i ≡ Some port
     → option_map (λ (p : PortState). p.status) (slice_get ports i) ≡ Some status → option_map (λ (p : PortState). p.machine.up) (slice_get ports i) ≡ Some up
     → receives status ≡ true → up ≡ true → hears port ≡ true

@@ -26,7 +26,7 @@ one_more items ports i n s lt e h told =
     take-set_at items i (i + 1) n refl lt ∙ ap (λ (xs : List ℕ). xs ++ n ∷ []) told ∙ ap (λ (m : ℕ). numbers (take i ports) ++ m ∷ []) e ∙ sym (next_told ports i s h)
     ∙ ap (λ (m : ℕ). numbers (take m ports)) (sym more)
 
--- the elements after the ports so far stay 0
+-- after element i is written, the elements after it are still 0
 others_stay : (items : List ℕ) (i n : ℕ) → drop i items ≡ drop i (replicate 64 0) → drop (i + 1) (set items i n) ≡ drop (i + 1) (replicate 64 0)
 others_stay items i n behind =
     drop-set-lt (i + 1) items i n (omega arith) ∙ sym (drop-drop 1 i items) ∙ ap (drop 1) behind ∙ drop-drop 1 i (replicate 64 0)

@@ -9,7 +9,7 @@ use Rattle.lldp_pdu.specs.Code.Seen.{none_seen, has_flag, is_kept_seen}
 use Rattle.lldp_pdu.proofs.Keeping.{flag_is, flags_none}
 use Rattle.lldpa_c.proofs.values.may_write.Goals as goal
 
--- before any TLV was found, a TLV is kept if it is well formed
+-- if no TLV was found before, a TLV is kept exactly if it is well formed
 kept_first : (u : TlvUnit) → is_kept_seen none_seen u ≡ is_well_formed u
 kept_first u =
     let none : has_flag none_seen u.kind ≡ false = flag_is none_seen (λ kind. false) u.kind flags_none ∙ and-false (is_single u.kind) in

@@ -1,4 +1,4 @@
--- `closed` moves a pointer and an allocator, and owns nothing through the pointer.
+-- The value that `closed` returns owns nothing through its pointer.
 use Rattle.lldpa_c.proofs.ByHand.{refl, sym, subst, false, List, [], ◌∷◌, ◌++◌, Ura, T, Val, has_ty, WT, vstruct, vcons, vnil, SProp, ent, emp, id⊢, ftrue, Memory, Routine, WpFn, Tables, Logic, Fun, tables, tables_of, WpFn-mono, Item, ‵, raw, ◌⊛◌, ◌$◌, ◌∵◌, !, qed, by, move, drop, use1, join, split, fsplit, fjoin, fpack, feq_l, feq_i, suffices, done, agg, no_more, and_then, returns, enter, alloc_all, pass_all, free_all, look_at, get, sets, yes, owns, Valss, Ptr, RawPtr, block_ptr, null_ptr, ptr_val, type_at, plain, nothing, triple_of, entered, says, Stays, stay_dropped, walk_of, ends_at, Goes-dropped, walk_Meets, handle_tells, Fits, α, box_ty, box_typed}
 use denote.Memory.{lone}
 use denote.Struct.Struct.{within}
@@ -25,7 +25,7 @@ Heaps = plain (λ _. Heap.the_row)
 abbrev stayed : Stays (F.ended).signature.params (F.ended).kept
 stayed = (stay_dropped Ptrs yes, (stay_dropped Heaps yes, tt))
 
--- a value for the agent that does not exist
+-- a placeholder for the agent that a closed handle does not have
 abbrev nobody : AgentState
 nobody = record {
   configuration = record { mac = []; role = Station; management = None; credit_max = 0; fast_init = 0; reinit = 0; capacity = 0; hostname = []; description = []; interval = 0; hold = 0; limit = 0 };

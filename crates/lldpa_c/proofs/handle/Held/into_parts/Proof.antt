@@ -1,4 +1,4 @@
--- `into_parts` moves two fields together with what they own.
+-- `into_parts` moves the handle's two fields to the parts, together with what they own.
 use Rattle.lldpa_c.proofs.ByHand.{◌≡◌, refl, sym, subst, Bool, true, List, [], ◌∷◌, ◌++◌, Ura, Val, SProp, ent, id⊢, ftrue, fsep, Memory, Routine, WpFn, Tables, Logic, Fun, fact, tables, tables_of, WpFn-mono, Item, ‵, raw, ◌⊛◌, ◌$◌, ◌∵◌, !, qed, by, move, drop, use1, rewrite, join, split, fsplit, fjoin, suffices, done, whole, sub, agg, stop, fld, no_more, and_then, of_opd, returns, enter, alloc_all, pass_all, free_all, look_at, get, get_in, sets, yes, type_at, nothing, heard, triple_of, entered, says, Stays, stay_dropped, walk_of, ends_at, Goes-dropped, walk_Meets, D, B, word, box_typed, box_out, box_in}
 use Rattle.lldpa_c.proofs.AsBox.{E, FromHeld as From}
 use Rattle.lldpa_c.specs.contracts.handle.Held as Held

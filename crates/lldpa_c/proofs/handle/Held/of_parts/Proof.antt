@@ -1,4 +1,4 @@
--- `of_parts` moves two fields together with what they own.
+-- `of_parts` moves the two fields of the parts to a handle, together with what they own.
 use Rattle.lldpa_c.proofs.ByHand.{refl, sym, subst, true, List, [], ◌∷◌, ◌++◌, Ura, Val, SProp, ent, emp, id⊢, ftrue, fsep, Memory, Routine, WpFn, Tables, Logic, Fun, tables, tables_of, WpFn-mono, Item, ‵, raw, ◌⊛◌, ◌$◌, ◌∵◌, !, qed, by, move, drop, use1, join, split, fsplit, fjoin, suffices, done, whole, sub, agg, stop, fld, no_more, and_then, of_opd, returns, enter, alloc_all, pass_all, free_all, look_at, get, get_in, sets, yes, type_at, nothing, triple_of, entered, says, Stays, stay_dropped, walk_of, ends_at, Goes-dropped, walk_Meets, D, B, word, box_typed, box_out, box_in}
 use Rattle.lldpa_c.proofs.AsBox.{E, FromParts as From}
 use Rattle.lldpa_c.specs.contracts.handle.Held.of_parts as F
