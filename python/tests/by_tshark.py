@@ -1,10 +1,10 @@
-"""For tests: what tshark must show for organizationally specific TLVs as they are read here."""
+"""For tests: what tshark must show for organizationally specific TLVs as lldpa reads them."""
 
 from typing import Any, Callable, Dict, List, Tuple
 
 from lldpa.organizational import LinkAggregation, Tlv
 
-# what tshark shows but is not compared, by reason: keys or parts of keys
+# keys (or parts of keys) that tshark shows and that are not compared, by reason
 LEFT_OUT = {
     "which TLV it is, and its length": (
         "lldp.tlv.", "lldp.orgtlv.oui", "lldp.ieee.802_1.subtype", "lldp.ieee.802_3.subtype",
@@ -35,7 +35,7 @@ def is_left_out(key: str) -> bool:
 
 
 def expected(front: str, values: Dict[str, Any]) -> Pairs:
-    """Returns pairs of a prefixed key and a value as tshark writes it."""
+    """Returns pairs of a key, after the prefix `front`, and a value in tshark's form."""
     return [(front + key, as_shown(value)) for key, value in values.items()]
 
 
@@ -45,8 +45,8 @@ def as_shown(value: Any) -> str:
     return value if isinstance(value, str) else str(int(value))
 
 
-# For each class, what tshark shows: the prefix of its keys, and the rest of each key with the field
-# that it shows, or a function that returns the pairs. tlvs.py fills both.
+# What tshark shows for each class. FIELDS: the prefix of the keys, then the rest of each key with
+# the field that it shows. SHOWN: a function that returns the pairs. tlvs.py fills both.
 FIELDS: Dict[type, Tuple[str, Dict[str, str]]] = {}
 SHOWN: Dict[type, Callable[[Any], Pairs]] = {}
 

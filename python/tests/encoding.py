@@ -6,8 +6,8 @@ from lldpa.organizational import Tlv
 
 
 class Sample(NamedTuple):
-    """The octets of a TLV, and what is read from them. `changed` says how many changes of one octet
-    can still be read, `fronts` which lengths of its beginning. `ignored` bits have no meaning."""
+    """A TLV's octets and their value. `changed`: how many changes of one octet can still be read;
+    `fronts`: which lengths of its beginning can be read; `ignored`: bits without a meaning."""
     kind: Tuple[str, int]
     octets: str
     tlv: Tlv
@@ -35,5 +35,5 @@ def by_layout(tlv: Any, layout: str = "") -> bytes:
 
 
 def counted(octets: bytes) -> bytes:
-    """Returns octets with their number in front."""
+    """Returns the octets, with their number in one octet in front."""
     return bytes([len(octets)]) + octets

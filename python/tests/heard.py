@@ -1,4 +1,4 @@
-"""For tests: receives what a service reports to systemd, on a socket of the test."""
+"""For tests: a socket that receives what a service reports to systemd."""
 
 import os
 import select

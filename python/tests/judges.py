@@ -1,4 +1,4 @@
-"""For tests: compares what lldpcli and tshark show for a frame with what is read here."""
+"""For tests: compares what lldpcli and tshark show for a frame with what lldpa reads."""
 
 from typing import Any, Iterable, Iterator, List, NamedTuple, Tuple
 
@@ -23,7 +23,7 @@ SLIPS = {
 
 
 class Judged(NamedTuple):
-    """A frame, and what lldpcli and tshark show: keys and values, tshark's for each TLV."""
+    """A frame, and the keys and values that lldpcli shows for it, and tshark for each TLV."""
     name: str
     frame: str
     lldpcli: List[Pair]
@@ -52,7 +52,7 @@ def leaves(pairs: List[Pair]) -> Iterator[Pair]:
 
 
 def sender_of_frame(octets: bytes) -> bytes:
-    """Returns the shutdown frame for the sender of a frame."""
+    """Returns a shutdown frame with the identifiers of a frame."""
     rest, kept = octets[14:], octets[:14]
     for _ in range(2):
         length = 2 + int.from_bytes(rest[:2], "big") % 512
@@ -79,7 +79,7 @@ def compare(judged: Iterable[Judged]) -> Tuple[int, List[str]]:
 
 
 def of_frame(one: Judged, neighbor: Neighbor) -> Iterator[Tuple[Any, Any, str]]:
-    """Yields what lldpcli and tshark show for a frame, what they should show, and where."""
+    """Yields what a program shows for a frame, what it should show, and which program this is."""
     tree = neighbors(Told(Show((Port("eth0", 1, 0, False, (neighbor,)),)), {}, {}, 0), None,
                      Depth.DETAILS)
     yield of_tlvs(one.lldpcli), of_tlvs(flat(whole(tree.nodes[0]))), "lldpcli"
@@ -96,5 +96,5 @@ def of_frame(one: Judged, neighbor: Neighbor) -> Iterator[Tuple[Any, Any, str]]:
 
 
 def of_tlvs(pairs: Iterable[Pair]) -> List[Pair]:
-    """Returns the pairs of lldpcli about organizationally specific TLVs that are compared."""
+    """Returns the pairs that are compared: lldpcli's about organizationally specific TLVs."""
     return [(key, value) for key, value in pairs if key.startswith(PARTS) and key not in SLIPS]

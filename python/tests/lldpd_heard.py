@@ -1,4 +1,4 @@
-"""For tests: frames that a real lldpd received, and lldpcli's output of them in the folder lldpd.
+"""For tests: frames that a real lldpd received, and lldpcli's output for them in the folder lldpd.
 
 `clean.*` show CLEAN, received at swp1, and its first frame also at swp2. `odd.*` show ODD, received
 at swp1. `none.*` show no neighbor. `show neighbors details` of lldpcli 1.0.16 wrote them; it writes
@@ -29,7 +29,7 @@ def org(oui: str, subtype: int, content: bytes) -> bytes:
 
 
 def management(address: bytes) -> bytes:
-    """Returns the TLV of a management address, which is given with its subtype in front."""
+    """Returns the TLV of a management address. `address` begins with its subtype."""
     return tlv(8, bytes([len(address)]) + address + b"\x02\0\0\0\1\0")
 
 

@@ -66,7 +66,7 @@ def interface(order: str = "<", name: str = "", resolution: Optional[int] = None
 
 
 def units_of(resolution: Optional[int]) -> int:
-    """Returns how many units a second has by an interface's option."""
+    """Returns the number of time units in a second that an interface's option states."""
     if resolution is None:
         return 10**6
     return 2**(resolution & 127) if resolution & 128 else 10**resolution

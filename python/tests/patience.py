@@ -24,8 +24,8 @@ def eventually(holds: Callable[[], Any], seconds: float = SECONDS) -> Any:
 
 
 def mostly(seconds: Sequence[float]) -> float:
-    """Returns the time that at most half of these times exceed. A standstill or two change it
-    little; a delay that always occurs shows."""
+    """Returns the median. One or two standstills change it little; a delay that always occurs shows
+    in it."""
     return sorted(seconds)[(len(seconds) - 1) // 2]
 
 

@@ -33,7 +33,7 @@ class Replaced(OnLinks):
         self.peers = [self.peer("peer0"), self.peer("peer1")]
 
     def can_make(self, name: str, *words: str) -> bool:
-        """Makes an interface. Returns false if this kernel does not have its kind."""
+        """Makes an interface. Returns false if this kernel does not support its kind."""
         command = ["ip", "-n", self.wires.here, "link", "add", "name", name, *words]
         return subprocess.run(command, check=False, capture_output=True).returncode == 0
 
@@ -55,7 +55,8 @@ class Replaced(OnLinks):
         return read_show(live.ask("show neighbors")).neighbors
 
     def stays(self, before: list[Neighbor], began: float, live: Live) -> None:
-        """Checks that all neighbors are still present, and that their time left has gone on."""
+        """Checks that all neighbors are still present, and that their time left has counted down.
+        """
         after, went = self.neighbors(live), time.monotonic() - began
         self.assertEqual([(one.port, one.place, one.id, one.said) for one in after],
                          [(one.port, one.place, one.id, one.said) for one in before])

@@ -1,4 +1,4 @@
-"""For tests: checks that replayed logs give the tables of some moments, and the sent frames."""
+"""For tests: checks that replays of logs produce the tables of some moments and the sent frames."""
 
 import re
 import shlex
@@ -34,7 +34,7 @@ class Moments:
 
 
 def answers(log: Path, text: str) -> list[str]:
-    """Runs an agent with the words of a log's first line, and returns what it answers to a text."""
+    """Runs an agent with the options in a log's first line. Returns its answers to a text."""
     first = log.read_text().partition("\n")[0]
     run = subprocess.run([PROGRAM, *shlex.split(first[len("# lldpa "):])], input=text,
                          capture_output=True, text=True, check=True)
@@ -65,8 +65,8 @@ def sent(folder: Path, port: str, source: bytes) -> list[bytes]:
 
 
 def differing(folder: Path, moments: Moments) -> list[str]:
-    """Returns what is wrong with the logs of a folder: moments that are not in one file, or whose
-    tables differ."""
+    """Returns what is wrong with the logs of a folder: moments that are not in exactly one file, or
+    whose tables differ."""
     wrong = []
     for line, answer in moments.answers.items():
         found = {log.name: tables for log in sorted(folder.iterdir())

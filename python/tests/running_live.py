@@ -23,7 +23,7 @@ is_built = unittest.skipUnless(os.access(LIVE, os.X_OK),
 
 NO_ADDRESS = "there is no IPv4 address to announce\n"
 
-# if tests run by nohup or in the background, they ignore these, and lldpa-live would inherit that
+# tests under nohup or in the background ignore these, and lldpa-live would inherit that
 signal.signal(signal.SIGINT, signal.default_int_handler)
 signal.signal(signal.SIGHUP, lambda *_: None)
 
@@ -58,7 +58,7 @@ class Live:
         return False
 
     def ask_quietly(self) -> bool:
-        """True if its control socket answers, and there is an agent."""
+        """True if it answers at its control socket that its agent runs."""
         return self.has("live.agent=running")
 
     def ask(self, line: str) -> list[str]:
@@ -102,7 +102,7 @@ class Live:
         return int(Path(f"/proc/{self.process.pid}/schedstat").read_text().split()[0]) / 1e9
 
     def errors(self) -> str:
-        """Returns what it wrote to standard error, except that this host has no address."""
+        """Returns what it wrote to standard error, without the line about a missing address."""
         return "".join(line for line in self.said().splitlines(True) if NO_ADDRESS not in line)
 
     def said(self) -> str:
@@ -138,7 +138,7 @@ class Live:
         return None
 
     def close(self) -> None:
-        """Ends it, whatever its state."""
+        """Ends it, even if it is stopped or hangs."""
         if self.process.poll() is None:
             self.signal(signal.SIGCONT)
             if self.ended() is None:

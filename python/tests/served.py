@@ -128,7 +128,7 @@ class Served:
         return Client(self.path)
 
     def stop(self) -> None:
-        """Ends all connections, and answers nobody any more."""
+        """Ends all connections and accepts no more."""
         with suppress(OSError):
             self.listener.shutdown(socket.SHUT_RDWR)
         self.listener.close()

@@ -38,7 +38,7 @@ class FilesCase(unittest.TestCase):
 
 
 class AnsweringCase(FilesCase):
-    """A test with services that send whatever it wants."""
+    """A test with services that send given octets."""
 
     def answers(self, *octets: bytes, pause: float = 0) -> str:
         """Returns the path of a socket that sends these octets to its first client."""

@@ -1,4 +1,4 @@
-"""Tests that lldpa-live announces a new management address of this host, by a new agent."""
+"""Tests that lldpa-live announces a new management address of this host, with a new agent."""
 
 import os
 import shutil
@@ -49,7 +49,7 @@ class AtPeers(Replaced):
         return path
 
     def is_there(self, address: Optional[str]) -> bool:
-        """True if both peers have this address (or none) from the last frame of this host."""
+        """True if both peers have this address (or none), and it was in this host's last frame."""
         wanted = set() if address is None else {address}
         last = self.captured.read_text().splitlines()[-1]
         return (last == f"121\t{address or ''}"
@@ -57,7 +57,7 @@ class AtPeers(Replaced):
                         for peer in ("peer0", "peer1")))
 
     def is_followed_at(self, interface: str) -> None:
-        """Adds, changes and removes an address, and checks that it is followed."""
+        """Adds, changes and removes an address, and checks that the peers receive each change."""
         live = self.begun()
         self.assertTrue(eventually(lambda: self.is_there(None)))
         before, began, since = self.neighbors(live), time.monotonic(), since_of(live.ask("live"))

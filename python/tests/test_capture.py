@@ -42,7 +42,7 @@ def fault_of(octets: bytes) -> str:
 
 
 class Read(unittest.TestCase):
-    """Tests that packets are read as they were put in."""
+    """Tests that packets are read as they were written."""
 
     def test_each_form(self) -> None:
         for name, form in FORMS.items():

@@ -1,4 +1,4 @@
-"""Tests captures in practice: compressed, from pipes, with set clocks and frames to skip."""
+"""Tests captures in practice: compressed, from pipes, with set clocks and other frames."""
 
 import os
 import random
@@ -82,7 +82,7 @@ class Ports(FilesCase):
                 for place in range(9)]
 
     def compare(self, *words: str) -> None:
-        """Checks that an agent finds the neighbors by the trace that lldpa-capture writes."""
+        """Checks that an agent finds the neighbors with the trace that lldpa-capture writes."""
         trace, *ended = self.ran(*words)
         self.assertEqual(ended, ["", 0])
         shown = subprocess.run([PROGRAM, "--receive-only", *PORTS], text=True, check=True,

@@ -48,7 +48,7 @@ class Answered(OnLinks):
         return rest_of(connection)
 
     def fill(self) -> None:
-        """Makes a show of neighbors longer than what the kernel buffers for a connection."""
+        """Adds neighbors until their show exceeds the kernel's buffer for a connection."""
         for port in ("0", "1"):
             peer = self.peer(f"peer{port}")
             for number in range(128):

@@ -103,7 +103,7 @@ class Paths(AtAPath):
 
 
 class Permission(AtAPath):
-    """Tests what users may do who are neither root nor the owner."""
+    """Tests what users other than root and the owner may do."""
 
     def asker(self, *groups: int, user: int = STRANGER) -> "subprocess.Popen[str]":
         """Starts a process of this user that asks each line that it reads."""

@@ -14,7 +14,7 @@ from patience import eventually
 from served import REPOSITORY
 from support import FilesCase
 
-# makes a user namespace as `nobody`, without capabilities, and prints those that it has there
+# makes a user namespace as `nobody` without capabilities, and prints its capabilities there
 NAMESPACE = """
 import ctypes, os
 libc = ctypes.CDLL(None)
@@ -27,8 +27,7 @@ print(next(line for line in open("/proc/self/status") if line.startswith("CapEff
 
 
 class OthersFolders(FilesCase):
-    """Tests that files in a stranger's folder do not misuse the rights of whoever starts a program
-    there."""
+    """Tests that a program runs no file of the folder in which it is started, nor of PYTHONPATH."""
 
     def test_no_program_runs_code_of_its_environment(self) -> None:
         mark = self.folder / "mark"
@@ -41,7 +40,7 @@ class OthersFolders(FilesCase):
 
 
 class OfRoot(OnLinks):
-    """Tests that root's rights are not misused, and that none is kept."""
+    """Tests that root's rights are not misused, and that none are kept."""
 
     def test_a_link_to_a_folder_is_followed_in_a_folder_of_the_own_user_alone(self) -> None:
         target, theirs = self.folder / "target", self.folder / "theirs"

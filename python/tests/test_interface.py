@@ -21,7 +21,7 @@ class TestFrames(OnLinks):
         self.port = self.live("eth0", "--", "--receive-only")
 
     def takes(self, number: int, octets: bytes) -> bool:
-        """True if a frame of this neighbor is received. A later frame shows when to look."""
+        """True if this frame makes a neighbor of this number. A later frame shows when to look."""
         self.sender.send(octets)
         self.sender.send(numbered(99))
         name = f"ifname=p{number}"

@@ -1,4 +1,4 @@
-"""Compares what is read of organizationally specific TLVs with what lldpcli and tshark show.
+"""Compares how lldpa reads organizationally specific TLVs with what lldpcli and tshark show.
 
 `judged.json` has frames of real senders and made ones, with the output of lldpcli 1.0.16 and
 tshark 4.0.17 for each; `tools/by-hand/try-details.py --save` makes it anew.

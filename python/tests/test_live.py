@@ -56,7 +56,7 @@ class TestStart(OnLinks):
         folder.mkdir(mode=0o755)
         file = folder / "file"
         file.touch()
-        cannot = "the log's user may not create files there"
+        cannot = "lldpa-live's user may not create files there"
         for status, text, *words in (
                 (1, "eth5: there is no such interface", "--only-existing", "eth0", "eth5"),
                 (1, "lo: not an Ethernet interface", "lo"),

@@ -1,4 +1,4 @@
-"""Tests that floods of frames and many ports delay nobody, and that memory does not grow."""
+"""Tests that floods of frames and many ports delay no answer, and that memory does not grow."""
 
 import contextlib
 import re
@@ -15,7 +15,7 @@ from wires import flood, inside
 
 WITHOUT_END = 1_000_000_000
 QUESTIONS = 100
-# an answer is late if lldpa-live works longer than this for it
+# an answer is late if lldpa-live uses more than this many seconds of processor time for it
 LATE = 0.1
 MOST_LATE = QUESTIONS // 10
 MOST_KIB = 8_000

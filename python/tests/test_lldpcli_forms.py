@@ -80,7 +80,7 @@ class BesideLldpcli(unittest.TestCase):
 
 
 class Texts(unittest.TestCase):
-    """Tests names with each octet, and names that could mislead a reader."""
+    """Tests names with each octet, and names that could deceive a reader."""
 
     def forms_of(self, name: bytes) -> Dict[str, str]:
         """Returns all forms for a neighbor with this name."""

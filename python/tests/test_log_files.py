@@ -41,7 +41,7 @@ class StoppedWriter:
         self.trace(PTRACE_DETACH)
 
     def bury(self) -> None:
-        """Waits in the background for the thread's end, or the process would seem to go on."""
+        """Waits in the background for the thread's end: else the process seems to go on."""
         threading.Thread(target=os.waitpid, args=[self.thread, WALL], daemon=True).start()
 
 

@@ -1,4 +1,4 @@
-"""Tests organizationally specific TLVs: each is read completely, and other octets are not read."""
+"""Tests organizationally specific TLVs: valid ones are read completely, and others are not read."""
 
 import unittest
 
@@ -56,8 +56,8 @@ class EachKind(unittest.TestCase):
                 self.assertEqual(count, sample.changed)
 
     def check(self, sample: Sample, octets: bytes) -> bool:
-        """Returns whether octets are read as a TLV. If they are, checks that the TLV and `said_by`
-        have all of them."""
+        """Returns whether octets are read as a TLV. If so, checks that encoding this TLV returns
+        them."""
         tlv = read_tlv(*sample.kind, octets)
         oui, subtype = sample.kind
         shown = (f"{oui}.{subtype}", octets.hex())
@@ -71,7 +71,7 @@ class EachKind(unittest.TestCase):
 
 
 class Forms(unittest.TestCase):
-    """Tests octets that no TLV has, and the meanings of numbers."""
+    """Tests octets that are not a valid TLV, and the meanings of numbers."""
 
     def test_what_is_no_vlan(self) -> None:
         for kind, octets in ((1, "0fff"), (1, "1001"), (2, "060fff"), (3, "0fff00"), (6, "0fff")):

@@ -67,7 +67,7 @@ class Measured(unittest.TestCase):
 
 
 class Mostly(unittest.TestCase):
-    """Tests which time counts if some are long because of the machine."""
+    """Tests the median of times, some of which are long because of the machine."""
 
     def test_half_of_them_may_be_long(self) -> None:
         for times, time in (([3, 9, 1], 3), ([9, 1, 9, 1], 1), ([9, 2, 9], 9), ([4], 4)):

@@ -1,4 +1,4 @@
-"""Tests ports that patterns select, also of interfaces that are added later."""
+"""Tests ports that patterns select, even if their interfaces are added later."""
 
 from lldpa.client import since_of
 from patience import eventually

@@ -1,4 +1,4 @@
-"""Tests that `lldpa-ctl metrics --output` writes a whole file, also if nobody answers."""
+"""Tests that `lldpa-ctl metrics --output` writes a whole file, even if nobody answers."""
 
 import os
 import resource

@@ -1,4 +1,4 @@
-"""Tests lldpa-live between an agent and real links, also faults that occurred there."""
+"""Tests lldpa-live between an agent and real links, with faults that occurred there."""
 
 import re
 import time
@@ -189,13 +189,13 @@ def now() -> float:
 
 
 def seconds_left(shown: list[str]) -> int:
-    """Returns how long the first neighbor in a show is still kept."""
+    """Returns for how many more seconds the first neighbor in a show is kept."""
     return next(int(line.split("=")[1]) for line in shown if ".expires=" in line)
 
 
 def begins_of_its_seconds(live: Live) -> list[tuple[float, float]]:
-    """Counts its seconds for 1.2 seconds. Returns for each count the interval in which its clock
-    must have begun: all overlap if each second is passed on exactly once."""
+    """Reads its count of seconds for 1.2 seconds. Returns for each count the interval in which its
+    clock must have begun. All intervals overlap if each second is passed on exactly once."""
     last, begins = now() + 1.2, []
     while (before := now()) < last:
         live.ask("show chassis")  # it answers after the seconds up to now

@@ -188,7 +188,7 @@ class Refused(unittest.TestCase):
     """Tests that lines that are not a show are reported with their number and text."""
 
     def changed(self, old: str, new: List[str]) -> Tuple[int, List[str]]:
-        """Returns the number of a line, and all lines with others in its place."""
+        """Returns the number of a line, and all lines with others in place of this line."""
         place = ALL.index(old)
         return place + 1, ALL[:place] + new + ALL[place + 1:]
 

@@ -21,8 +21,8 @@ class Restarts(Replaced):
         self.state = self.folder / "state"
 
     def ended(self) -> tuple[list[Neighbor], float, dict[tuple[str, str], str]]:
-        """Runs an lldpa-live until it ends. Returns its neighbors, the moment, and since when it
-        heard each."""
+        """Runs an lldpa-live until it ends. Returns its neighbors, when it was asked for them, and
+        since when it heard each."""
         live = self.begun("--state", str(self.state))
         since = since_of(live.ask("live"))
         neighbors, moment = self.neighbors(live), time.monotonic()
@@ -64,7 +64,7 @@ class Restarts(Replaced):
         for octets, why in ((whole[:-3], "it is not complete"), (b"x" * 99, "it is not complete"),
                             (old + rest, "it is too old"),
                             (first.replace(b".", b"0", 1) + b"\n" + rest, "it is not complete"),
-                            (booted + rest, "booted since"), (was_set + rest, "clock was set"),
+                            (booted + rest, "rebooted since"), (was_set + rest, "clock was set"),
                             (whole.replace(b"\nrx ", b"\nupdate\nrx ", 1), "a malformed line"),
                             (whole.replace(b"# since eth0", b"# since eth7", 1), "name different"),
                             (b"\xff" + whole, "it is not complete")):

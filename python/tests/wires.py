@@ -106,7 +106,7 @@ for number in range(int(sys.argv[2])):
 
 
 def flood(wires: Wires, end: str, frames: list[bytes], count: int) -> subprocess.Popen[bytes]:
-    """Starts a program that sends `count` frames at an end as fast as it can, in turn."""
+    """Starts a program that sends these frames in turn, `count` in all, as fast as it can."""
     with inside(wires.there):
         sender = subprocess.Popen([sys.executable, "-c", FLOOD, end, str(count)],
                                   stdin=subprocess.PIPE)

@@ -1,6 +1,6 @@
-"""Takes the place of the package `lldpa`, since `unittest discover` searches only this folder.
+"""Imports the package `lldpa` in place of this one.
 
-It puts the package's folder first in Python's search path, and imports the package instead.
+`unittest discover` searches only this folder, so this module adds the package's folder.
 """
 import importlib
 import sys

@@ -1,8 +1,8 @@
-//! Opens the agent, and replaces it when the ports or the management address change. A new agent is
-//! opened beside the old one and given lines that bring it to the same state: the settings in
-//! force, and each neighbor's last LLDPDU with the seconds between them. Then the old one is
-//! closed. Later log files of a session begin with these lines; a saved state has those of the
-//! tables.
+//! Opens the agent, and replaces it when the ports or the management address change. The new agent
+//! is opened while the old one still runs, and is given lines that bring it to the same state: the
+//! settings in force, then each neighbor's last LLDPDU and the seconds between these LLDPDUs. Then
+//! the old agent is closed. Each later log file of a session begins with such lines. A saved state
+//! contains only those that rebuild the tables.
 
 use crate::links::Mac;
 use crate::options::AgentOptions;
@@ -51,7 +51,7 @@ pub fn set_status(port: &str, status: Status) -> Line {
     Line::Command(format!("configure ports {port} lldp status {status}"))
 }
 
-/// Returns the status that receives like this one but does not send.
+/// Returns the status that receives like this one but never sends.
 fn without_sending(status: Status) -> Status {
     match status {
         Status::RxAndTx => Status::RxOnly,
@@ -60,7 +60,7 @@ fn without_sending(status: Status) -> Status {
     }
 }
 
-/// Adds commands around these lines: first the ports stop sending, at the end they send again.
+/// Puts these lines between commands that stop the ports' sending and commands that resume it.
 pub fn unsent(names: &[String], status: impl Fn(&String) -> Status, lines: Vec<Line>) -> Vec<Line> {
     let quiet = names.iter().map(|name| set_status(name, without_sending(status(name))));
     let sends = names.iter().filter(|name| without_sending(status(name)) != status(name));
@@ -80,7 +80,7 @@ fn frame(port: &str, octets: &[u8]) -> Line {
     Line::Frame(port.into(), frame)
 }
 
-/// Returns the line of an LLDPDU that contains only the Chassis ID, the Port ID and the TTL.
+/// Returns the line of an LLDPDU that has only these identifiers and this time to live.
 fn made(port: &str, msap: &Msap<'_>, ttl: u32) -> Line {
     let mut octets = Vec::new();
     for (kind, body) in [(1u16, msap.chassis), (2, msap.port), (3, &(ttl as u16).to_be_bytes()[..])] {
@@ -90,7 +90,7 @@ fn made(port: &str, msap: &Msap<'_>, ttl: u32) -> Line {
     frame(port, &octets)
 }
 
-/// An open agent, and what it was opened with.
+/// An open agent and the values that it was opened with.
 pub struct Running {
     pub agent: Agent,
     pub names: Vec<String>,
@@ -100,7 +100,7 @@ pub struct Running {
 }
 
 impl Running {
-    /// Opens an agent and gives it these lines. Frames that its ports would send are discarded.
+    /// Opens an agent and gives it these lines. Frames that its ports want to send are discarded.
     pub fn open(
         options: &AgentOptions,
         names: Vec<String>,
@@ -132,7 +132,7 @@ impl Running {
         self.names.iter().position(|port| port == name).map(|place| place as u8)
     }
 
-    /// Gives the agent a line and returns the ports that send. A refused line changes nothing.
+    /// Gives the agent a line. Returns which ports send a frame. A refused line changes nothing.
     pub fn take(&mut self, line: &Line) -> Vec<Sent> {
         let sent = match line {
             Line::Command(line) => self.agent.command(line).map(|done| done.sent).ok(),
@@ -155,7 +155,7 @@ impl Running {
         sent
     }
 
-    /// Returns the value of a key of `show chassis`, without the escapes.
+    /// Returns the value of this key in `show chassis`, without escapes.
     pub fn chassis(&self, key: &str) -> String {
         let show = self.agent.show(Show::Chassis);
         let front = format!("local-chassis.{key}=");
@@ -163,9 +163,9 @@ impl Running {
         value.replace("\\\\", "\\")
     }
 
-    /// Returns the lines that rebuild the tables of these ports, and how many seconds pass in them.
-    /// First comes a short LLDPDU of each neighbor, in the order of the tables; then each
-    /// neighbor's last LLDPDU, in the order of arrival.
+    /// Returns lines that rebuild the tables of these ports, and the number of seconds in these
+    /// lines. First comes a short LLDPDU of each neighbor, so that the tables keep their order;
+    /// then each neighbor's last LLDPDU, in the order of arrival.
     pub fn tables(&self, names: &[String]) -> (Vec<Line>, u32) {
         let (mut lines, mut last) = (Vec::new(), Vec::new());
         for (port, name) in self.names.iter().enumerate().filter(|one| names.contains(one.1)) {
@@ -188,22 +188,22 @@ impl Running {
         (lines, oldest)
     }
 
-    /// Returns the lines that bring an agent of these ports, without sending, to the state of this
-    /// one. `full` lists the ports that had no room for a neighbor, and how many seconds it would
-    /// have stayed; `downs` lists the ports without a link.
+    /// Returns the lines that bring an agent of these ports to the state of this one, without
+    /// sending. Ports that this agent lacks get the status `new`. `full` lists ports in the
+    /// too-many-neighbors condition with its remaining seconds, `downs` the ports without a link.
     pub fn head(&self, names: &[String], new: Status, full: &[(String, u32)], downs: &[String]) -> Vec<Line> {
         let told = self.agent.configuration();
         let status = |name: &String| self.number(name).map_or(new, |place| told.status[usize::from(place)]);
         let limit = |number: u32| Line::Command(format!("configure lldp max-neighbors {number}"));
         let (tables, oldest) = self.tables(names);
         let mut lines = Vec::new();
-        let name = Some(self.chassis("name")).filter(|name| !name.contains('"')); // no command sets a quote
+        let name = Some(self.chassis("name")).filter(|name| !name.contains('"')); // no command can set it
         lines.extend(name.map(|name| set_text("hostname", &name)));
         lines.push(set_text("description", &self.chassis("descr")));
         lines.push(Line::Command(format!("configure lldp tx-interval {}", told.interval)));
         lines.push(Line::Command(format!("configure lldp tx-hold {}", told.hold)));
         for (port, left) in full {
-            // Restores the too-many condition: with room for one neighbor, it drops a second.
+            // Restores the too-many-neighbors condition: a second neighbor is over a limit of 1.
             let named = |name: &'static [u8], ttl| made(port, &Msap { chassis: name, port: name }, ttl);
             let dropped = named(b"\x07dropped", MOST_TTL.min(left + oldest));
             lines.extend([limit(1), named(b"\x07held", MOST_TTL), dropped, named(b"\x07held", 0)]);

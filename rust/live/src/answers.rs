@@ -9,9 +9,9 @@ use crate::settings::{self, explained, first_word, Setting, LONGEST_LINE};
 use crate::since;
 use lldpa::Status;
 
-/// How long clients are answered at a time, before other work continues.
+/// The longest time in which clients are answered before other work continues.
 const MOST_AT_ONCE: i64 = SECOND / 10;
-/// How often to check what some systems do not report: a new host name, a removed control socket.
+/// The time between checks for a new host name and a removed socket: some systems report neither.
 const BETWEEN_LOOKS: i64 = 10 * SECOND;
 
 impl Live {
@@ -86,7 +86,7 @@ impl Live {
         text + &since::chassis_lines(self.held().map(|(_, held)| held))
     }
 
-    /// Gives the agent the settings of all files, and reports what was not applied.
+    /// Gives the agent the settings of all files, and reports those that were not applied.
     pub fn settle(&mut self, is_first: bool) {
         let (read, unread) = settings::read(&self.given.config);
         unread.iter().for_each(|line| warn(line));
@@ -125,7 +125,7 @@ impl Live {
         }
     }
 
-    /// Applies a setting, or returns why it is refused. It waits for a port that a pattern may add.
+    /// Applies a setting. Returns why it is refused, unless a pattern may still add its port.
     fn why_refused(&mut self, setting: &Setting) -> Option<String> {
         let word = first_word(&setting.line);
         if setting.line.len() > LONGEST_LINE {
@@ -141,9 +141,9 @@ impl Live {
     }
 }
 
-/// Returns the answer to a line that is not passed on: it is too long, empty, a comment, an event
-/// that only lldpa-live may report, a change without permission, or unknown. Otherwise returns
-/// None.
+/// Returns the answer to a line that is refused or ignored: one that is too long, empty, a comment
+/// or unknown, an event that only lldpa-live may report, or a change without permission. Returns
+/// None for all other lines.
 pub fn refusal(line: &[u8], may_change: bool) -> Option<&'static str> {
     let word = first_word(line);
     let first = line.iter().find(|octet| !b" \t".contains(octet));

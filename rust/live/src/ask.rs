@@ -12,7 +12,7 @@ const PATIENCE: i64 = 10 * SECOND;
 const MOST_OCTETS: usize = 128 << 20;
 const REFUSAL: &[u8] = b"error: ";
 
-/// Sends a line, prints its answer and returns the exit status. Reads without root's rights.
+/// Sends a line, prints the answer and returns the exit status. Drops root's rights once connected.
 pub fn ask(path: &str, line: &str) -> Result<i32> {
     let moment = clock::now() + PATIENCE;
     let mut stream = connect(path, Duration::from_secs(10)).map_err(at(path))?;
@@ -31,7 +31,7 @@ pub fn ask(path: &str, line: &str) -> Result<i32> {
     Ok(0)
 }
 
-/// Reads an answer, a line `=N` and N lines, until this moment at the latest.
+/// Reads an answer: a line `=N`, then N lines. Fails if it is not complete at this moment.
 fn read(stream: &mut UnixStream, moment: i64) -> Result<Vec<u8>> {
     let wrong = |what: &str| Err(Error::new(ErrorKind::Other, what));
     let (mut answer, mut room, mut lines) = (Vec::new(), [0u8; 65536], 0);

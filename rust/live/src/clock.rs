@@ -4,10 +4,10 @@ use crate::sys;
 
 pub const SECOND: i64 = 1_000_000_000;
 pub const MILLISECOND: i64 = 1_000_000;
-/// The greatest error of the difference between the clocks, and so of a stamp's moment.
+/// The greatest error in the difference between the clocks, and so in the moment of a stamp.
 pub const INEXACT: i64 = MILLISECOND;
 
-/// Reads a clock in nanoseconds: 0 counts since 1970, 1 since boot without suspend, 7 since boot.
+/// Reads a clock in nanoseconds. Clock 0 starts in 1970, 1 and 7 start at boot; 1 stops in suspend.
 pub fn read(number: i32) -> i64 {
     let mut time = [0; 2];
     let _ = sys::time(number, &mut time);
@@ -34,8 +34,8 @@ impl Clock {
         Clock { begin: now(), given: 0, ahead: wall_clock_ahead() }
     }
 
-    /// Updates the difference between the clocks if it has changed. Otherwise the difference stays,
-    /// so that moments keep the order of their stamps.
+    /// Updates the difference between the clocks if the wall clock was set. Smaller changes are
+    /// ignored, so that moments keep the order of their stamps.
     pub fn note_wall_clock(&mut self) {
         let ahead = wall_clock_ahead();
         if (ahead - self.ahead).abs() > INEXACT {
@@ -43,23 +43,23 @@ impl Clock {
         }
     }
 
-    /// Returns the moment of a stamp of the wall clock (without a stamp: now), never after now.
+    /// Converts a stamp of the wall clock to a moment, but not after now. No stamp means now.
     pub fn moment(&self, stamp: Option<i64>) -> i64 {
         stamp.map_or(i64::MAX, |stamp| stamp - self.ahead).min(now())
     }
 
-    /// Returns how many seconds have ended by this moment and were not given yet.
+    /// Returns how many seconds have ended by this moment and were not yet given to the agent.
     pub fn missing(&self, moment: i64) -> u32 {
         ((moment - self.begin).div_euclid(SECOND) - self.given).clamp(0, i64::from(u32::MAX)) as u32
     }
 
-    /// Returns when this many more seconds, after those already given, will have ended.
+    /// Returns when this many seconds, after those already given to the agent, will have ended.
     pub fn end_of(&self, seconds: u32) -> i64 {
         self.begin + (self.given + i64::from(seconds)) * SECOND
     }
 }
 
-/// Returns how far the wall clock is ahead, by the fastest of three readings.
+/// Returns by how much the wall clock is ahead of `now`, from the quickest of three readings.
 fn wall_clock_ahead() -> i64 {
     let readings = [(); 3].map(|()| {
         let before = now();

@@ -1,6 +1,6 @@
 //! The control socket. A question is a line; its answer is `=N` and N lines. The socket's mode
-//! decides who may connect: 0600, or 0660 for a group. They may do everything. If the mode is 0666,
-//! everybody may ask, but only root, the owner and the group may `configure` and `update`.
+//! decides who may connect: root and the owner with 0600, also a group with 0660. These may do
+//! everything. With 0666 everybody may ask, but only these may `configure` and `update`.
 
 use crate::clock::SECOND;
 use crate::listening::{Listening, Peer};
@@ -14,10 +14,10 @@ use std::io::{ErrorKind, Read, Result, Write};
 use std::os::unix::net::UnixStream;
 
 const MOST_CLIENTS: usize = 64;
-const KEPT: usize = 8; // more places, only for root and the socket's owner
+const KEPT: usize = 8; // further places for root and the socket's owner alone
 const TO_READ: i64 = 10 * SECOND;
 const IDLENESS: i64 = 60 * SECOND;
-const MOST_READS: usize = 64; // of a client at a turn
+const MOST_READS: usize = 64; // from one client in one turn
 const MOST_UNREAD: usize = 64 << 20; // octets of all unread answers together
 
 /// A client's line, and whether the client may change the agent.
@@ -33,7 +33,7 @@ struct Client {
     asked: Vec<u8>,
     is_at_end: bool,
     answer: VecDeque<u8>,
-    /// When it connected or was last answered. Its time limits count from then.
+    /// When the client connected or was last answered. Its time limits run from this moment.
     since: i64,
     is_over: bool,
 }
@@ -50,7 +50,7 @@ impl Client {
         self.is_at_end && self.asked.is_empty() && self.answer.is_empty()
     }
 
-    /// Takes the next line. If it was too long, this is its beginning, which is still too long.
+    /// Removes and returns the next line. Only the first 4,097 octets of a longer line were kept.
     fn next_line(&mut self) -> Vec<u8> {
         let end = self.asked.iter().position(|octet| *octet == b'\n').unwrap_or(self.asked.len());
         let line = self.asked.drain(..end).collect();
@@ -58,7 +58,7 @@ impl Client {
         line
     }
 
-    /// Reads what the client sent, unless a whole line or an answer still waits.
+    /// Reads from the client, unless a whole line still waits or an answer is not yet sent.
     fn read(&mut self) {
         let mut room = [0u8; LONGEST_LINE];
         for _ in 0..MOST_READS {
@@ -76,7 +76,7 @@ impl Client {
         }
     }
 
-    /// Keeps octets that were read. Of a line that is too long it keeps just enough to see that.
+    /// Keeps octets that were read. A line that is too long is cut one octet over the limit.
     fn take(&mut self, octets: &[u8]) {
         let end = octets.iter().position(|octet| *octet == b'\n').unwrap_or(octets.len());
         let room = (LONGEST_LINE + 1).saturating_sub(self.asked.len());
@@ -101,9 +101,9 @@ impl Client {
 pub struct Control {
     pub listening: Listening,
     clients: Vec<Client>,
-    /// The place of the client that is answered next.
+    /// The place at which the search for the next question begins.
     next: usize,
-    /// When clients are accepted again, after accepting has failed.
+    /// When to accept clients again after a failure.
     pause: i64,
     /// True if the socket was removed and could not be made again.
     is_lost: bool,
@@ -130,7 +130,7 @@ impl Control {
         unread.map(|client| client.since + TO_READ).chain(pause).min()
     }
 
-    /// Accepts clients, reads and sends without waiting. Makes the socket again if it was removed.
+    /// Accepts clients, reads and sends, without waiting. Makes the socket again if it was removed.
     pub fn turn(&mut self, now: i64, is_asked: bool) {
         let _ = self.listening.watch.as_mut().map(|watch| watch.file.read(&mut [0u8; 256]));
         if !self.listening.is_there() {
@@ -165,8 +165,8 @@ impl Control {
         }
     }
 
-    /// Admits a client. If all places are taken, it gets that of the client that has been idle
-    /// longest, and for at least a minute. Without such a client it is refused.
+    /// Admits a client. If all places are taken, it replaces the client that has been idle longest,
+    /// if for at least a minute. Otherwise it is refused.
     fn admit(&mut self, mut stream: UnixStream, now: i64) {
         let peer = Peer::of(&stream);
         let most = if peer.is_preferred(&self.listening.path) { MOST_CLIENTS + KEPT } else { MOST_CLIENTS };
@@ -178,7 +178,7 @@ impl Control {
                 Some(longest) => drop(self.clients.remove(longest)),
                 None => {
                     let _ = stream.write(b"=1\nerror: too many clients\n");
-                    is_over = true; // at the next turn: it may ask first, and then reads this
+                    is_over = true; // only at the next turn, so that a client that asks first can read this
                 }
             }
         }
@@ -214,7 +214,7 @@ impl Control {
         self.clients.iter().any(Client::has_line)
     }
 
-    /// Closes the connections that have waited longest while too many octets of answers are unread.
+    /// While over 64 MiB of answers are unread, ends the connection that was answered longest ago.
     fn end_slowest(&mut self) {
         while self.clients.iter().map(|client| client.answer.len()).sum::<usize>() > MOST_UNREAD {
             let waiting = self.clients.iter_mut().filter(|client| !client.answer.is_empty());

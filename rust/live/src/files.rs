@@ -1,6 +1,6 @@
-//! The files of the log: one after another, of limited size together, with only whole lines. Their
-//! folder is the current folder of the process, so it is found even after its path changes. Each
-//! call may take as long as the disk needs.
+//! Writes the log's files, one after another. Their total size is limited, and each has only whole
+//! lines. Their folder is the current folder of the process, so it is found even if its path
+//! changes. Each call may take as long as the disk needs.
 
 use crate::clock;
 use crate::rights::{at, own_user, User};
@@ -20,9 +20,9 @@ const ENOSPC: i32 = 28;
 const OF_FULL_DISKS: [i32; 3] = [ENOSPC, 122, 27]; // EDQUOT, EFBIG
 const NO_ROOM: &str = "the limit of --log-keep is reached, and there is no older file to remove";
 const MOST_OF_A_SECOND: u32 = 1000; // files that begin in one second
-const LOST_FOUND: &str = "lost+found"; // exists if the folder is a mount point
+const LOST_FOUND: &str = "lost+found"; // exists in the root folder of a file system
 
-/// The files of the current folder, together at most `keep` octets: the oldest are removed.
+/// The log files in the current folder. The oldest are removed to keep all within `keep` octets.
 pub struct Files {
     path: String,
     keep: u64,
@@ -33,9 +33,9 @@ pub struct Files {
     others: Vec<(String, u64)>,
 }
 
-/// Makes a folder the current one, and creates it if it is missing. If it is empty or contains only
-/// logs, `user` becomes its owner, unless everybody may write to it. A symbolic link is followed
-/// only if nobody but root and the current user can have put it there.
+/// Makes a folder the process's current one, and creates it if it is missing. If it is empty or
+/// contains only logs, `user` becomes its owner, unless everybody may write to it. A symbolic link
+/// is followed only if nobody but root and the current user can have put it there.
 pub fn enter(path: &str, user: Option<User>) -> Result<()> {
     let above = Path::new(path).parent().unwrap_or_else(|| Path::new("/"));
     let name = Path::new(path).file_name().unwrap_or_default();
@@ -64,10 +64,10 @@ pub fn enter(path: &str, user: Option<User>) -> Result<()> {
     Ok(())
 }
 
-/// Returns an error if this process may not create files here. It creates none: that could hang.
+/// Returns an error if this process may not create files here. Tries no write, which could hang.
 pub fn check(path: &str) -> Result<()> {
     sys::may_write(".")
-        .map_err(|fault| at(path)(Error::new(fault.kind(), "the log's user may not create files there")))
+        .map_err(|fault| at(path)(Error::new(fault.kind(), "lldpa-live's user may not create files there")))
 }
 
 fn new_file(name: &str, mode: u32) -> Result<File> {
@@ -112,7 +112,7 @@ impl Files {
         self.write(octets)
     }
 
-    /// Creates a file with the present UTC time as name, numbered if that second has others.
+    /// Creates a file named after the present UTC time, and numbers it if that second has others.
     fn make(&mut self) -> Result<()> {
         let now = clock::written(clock::wall().div_euclid(clock::SECOND));
         let second = now.replace(&['-', ':'][..], "");
@@ -156,7 +156,7 @@ impl Files {
         }
     }
 
-    /// Removes the oldest files, but never the current one, until this many more octets have room.
+    /// Removes the oldest files, but never the current one, until there is room for these octets.
     fn make_room(&mut self, octets: u64) -> Result<()> {
         while self.others.iter().map(|one| one.1).sum::<u64>() + self.size + octets > self.keep {
             if self.others.is_empty() {

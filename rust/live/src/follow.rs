@@ -1,5 +1,5 @@
-//! Follows what changes while the agent runs: interfaces that match patterns, the host's name and
-//! address, the log's file and the state. Replaces the agent if necessary.
+//! Handles changes while the agent runs: of interfaces that patterns select, and of the host's name
+//! and address. Replaces the agent if necessary. Also begins log files and saves the state.
 
 use crate::agent::{lines_text, set_text, Line, Running};
 use crate::clock::{self, SECOND};
@@ -13,9 +13,9 @@ use crate::state;
 use lldpa::Status;
 use std::net::Ipv4Addr;
 
-/// How long a new address, or the lack of a pattern's interface, must last to replace the agent.
+/// How long an address must be new, or a pattern's interface gone, before the agent is replaced.
 const TO_STAY: i64 = 2 * SECOND;
-/// Short enough for a comment with the time in each minute of a log.
+/// The longest wait. It is short enough for a comment with the time in each minute of a log.
 const LONGEST_SLEEP: i64 = 30 * SECOND;
 const BETWEEN_STATES: i64 = 60 * SECOND;
 
@@ -42,13 +42,13 @@ impl Live {
         }
     }
 
-    /// Returns when a missing interface or a new address will have lasted long enough.
+    /// Returns when an interface will have been gone, or an address new, for long enough.
     pub fn next_change(&self) -> Option<i64> {
         let gone = self.ports.all.iter().filter(|port| !port.is_named).filter_map(|port| port.gone_since);
         gone.chain(self.other_management.map(|other| other.1)).min().map(|since| since + TO_STAY)
     }
 
-    /// Adds ports for interfaces that now match a pattern; removes those whose interfaces are gone.
+    /// Adds ports for interfaces that now match a pattern. Removes ports whose interfaces are gone.
     fn follow_ports(&mut self, now: i64) {
         let has_patterns =
             self.given.once.is_none() && self.given.parts.iter().any(|part| patterns::gives(part));
@@ -62,7 +62,7 @@ impl Live {
         {
             return;
         }
-        self.followed = LOOK_AGAIN; // there may be room for another port
+        self.followed = LOOK_AGAIN; // now there may be room for another port
         self.ports.take_out(&gone);
         if names.is_empty() {
             self.running = None;
@@ -103,8 +103,8 @@ impl Live {
         self.was_missing = is_missing;
     }
 
-    /// Replaces the agent with one for these ports and this address. Returns false if it cannot be
-    /// opened; then the present one stays.
+    /// Replaces the agent with one for these ports and this address. If the new one cannot be
+    /// opened, returns false and keeps the present one.
     fn replace(&mut self, names: Vec<String>, management: Option<Ipv4Addr>) -> bool {
         let (lines, options) = (self.head(&names), &self.given.agent);
         let (mac, hostname) = match &self.running {
@@ -144,7 +144,7 @@ impl Live {
         }
     }
 
-    /// Gives the agent the host's changed name, unless an option or a command named the agent.
+    /// Gives the agent the host's new name, unless an option or a command has set the agent's name.
     pub fn follow_name(&mut self) {
         let name = crate::sys::host_name();
         if name == self.host_name || self.given.agent.hostname.is_some() {
@@ -174,7 +174,7 @@ impl Live {
         self.manager.turned(clock::now());
     }
 
-    /// Returns when the next turn must begin. `due` is when the agent next acts by itself.
+    /// Returns when the next turn must begin. `due` is when the agent next acts without input.
     pub fn deadline(&self, now: i64, due: Option<i64>) -> i64 {
         let of_agent = |moment: Option<i64>| moment.filter(|_| self.running.is_some());
         let is_refused = self.ports.all.iter().any(|port| port.is_refused());

@@ -1,4 +1,4 @@
-//! Feeds damaged input to each reader, which must not fail:
+//! Feeds damaged input to each reader, and fails if a reader panics:
 //!     LLDPA_FUZZ_SECONDS=600 cargo test --release -- --ignored fuzz
 
 use crate::links::{messages, Links};

@@ -1,4 +1,4 @@
-//! Gives the agent frames and changes of links, and notes and reports what they changed.
+//! Gives the agent frames and link changes, and records and reports the changes to its neighbors.
 
 use crate::agent::{set_status, Line};
 use crate::clock;
@@ -36,7 +36,7 @@ impl Live {
         Some(same.octets().to_vec())
     }
 
-    /// Notes and reports what a frame changed. `before` is the neighbor's previous LLDPDU.
+    /// Records and reports how a frame changed a table. `before` is the neighbor's previous LLDPDU.
     fn take_news(
         &mut self,
         frame: &Frame,
@@ -105,7 +105,7 @@ impl Live {
         Some(())
     }
 
-    /// Empties the table of a port that went down, by disabling the port for a moment.
+    /// Empties the table of a port whose link went down, by disabling the port for a moment.
     pub fn forget(&mut self, name: &str) -> Option<()> {
         let running = self.running.as_ref()?;
         let status = running.agent.configuration().status[usize::from(running.number(name)?)];
@@ -115,7 +115,7 @@ impl Live {
         Some(())
     }
 
-    /// Returns the number of a chassis. It stays the same while any neighbor has that chassis.
+    /// Returns the number of a chassis: that of a neighbor with this chassis, else a new number.
     pub fn number_of(&mut self, chassis: &[u8]) -> u32 {
         let same = self.held().find(|(_, held)| held.msap().chassis == chassis).map(|(_, held)| held.number);
         self.last_number += u32::from(same.is_none());

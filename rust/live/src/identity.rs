@@ -7,8 +7,8 @@ const OS_RELEASE: [&str; 2] = ["/etc/os-release", "/usr/lib/os-release"];
 const MOST_OF_A_DESCRIPTION: usize = 255;
 const MOST_ABOVE: usize = 8; // interfaces, such as a bridge above a bond
 
-/// Returns the MAC address for the chassis ID, if there is one: the permanent address of the first
-/// hardware port, else of the first hardware Ethernet interface, else the first port's address.
+/// Returns the MAC address for the chassis ID: the permanent address of the first hardware port,
+/// else of the first hardware Ethernet interface, else the address of the first port that has one.
 pub fn chassis_address(ports: &[String], links: &Links) -> Option<Mac> {
     let has_address = |one: &&Link| one.is_ethernet && one.address.map_or(false, |mac| mac != [0; 6]);
     let ours = || ports.iter().filter_map(|name| links.named(name)).filter(has_address);
@@ -17,7 +17,7 @@ pub fn chassis_address(ports: &[String], links: &Links) -> Option<Mac> {
 }
 
 /// Returns the management address: the first global IPv4 address of a port, else of an interface
-/// above a port, else of a hardware interface, else of any, by index. None if there is none.
+/// above a port, else of hardware, else of any interface (lowest index first).
 pub fn management_address(ports: &[String], links: &Links) -> Option<Ipv4Addr> {
     let ours = || ports.iter().filter_map(|name| links.named(name));
     let hardware = links.all().filter(|one| one.is_hardware && one.is_ethernet);
@@ -26,7 +26,7 @@ pub fn management_address(ports: &[String], links: &Links) -> Option<Ipv4Addr> {
         .map(|one| one.1)
 }
 
-/// Returns the interfaces above one: its bond, team or bridge, then what is above that, and so on.
+/// Returns the interfaces above this one: its bond, team or bridge, the one above that, and so on.
 fn above<'a>(one: &'a Link, links: &'a Links) -> impl Iterator<Item = &'a Link> {
     std::iter::successors(Some(one), |one| links.known.get(&one.master).map(|one| &one.0))
         .skip(1)
@@ -54,7 +54,7 @@ pub fn description() -> Option<String> {
 mod tests {
     use super::*;
 
-    /// Makes `Links` of interfaces, given by their names and whether each is hardware.
+    /// Returns `Links` with these interfaces: their names, and whether they are hardware.
     fn links(kinds: &[(&str, bool)]) -> Links {
         let mut links = Links::over(std::fs::File::open("/dev/null").expect("a file"));
         for ((name, is_hardware), index) in kinds.iter().zip(1..) {

@@ -1,5 +1,5 @@
-//! Follows the interfaces of this network namespace and their global IPv4 addresses. This needs no
-//! right. Malformed messages are ignored. (linux: netlink.h, rtnetlink.h, if_link.h, if_addr.h)
+//! Follows the interfaces of this network namespace and their global IPv4 addresses. No right is
+//! needed. Ignores malformed messages. (linux: netlink.h, rtnetlink.h, if_link.h, if_addr.h)
 
 use crate::sys;
 use crate::waiting::Awaited;
@@ -33,7 +33,7 @@ pub struct Link {
     pub is_there: bool,
     pub is_running: bool,
     pub is_ethernet: bool,
-    /// True for a device (also a switch's port, of kind `dsa`), false if software made it.
+    /// True for a device or a switch's port (kind `dsa`), false for an interface made by software.
     pub is_hardware: bool,
     pub address: Option<Mac>,
     pub permanent: Option<Mac>,
@@ -41,16 +41,16 @@ pub struct Link {
     pub master: i32,
 }
 
-/// The known interfaces and addresses, each with the number of the last list that contained it.
+/// The known interfaces and addresses, each with the value of `list` when it was last reported.
 pub struct Links {
     pub socket: Awaited<File>,
     room: Vec<u8>,
     pub known: BTreeMap<i32, (Link, u64)>,
-    /// Each with the index of its interface, in the kernel's order.
+    /// The addresses with the indexes of their interfaces, in the kernel's order.
     pub addresses: Vec<((i32, Ipv4Addr), u64)>,
     /// Counts the changes of interfaces and addresses.
     pub changes: u64,
-    /// The number of the list that was asked for last.
+    /// The number of the last request for lists of all interfaces and addresses.
     list: u64,
     /// How many lists are still to come: first the interfaces, then the addresses.
     lists_to_come: u8,
@@ -76,7 +76,7 @@ impl Links {
         Links { socket, room, known, addresses, changes: 0, list: 0, lists_to_come: 0, is_stale: false }
     }
 
-    /// Requests the list of all interfaces, which arrives as news. A list of addresses follows.
+    /// Requests a list of all interfaces, which arrives as news. A list of addresses follows it.
     fn ask(&mut self) -> Result<()> {
         self.list += 1;
         self.lists_to_come = 2;
@@ -92,7 +92,7 @@ impl Links {
         self.socket.file.write_all(&message)
     }
 
-    /// Returns the news that arrived, in order. If the kernel lost some, requests the lists again.
+    /// Returns the news of interfaces, in order. If the kernel lost some, requests the lists again.
     pub fn read(&mut self) -> Result<Vec<Link>> {
         let mut news = Vec::new();
         let mut room = std::mem::take(&mut self.room);
@@ -136,7 +136,7 @@ impl Links {
         }
     }
 
-    /// Ends a list. Interfaces or addresses that it did not contain are gone.
+    /// Handles the end of a list: interfaces or addresses that it did not contain are gone.
     fn end_list(&mut self, news: &mut Vec<Link>) {
         self.lists_to_come = if self.is_stale { 0 } else { self.lists_to_come.saturating_sub(1) };
         let list = self.list;
@@ -195,7 +195,7 @@ fn number(octets: &[u8], at: usize) -> Option<u32> {
     Some(u32::from_ne_bytes(octets.get(at..at + 4)?.try_into().ok()?))
 }
 
-/// Splits octets into parts at multiples of four. `length_of` reads the length at each beginning.
+/// Splits octets into parts, aligned to four octets. `length_of` reads the first part's length.
 fn parts(octets: &[u8], least: usize, length_of: fn(&[u8]) -> Option<usize>) -> impl Iterator<Item = &[u8]> {
     let mut rest = octets;
     std::iter::from_fn(move || {
@@ -221,7 +221,7 @@ fn text(octets: &[u8]) -> String {
     String::from_utf8_lossy(octets.split(|octet| *octet == 0).next().unwrap_or(&[])).into_owned()
 }
 
-/// Returns the interface in a message. None if it is malformed, or about a bridge's port.
+/// Returns the interface in a message. None if the message is malformed or about a bridge's port.
 fn link_of(body: &[u8], is_there: bool) -> Option<Link> {
     let attributes = body.get(16..).filter(|_| body[0] == 0)?;
     let mac = |kind| attribute(attributes, kind).and_then(|octets| Mac::try_from(octets).ok());
@@ -239,7 +239,7 @@ fn link_of(body: &[u8], is_there: bool) -> Option<Link> {
     })
 }
 
-/// Returns the interface's index and the global IPv4 address in a message, if it has them.
+/// Returns the interface's index and the global IPv4 address in a message, if it has an address.
 fn address_of(body: &[u8]) -> Option<(i32, Ipv4Addr)> {
     let attributes = body.get(8..).filter(|_| body[0] == AF_INET && body[3] == 0)?;
     let octets = attribute(attributes, 2).or_else(|| attribute(attributes, 1))?;

@@ -1,4 +1,4 @@
-//! The control socket's path, which one process uses at a time, and the rights of its clients.
+//! Listens at the control socket's path, which one process uses at a time. Checks clients' rights.
 
 use crate::files::O_NOFOLLOW;
 use crate::rights::at;
@@ -21,7 +21,7 @@ const SO_PEERCRED: i32 = 17;
 const SO_PEERGROUPS: i32 = 59;
 const MOST_GROUPS: usize = 256;
 
-/// A listening socket. Until it is dropped, or the process ends, no other lldpa-live uses its path.
+/// A listening socket. Until it is dropped or the process ends, no other lldpa-live uses its path.
 pub struct Listening {
     pub path: String,
     group: Option<u32>,
@@ -43,12 +43,12 @@ impl Listening {
         Ok(Listening { path: path.into(), group, lock: Some(lock), socket, watch: watch(path) })
     }
 
-    /// True if the socket exists, or this user may not look for it.
+    /// True unless the socket is missing. Also true if this user may not look for it.
     pub fn is_there(&self) -> bool {
         !matches!(fs::symlink_metadata(&self.path), Err(fault) if fault.kind() == ErrorKind::NotFound)
     }
 
-    /// Makes a removed socket again, with its group if this user may still set that.
+    /// Creates a removed socket again, with its group if this user may still set that.
     pub fn renew(&mut self) -> Result<()> {
         if fs::symlink_metadata(lock_path(&self.path)).is_ok() {
             self.socket = Awaited::new(listener(&self.path, None)?);
@@ -86,7 +86,7 @@ fn locked(path: &str) -> Result<File> {
     Ok(lock)
 }
 
-/// Removes a socket at which nobody listens any more. Anything else at the path is an error.
+/// Removes a socket on which nobody listens any more. Anything else at the path is an error.
 fn remove_stale(path: &str) -> Result<()> {
     let told = match fs::symlink_metadata(path) {
         Ok(told) => told,
@@ -123,8 +123,8 @@ fn listener(path: &str, group: Option<u32>) -> Result<UnixListener> {
     Ok(socket)
 }
 
-/// Lets a group use the socket at a path. It uses a descriptor, since others who may write to the
-/// folder could replace the file meanwhile.
+/// Lets a group use the socket at a path. Uses a descriptor, since another user who may write to
+/// the folder could replace the file in between.
 fn hand_over(path: &str, group: u32) -> Result<()> {
     let place = OpenOptions::new().read(true).custom_flags(O_PATH | O_NOFOLLOW).open(path)?;
     if !place.metadata()?.file_type().is_socket() {
@@ -135,7 +135,7 @@ fn hand_over(path: &str, group: u32) -> Result<()> {
     fs::set_permissions(&by_number, Permissions::from_mode(0o660))
 }
 
-/// The user and the groups that the process at the other end had when it connected.
+/// The user and the groups that a client's process had when it connected.
 pub struct Peer {
     user: u32,
     groups: Vec<u32>,
@@ -150,8 +150,8 @@ impl Peer {
         Peer { user: told[1], groups }
     }
 
-    /// True if the peer is root, or may write to the socket as its owner or by its group. (The
-    /// kernel checks that at connecting, but the mode may allow everybody, or have changed since.)
+    /// True if the client is root, or may write to the socket as its owner or by its group. (The
+    /// kernel checks clients when they connect, but lets in everybody if the mode is 0666.)
     pub fn may_change(&self, path: &str) -> bool {
         match fs::symlink_metadata(path) {
             _ if self.user == 0 => true,

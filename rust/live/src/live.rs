@@ -1,4 +1,4 @@
-//! Gives the agent received frames, with each second at its place among them, and sends its frames.
+//! Gives the agent the received frames and the seconds in the order of time, and sends its frames.
 
 use crate::agent::{Line, Running};
 use crate::clock::{self, Clock, INEXACT, MILLISECOND, SECOND};
@@ -18,18 +18,18 @@ use std::io::Result;
 use std::net::Ipv4Addr;
 use std::os::unix::io::AsRawFd;
 
-const MOST_TICKS: usize = 65535; // of one line
+const MOST_TICKS: usize = 65535; // seconds in one line
 
-/// A frame that a port sends, and when it was due.
+/// A frame to send at a port, and when it was due.
 struct Outgoing {
     moment: i64,
     port: usize,
     frame: Vec<u8>,
 }
 
-/// What a turn found besides frames.
+/// The result of a turn, apart from the frames.
 pub struct Turn {
-    /// The agent was given everything up to this moment.
+    /// The agent was given all frames and seconds up to this moment.
     moment: i64,
     pub has_signal: bool,
     pub is_asked: bool,
@@ -49,23 +49,23 @@ pub struct Live {
     pub control: Option<Control>,
     pub manager: Manager,
     pub events: Events,
-    /// The announced management address; another one that was found since, and when.
+    /// The announced management address; a different one that was found since, and when.
     pub management: Option<Ipv4Addr>,
     pub other_management: Option<(Option<Ipv4Addr>, i64)>,
-    /// The settings of ports, kept for later ports; how many settings were not applied.
+    /// The port settings in the files, kept for later ports; how many settings were not applied.
     pub settings: Vec<Setting>,
     pub not_taken: usize,
     pub host_name: String,
     /// Becomes ready when the host's name has changed.
     name_file: Option<Awaited<File>>,
-    /// The value of `links.changes` that the ports have followed.
+    /// The value of `links.changes` when the ports were last matched with the interfaces.
     pub followed: u64,
-    /// When the state is written next; when opening an agent may be tried next.
+    /// When to write the state next; when to try next to open an agent.
     pub next_state: i64,
     pub next_try: i64,
     /// When to check the host's name and the control socket: some systems report no changes.
     pub next_look: i64,
-    /// Whether a missing interface was reported; whether a missing address was.
+    /// True if a missing interface was reported; true if a missing address was reported.
     pub is_awaiting: bool,
     pub was_missing: bool,
     pub last_number: u32,
@@ -104,10 +104,10 @@ impl Live {
         })
     }
 
-    /// Waits until something comes in or is due, at most until `last`, and gives the agent what
-    /// came in: frames in the order of their stamps, and each second at its place among them. Links
-    /// that came up are given before the frames, links that went down after them, so no frame is
-    /// lost. For a question it does not wait, and also reads ports that rest.
+    /// Waits for input or a deadline, at most until `last`. Then gives the agent the frames in the
+    /// order of their stamps, with each second at its place among them. Links that came up are
+    /// given before the frames, links that went down after them, so that no frame is lost. If
+    /// `is_question`, does not wait, and also reads ports that rest.
     pub fn turn(&mut self, last: i64, is_question: bool) -> Turn {
         let before = clock::now();
         let due = self.agent_due();
@@ -120,8 +120,8 @@ impl Live {
         let ready = self.ports.ready(&found);
         let is_asked = found.len() > ready.len() + usize::from(has_signal) + usize::from(has_news);
         let left = self.ports.read(&mut self.clock, &ready);
-        // A second in which the agent acts is given when all frames before it are certainly read:
-        // at the next turn if it ended while this turn waited.
+        // If the agent acts at a second that ended while this turn waited, that second is given at
+        // the next turn: then all frames before it have certainly been read.
         let now = clock::now();
         let all = if due.map_or(false, |due| due <= now) { before } else { now };
         let moment = left.map_or(all, |left| left.min(all));
@@ -129,7 +129,7 @@ impl Live {
         Turn { moment, has_signal, is_asked }
     }
 
-    /// Registers each file from which something may come now.
+    /// Registers the files to wait for.
     fn await_files(&mut self, now: i64, is_question: bool) {
         self.signals.wait_for(&self.epoll, IN);
         self.links.socket.wait_for(&self.epoll, IN);
@@ -138,7 +138,7 @@ impl Live {
         self.ports.await_frames(&self.epoll, if is_question { i64::MAX } else { now });
     }
 
-    /// Gives the agent these changes of links, and the frames and seconds up to this moment.
+    /// Gives the agent these link changes, and the frames and seconds up to this moment.
     fn give(&mut self, news: Vec<Link>, moment: i64) {
         if self.running.is_none() {
             return self.await_interface();
@@ -159,12 +159,12 @@ impl Live {
         self.follow();
     }
 
-    /// Returns when the agent next acts by itself.
+    /// Returns when the agent next acts without input.
     fn agent_due(&self) -> Option<i64> {
         self.running.as_ref()?.agent.due().map(|seconds| self.clock.end_of(seconds))
     }
 
-    /// Gives the agent all that came in before a question.
+    /// Gives the agent all input that arrived before a question.
     pub fn catch_up(&mut self) {
         let moment = clock::now() + INEXACT;
         while self.turn(0, true).moment < moment && self.ports.have_more() {}
@@ -194,8 +194,8 @@ impl Live {
         Some(())
     }
 
-    /// Queues the frames of these ports as due at this moment, by the present configuration. A
-    /// queued frame that is a second late is left out when its port sends the next one.
+    /// Builds these ports' frames from the present configuration, and queues them as due at this
+    /// moment. A queued frame that is a second late is left out when its port queues the next one.
     pub fn take_sent(&mut self, sent: &[Sent], moment: i64) {
         let now = clock::now();
         for one in sent {

@@ -1,7 +1,7 @@
-//! The log of a session: the trace that the agent is given, with the time as comments, in files
-//! that a thread writes. lldpa-live never waits for this thread. Lines for a slow disk are kept up
-//! to a limit. Lines over the limit are lost and counted. Then a new file must begin, since a trace
-//! with a gap would replay differently. The thread also writes the state.
+//! The log of a session: the lines that the agent is given, with the time in comments. A thread
+//! writes its files; lldpa-live waits for this thread only at the end. If the disk is slow, lines
+//! are kept up to a limit, and further lines are lost and counted. After a loss a new file must
+//! begin, since a trace with a gap would replay differently. The thread also writes the state.
 
 use crate::clock::{self, SECOND};
 use crate::files::{self, Files};
@@ -20,7 +20,7 @@ const TO_STALL: i64 = 5 * SECOND;
 const BETWEEN_TRIES: i64 = 10 * SECOND;
 const MEGABYTE: u64 = 1_000_000;
 
-/// Writes something, and returns the path of the file.
+/// A job for the thread: writes to a file and returns its path.
 type Work = Box<dyn FnOnce(&mut Files) -> Result<String> + Send>;
 
 #[derive(Default)]
@@ -29,9 +29,9 @@ pub struct Log {
     most: u64,
     keep: u64,
     thread: Option<(Sender<Work>, Receiver<Result<String>>)>,
-    /// The octets and lines of each piece of work that the thread has not finished; 0 for a state.
+    /// The octets and lines of each job that the thread has not finished, both 0 for a state.
     waiting: VecDeque<(usize, u64)>,
-    /// How long the thread's next answer has been awaited, and when that was last checked.
+    /// How long the thread has worked on its present job, and when that was last checked.
     waited: i64,
     looked: i64,
     /// `stalled` or `full`, or empty if all is well.
@@ -44,9 +44,9 @@ pub struct Log {
     /// The size of the file, and the size at which the next one begins; 0 before the first.
     size: u64,
     least: u64,
-    /// The second of the last comment.
+    /// The time in the last comment, in seconds since 1970.
     second: Option<i64>,
-    /// Lines that were not yet given to the thread.
+    /// Lines that the thread was not given yet, and their number.
     kept: String,
     kept_lines: u64,
 }
@@ -56,7 +56,7 @@ impl Log {
         Log { path, most: most * MEGABYTE, keep: keep * MEGABYTE, ..Log::default() }
     }
 
-    /// Begins a file with the agent's command line, and lines that it was given in advance.
+    /// Begins a file with the agent's command line, and lines that bring it to its present state.
     pub fn begin(&mut self, words: &str, lines: &str) {
         self.hand_over();
         self.second = None;
@@ -64,7 +64,7 @@ impl Log {
             let octets = format!("# lldpa {words}\n{lines}").into_bytes();
             let is_late = !self.trouble.is_empty() || self.waiting_octets() + octets.len() > MOST_WAITING;
             if self.waiting_octets() > 0 && is_late {
-                self.is_whole = false; // the file begins later
+                self.is_whole = false; // so that a file is begun later
                 return;
             }
             self.size = octets.len() as u64;
@@ -101,7 +101,7 @@ impl Log {
         }
     }
 
-    /// Gives a state to the thread, unless the disk is already late.
+    /// Gives a state to the thread, unless its present job has lasted 5 seconds.
     pub fn write_state(&mut self, path: &str, octets: Vec<u8>) {
         if self.waited < TO_STALL {
             let path = path.to_string();
@@ -125,7 +125,7 @@ impl Log {
     }
 
     /// Gives the kept lines to the thread, handles its answers, and notes if one is overdue. Time
-    /// in which this process did not run counts as one second at most.
+    /// in which this process was stopped counts as one second at most.
     pub fn turn(&mut self) {
         self.hand_over();
         while let Some(result) = self.thread.as_ref().and_then(|thread| thread.1.try_recv().ok()) {
@@ -183,7 +183,7 @@ impl Log {
         }
     }
 
-    /// True if a new file should begin: this one is large enough, or its disk may work again.
+    /// True if a new file should begin: this one is large enough, or lost lines and a retry is due.
     pub fn wants_beginning(&self) -> bool {
         match self.least {
             0 => false,
@@ -221,12 +221,12 @@ impl Log {
     }
 }
 
-/// Starts a thread that does the work that it receives, until its sender is gone.
+/// Starts a thread that does the jobs that it receives, until the sender is dropped.
 fn start(mut files: Files) -> (Sender<Work>, Receiver<Result<String>>) {
     let (works, theirs) = channel::<Work>();
     let (ours, answers) = channel();
     let work = move || theirs.iter().try_for_each(|work| ours.send(work(&mut files)));
-    // If the thread cannot start, all work counts as waiting.
+    // If the thread cannot start, all jobs stay unfinished.
     let _ = thread::Builder::new().name("log".into()).stack_size(1 << 17).spawn(work);
     (works, answers)
 }

@@ -18,7 +18,7 @@ pub struct Manager {
     status: String,
 }
 
-/// Returns after how many nanoseconds without a sign of life the watchdog acts. None if it is off.
+/// Returns the time that the watchdog allows between signs of life, in nanoseconds. None if off.
 fn watchdog_span() -> Option<i64> {
     let is_other = |pid: String| pid != std::process::id().to_string();
     if var("WATCHDOG_PID").map_or(false, is_other) {
@@ -55,12 +55,12 @@ impl Manager {
         }
     }
 
-    /// Reports that the service reads its settings again; `READY=1` follows.
+    /// Reports that the service reads its settings again. `READY=1` must follow.
     pub fn reloading(&self) {
         self.tell(&format!("RELOADING=1\nMONOTONIC_USEC={}", clock::read(1) / 1000));
     }
 
-    /// Sets what `systemctl status` shows, if it has changed.
+    /// Sets the status that `systemctl status` shows, if it has changed.
     pub fn show(&mut self, status: String) {
         if status != self.status {
             self.tell(&format!("STATUS={status}"));

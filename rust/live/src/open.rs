@@ -1,5 +1,5 @@
-//! Opens the agent as soon as there are a port and an interface for the chassis ID. Gives it the
-//! settings, the neighbors of an earlier lldpa-live, and the links.
+//! Opens the agent as soon as there is a port and a MAC address for the chassis ID. Then gives it
+//! the settings, the neighbors of an earlier lldpa-live, and the state of the links.
 
 use crate::agent::{set_text, unsent, Line, Running};
 use crate::clock::{self, Clock, SECOND};
@@ -13,7 +13,7 @@ use crate::state::Past;
 use lldpa::{OpenFault, Status};
 
 const BETWEEN_TRIES: i64 = 10 * SECOND;
-/// A value of `followed` that makes the ports follow the interfaces again.
+/// A value of `followed` that makes lldpa-live check the interfaces again.
 pub const LOOK_AGAIN: u64 = u64::MAX;
 
 impl Live {
@@ -32,8 +32,8 @@ impl Live {
         warn(why);
     }
 
-    /// Opens the agent, with the neighbors of an earlier one, if there are a port and an interface
-    /// for the chassis ID. Otherwise reports that it waits for an interface.
+    /// Opens the agent, with the neighbors in `past`, if there is a port and a MAC address for the
+    /// chassis ID. Otherwise reports that it waits for an interface.
     pub fn open(&mut self, past: Past) -> Result<(), OpenFault> {
         for name in self.ports.more(&self.given.parts, &self.links) {
             self.ports.add(&name);
@@ -59,7 +59,7 @@ impl Live {
         Ok(())
     }
 
-    /// Gives a newly opened agent the settings, the neighbors of an earlier one, and the links.
+    /// Gives a new agent the settings, the neighbors in `past`, and the state of the links.
     fn begin(&mut self, past: &Past) {
         let text = if self.given.no_description { Some(String::new()) } else { description() };
         text.map(|text| self.command(set_text("description", &text).to_string()));
@@ -92,8 +92,7 @@ impl Live {
         self.manager.show(format!("waiting for an interface: {awaited}"));
     }
 
-    /// Gives the agent the neighbors of an earlier lldpa-live, without sending or reporting
-    /// anything.
+    /// Gives the agent the neighbors of an earlier lldpa-live. Sends and reports nothing.
     fn restore(&mut self, past: &Past) -> Option<()> {
         let running = self.running.as_mut().filter(|_| !past.lines.is_empty())?;
         let is_able = |name: &String| {

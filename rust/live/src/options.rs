@@ -1,4 +1,4 @@
-//! The options of the agent, which follow `--`: those of lldpa(1).
+//! Reads the agent's options, which follow `--`: those of lldpa(1).
 
 use crate::links::Mac;
 use crate::words::{number, split};
@@ -14,7 +14,7 @@ pub struct AgentOptions {
     pub hostname: Option<String>,
     pub management: Option<Ipv4Addr>,
     pub numbers: lldpa::Options<'static>,
-    /// The words of all other options.
+    /// All options except `--mac`, `--hostname` and `--management`, as words.
     words: Vec<String>,
 }
 

@@ -1,5 +1,5 @@
-//! The packet socket of a port. Only opening it needs CAP_NET_RAW. Binding it to an interface, even
-//! anew, joining groups, reading and sending need no right.
+//! The packet socket of a port. Only opening it needs CAP_NET_RAW. Binding it to an interface (even
+//! again), joining groups, reading and sending need no capability.
 
 use crate::sys::{self, SOL_SOCKET};
 use std::fs::File;
@@ -14,13 +14,13 @@ const PACKET_STATISTICS: i32 = 6;
 const ETH_P_ALL: u16 = 3;
 const ETH_P_LLDP: u16 = 0x88cc;
 const LOOPBACK: i32 = 1;
-/// The ends of the group addresses: nearest bridge, non-TPMR bridge and customer bridge.
+/// The last octets of the group addresses: nearest bridge, non-TPMR bridge and customer bridge.
 const GROUPS: [u8; 3] = [0x0e, 0x03, 0x00];
 const ROOM_IN_KERNEL: i32 = 1 << 20;
 pub const LONGEST_FRAME: usize = 1514;
 pub const ROOMS: usize = 16; // frames that one call reads
 pub type Rooms = [[u8; LONGEST_FRAME]; ROOMS];
-/// How many octets are read of a frame that is only counted: fewer than a whole frame has.
+/// The octets kept of a frame that is only counted: fewer than any whole frame has.
 const OF_ANOTHER: u32 = 13;
 
 const LLDP: u32 = ETH_P_LLDP as u32;
@@ -29,12 +29,12 @@ const LLDP: u32 = ETH_P_LLDP as u32;
 #[repr(C)]
 pub struct Step(pub u16, pub u8, pub u8, pub u32);
 
-/// Lets through whole LLDP frames that were received untagged, to the nearest bridge, with at most
-/// 1,514 octets. Of other LLDP frames it lets 13 octets through, to count them. (linux/filter.h)
+/// Keeps LLDP frames that arrived untagged, for the nearest bridge, with at most 1,514 octets. Of
+/// other LLDP frames to group addresses it keeps 13 octets, to count them. (linux/filter.h)
 const FILTER: [Step; 21] = [
     Step(0x30, 0, 0, 0xffff_f004), // 0: how the packet came
-    Step(0x15, 18, 0, 4),          // is it outgoing? then 20
-    Step(0x20, 0, 0, 0),           // 2: the front of the destination
+    Step(0x15, 18, 0, 4),          // outgoing: go to 20
+    Step(0x20, 0, 0, 0),           // 2: the first octets of the destination
     Step(0x15, 0, 16, 0x0180_c200),
     Step(0x28, 0, 0, 12), // 4: the EtherType
     Step(0x15, 4, 0, LLDP),
@@ -42,7 +42,7 @@ const FILTER: [Step; 21] = [
     Step(0x15, 0, 12, 0x88a8),
     Step(0x28, 0, 0, 16), // 8: the EtherType after a tag
     Step(0x15, 9, 10, LLDP),
-    Step(0x28, 0, 0, 4), // 10: the end of the destination
+    Step(0x28, 0, 0, 4), // 10: the last octets of the destination
     Step(0x15, 2, 0, GROUPS[0] as u32),
     Step(0x15, 6, 0, GROUPS[1] as u32),
     Step(0x15, 5, 6, GROUPS[2] as u32),
@@ -51,7 +51,7 @@ const FILTER: [Step; 21] = [
     Step(0x80, 0, 0, 0), // 16: the length
     Step(0x25, 1, 0, LONGEST_FRAME as u32),
     Step(0x06, 0, 0, 0xffff),     // 18: keep the whole frame
-    Step(0x06, 0, 0, OF_ANOTHER), // 19: keep the front
+    Step(0x06, 0, 0, OF_ANOTHER), // 19: keep 13 octets
     Step(0x06, 0, 0, 0),          // 20: drop it
 ];
 

@@ -19,7 +19,7 @@ pub fn is_pattern(part: &str) -> bool {
     part.starts_with('!') || part.contains(&['*', '?', '['][..])
 }
 
-/// True if this can be a port's name or a pattern of such names.
+/// True if this is a valid name of a port or a valid pattern.
 pub fn is_able(part: &str) -> bool {
     let of_pattern = |octet| is_of_name(octet) || b"*?[]^".contains(&octet);
     if !is_pattern(part) {
@@ -40,7 +40,7 @@ fn gives_name(part: &str, name: &str) -> bool {
     gives(part) && matches(part.trim_start_matches('!'), name)
 }
 
-/// True if no `!` pattern excludes this name, or a `!!` pattern adds it all the same.
+/// True if a pattern with `!!` matches this name, or none with a single `!` does.
 fn is_wanted(name: &str, parts: &[String]) -> bool {
     let is_matched = |signs: usize| {
         let of_signs = parts.iter().map(|part| (part, part.trim_start_matches('!')));
@@ -49,8 +49,8 @@ fn is_wanted(name: &str, parts: &[String]) -> bool {
     is_matched(2) || !is_matched(1)
 }
 
-/// True if a pattern adds an interface. The interface must be hardware or also be named, unless the
-/// pattern begins with a letter of a name, as `veth*` does.
+/// True if a pattern adds an interface. A pattern that begins with `*`, `?` or `[` adds only
+/// hardware and interfaces that are also named.
 fn gives_interface(part: &str, one: &Link, parts: &[String]) -> bool {
     let may_be_virtual = !part.trim_start_matches('!').starts_with(&['*', '?', '['][..]);
     gives_name(part, &one.name) && (one.is_hardware || may_be_virtual || parts.contains(&one.name))

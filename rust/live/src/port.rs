@@ -1,4 +1,4 @@
-//! One port: follows the interface of its name, limits what it receives, and sends.
+//! One port: follows the interface with its name, limits received frames, and sends frames.
 
 use crate::clock::SECOND;
 use crate::links::{Link, Mac};
@@ -11,7 +11,7 @@ use std::fs::File;
 use std::io::Write;
 
 const LEAST_FRAME: usize = 14;
-const A_SECOND: i64 = 64; // frames that a port may receive in the long run
+const A_SECOND: i64 = 64; // frames that a port may receive on average
 const AT_ONCE: i64 = 1024; // frames at once: 128 neighbors in fast start send 128 a second for 4 seconds
 
 pub struct Frame {
@@ -24,24 +24,24 @@ pub struct Frame {
 #[derive(Default)]
 pub struct Port {
     pub name: String,
-    /// True if it was named, false if only a pattern selected it.
+    /// True if the command line names it, false if only a pattern selects it.
     pub is_named: bool,
     /// The index of the interface in use, and its present address.
     pub index: Option<i32>,
     address: Option<Mac>,
-    /// Why it cannot use the interface of its name, or empty.
+    /// Why the interface with the port's name cannot be used, or empty.
     fault: String,
-    /// True if it was reported that its interface is missing.
+    /// True if it was reported that the interface is missing.
     pub is_awaited: bool,
     /// The state of its link that was last given to the agent.
     pub is_up: Option<bool>,
     pub gone_since: Option<i64>,
-    /// Since when its allowance of frames has accumulated.
+    /// The moment since which the allowance of frames has accumulated.
     allowed_since: i64,
-    /// Whether frames may be left in its socket; the moment of the last one that was read.
+    /// True if unread frames may be left in the socket; the moment of the last frame that was read.
     pub has_more: bool,
     pub read_to: i64,
-    /// Until when its socket is not read, after it received more than it may.
+    /// Until when the socket is not read, after a frame that was not accepted.
     pub rests_until: i64,
     pub kernel_drops: u64,
     pub limit_drops: u64,
@@ -49,9 +49,9 @@ pub struct Port {
     pub unsent: u64,
     pub left_out: u64,
     is_failing: bool,
-    /// The neighbors that the agent holds.
+    /// The neighbors that the agent has at this port.
     pub held: Vec<Held>,
-    /// Until which second a neighbor that had no room would have stayed.
+    /// The second at which the too-many-neighbors condition ends.
     pub full_until: i64,
 }
 
@@ -60,7 +60,7 @@ impl Port {
         Port { name: name.into(), is_named, ..Port::default() }
     }
 
-    /// Follows a change of an interface. Returns the link changes for the agent, true for up.
+    /// Handles a change of an interface. Returns the port's link changes: true for up.
     pub fn take_link(&mut self, socket: &File, news: &Link, now: i64) -> Vec<bool> {
         let mut told = Vec::new();
         if news.is_there && news.name == self.name {
@@ -132,7 +132,7 @@ impl Port {
         self.index.is_none() && !self.fault.is_empty()
     }
 
-    /// Returns a frame that was read, unless its interface is gone or the frame is only counted.
+    /// Returns the frame that was read. None if its interface is gone or the frame is only counted.
     pub fn take(&mut self, port: usize, octets: &[u8], moment: i64, state: &RandomState) -> Option<Frame> {
         self.read_to = moment;
         self.index?;
@@ -148,8 +148,8 @@ impl Port {
         Some(Frame { moment, port, digest, octets: octets.to_vec() })
     }
 
-    /// True if a frame is within the limit. A neighbor may repeat its last LLDPDU once a second.
-    /// Each other frame uses up one of the allowed frames: 64 more each second, up to 1,024.
+    /// True if a frame is within the limit. Each neighbor may repeat its last LLDPDU once a second.
+    /// Other frames use up an allowance that grows by 64 frames a second, up to 1,024.
     fn accepts(&mut self, digest: u64, moment: i64) -> bool {
         let second = moment.div_euclid(SECOND);
         let repeated =
@@ -173,8 +173,8 @@ impl Port {
         }
     }
 
-    /// Sends a frame with the interface's address as source. Counts each failure, and reports the
-    /// first until a frame is sent again.
+    /// Sends a frame with the interface's address as source. Counts each failure, but reports only
+    /// the first of several in a row.
     pub fn send(&mut self, mut socket: &File, mut frame: Vec<u8>) {
         if let (Some(address), Some(source)) = (self.address, frame.get_mut(6..12)) {
             source.copy_from_slice(&address);

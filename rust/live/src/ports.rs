@@ -15,7 +15,7 @@ use std::os::unix::io::{AsRawFd, RawFd};
 
 pub const MOST_PORTS: usize = 64;
 const MOST_AT_ONCE: usize = 1024; // frames that one turn reads from all ports together
-const REST: i64 = 15 * MILLISECOND; // of ports that receive too much; all rest until the same moment
+const REST: i64 = 15 * MILLISECOND; // for ports that receive too much; it ends for all at the same moment
 const BETWEEN_REPORTS: i64 = 60 * SECOND;
 
 pub struct Ports {
@@ -23,13 +23,13 @@ pub struct Ports {
     /// One socket for each port, in the order of the ports, then those for later ports.
     pub sockets: Vec<Awaited<File>>,
     rooms: Box<Rooms>,
-    /// Frames that were read and not yet given to the agent, in the order of their moments.
+    /// Frames that were read but not yet given to the agent, in the order of their moments.
     waiting: Vec<Frame>,
     /// The key for digests of LLDPDUs.
     pub state: RandomState,
-    /// Interfaces that patterns select but that are not ports, since 64 are in use.
+    /// Interfaces that match a pattern but are not ports, since 64 ports are in use.
     pub refused: Vec<String>,
-    /// Drops by the kernel and by the limit: how many were reported, and when the next may be.
+    /// Drops by the kernel and by the limit: how many were reported, and when to report again.
     told: [(u64, i64); 2],
     pub look_at: Option<i64>,
 }
@@ -57,8 +57,8 @@ impl Ports {
         self.all.iter().map(|port| port.name.clone()).collect()
     }
 
-    /// Returns the interfaces that patterns select and that are not ports yet, as many as have
-    /// room. Reports each of the others once.
+    /// Returns interfaces that patterns select and that are not ports yet, up to the limit of
+    /// ports. Reports each interface over the limit once.
     pub fn more(&mut self, parts: &[String], links: &Links) -> Vec<String> {
         let mut given = patterns::ports_of(parts, links);
         given.retain(|name| !self.all.iter().any(|port| port.name == *name));
@@ -77,7 +77,7 @@ impl Ports {
         self.all.push(port);
     }
 
-    /// Returns the ports of patterns whose interfaces were gone at that moment and are still gone.
+    /// Returns the ports of patterns whose interfaces have been gone since this moment or longer.
     pub fn gone(&self, before: i64) -> Vec<String> {
         let is_gone = |port: &&Port| !port.is_named && port.gone_since.map_or(false, |since| since <= before);
         self.all.iter().filter(is_gone).map(|port| port.name.clone()).collect()
@@ -93,8 +93,8 @@ impl Ports {
         }
     }
 
-    /// Registers the sockets to wait for. A port is not read while it rests, nor while frames of it
-    /// wait, so that few wait even in a flood.
+    /// Registers the sockets to wait for. A port is not read while it rests or while frames from it
+    /// are queued, so that few are queued even in a flood.
     pub fn await_frames(&mut self, epoll: &File, now: i64) {
         for (place, socket) in self.sockets.iter_mut().enumerate() {
             let port = self.all.get_mut(place).filter(|port| now >= port.rests_until);
@@ -110,7 +110,7 @@ impl Ports {
         (0..self.all.len()).filter(is_ready).collect()
     }
 
-    /// Reads frames of the ready ports. If some may be left, returns up to when none is left.
+    /// Reads the ready ports. If frames may be left, returns the moment up to which all were read.
     pub fn read(&mut self, clock: &mut Clock, ready: &[usize]) -> Option<i64> {
         if !ready.is_empty() {
             clock.note_wall_clock();
@@ -123,7 +123,7 @@ impl Ports {
         self.all.iter().zip(&self.sockets).filter(is_left).map(|(port, _)| port.read_to).min()
     }
 
-    /// Reads about `most` frames of a port. It rests afterwards if it received more than it may.
+    /// Reads about `most` frames of a port. If one was not accepted, the port rests afterwards.
     fn read_port(&mut self, place: usize, most: usize, clock: &Clock) {
         let (port, mut count) = (&mut self.all[place], 0);
         let before = port.limit_drops + port.other_frames;
@@ -161,7 +161,7 @@ impl Ports {
         !self.waiting.is_empty() || self.all.iter().any(|port| port.has_more)
     }
 
-    /// Returns when to read again, if something is left.
+    /// Returns when to read again, if frames may be left or a port rests.
     pub fn deadline(&self, now: i64) -> Option<i64> {
         let left = self.all.iter().filter(|port| port.has_more || port.rests_until > now);
         left.map(|port| port.rests_until).chain((!self.waiting.is_empty()).then_some(now)).min()
@@ -198,8 +198,8 @@ impl Ports {
     }
 }
 
-/// Splits news by name: those up to the last one in which an interface of the name runs, and those
-/// after it. Both keep their order, even if several interfaces had the name in turn.
+/// Splits news in two: the first part has, for each name, all up to the last running interface.
+/// Both parts keep their order, even if several interfaces had the name in turn.
 pub fn ran_and_later(news: Vec<Link>) -> (Vec<Link>, Vec<Link>) {
     let last_run = |one: &Link| news.iter().rposition(|other| other.name == one.name && other.is_running);
     let ran: Vec<bool> = news.iter().enumerate().map(|(place, one)| last_run(one) >= Some(place)).collect();

@@ -1,5 +1,5 @@
-//! Writes reports for people to standard error, a line each, with a level if the journal reads
-//! them. A line that cannot be written at once is lost.
+//! Writes reports for people to standard error, one line each, which begins with a level if the
+//! journal reads it. A line that cannot be written at once is lost.
 
 use crate::clock::{self, SECOND};
 use crate::sys;
@@ -30,7 +30,7 @@ pub fn report(level: u8, text: &str) {
     }
 }
 
-/// True if standard error accepts a line at once. A file always does, and cannot be waited for.
+/// True if standard error accepts a line at once. A regular file, which epoll refuses, always does.
 fn can_take() -> bool {
     let mut errors = Awaited::new(std::io::stderr());
     sys::epoll().map_or(false, |epoll| {
@@ -56,15 +56,15 @@ fn is_journal() -> bool {
         .map_or(false, |file| told == format!("{}:{}", file.dev(), file.ino()))
 }
 
-/// Letters that a terminal shows as nothing.
+/// Letters that are invisible on a terminal.
 const HIDDEN: [char; 5] = ['\u{115f}', '\u{1160}', '\u{3164}', '\u{ffa0}', '\u{2800}'];
 
-/// True if a terminal shows this letter, and the letter has no other effect.
+/// True if a terminal shows this character, and the character has no other effect.
 fn is_shown(letter: char) -> bool {
     letter.is_ascii_graphic() || (!letter.is_ascii() && letter.is_alphanumeric() && !HIDDEN.contains(&letter))
 }
 
-/// Makes a stranger's text printable: letters and signs stay, other octets become `\x` and digits.
+/// Makes a stranger's text printable: octets that a terminal would not show become `\x` and digits.
 pub fn readable(octets: &[u8]) -> String {
     let escaped = |octets: &[u8]| octets.iter().map(|octet| format!("\\x{octet:02x}")).collect::<String>();
     let one = |letter: char| match letter {
@@ -84,7 +84,7 @@ pub fn counted(count: usize, what: &str) -> String {
     }
 }
 
-/// Reports neighbors that come, change and go, as a history in the journal.
+/// Reports when neighbors and links come, change or go, as a history in the journal.
 #[derive(Default)]
 pub struct Events {
     pub are_wanted: bool,
@@ -93,7 +93,7 @@ pub struct Events {
 }
 
 impl Events {
-    /// Reports an event of a port, unless it has used up its lines for this minute.
+    /// Reports an event of a port, unless the port has used up its lines for this minute.
     pub fn tell(&mut self, port: &str, text: &str) {
         if !self.are_wanted {
             return;

@@ -1,9 +1,9 @@
-//! Gives up rights: reading strangers' frames needs none of those that opened the sockets.
+//! Gives up the rights that opened the sockets: reading strangers' frames needs none of them.
 
 use crate::sys;
 use std::io::{Error, Result};
 
-/// The number of the system call keyctl, or -1 if it is not known.
+/// The number of the system call keyctl, or -1 on other processors.
 const KEYCTL: std::os::raw::c_long = if cfg!(target_arch = "x86_64") {
     250
 } else if cfg!(target_arch = "aarch64") {
@@ -29,12 +29,12 @@ fn entry(path: &str, name: &str) -> Option<Vec<String>> {
     text.lines().map(fields).find(|fields| fields[0] == name)
 }
 
-/// Reads the number of a user or a group. The number that stands for none is refused.
+/// Reads the number of a user or a group. Refuses the greatest number, which means none.
 fn number_of(name: &str) -> Option<u32> {
     name.parse().ok().filter(|number| *number != u32::MAX)
 }
 
-/// Returns the user of that name in /etc/passwd, or of that number.
+/// Returns the user with this name in /etc/passwd, or else with this number.
 pub fn user_of(name: &str) -> std::result::Result<User, String> {
     let field = |fields: &[String], place: usize| fields.get(place).and_then(|text| text.parse().ok());
     let fields = entry("/etc/passwd", name);
@@ -43,13 +43,13 @@ pub fn user_of(name: &str) -> std::result::Result<User, String> {
     found.or_else(of_number).ok_or(format!("user {name} does not exist"))
 }
 
-/// Returns the group of that name in /etc/group, or of that number.
+/// Returns the group with this name in /etc/group, or else with this number.
 pub fn group_of(name: &str) -> std::result::Result<u32, String> {
     let found = entry("/etc/group", name).and_then(|fields| fields.get(2)?.parse().ok());
     found.or_else(|| number_of(name)).ok_or(format!("group {name} does not exist"))
 }
 
-/// Returns the user that root becomes, by name, or `nobody`. None if this process is not root.
+/// Returns the user that root becomes, by default `nobody`. None if this process is not root.
 pub fn user_to_be(name: Option<&str>) -> std::result::Result<Option<User>, String> {
     if own_user() != 0 {
         return name.map_or(Ok(None), |_| Err("--user: only root can become another user".into()));

@@ -1,4 +1,4 @@
-//! Texts about neighbors: their identifiers as the agent shows them, and their changes for people.
+//! Describes neighbors: their identifiers as the agent shows them, and their changes for people.
 
 use crate::reports::readable;
 use lldpa::{tlv_text, Info, Msap, Tlv};

@@ -1,4 +1,4 @@
-//! Settings that outlive a restart: lines `configure ..` in files.
+//! Reads settings: lines `configure ..` in files, which outlive a restart.
 
 use crate::files::{names, O_NONBLOCK};
 use crate::reports::readable;
@@ -31,7 +31,7 @@ impl Setting {
     }
 }
 
-/// Returns the settings of the files at these paths, and the faults of files that could not be
+/// Returns the settings in the files at these paths, and an error for each file that could not be
 /// read. In a folder it reads the files `*.conf` that are not hidden, in the order of their names.
 /// A path that does not exist has no settings.
 pub fn read(paths: &[String]) -> (Vec<Setting>, Vec<String>) {
@@ -108,7 +108,7 @@ fn words_of(line: &[u8]) -> Vec<String> {
 
 const A_TEXT: &str = "up to 255 printable characters, in quotes if it has spaces";
 const STATUSES: &str = "rx-and-tx, rx-only, tx-only, disabled";
-/// The forms of settings, and what is allowed as the last word. Words in capitals stand for values.
+/// The forms of settings, and what the last word may be. Words in capitals are placeholders.
 const FORMS: [(&[&str], &str); 6] = [
     (&["configure", "system", "hostname", "TEXT"], A_TEXT),
     (&["configure", "system", "description", "TEXT"], A_TEXT),
@@ -122,7 +122,7 @@ fn is_value(word: &str) -> bool {
     word.bytes().all(|octet| octet.is_ascii_uppercase())
 }
 
-/// Returns how many words from the beginning match a form.
+/// Returns how many of the first words match the form.
 fn fitting(form: &[&str], words: &[String]) -> usize {
     let fits = |(wanted, word): &(&&str, &String)| match **wanted {
         "STATUS" => STATUSES.split(", ").any(|status| status == *word),
@@ -131,8 +131,8 @@ fn fitting(form: &[&str], words: &[String]) -> usize {
     form.iter().zip(words).take_while(fits).count()
 }
 
-/// Adds to the agent's refusal of a line, such as `out of range`, the wrong word and what is
-/// allowed in its place: `out of range: 0 (seconds between frames, 1 to 3600)`.
+/// Adds the wrong word and what is allowed in its place to the agent's refusal of a line: `out of
+/// range` becomes `out of range: 0 (seconds between frames, 1 to 3600)`.
 pub fn explained(line: &[u8], text: &str) -> String {
     let words = words_of(line);
     let most = FORMS.iter().map(|form| fitting(form.0, &words)).max().unwrap_or(0);

@@ -9,7 +9,7 @@ use std::hash::{BuildHasher, Hasher};
 pub struct Held {
     chassis: Vec<u8>,
     port: Vec<u8>,
-    /// When it came by the wall clock, in milliseconds since 1970.
+    /// When the neighbor came, in milliseconds since 1970.
     pub came: i64,
     /// The digest of its last LLDPDU that the agent accepted.
     pub last_said: u64,
@@ -17,7 +17,7 @@ pub struct Held {
     pub repeated_in: i64,
     /// The number of its chassis, which stays the same while any neighbor belongs to that chassis.
     pub number: u32,
-    /// How reports describe it.
+    /// The text that describes the neighbor in reports.
     pub summary: String,
 }
 
@@ -32,7 +32,7 @@ impl Held {
     }
 }
 
-/// Returns the digest of a frame's LLDPDU. It has a secret key, so nobody can make two that match.
+/// Returns a digest of a frame's LLDPDU with a secret key, so that nobody can make two that match.
 pub fn digest(state: &RandomState, frame: &[u8]) -> u64 {
     let mut hasher = state.build_hasher();
     hasher.write(frame.get(14..).unwrap_or(&[]));

@@ -1,4 +1,4 @@
-//! Opens what needs rights, gives up the rights, works, and sends shutdown frames at the end.
+//! Opens sockets and files, gives up rights, runs, and sends shutdown frames at the end.
 
 use crate::clock::{self, SECOND};
 use crate::control::Control;
@@ -17,7 +17,7 @@ use lldpa::{Show, Status};
 use std::io::{Error, ErrorKind, Read, Result, Write};
 use std::panic::{catch_unwind, AssertUnwindSafe};
 
-const FOR_THE_LOG: i64 = SECOND; // to be written at the end
+const FOR_THE_LOG: i64 = SECOND; // the longest wait for it at the end
 const SIGHUP: u8 = 1;
 
 pub fn run(given: Given) -> i32 {
@@ -37,7 +37,7 @@ fn fail(fault: &Error) -> i32 {
     1
 }
 
-/// Opens what needs rights, gives up the rights, and opens the agent or waits for an interface.
+/// Opens the sockets and files, gives up rights, and opens the agent if it can be opened already.
 fn begun(mut given: Given, user: Option<rights::User>, group: Option<u32>) -> Result<Live> {
     given.control = absolute(&given.control);
     given.state = given.state.as_deref().map(absolute);
@@ -70,7 +70,7 @@ fn needs_a_right(fault: Error) -> Error {
     Error::new(fault.kind(), if fault.kind() == ErrorKind::PermissionDenied { text } else { text_of(&fault) })
 }
 
-/// Returns the ports that names and patterns select. If there are too many, named ports come first.
+/// Returns the ports that names and patterns select, at most 64. Named ports have priority.
 fn first_ports(given: &Given, links: &Links, may_wait: bool) -> Result<Vec<String>> {
     let wrong = |what: String| Err(Error::new(ErrorKind::Other, what));
     let mut names = patterns::ports_of(&given.parts, links);
@@ -91,7 +91,7 @@ fn first_ports(given: &Given, links: &Links, may_wait: bool) -> Result<Vec<Strin
     Ok(names)
 }
 
-/// Works until a signal or a fault, then ends in order. Returns the exit status.
+/// Runs until a signal or a panic, then shuts down in order. Returns the exit status.
 fn work(mut live: Live) -> i32 {
     let worked = catch_unwind(AssertUnwindSafe(|| match live.given.once {
         Some(seconds) => once(&mut live, seconds),
@@ -110,7 +110,7 @@ fn work(mut live: Live) -> i32 {
     })
 }
 
-/// Waits until something comes in or is due, up to `last`, and handles it. True at a signal to end.
+/// Waits for input or a deadline, at most until `last`, and handles it. True at a signal to end.
 fn turn(live: &mut Live, last: i64) -> bool {
     let has_more = live.control.as_ref().map_or(false, Control::has_more);
     let turn = live.turn(if has_more { 0 } else { last }, false);

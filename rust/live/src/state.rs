@@ -1,5 +1,5 @@
-//! The state that one lldpa-live leaves to the next: the tables, in a file. It is a trace of the
-//! neighbors' last frames with the seconds between them. Comments say when it was written, when
+//! The state: a file with the tables, which one lldpa-live leaves to the next. It is a trace of the
+//! neighbors' last frames and the seconds between them. Its comments say when it was written, when
 //! each neighbor came, and where it ends. It is written each minute and at the end, to a new file
 //! that then replaces the old one.
 
@@ -27,14 +27,14 @@ const MOST_SECONDS: u32 = 65535;
 #[derive(Debug, Default)]
 pub struct Past {
     pub lines: Vec<Line>,
-    /// When each neighbor came, in milliseconds since 1970, by its port and its identifier.
+    /// When each neighbor came (milliseconds since 1970), keyed by its port and MSAP identifier.
     pub came: HashMap<(String, String), i64>,
     /// How many seconds pass in the lines, and how many have passed since the state was written.
     passed: u32,
     pub seconds: u32,
 }
 
-/// Reads the state at a path. The file must be private, of `user` or of this process's user.
+/// Reads the state at a path. The file must be private to `user` or to this process's user.
 pub fn read(path: &str, user: Option<User>) -> Result<Past, String> {
     let file = match OpenOptions::new().read(true).custom_flags(O_NOFOLLOW | O_NONBLOCK).open(path) {
         Err(fault) if fault.kind() == ErrorKind::NotFound => return Ok(Past::default()),
@@ -50,7 +50,7 @@ pub fn read(path: &str, user: Option<User>) -> Result<Past, String> {
     past(&octets, clock::wall() / MILLISECOND, clock::now() / MILLISECOND)
 }
 
-/// Reads the octets of a state. `wall` and `now` are the present milliseconds of the two clocks.
+/// Reads the octets of a state. `wall` and `now` are the clocks' present times in milliseconds.
 pub fn past(octets: &[u8], wall: i64, now: i64) -> Result<Past, String> {
     if octets.is_empty() {
         return Ok(Past::default());
@@ -63,7 +63,7 @@ pub fn past(octets: &[u8], wall: i64, now: i64) -> Result<Past, String> {
     let (then_wall, then) =
         (milliseconds(then_wall).ok_or(INCOMPLETE)?, milliseconds(then).ok_or(INCOMPLETE)?);
     if now < then || (wall - then_wall - (now - then)).abs() > MOST_APART {
-        return Err("this host was booted since, or its clock was set".into());
+        return Err("this host was rebooted since then, or its clock was set".into());
     }
     let mut past =
         Past { seconds: u32::try_from((now - then) / 1000).unwrap_or(u32::MAX), ..Past::default() };
@@ -85,7 +85,7 @@ pub fn past(octets: &[u8], wall: i64, now: i64) -> Result<Past, String> {
 }
 
 impl Past {
-    /// Adds seconds to the lines. None if all together are more than the longest time to live.
+    /// Adds seconds to the lines. None if their sum is over the longest time to live.
     fn pass(&mut self, seconds: u32) -> Option<()> {
         self.passed = self.passed.checked_add(seconds).filter(|passed| *passed <= MOST_SECONDS)?;
         self.lines.push(Line::Ticks(seconds));
@@ -136,7 +136,7 @@ pub fn text<'a>(lines: &[Line], held: impl Iterator<Item = (&'a str, &'a Held)>)
     format!("{FRONT}{wall} {now}\n{since}{}{END}", lines_text(lines)).into_bytes()
 }
 
-/// Replaces the file of the state. If the path is a symbolic link, it is replaced, not followed.
+/// Replaces the file of the state. A symbolic link at the path is replaced, not followed.
 pub fn write(path: &str, octets: &[u8]) -> std::io::Result<()> {
     let beside = format!("{path}.new");
     let _ = fs::remove_file(&beside);

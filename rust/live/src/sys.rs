@@ -1,4 +1,4 @@
-//! Calls the C library for what `std` lacks. All `unsafe` code of the program is here.
+//! Calls functions of the C library that `std` lacks. All `unsafe` code of the program is here.
 
 use crate::packet::{Rooms, Step, ROOMS};
 use std::array::from_fn;
@@ -39,12 +39,12 @@ fn opened(fd: c_int) -> Result<File> {
     checked(fd).map(|fd| unsafe { File::from_raw_fd(fd) })
 }
 
-/// Declares functions of the C library. They use lent memory only up to the size of its type.
+/// Declares functions of the C library. They use borrowed memory only within its type's size.
 macro_rules! calls {
     ($($seen:vis $name:ident = $call:ident($($word:ident: $kind:ty),*);)*) => {
         extern "C" { $(fn $call($($word: $kind),*) -> c_int;)* }
         $($seen fn $name($($word: $kind),*) -> Result<c_int> {
-            // SAFETY: memory is borrowed for the call, which uses no more than its type has.
+            // SAFETY: memory is borrowed for the call, which uses no more than its type's size.
             checked(unsafe { $call($($word),*) })
         })*
     };
@@ -92,11 +92,11 @@ pub fn set(file: &File, level: c_int, name: c_int, value: &[u8]) -> Result<()> {
 pub fn set_filter(file: &File, steps: &[Step]) -> Result<()> {
     let program = [steps.len() as u64, steps.as_ptr() as u64];
     let (number, start) = (file.as_raw_fd(), program.as_ptr().cast());
-    // SAFETY: the program has 16 octets, with the number of steps first; the kernel copies them.
+    // SAFETY: the 16 octets are the number and the address of the steps, which the kernel copies.
     checked(unsafe { setsockopt(number, SOL_SOCKET, SO_ATTACH_FILTER, start, 16) }).map(drop)
 }
 
-/// Returns the numbers of a socket's option, and how many there are.
+/// Returns the value of a socket option as numbers, and how many numbers the kernel set.
 pub fn get<const N: usize>(file: &impl AsRawFd, level: c_int, name: c_int) -> Result<([u32; N], usize)> {
     let (mut told, mut length) = ([0u32; N], 4 * N as u32);
     // SAFETY: the kernel writes at most `length` octets.
@@ -109,8 +109,8 @@ struct Message(*mut c_void, u32, *const [usize; 2], usize, *mut [u64; 4], usize,
 #[repr(C)]
 struct Received(Message, c_uint);
 
-/// Reads waiting frames, one into each room. Returns the length of each frame and, if the kernel
-/// reports it, when it arrived: nanoseconds of the wall clock.
+/// Reads waiting frames, each into one of the rooms. Returns the length of each frame and, if the
+/// kernel reports it, its time of arrival: nanoseconds of the wall clock since 1970.
 pub fn receive(file: &File, rooms: &mut Rooms) -> Result<Vec<(usize, Option<i64>)>> {
     let pieces: [_; ROOMS] = from_fn(|place| [rooms[place].as_mut_ptr() as usize, rooms[place].len()]);
     let mut notes = [[0u64; 4]; ROOMS];
@@ -183,8 +183,8 @@ pub fn host_name() -> String {
 }
 
 /// Drops all capabilities, groups and session keys for good, and becomes a user with its group if
-/// one is given. Other processes of the user cannot inspect this one. (Without the right groups
-/// stay.)
+/// one is given. Other processes of the user cannot inspect this process. (Groups stay if it has no
+/// right to drop them.)
 pub fn keep_no_right(user: Option<(c_uint, c_uint)>, keyctl: c_long) -> Result<()> {
     // SAFETY: these options take only numbers, and keyctl reads no memory.
     let option = |name: c_int, value: u64| checked(unsafe { prctl(name, value, 0u64, 0u64, 0u64) });

@@ -1,4 +1,4 @@
-//! Waits for files by epoll. A file is registered once, and again only to wait for another event.
+//! Waits for files with epoll. A file is registered again only if another event is awaited.
 
 use crate::sys::{self, Events, EVENT};
 use std::fs::File;
@@ -10,10 +10,10 @@ pub const OUT: u32 = 4;
 const ADD: i32 = 1;
 const TAKE_OUT: i32 = 2;
 const CHANGE: i32 = 3;
-/// The place of a file's number in an event.
+/// The position of the file descriptor in an event.
 const FILE: usize = EVENT - 2;
 
-/// Waits at most this long, and returns the files that are ready.
+/// Waits at most this long. Returns the files that are ready.
 pub fn ready(epoll: &File, milliseconds: i32) -> Vec<RawFd> {
     let mut events: Events = [[0; EVENT]; 256];
     let count = sys::events(epoll.as_raw_fd(), &mut events, milliseconds).unwrap_or(0);

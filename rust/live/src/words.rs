@@ -1,4 +1,4 @@
-//! The command line of lldpa-live.
+//! Reads the command line of lldpa-live.
 
 use crate::options::AgentOptions;
 use crate::patterns;
@@ -11,7 +11,7 @@ usage: lldpa-live [OPTION...] PORT... [-- OPTIONS OF LLDPA]
 Runs the LLDP agent lldpa on Ethernet interfaces until a signal ends it.
 
   PORT                   an Ethernet interface, or a pattern such as 'swp*';
-                         '!swp3' excludes a name
+                         '!swp3' excludes swp3
 
 options:
   -h, --help             print this help
@@ -132,7 +132,7 @@ pub fn number(text: &str, last: u64) -> Option<u64> {
     number.filter(|_| text.bytes().all(|octet| octet.is_ascii_digit()))
 }
 
-/// Returns an error if a name is malformed or given twice, or if there are no or too many ports.
+/// Returns an error if a name is malformed or given twice, or if there are no ports or too many.
 fn check_ports(parts: &[String]) -> Result<(), String> {
     if let Some(part) = parts.iter().find(|part| !patterns::is_able(part)) {
         let form = "a port's name has 1 to 15 letters, digits, -, _, / and :";
