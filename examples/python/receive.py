@@ -24,12 +24,12 @@ REPORTS = {4: "new", 5: "changed", 7: "no room for", 8: "gone"}
 
 
 class Text(Structure):
-    """A text for the library: octets without a final 0."""
+    """A text for the library: its octets, without a NUL at the end, and their number."""
     _fields_ = [("octets", c_char_p), ("length", c_size_t)]
 
 
 class Options(Structure):
-    """The options with which an agent is opened."""
+    """The options that `lldpa_open` reads."""
     _fields_ = [("size", c_size_t), ("ports", POINTER(Text)), ("port_count", c_size_t), ("hostname", Text),
                 ("mac", c_uint8 * 6), ("management", c_uint8 * 4), ("managed", c_bool), ("receive_only", c_bool),
                 ("role", c_uint32), ("max_neighbors", c_uint32), ("credit_max", c_uint32),
@@ -37,7 +37,7 @@ class Options(Structure):
 
 
 class Handle(Structure):
-    """A handle of an agent."""
+    """A handle of an agent. Only the library reads or changes its fields."""
     _fields_ = [("held", c_void_p), ("open", c_bool)]
 
 
@@ -47,12 +47,12 @@ class News(Structure):
 
 
 class Held(Structure):
-    """A neighbor that a port holds."""
+    """A neighbor in a port's table, and the seconds until it ages out."""
     _fields_ = [("pdu", Examined), ("left", c_uint32)]
 
 
 class Ticks(Structure):
-    """The number of ticks that were processed, and of neighbors that aged out."""
+    """The number of processed ticks, and the number of neighbors that aged out."""
     _fields_ = [("taken", c_uint32), ("aged_out", c_uint32)]
 
 
@@ -77,13 +77,13 @@ def give_seconds(lldpa: CDLL, agent: Handle, passed: int) -> None:
         if held.left <= passed:
             report(lldpa, "aged out", room.raw, held.pdu.chassis, held.pdu.port)
     while passed > 0:
-        done, marks = Ticks(), create_string_buffer(129)  # a port that only receives sends nothing
+        done, marks = Ticks(), create_string_buffer(129)  # marks stay empty: the port only receives
         lldpa.lldpa_ticks(byref(agent), c_uint32(passed), marks, byref(done))
         passed -= done.taken
 
 
 def give_frame(lldpa: CDLL, agent: Handle, frame: bytes) -> None:
-    """Passes a received frame to the agent, and prints what happened to the neighbor."""
+    """Passes a received frame to the agent, and prints what happened to its sender."""
     marks, news = create_string_buffer(129), News()
     lldpa.lldpa_frame(byref(agent), c_uint32(0), frame, c_size_t(len(frame)), marks, byref(news))
     if news.what in REPORTS:

@@ -31,7 +31,7 @@ class Examined(Structure):
 
 
 class Kept(Structure):
-    """The state of an iteration over the kept TLVs."""
+    """The position of a walk over the TLVs that the library keeps, for `lldpa_next_kept`."""
     _fields_ = [("next", c_size_t), ("body", Place), ("met", c_bool * 4), ("kind", c_uint8)]
 
 

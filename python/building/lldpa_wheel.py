@@ -14,16 +14,16 @@ from typing import Any, Dict, Iterator, Optional
 TOP = Path(__file__).resolve().parent.parent
 NAME = "lldpa"
 SUMMARY = "An LLDP agent as a library, and programs that use it; this wheel contains "
-WITHOUT = "all except the program lldpa, which they run"
+WITHOUT = "everything except the program lldpa, which they run"
 PYTHON = ">=3.9"
-# each package and its folder in the repository; in a source archive they are in the top folder
+# each package and its folder in the repository; a source archive has both in its top folder
 PACKAGES = {"lldpa": "python", "lldpa_audit": "audit"}
 # lldpctl is left out: it would hide lldpd's program of the same name
 PROGRAMS = {"lldpa-ctl": "lldpa.commands.ctl", "lldpa-capture": "lldpa.commands.capture",
             "lldpa-audit": "lldpa_audit.command"}
 # the platform of a program, by the machine number in its ELF header
 PLATFORMS = {62: "linux_x86_64", 183: "linux_aarch64"}
-MOMENT = (2026, 1, 1, 0, 0, 0)  # of each file, so that the same sources give the same wheel
+MOMENT = (2026, 1, 1, 0, 0, 0)  # each file's time, so that equal sources give equal wheels
 
 
 def version() -> str:
@@ -34,7 +34,7 @@ def version() -> str:
 
 
 def folders() -> Iterator[Path]:
-    """Yields the folder that contains each package."""
+    """Yields, for each package, the folder that contains it."""
     for name, folder in PACKAGES.items():
         yield TOP if (TOP / name).is_dir() else TOP.parent / folder
 
@@ -97,7 +97,7 @@ def sum_of(octets: bytes) -> str:
 
 def build_wheel(wheel_directory: str, config_settings: Optional[Any] = None,
                 metadata_directory: Optional[str] = None) -> str:
-    """Builds a wheel. It contains the program lldpa if the setting `program` is its path."""
+    """Builds a wheel, which includes the program lldpa if the setting `program` is its path."""
     program = (config_settings or {}).get("program")
     return write_wheel(wheel_directory, {name: path.read_bytes()
                                          for name, path in package_files().items()},

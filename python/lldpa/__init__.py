@@ -1,4 +1,4 @@
-"""Runs an LLDP agent or connects to one, reads what it shows, and reads captures.
+"""Runs an LLDP agent or connects to one, reads its `show` output, and reads captures.
 
     >>> from lldpa import Agent
     >>> frame = "0180c200000e00112233445588cc02070400112233445504050565746830060200780000"
@@ -28,7 +28,7 @@ __all__ = ["Agent", "BadCapture", "Closed", "Counters", "Ended", "LldpaFault", "
            "unescaped"]
 
 
-# modules that are loaded when one of these names is first used
+# modules that are loaded only when one of their names is first used
 LATER = {".agent.framing": ("Closed", "Ended", "Refused"),
          ".agent.synchronous": ("Agent",),
          ".capture.packets": ("BadCapture", "Packet", "packets_of"),
@@ -39,6 +39,6 @@ def __getattr__(name: str) -> object:
     """Loads a module when one of its names is first used."""
     for module, names in LATER.items():
         if name in names:
-            from importlib import import_module  # not needed for lldpa-ctl's table
+            from importlib import import_module  # seldom needed by lldpa-ctl
             return getattr(import_module(module, __name__), name)
     raise AttributeError(f"module {__name__!r} has no attribute {name!r}")

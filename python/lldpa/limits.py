@@ -1,4 +1,4 @@
-"""Limits and constants of the agent and its frames, which several modules need."""
+"""Defines limits and constants of the agent and its frames that several modules need."""
 
 MOST_PORTS = 64
 MOST_NEIGHBORS = 128  # of a port

@@ -13,7 +13,7 @@ INPUT, OUTPUT, ERRORS = 0, 1, 2
 
 
 class OutputFault(LldpaFault):
-    """Standard output failed. The message says why; it is empty if the reader has gone."""
+    """Standard output failed. The message says why; it is empty if the reader closed the pipe."""
 
 class StandardOutput(io.FileIO):
     """Standard output. Raises OutputFault, so that its errors differ from those of other files."""
@@ -24,7 +24,7 @@ class StandardOutput(io.FileIO):
         self._is_over = False
 
     def write(self, octets: Any) -> int:
-        """Writes octets. Raises OutputFault once, and drops all octets after that."""
+        """Writes octets. Raises OutputFault at the first error, and drops all octets after that."""
         if self._is_over:
             return len(octets)
         try:

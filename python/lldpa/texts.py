@@ -1,4 +1,4 @@
-"""Converts texts of neighbors: to Unicode for programs, and to what a terminal may show people.
+"""Converts texts of neighbors to Unicode for programs, and to printable text for people.
 
 A neighbor's text is octets, usually UTF-8. Shows escape them; `shown_octets` returns them.
 """
@@ -40,7 +40,7 @@ def text_of(octets: bytes) -> Tuple[str, Optional[str]]:
 
 
 def with_text(key: str, octets: bytes, told: Dict[str, Any]) -> Dict[str, Any]:
-    """Adds a text to an object for JSON, and its octets if not UTF-8. Returns the object."""
+    """Adds a text to an object, and its octets if they are not UTF-8. Returns the object."""
     text, digits = text_of(octets)
     told[key] = text
     if digits is not None:
@@ -49,12 +49,12 @@ def with_text(key: str, octets: bytes, told: Dict[str, Any]) -> Dict[str, Any]:
 
 
 def shown_octets(shown: str) -> bytes:
-    """Returns the octets of a text in a show. For a text that is not ASCII, returns its UTF-8."""
+    """Returns the octets of a text in a show. If the text is not ASCII, returns its UTF-8."""
     return unescaped(shown) if shown.isascii() else shown.encode("utf-8", "surrogateescape")
 
 
 def readable(shown: str) -> str:
-    """Returns a text in a show for people, unescaped except for what a terminal may not show."""
+    """Unescapes a text in a show for people, except characters that are unsafe on a terminal."""
     return printable(shown_octets(shown).decode("utf-8", "surrogateescape"))
 
 
@@ -95,7 +95,7 @@ def escaped(letter: str) -> str:
 
 
 def width_of(text: str) -> int:
-    """Returns how many columns a printable text has on a terminal."""
+    """Returns how many columns a printable text occupies on a terminal."""
     if text.isascii():
         return len(text)
     return sum(columns_of(letter) for letter in text)
@@ -109,7 +109,7 @@ def columns_of(letter: str) -> int:
 
 
 def end_of(text: str, begin: int, width: int) -> int:
-    """Returns the end of the longest part of a text from `begin` that has at most this width."""
+    """Returns the end of the longest part of a text that starts at `begin` and fits in `width`."""
     if text.isascii():
         return min(begin + width, len(text))
     end = begin
@@ -119,7 +119,7 @@ def end_of(text: str, begin: int, width: int) -> int:
 
 
 def cut(text: str, width: int) -> str:
-    """Returns the text. If it is wider than this, it is cut and ends with an ellipsis."""
+    """Returns the text, or, if it is wider than `width`, its beginning and an ellipsis."""
     if width_of(text) <= width:
         return text
     return text[:end_of(text, 0, max(width - 1, 0))] + CUT

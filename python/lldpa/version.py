@@ -1,4 +1,4 @@
-"""The version of the package, which is that of the program lldpa."""
+"""Adds `--version` to the programs. The package has the same version as the program lldpa."""
 
 from __future__ import annotations
 

@@ -170,7 +170,7 @@ class Refusals(Program):
                 (["configure", "med", "x"], "unknown command: med (system or lldp or ports)"),
                 (["conf", "lldp", "tx-h", "0"],
                  "out of range: 0 (intervals that peers keep a frame, 1 to 100)"),
-                (["-f", "xml"], "unknown form: xml (plain, keyvalue, json, json0)"),
+                (["-f", "xml"], "unknown format: xml (plain, keyvalue, json, json0)"),
                 (["-x"], "option -x not recognized")):
             self.assertEqual(self.run_it(LLDPCLI, *words, status=1, said=said), "")
 

@@ -1,1 +1,1 @@
-"""Runs lldpa or connects to it, and reads the shows that it prints."""
+"""Runs lldpa or connects to it, and reads the output of its `show` commands."""

@@ -1,4 +1,4 @@
-"""Runs lldpa as a child process, and exchanges its trace over a socket."""
+"""Runs lldpa as a child process, with a socket as its standard input and output."""
 
 import errno
 import os
@@ -16,7 +16,7 @@ Option = Union[bool, int, str, None]
 
 PROGRAM = "lldpa"
 PATIENCE = 10.0
-MOST_SAID = 64 * 1024  # octets that are read of standard error
+MOST_SAID = 64 * 1024  # octets to read from standard error
 
 
 def words_of(ports: Sequence[str], program: str, options: Mapping[str, Option]) -> List[str]:
@@ -37,9 +37,9 @@ def words_of(ports: Sequence[str], program: str, options: Mapping[str, Option]) 
 
 
 def path_of(program: str) -> str:
-    """Returns the program, or the wheel's program if `lldpa` is not on the search path.
+    """Returns the program to run: `lldpa` from the search path or Python's folder, others as given.
 
-    Raises FileNotFoundError if neither exists.
+    Raises FileNotFoundError if lldpa is in neither place.
     """
     if program != PROGRAM or shutil.which(program):
         return program
@@ -71,7 +71,7 @@ class Child:
         return self._process.pid
 
     def end(self, patience: float = PATIENCE) -> Ended:
-        """Waits for the process, or kills it after `patience` seconds. Returns how it ended."""
+        """Waits for the process; kills it after `patience` seconds. Returns how it ended."""
         if self._end is None:
             try:
                 status = self._process.wait(patience)

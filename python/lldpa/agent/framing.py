@@ -1,8 +1,8 @@
-"""Writes lines for an agent, and defines the errors of an agent.
+"""Formats the lines that are sent to an agent, and defines the errors of an agent.
 
 The agent does not mark the end of an answer. Therefore a comment that is one octet too long is sent
 after the lines. The answer to the lines is everything before `error: line too long`. No other line
-has this answer, because lines that are too long are never sent.
+has this answer, because all other lines are short enough.
 """
 
 import re
@@ -18,7 +18,7 @@ Line = Union[bytes, str]
 
 
 class Ended(LldpaFault):
-    """The agent has ended: `status` (negative for a signal, None if unknown) and the reason."""
+    """The agent ended or does not answer. `status`: None if unknown, negative after a signal."""
 
     def __init__(self, status: Optional[int], text: str) -> None:
         super().__init__(text)
@@ -52,7 +52,7 @@ def checked(line: Line) -> bytes:
 
 
 def command(*words: str) -> str:
-    """Joins words to a line, quoted if needed. Raises ValueError if a word contains a quote."""
+    """Joins words to a line, and quotes them if needed. Raises ValueError if a word has a quote."""
     for word in words:
         if '"' in word:
             raise ValueError(f"a word contains a double quote: {word}")
@@ -71,7 +71,7 @@ def rx(port: str, octets: bytes) -> str:
 
 
 def ticks(seconds: int) -> List[str]:
-    """Returns the lines that let this many seconds pass."""
+    """Returns the `tick` lines for this many seconds. Raises ValueError if they are negative."""
     if seconds < 0:
         raise ValueError(f"a negative number of seconds: {seconds}")
     whole, rest = divmod(seconds, MOST_TICKS)

@@ -1,4 +1,4 @@
-"""Reads the lines of lldpa's shows (`read_show`), and writes the same lines (`lines_of`).
+"""Reads the output of lldpa's `show` commands (`read_show`), and writes such lines (`lines_of`).
 
 Each line is `KEY=VALUE`; the manual page lldpa(1) lists every key.
 """
@@ -26,7 +26,7 @@ ESCAPE = rb"\\(\\|x[0-9a-f]{2})"
 
 
 class ShowFault(LldpaFault, ValueError):
-    """The lines are not a show. The message says which line is wrong, and what was expected."""
+    """The lines are not `show` output. The message names the line and what was expected."""
 
 def unescaped(text: str) -> bytes:
     """Returns the octets of an escaped text."""
@@ -59,7 +59,7 @@ class Reader:
             raise self.fault("a line of printable ASCII characters")
 
     def fault(self, expected: str) -> ShowFault:
-        """Returns the error that the next line is not what was expected."""
+        """Returns a ShowFault, which says that the next line is not what was expected."""
         found = "the end" if self.at == len(self.lines) - 1 else repr(self.next())
         return ShowFault(f"line {self.at + 1}: expected {expected}, but found {found}")
 
@@ -96,7 +96,7 @@ class Reader:
         return ""
 
     def show(self) -> Show:
-        """Reads all lines as shows."""
+        """Reads all lines, and returns the shows in them."""
         ports = tuple(self.ports())
         counters = dict(self.counters())
         chassis = self.chassis() if self.next().startswith("local-chassis.") else None
@@ -179,7 +179,7 @@ def is_said(key: str) -> bool:
 
 
 def shown_key(name: str) -> str:
-    """Returns the key that a show has for a field."""
+    """Returns the key of a field in a show: `tlvs_discarded` becomes `tlvs-discarded`."""
     return name.replace("_", "-")
 
 

@@ -3,15 +3,15 @@
 Texts stay escaped as they are shown, so they are safe to print. `show.unescaped` returns the octets
 of a text.
 """
-# `from __future__ import annotations` is left out: `typing` would compile each field's annotation.
+# no `from __future__ import annotations`: it would make `typing` compile each field's annotation
 import re
 from typing import Dict, List, Mapping, NamedTuple, Optional, Tuple
 
 # the keys of a neighbor's optional lines, except the keys that contain the number of a TLV
 SAID_KEYS = ("port.descr", "chassis.name", "chassis.descr", "chassis.caps", "chassis.mgmt")
 
-# a key that is unknown here, perhaps of a newer agent. It is not a key of the four lines that every
-# neighbor has once.
+# FURTHER_KEY matches keys that are unknown here, perhaps of a newer agent. EARLIER matches the keys
+# of the four lines that every neighbor has once.
 EARLIER = (r"(?:ttl|expires|(?:chassis|port)\.(?:mac|ip|ifname|ifalias|local|component|portcomp"
            r"|circuit|unhandled))(?:=|$)")
 FURTHER_KEY = rf"(?!{EARLIER}|(?:org|unknown)(?:\.|=|$))[a-z][a-z0-9-]*(?:\.[a-z0-9-]+)*"
@@ -37,7 +37,7 @@ def capabilities_in(text: str) -> Dict[str, bool]:
 
 
 class Neighbor(NamedTuple):
-    """A neighbor of a port. `place` counts from 1 and can change when others leave; `id` stays.
+    """A neighbor of a port. `place` counts from 1 and can change when others leave; `id` does not.
 
     `ttl` is the time to live that it sent and `expires` the time left, both in seconds. `said` has
     the key and the value of each optional line, in the order in which the neighbor sent them.
@@ -74,23 +74,23 @@ class Neighbor(NamedTuple):
 
     @property
     def capabilities(self) -> Optional[Mapping[str, bool]]:
-        """Returns whether each capability, such as `Bridge`, is on, or None if it sent none."""
+        """Returns whether each capability, such as `Bridge`, is on, or None if none were sent."""
         text = self._first("chassis.caps")
         return None if text is None else capabilities_in(text)
 
     @property
     def management(self) -> Tuple[str, ...]:
-        """Returns its management addresses, without the other fields of their lines."""
+        """Returns the management addresses, without the other fields of their lines."""
         return tuple(text.partition(",")[0] for key, text in self.said if key == "chassis.mgmt")
 
     @property
     def org(self) -> Tuple[Tuple[str, str], ...]:
-        """Returns its organizationally specific TLVs: kinds like `00120f.1`, and octets in hex."""
+        """Returns organizationally specific TLVs: kinds such as `00120f.1`, and octets in hex."""
         return tuple((key[4:], text) for key, text in self.said if key.startswith("org."))
 
     @property
     def unknown(self) -> Tuple[Tuple[int, str], ...]:
-        """Returns its TLVs of reserved types: the type, and the octets in hexadecimal."""
+        """Returns the TLVs of reserved types: the type, and the octets in hexadecimal."""
         found = ((key.split("."), text) for key, text in self.said)
         return tuple((int(words[1]), text) for words, text in found if words[0] == "unknown")
 
@@ -101,8 +101,8 @@ class Neighbor(NamedTuple):
 class Port(NamedTuple):
     """A port and its neighbors, in the order of its table.
 
-    `octets` is the total size of what is stored about them. `too_many` is true while a neighbor
-    that was dropped for lack of room would still be held.
+    `octets` is the size of all data stored about the neighbors. `too_many` is true until every
+    neighbor that was dropped for lack of room would have aged out.
     """
     name: str
     neighbors_held: int
@@ -139,7 +139,7 @@ NO_COUNTERS: Mapping[str, Counters] = {}
 
 
 class LocalChassis(NamedTuple):
-    """This host as the agent announces it. `mgmt` is the value of its line, or None."""
+    """This host as the agent announces it. `mgmt` is None if no management address is announced."""
     mac: str
     name: str
     descr: str

@@ -34,7 +34,7 @@ class Agent:
 
     def __init__(self, connection: socket.socket, child: Optional[Child],
                  on_frame: Optional[FrameCallback], timeout: Optional[float] = PATIENCE) -> None:
-        """Uses this socket for the agent's trace. Call `start` or `connect` instead."""
+        """Uses a connected socket. Call `start` or `connect` instead."""
         self.timeout = timeout
         self._socket = connection
         self._child = child
@@ -91,16 +91,16 @@ class Agent:
         return told
 
     def frame(self, port: str, octets: bytes) -> None:
-        """Reports a received frame. A frame that is not an LLDP frame changes nothing."""
+        """Reports a received frame to the agent, which ignores all frames except LLDP frames."""
         self.ask(rx(port, octets))
 
     def tick(self, seconds: int = 1) -> None:
-        """Lets this many seconds pass."""
+        """Reports to the agent that this many seconds have passed."""
         for line in ticks(seconds):
             self.ask(line)
 
     def link(self, port: str, up: bool) -> None:
-        """Reports that the link of a port came up, or went down."""
+        """Reports to the agent that the link of a port came up (`up`) or went down."""
         self.ask(f"{'up' if up else 'down'} {port}")
 
     def configure(self, *words: str) -> None:
@@ -112,7 +112,7 @@ class Agent:
         self.ask("update")
 
     def show(self, what: str) -> Show:
-        """Returns one of the shows: neighbors, statistics, chassis, configuration."""
+        """Returns a show: `neighbors`, `statistics`, `chassis` or `configuration`."""
         return read_show(self.ask(command("show", what)))
 
     def neighbors(self) -> List[Neighbor]:
@@ -124,7 +124,7 @@ class Agent:
         return self.show("statistics").counters
 
     def close(self, patience: float = PATIENCE) -> None:
-        """Ends the trace and waits at most `patience` seconds. Then kills a child that still runs.
+        """Closes the agent's input. Kills a child that has not ended after `patience` seconds.
 
         To make peers forget a port at once, disable it first: `configure("ports", "eth0", "lldp",
         "status", "disabled")`.
@@ -148,13 +148,13 @@ class Agent:
 
     def _exchange(self, lines: Iterable[Line], seconds: Optional[float],
                   silence: str = SILENCE) -> List[str]:
-        """Writes lines while it reads, so that neither side blocks. Returns the answer."""
+        """Sends lines while it reads, so that neither side blocks. Returns the answer."""
         unsent = memoryview(b"".join(checked(line) + b"\n" for line in lines) + MARK + b"\n")
         if self._over is not None:
             raise self._over
         self._over = Ended(None, NOT_READ)
         last = None if seconds is None else time.monotonic() + seconds
-        answer = bytearray(b"\n")  # END begins with a line feed, even after an empty answer
+        answer = bytearray(b"\n")  # so that END is also found after an empty answer
         try:
             while not answer.endswith(END):
                 event = self._wait(bool(unsent), last, silence)

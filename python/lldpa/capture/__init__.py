@@ -1,1 +1,1 @@
-"""Reads the packets of captures, and converts captures to a trace."""
+"""Reads the packets of captures, and converts captures to a trace for lldpa."""

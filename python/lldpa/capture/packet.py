@@ -14,8 +14,8 @@ LINK_TYPES = {
 
 
 class CaptureInterface(NamedTuple):
-    """An interface of a capture: its name if the file has one, its link type, the number of time
-    stamp units in a second, the seconds to add to time stamps, and the most octets captured of a
+    """An interface of a capture: its name if the file has one, its link type, its time stamp units
+    per second, the seconds to add to its time stamps, and the most octets captured of one
     packet."""
     name: Optional[str]
     link_type: int
@@ -33,5 +33,5 @@ class Packet(NamedTuple):
     length: int
 
 
-# A packet's interface, time, begin and end of its octets in the window, and original length.
+# A packet: interface, time, begin and end of its octets in the window, and original length.
 Look = Tuple[CaptureInterface, Optional[int], int, int, int]

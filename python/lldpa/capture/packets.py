@@ -22,10 +22,10 @@ NO_PACKET = b"\0" * 1024
 
 
 def reader_of(file: BinaryIO, most_unpacked: Optional[int] = None) -> Reader:
-    """Returns a reader of a capture from its beginning. The capture may be compressed by gzip; at
-    most `most_unpacked` octets of it are unpacked.
+    """Returns a reader for a capture, which may be compressed by gzip.
 
-    Raises BadCapture if it is not a capture.
+    Raises BadCapture if the file is not a capture. The reader raises BadCapture if more than
+    `most_unpacked` octets are unpacked.
     """
     window = Window(file)
     if window.move(0, 2) and window.octets.startswith(MAGIC):
@@ -53,7 +53,7 @@ def packets_of(file: BinaryIO) -> Iterator[Packet]:
 
 def interfaces_of(file: BinaryIO, most_unpacked: Optional[int] = None
                   ) -> List[CaptureInterface]:
-    """Returns the interfaces that a pcapng file describes before any damage; none for pcap."""
+    """Returns the interfaces that a pcapng file describes, up to any damage; none for pcap."""
     described: List[CaptureInterface] = []
     with suppress(BadCapture):
         reader = reader_of(file, most_unpacked)

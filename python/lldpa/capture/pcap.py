@@ -24,7 +24,7 @@ def form_of(magic: bytes) -> Optional[Tuple[str, int]]:
 
 
 class PcapReader(Reader):
-    """Reads a pcap file. All its packets are of one interface, which has no name in the file."""
+    """Reads a pcap file. All its packets belong to one interface without a name."""
     HEAD_SIZE = OCTETS_AT = 16
 
     def __init__(self, window: Window, order: str, units: int) -> None:
@@ -50,7 +50,7 @@ class PcapReader(Reader):
         return self._interface, time, begin, begin + captured, length
 
     def pass_over(self, stop: int) -> Optional[int]:
-        """Skips packets; see Reader."""
+        """Skips packets; see `Reader.pass_over`."""
         octets, unpack, units = self.window.octets, self._unpack, self._units
         at, latest, passed, count = self.at, self.latest, None, 0
         while at + 16 < stop:

@@ -20,7 +20,7 @@ MICROSECONDS = b"\x06"
 class PcapngReader(Reader):
     """Reads the blocks of a pcapng file. `described` has the interfaces of all sections so far.
 
-    Only packets of the first `_passable` interfaces may be skipped. All of these are Ethernet.
+    The first `_passable` interfaces of a section are Ethernet. Only their packets may be skipped.
     Packets of later interfaces are read, so that another link type is noticed.
     """
     HEAD_SIZE = 12
@@ -67,7 +67,7 @@ class PcapngReader(Reader):
         return None
 
     def pass_over(self, stop: int) -> Optional[int]:
-        """Skips packets; see Reader. Stops at a faulty block, which read_record reports."""
+        """Skips packets; see `Reader.pass_over`. Leaves faulty blocks to `read_record`."""
         octets, unpack, unpack_size = self.window.octets, self._unpack_packet, self._unpack_size
         at, latest, passed, count = self.at, self.latest, None, 0
         while at + 28 < stop:
@@ -123,7 +123,7 @@ class PcapngReader(Reader):
         return options
 
     def _packet(self, fields: str, begin: int, end: int) -> Look:
-        """Returns the packet of a block that has the number of its interface."""
+        """Returns the packet of an enhanced or an old packet block."""
         unpacked = struct.unpack_from(self._order + fields, self.window.octets, begin)
         place, high, low, captured, length = unpacked
         interface = self._interfaces[place]

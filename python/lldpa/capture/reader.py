@@ -39,8 +39,8 @@ class Reader:
         raise NotImplementedError
 
     def looks(self, prefix: bytes) -> Iterator[Look]:
-        """Yields each packet that begins with these octets. To show how time passes, also yields
-        the first packet, the last one, and both packets around a time stamp that goes back."""
+        """Yields each packet that begins with these octets, and others to show how time passes: at
+        least the first, the last, and both packets around a time stamp that goes back."""
         while True:
             size = self._reach_record()
             if not size:

@@ -16,8 +16,8 @@ STANDARD_INPUT = "-"
 class Source(NamedTuple):
     """A capture's file (`-`: standard input). If `port` is given, it is the port of all frames.
 
-    Otherwise a port has the name of its interface, or the name that `names` has for the interface.
-    At most `most_unpacked` octets of a file compressed by gzip are unpacked.
+    Otherwise a port is named like its interface, unless `names` has another name for the interface.
+    A gzip file may unpack to at most `most_unpacked` octets.
     """
     file: str
     port: Optional[str] = None
@@ -32,7 +32,7 @@ def port_of(source: Source, interface: CaptureInterface) -> str:
     return source.names.get(interface.name, interface.name)
 
 
-# copies of pipes, which can be read only once, by their names
+# copies of pipes, by name, since a pipe can be read only once
 HELD: Dict[str, IO[bytes]] = {}
 
 

@@ -19,7 +19,7 @@ __all__ = ["Source", "Told", "TooManyPorts", "frames_of", "ports_of", "trace_of"
 
 ETHERTYPE = bytes.fromhex("88cc")
 TAGS = (b"\x81\x00", b"\x88\xa8", b"\x91\x00")
-MOST_OF_A_KIND = 5  # notes of a kind are written
+MOST_OF_A_KIND = 5  # notes to report in full
 
 Tell = Callable[[str], None]
 
@@ -40,7 +40,7 @@ SILENT = Told(lambda _: None, lambda _: None)
 
 
 class Notes:
-    """Reports notes on a file: the first of each kind, and the number of all others."""
+    """Reports the first five notes of each kind about a file, and the number of all others."""
 
     def __init__(self, tell: Tell, file: str) -> None:
         self._tell = tell
@@ -48,7 +48,7 @@ class Notes:
         self._counts: Counter[str] = Counter()
 
     def tell(self, kind: str, text: str) -> None:
-        """Reports a note if it is one of the first of its kind."""
+        """Reports a note if it is one of the first five of its kind."""
         self._counts[kind] += 1
         if self._counts[kind] <= MOST_OF_A_KIND:
             self._tell(f"{self._file}: {text}")
@@ -62,7 +62,7 @@ class Notes:
 
 
 class Moment(NamedTuple):
-    """A time in a capture, the line of a frame at this time (or an empty text), and the notes."""
+    """A time in a capture, the line of a frame (empty if there is none), and the file's notes."""
     time: Optional[int]
     line: str
     notes: Notes
@@ -87,7 +87,7 @@ def ports_of(sources: Sequence[Source]) -> List[str]:
 
 
 def names_of(source: Source) -> Sequence[str]:
-    """Returns the port names of a capture's Ethernet interfaces, or the one name that is given."""
+    """Returns the port names of a capture's Ethernet interfaces, or one name if none are known."""
     interfaces: List[CaptureInterface] = []
     if source.port is None and os.path.isfile(source.file):
         with suppress(OSError), opened(source.file) as file:
@@ -97,7 +97,7 @@ def names_of(source: Source) -> Sequence[str]:
 
 
 def trace_of(sources: Sequence[Source], told: Told, seconds: bool = True) -> Iterator[str]:
-    """Yields the lines of the trace. Without `seconds`, it has no ticks.
+    """Yields the lines of the trace. If `seconds` is false, it has no `tick` lines.
 
     If a capture cannot be read completely, reports a fault that names the file, and continues with
     the other captures. Raises TooManyPorts before the first line.
@@ -151,7 +151,7 @@ class Recording:
         yield Moment(self._latest, "", self._notes)
 
     def _frames(self, reader: Reader) -> Iterator[Moment]:
-        """Yields the beginning and the LLDP frames. Of other packets, only the time is used."""
+        """Yields the beginning and the LLDP frames. Other packets only advance the time."""
         shift, interface_before = 0, None
         for interface, stamp, begin, end, length in reader.looks(NEAREST_BRIDGE):
             if interface is not interface_before:
@@ -210,12 +210,12 @@ class Recording:
         if nanoseconds < SECOND:
             return 0
         self._notes.tell("set back", f"the time stamps go back by {nanoseconds // SECOND} s; "
-                                     "time continues from there")
+                                     "the trace goes on as if no time had passed")
         return nanoseconds
 
 
 def is_lldp(octets: bytes, length: int) -> bool:
-    """Returns whether the octets may be an LLDP frame to the nearest bridge, tagged or not."""
+    """Returns whether this may be an LLDP frame to the nearest bridge address, tagged or not."""
     if octets[12:14] == ETHERTYPE:
         return octets.startswith(NEAREST_BRIDGE)
     if len(octets) == length < SHORTEST_FRAME:

@@ -1,4 +1,4 @@
-"""Keeps a part of a file in memory, and moves it from the file's beginning to its end."""
+"""Keeps a part of a file in memory: a window that moves from the file's beginning to its end."""
 
 from typing import Protocol
 
@@ -29,7 +29,7 @@ class Window:
     def move(self, at: int, count: int) -> bool:
         """Drops the first `at` octets, and reads until there are at least `count` octets.
 
-        Returns False at the file's end. Raises BadCapture if there are some octets, but too few.
+        Returns False at the file's end. Raises BadCapture if only some of the octets exist.
         """
         if not 0 <= count <= MOST_OCTETS:
             raise self.damage(at, "the length of a record is far too large")
@@ -46,5 +46,5 @@ class Window:
         return len(self.octets) >= count
 
     def damage(self, at: int, why: str) -> BadCapture:
-        """Returns the error that the record at this place of the window is damaged."""
+        """Returns a BadCapture about the damaged record at this place of the window."""
         return BadCapture(f"it is damaged at octet {self.begin + at}: {why}")

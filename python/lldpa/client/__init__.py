@@ -1,7 +1,7 @@
 """Asks a running lldpa-live, and presents its answers to people and programs.
 
 `Client` asks a running lldpa-live; `neighbor_object` converts a neighbor to an object for JSON;
-`since_of` reads when each neighbor came.
+`since_of` returns when each neighbor appeared.
 """
 from typing import TYPE_CHECKING
 
@@ -20,6 +20,6 @@ LATER = {"Client": ".connection", "neighbor_object": ".as_json", "since_of": ".l
 def __getattr__(name: str) -> object:
     """Loads a module when its name is first used."""
     if name in LATER:
-        from importlib import import_module  # loaded late, as in lldpa
+        from importlib import import_module  # seldom needed, as in lldpa
         return getattr(import_module(LATER[name], __name__), name)
     raise AttributeError(f"module {__name__!r} has no attribute {name!r}")

@@ -1,7 +1,7 @@
 """Converts shows and their parts to objects for JSON.
 
 Texts are Unicode if their octets are UTF-8. Otherwise a text is escaped as the agent shows it, and
-`octets` in the same object has its octets in hexadecimal, by the key of the text.
+`octets` in the same object has its octets in hexadecimal, under the key of the text.
 """
 
 from typing import Any, Mapping, Optional
@@ -60,7 +60,7 @@ def neighbor_object(neighbor: Neighbor, since: Since = NOBODY) -> dict[str, Any]
 
 
 def with_texts(told: dict[str, Any], shown: Mapping[str, Optional[str]]) -> dict[str, Any]:
-    """Adds texts of a show to an object by their keys, and returns the object."""
+    """Adds texts of a show to an object under their keys, and returns the object."""
     for key, text in shown.items():
         if text is not None:
             with_text(key, shown_octets(text), told)

@@ -1,7 +1,7 @@
 """Connects to the control socket of a running lldpa-live.
 
 A question is one line of at most 4,096 octets. Its answer is a line `=N` and then N lines. Answers
-are limited in size and in time, so that even a service that was taken over cannot block a client.
+are limited in size and in time, so that even a compromised service cannot block a client.
 """
 
 from __future__ import annotations
@@ -72,7 +72,7 @@ class Client:
         octets = checked(line) + b"\n"
         self.last, self.room = time.monotonic() + self.seconds, MOST_OCTETS
         with contextlib.suppress(BrokenPipeError, ConnectionResetError):
-            self.in_time(self.connection.sendall, octets)  # if it closed, it may have said why
+            self.in_time(self.connection.sendall, octets)  # after an error, an answer may say why
         head = self.read_line()
         if not (head.startswith("=") and head[1:].isdecimal() and len(head) <= MOST_DIGITS):
             raise Gone(f"not an answer of lldpa-live: {head!r}")
@@ -105,7 +105,7 @@ class Client:
 
     def in_time(self, call: Callable[[Any], Any], argument: Any) -> Any:
         """Calls a method of the socket, and returns its result. Raises TimeoutError if the time for
-        the answer is over; in Python 3.9, socket.timeout is another class."""
+        the answer is over, also in Python 3.9, where socket.timeout is another class."""
         left = self.last - time.monotonic()
         if left > 0:
             self.connection.settimeout(left)

@@ -1,4 +1,4 @@
-"""Shows people everything that a neighbor sends, in at most 29 lines."""
+"""Formats everything that a neighbor sent as text for people, in at most 29 lines."""
 
 import time
 from itertools import islice
@@ -29,7 +29,7 @@ def details(ports: Sequence[Port], since: Since, width: int) -> list[str]:
 
 
 def discarded(counters: Mapping[str, Counters]) -> list[str]:
-    """Returns a line for each port that discarded TLVs, since no neighbor shows these."""
+    """Returns a line for each port that discarded TLVs. A neighbor's lines do not show these."""
     return [f"{readable(port)}: {counted(of.tlvs_discarded, 'TLV')} discarded since the start"
             for port, of in counters.items() if of.tlvs_discarded]
 
@@ -73,7 +73,7 @@ def pairs_of(neighbor: Neighbor, since: Optional[str]) -> Iterator[Pair]:
 
 
 def others_of(neighbor: Neighbor) -> Iterator[Pair]:
-    """Yields its other lines: TLVs of reserved types, and keys that are unknown here."""
+    """Yields a neighbor's other lines: TLVs of reserved types, and keys that are unknown here."""
     for key, value in neighbor.said:
         if key not in SAID_KEYS and not key.startswith("org."):
             yield readable(key), readable(value)

@@ -1,14 +1,14 @@
-"""Reads the state of lldpa-live from its lines `live.KEY=VALUE` and `live.PORT.KEY=VALUE`."""
+"""Reads the answer of lldpa-live to `live`: lines `live.KEY=VALUE` and `live.PORT.KEY=VALUE`."""
 
 from typing import Dict, Iterable, Mapping, Sequence, Tuple
 
-# when each neighbor came, by its port and its MSAP identifier
+# when each neighbor appeared, by its port and its MSAP identifier
 Since = Mapping[Tuple[str, str], str]
 
 
 class LiveLines:
-    """The values of these lines by key and by port, the time when each neighbor came, and the
-    number of each chassis. Other lines are ignored."""
+    """The answer to `live`: its values by key and by port, the time when each neighbor appeared,
+    and the number of each chassis. Other lines are ignored."""
 
     def __init__(self, lines: Iterable[str]) -> None:
         self.own: Dict[str, str] = {}
@@ -40,5 +40,5 @@ class LiveLines:
 
 
 def since_of(lines: Iterable[str]) -> Dict[Tuple[str, str], str]:
-    """Returns when each neighbor came, from the lines of `live`."""
+    """Returns when each neighbor appeared, from the answer to `live`."""
     return LiveLines(lines).since

@@ -11,7 +11,7 @@ from ..agent.shown import COUNTED
 Labels = Mapping[str, str]
 SAID = ("0080c2.1", "00120f.4")  # Port VLAN ID and Maximum Frame Size, which are labels
 
-# key in `live`, name, description, and states; the sample of the current state is 1
+# key in `live`, metric, description, and states; the sample of the current state is 1
 STATES = (
     ("agent", "lldpa_agent_state", "1 for the current state of the agent, 0 for others.",
      ("running", "waiting")),
@@ -26,7 +26,7 @@ NUMBERS = (
     ("log-lines-lost", "lldpa_log_lines_lost_total", "counter",
      "Lines of the agent that were not written to the log."),
 )
-# for ports: key, name, type, description, and the value for which the sample is 1, if any
+# for ports: key in `live`, metric, type, description, and the value that means 1 (or an empty text)
 OF_PORTS = (
     ("interface", "lldpa_interface_present", "gauge",
      "Whether the interface of the port exists, 1 or 0.", "present"),
@@ -45,7 +45,7 @@ OF_PORTS = (
 
 
 def metrics(show: Show, live: Iterable[str]) -> list[str]:
-    """Returns the metrics of a show of neighbors and counters, and of lldpa-live's own lines."""
+    """Returns the metrics of a show of neighbors and counters, and of the answer to `live`."""
     return [
         *live_lines(LiveLines(live)),
         *metric_lines("lldpa_neighbors", "gauge", "Neighbors that the port holds.",
@@ -89,7 +89,7 @@ def live_lines(told: LiveLines) -> Iterator[str]:
 
 
 def identified(neighbor: Neighbor) -> dict[str, str]:
-    """Returns the labels that identify a neighbor among those of its port."""
+    """Returns the labels that identify a neighbor."""
     return {
         "port": neighbor.port,
         "chassis_kind": neighbor.chassis.kind,

@@ -1,4 +1,4 @@
-"""Formats tables for people, as wide as the terminal: neighbors, states of ports, and counters."""
+"""Formats tables of neighbors, ports and counters for people, at most as wide as the terminal."""
 
 import os
 import socket
@@ -35,7 +35,7 @@ def terminal_width() -> int:
 
 
 def table(ports: Sequence[Port], width: int) -> list[str]:
-    """Returns a table of the neighbors of these ports, at most `width` wide, and their number.
+    """Returns the neighbors of these ports as a table, at most `width` wide, and their number.
 
     The VLAN column is shown only if a neighbor sent a VLAN. If the table is too wide, the column of
     management addresses is left out first.
@@ -58,7 +58,7 @@ def row_of(neighbor: Neighbor) -> Tuple[str, ...]:
 
 
 def port_vlan_of(org: Iterable[Tuple[str, str]]) -> Optional[int]:
-    """Returns the Port VLAN ID (0: no VLAN), or None if none or different ones were sent."""
+    """Returns the Port VLAN ID (0: no VLAN), or None if there is none or several that differ."""
     vids = {vid_of(digits) for kind, digits in org if kind == PORT_VLAN} - {None}
     return vids.pop() if len(vids) == 1 else None
 
@@ -73,19 +73,19 @@ def vid_of(digits: str) -> Optional[int]:
 
 
 def name_of(neighbor: Neighbor) -> str:
-    """Returns the neighbor's System Name, or its chassis ID if it has none."""
+    """Returns the System Name, or the chassis ID if the neighbor has no name."""
     return readable(neighbor.name) if neighbor.name else identifier_text(neighbor.chassis)
 
 
 def port_of(neighbor: Neighbor) -> str:
-    """Returns its Port ID, or its Port Description if the Port ID is a MAC address or binary."""
+    """Returns the Port ID, or the Port Description if the Port ID is a MAC address or binary."""
     if neighbor.port_id.kind in ("mac", "unhandled") and neighbor.port_descr:
         return readable(neighbor.port_descr)
     return identifier_text(neighbor.port_id)
 
 
 def management_of(neighbor: Neighbor) -> str:
-    """Returns its first management address, or an empty text if it has none."""
+    """Returns the first management address, or an empty text if there is none."""
     return address_text(neighbor.management[0]) if neighbor.management else ""
 
 
@@ -95,7 +95,7 @@ def identifier_text(identifier: Identifier) -> str:
 
 
 def address_text(address: str) -> str:
-    """Returns an address for people. IPv6 addresses are shortened."""
+    """Returns an address for people. IPv6 addresses are written in their short form."""
     try:
         return socket.inet_ntop(socket.AF_INET6, socket.inet_pton(socket.AF_INET6, address))
     except (OSError, ValueError):
@@ -133,7 +133,7 @@ def line_of(row: Sequence[str], widths: Sequence[int], numbers: int) -> str:
 
 
 def count_of(ports: Sequence[Port], width: int) -> list[str]:
-    """Returns the number of neighbors, and what to do for each port with too little room."""
+    """Returns the number of neighbors, and a remedy for each port that had too little room."""
     held = sum(port.neighbors_held for port in ports)
     said = f"{counted(held, 'neighbor')} on {counted(len(ports), 'port')}."
     for port in (port for port in ports if port.too_many):
@@ -144,7 +144,7 @@ def count_of(ports: Sequence[Port], width: int) -> list[str]:
 
 
 def reasons(show: Show, live: Mapping[str, Mapping[str, str]], width: int) -> list[str]:
-    """Returns why ports have no neighbor; `live` has what lldpa-live reports of each port."""
+    """Returns why ports have no neighbor. `live` has what lldpa-live reports about each port."""
     statuses = show.configuration.statuses if show.configuration else {}
     found: Dict[str, List[str]] = {}
     for port in show.ports:
@@ -189,7 +189,7 @@ def summed(counters: Iterable[Counters]) -> Counters:
 
 
 def counter_lines(counters: Mapping[str, Counters], width: int) -> list[str]:
-    """Returns a line of counters for each port, and a line of sums if there are several ports."""
+    """Returns a row of counters for each port, and a row of sums if there are several ports."""
     told = {readable(port): of for port, of in counters.items()}
     if len(told) > 1:
         told[ALL] = summed(counters.values())

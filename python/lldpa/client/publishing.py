@@ -22,8 +22,8 @@ SECONDS_TO_ANSWER = 10.0  # for each question; the timer asks again soon
 def publish(path: str, file: Optional[str]) -> None:
     """Asks the lldpa-live at this path, and writes its metrics to a file or to standard output.
 
-    Then raises what `Client` raises if lldpa-live does not answer, and Refused if the agent waits
-    for an interface. Raises LldpaFault if the file can't be written.
+    After that, raises the error of `Client` if lldpa-live does not answer, and Refused if the agent
+    waits for an interface. Raises LldpaFault if the file can't be written.
     """
     try:
         told, lines = asked(path, file is None)
@@ -39,8 +39,8 @@ def publish(path: str, file: Optional[str]) -> None:
 
 
 def asked(path: str, is_printed: bool) -> tuple[LiveLines, list[str]]:
-    """Returns the answer to `live`, and the metrics. Leaves out the agent's metrics if it does not
-    run. Gives up root if no file is to be written."""
+    """Returns the answer to `live`, and the metrics. Leaves out the agent's metrics if the agent
+    does not run. Gives up root if no file is to be written."""
     with Client(path, SECONDS_TO_ANSWER) as client:
         if is_printed:
             load()
@@ -58,7 +58,7 @@ def asked(path: str, is_printed: bool) -> tuple[LiveLines, list[str]]:
 
 
 def write(lines: Iterable[str], file: Optional[str]) -> None:
-    """Writes lines to standard output, or replaces a file by them."""
+    """Writes lines to standard output, or replaces a file with them."""
     text = "".join(line + "\n" for line in lines)
     if file is None:
         print(text, end="")
@@ -70,7 +70,7 @@ def write(lines: Iterable[str], file: Optional[str]) -> None:
 
 
 def replace(file: str, text: str) -> None:
-    """Replaces a file by this text, after writing all of the text to a temporary file."""
+    """Writes this text to a temporary file, and then replaces the file with it."""
     import tempfile  # slow to load
     folder, name = os.path.split(os.path.abspath(file))
     number, path = tempfile.mkstemp(prefix=f".{name}.", dir=folder)

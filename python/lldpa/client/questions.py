@@ -1,5 +1,5 @@
-"""Defines the commands for people: which lines each sends, and how the answers are shown. A module
-that only one command needs is loaded by that command."""
+"""Defines the commands of lldpa-ctl: which lines each sends, and how the answers are shown. A
+module that only one command needs is loaded by that command."""
 
 from typing import Any, Callable, Dict, List, NamedTuple, Sequence, Tuple
 
@@ -15,7 +15,7 @@ SHOWS = ("neighbors", "statistics", "chassis", "configuration", "interfaces")
 OF_PORTS = ("neighbors", "statistics")  # the shows that may be followed by ports
 SET_PORTS = ("configure", "ports")
 OF_LINES = ("up", "down", "rx", "tick")  # lines of the trace, which cannot be shortened
-# lldpcli's names of commands
+# commands in the words of lldpcli, and the commands of lldpa-ctl with the same meaning
 OF_LLDPCLI = {("show", "interfaces"): ("interfaces",),
               ("show", "neighbors", "details"): ("details",),
               ("show", "neighbors", "summary"): ("neighbors",),
@@ -26,7 +26,7 @@ OF_A_WORD = ("unknown command", "no such port", "not a number", "out of range", 
 
 
 class Question(NamedTuple):
-    """Lines to send, functions that show the answers, and `further` lines to send for JSON."""
+    """Lines to send, functions that show the answers, and `further` lines to send only for JSON."""
 
     lines: Sequence[str]
     text: Callable[[Answers, int], List[str]]
@@ -50,7 +50,7 @@ def question(words: Sequence[str]) -> Question:
 
 
 def ask_neighbors(rest: Sequence[str]) -> Question:
-    """Asks for the table of neighbors."""
+    """Returns the question for the table of neighbors."""
     ports = listed(rest)
 
     def text(answers: Answers, width: int) -> List[str]:
@@ -75,7 +75,7 @@ def ask_details(rest: Sequence[str]) -> Question:
 
 
 def shown_object(answers: Answers, ports: Sequence[str] = ()) -> Any:
-    """Returns these ports of a show as an object. The answer to `live`, if given, adds `since`."""
+    """Returns these ports of a show as an object, with `since` if `live` was answered too."""
     from .as_json import show_object
     since = since_of(answers[1]) if len(answers) > 1 else {}
     return show_object(only(read_show(answers[0]), ports), since)
@@ -95,7 +95,7 @@ def ask_interfaces(rest: Sequence[str]) -> Question:
 
 
 def ask_statistics(rest: Sequence[str]) -> Question:
-    """Asks for the counters of ports, or for the sums of all."""
+    """Returns the question for the counters of ports, or for the sums of all."""
     is_summary = list(rest) == ["summary"]
     ports = [] if is_summary else listed(rest)
 
@@ -119,7 +119,7 @@ def ask_live(rest: Sequence[str]) -> Question:
 
 
 def ask_show_of(name: str, ports: Sequence[str]) -> Question:
-    """Asks for the lines of a show, of all ports or of some."""
+    """Returns the question for all lines of a show, or for those of some ports."""
     def text(answers: Answers, width: int) -> List[str]:
         if not ports:
             return list(answers[0])
@@ -131,7 +131,7 @@ def ask_show_of(name: str, ports: Sequence[str]) -> Question:
 
 
 def ask_lines(lines: Sequence[str]) -> Question:
-    """Sends lines to the agent, and shows their answers unchanged."""
+    """Returns a question that sends lines to the agent, and shows their answers unchanged."""
     def text(answers: Answers, width: int) -> List[str]:
         return [line for answer in answers for line in answer]
     return Question(lines, text, lambda answers: shown_object(answers[:1]))
@@ -149,14 +149,14 @@ COMMANDS: Tuple[str, ...] = (*OWN, "show", "configure", "update")
 
 
 def in_full(words: Sequence[str], commands: Sequence[str]) -> List[str]:
-    """Returns a command with its first word, and the word after `show`, in full."""
+    """Completes the first word of a command, and the word after `show`."""
     first, rest = completed(words[0], commands), list(words[1:])
     return [first, *(completed(one, SHOWS) for one in rest[:1] if first == "show"),
             *(rest[1:] if first == "show" else rest)]
 
 
 def completed(word: str, able: Sequence[str]) -> str:
-    """Returns the only one of these words that begins with `word`, or else `word` itself."""
+    """Returns the only word in `able` that begins with `word`, or `word` if none or several do."""
     found = [one for one in able if one.startswith(word)] if word else []
     return found[0] if len(found) == 1 and word not in (*able, *OF_LINES) else word
 

@@ -14,13 +14,13 @@ THE_SAME = "the same"
 PORT, STATUS = "PORT", "STATUS"
 A_PORT = "a port of this agent"
 
-# the words of each form of a command, and its description; words in capitals are values
+# the words of each form of a command, and its description; words in capitals are placeholders
 Forms = Dict[Tuple[str, ...], str]
 
 
 @lru_cache(maxsize=None)
 def forms_of(program: str) -> Forms:
-    """Returns the forms of commands in an agent's help; none if the program cannot be run."""
+    """Returns the forms of commands in the program's help; none if the program cannot be run."""
     try:
         ran = subprocess.run([program, "--help"], stdin=subprocess.DEVNULL, capture_output=True,
                              timeout=SECONDS, check=False)
@@ -40,9 +40,8 @@ def forms_of(program: str) -> Forms:
 
 
 def explained(line: str, text: str, program: str = "lldpa") -> str:
-    """Returns why the agent refused a line, for instance `out of range`, with the word that is
-    wrong and what is allowed in its place: `out of range: 0 (seconds between frames, 1 to
-    3600)`."""
+    """Returns the agent's reason for refusing a line, such as `out of range`, with the wrong word
+    and what is allowed in its place: `out of range: 0 (seconds between frames, 1 to 3600)`."""
     words, known = words_of(line), forms_of(program)
     if text == "bad quote" or not known:
         return text
@@ -76,7 +75,7 @@ def fitting(form: Sequence[str], words: Sequence[str], known: Forms) -> int:
 
 
 def in_full(some: Sequence[str], forms: Forms) -> List[str]:
-    """Returns the words of an agent's command, with shortened words in full."""
+    """Completes the shortened words of a command for the agent."""
     words = list(some)
     for place in range(1, len(words)):
         forms = {form: said for form, said in forms.items() if len(form) > place

@@ -54,7 +54,7 @@ def news_line(news: NeighborNews) -> str:
 
 
 def by_name(ports: Iterable[Port]) -> dict[Name, Neighbor]:
-    """Returns the neighbors by port, chassis ID and port ID, which identify each of them."""
+    """Returns the neighbors by port, chassis ID and port ID, which together identify a neighbor."""
     return {(one.port, one.chassis, one.port_id): one for port in ports for one in port.neighbors}
 
 

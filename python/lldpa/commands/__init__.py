@@ -1,1 +1,1 @@
-"""The programs: the arguments and the `main` of each."""
+"""Contains the programs. Each module reads the arguments of one program and runs it."""

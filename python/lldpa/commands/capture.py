@@ -15,9 +15,9 @@ from ..version import add_version
 
 NAME = "lldpa-capture"
 SUMMARY = "Writes the LLDP frames of captures as a trace for lldpa, with the seconds between them."
-FILE_HELP = """an Ethernet capture in pcap or pcapng form, or - for standard input; with PORT=FILE,
-PORT is the port of all its frames"""
-PORT_HELP = """use NAME as the port of all frames; with INTERFACE=NAME, only of the frames of that
+FILE_HELP = """an Ethernet capture in pcap or pcapng format, or - for standard input; with
+PORT=FILE, PORT is the port of all its frames"""
+PORT_HELP = """use NAME as the port of all frames; INTERFACE=NAME applies only to frames of that
 interface (default: the interface's name in a pcapng file, or eth0)"""
 EPILOG = """\
 example: lldpa-capture --show lab.pcap | lldpa --receive-only eth0
@@ -105,7 +105,7 @@ def run(given: argparse.Namespace) -> int:
 
 
 def fault_of(file: str) -> str:
-    """Returns why a capture cannot be read, or an empty text. Does not try streams."""
+    """Returns why a capture cannot be read, or an empty text. Does not open streams."""
     try:
         if file == STANDARD_INPUT or is_stream(os.stat(file).st_mode):
             return ""
@@ -124,7 +124,7 @@ def main(words: Optional[Sequence[str]] = None) -> int:
 
 
 def status_of(words: Optional[Sequence[str]]) -> int:
-    """Runs the program and returns its status. The caller reports output that fails."""
+    """Runs the program and returns its status. The caller reports errors of standard output."""
     parser = parser_of_words()
     given = parser.parse_args(words)
     try:

@@ -1,4 +1,4 @@
-"""lldpa-ctl: asks a running lldpa-live at its control socket, and prints what it answers."""
+"""lldpa-ctl: asks a running lldpa-live at its control socket, and prints its answers."""
 
 import getopt
 import sys
@@ -47,7 +47,7 @@ commands (without a command, a table of all neighbors is printed):
   watch [PORT..]           print a line when a neighbor comes, changes or goes
   metrics                  print metrics for Prometheus
   help                     print this help
-Separate several ports by spaces or commas. You may shorten a
+Separate ports with spaces or commas. You may shorten a
 word if no other word begins with the same letters.
 
 example: lldpa-ctl --json show neighbors eth0,eth1
@@ -78,7 +78,7 @@ def print_answer(client: Client, asked: Question, as_json: bool) -> None:
 
 
 def answer(client: Client, line: str) -> list[str]:
-    """Returns the answer to a line. Raises Refused with the reason and the word that is wrong."""
+    """Returns the answer to a line. Raises Refused with the reason and the wrong word."""
     try:
         return client.ask(line)
     except Refused as refused:
@@ -139,7 +139,7 @@ def work_of(given: Given) -> Callable[[Client], None]:
 
 
 def said_of(fault: Exception, path: str) -> str:
-    """Returns the message that reports an error to people."""
+    """Returns the message about an error."""
     if isinstance(fault, (FileNotFoundError, ConnectionRefusedError)):
         return f"nobody answers at {path}: is lldpa-live running?"
     if isinstance(fault, PermissionError):
@@ -152,12 +152,12 @@ def said_of(fault: Exception, path: str) -> str:
 def main(words: Optional[Sequence[str]] = None) -> int:
     """Runs the program. Returns 0 if all was answered, 1 if not, 2 if its arguments are wrong."""
     given = sys.argv[1:] if words is None else words
-    # characters that the terminal does not have are written as question marks
+    # characters that the terminal cannot show are written as question marks
     return output.run("lldpa-ctl", lambda: status_of(given), 1, errors="replace")
 
 
 def status_of(words: Sequence[str]) -> int:
-    """Runs the program and returns its status. The caller reports output that fails."""
+    """Runs the program and returns its status. The caller reports errors of standard output."""
     try:
         given = read_words(words)
     except WrongWords as fault:
@@ -187,7 +187,7 @@ def answer_all(given: Given) -> None:
         return
     work = work_of(given)
     with Client(given.control) as client:
-        if given.words[:1] != ["configure"]:  # explaining its refusals runs `lldpa --help`
+        if given.words[:1] != ["configure"]:  # it may run `lldpa --help` to explain a refusal
             give_up_root()
         work(client)
 

@@ -1,4 +1,4 @@
-"""lldpctl, also installed as lldpcli: asks a running lldpa-live, and answers like lldpcli."""
+"""lldpctl (or lldpcli): asks a running lldpa-live, and prints answers as lldpd's lldpcli does."""
 
 import getopt
 import os
@@ -22,12 +22,12 @@ from .ctl import answer as answer_of, said_of
 
 LLDPCTL, LLDPCLI = "lldpctl", "lldpcli"
 HELP = f"""\
-usage: NAME [-u PATH] [-f FORM] [PORT... | COMMAND]
+usage: NAME [-u PATH] [-f FORMAT] [PORT... | COMMAND]
 
-Asks a running lldpa-live, and prints the answer like lldpcli of lldpd.
+Asks a running lldpa-live, and prints the answer as lldpd's lldpcli does.
 
   -u PATH        the control socket of lldpa-live (default {DEFAULT_PATH})
-  -f FORM        the output form: {', '.join(FORMS)} (default plain)
+  -f FORMAT      the output format: {', '.join(FORMS)} (default plain)
   -d, -s         accepted and ignored
   -h, --help     print this help
   -v, --version  print the version
@@ -42,7 +42,7 @@ from standard input until the command exit. The commands are:
   show configuration
   watch [details | summary] [ports PORT,..] [limit N]
   configure ...  change a setting, see lldpa(1)
-  update
+  update         announce the current state of this host at once
 
 example: lldpctl -f keyvalue eth0
 lldpd has a program of the same name: lldpctl(1) says how to put this one on the
@@ -66,7 +66,7 @@ class Given(NamedTuple):
 
 
 def read_words(words: Sequence[str]) -> Given:
-    """Reads the arguments of the program. Raises Refused if an option or a form is unknown."""
+    """Reads the arguments of the program. Raises Refused if an option or the format is unknown."""
     try:
         options, rest = getopt.gnu_getopt(list(words), "dhsvu:f:", ["help", "version"])
     except getopt.GetoptError as fault:
@@ -74,7 +74,7 @@ def read_words(words: Sequence[str]) -> Given:
     told = dict(options)
     form = told.get("-f", "plain")
     if form not in FORMS:
-        raise Refused(f"unknown form: {form} ({', '.join(FORMS)})")
+        raise Refused(f"unknown format: {form} ({', '.join(FORMS)})")
     return Given(told.get("-u", DEFAULT_PATH), form, "-h" in told or "--help" in told,
                  "-v" in told or "--version" in told, rest)
 

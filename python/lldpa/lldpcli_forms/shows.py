@@ -1,4 +1,4 @@
-"""Builds the trees of the shows from the answers of lldpa-live."""
+"""Builds the trees of lldpcli's `show` commands from the answers of lldpa-live."""
 
 from enum import Enum
 from typing import (Callable, Dict, Iterable, Iterator, List, Mapping, NamedTuple, Optional,
@@ -29,7 +29,7 @@ class Depth(Enum):
 
 
 class Told(NamedTuple):
-    """The answers of lldpa-live: its shows, the time when each neighbor came, and the number of
+    """The answers of lldpa-live: its shows, the time when each neighbor appeared, and the number of
     each chassis. `now` is the current time in seconds since 1970."""
     show: Show
     since: Since

@@ -19,7 +19,7 @@ COMMANDS = ("show", "watch", "configure", "update")
 
 
 class Question(NamedTuple):
-    """A show: its name, how much of it, and of which ports (None: all ports)."""
+    """A `show` command: its name, how much it shows, and of which ports (None: all ports)."""
     show: str
     depth: Depth
     ports: Optional[List[str]]
@@ -36,7 +36,7 @@ class Question(NamedTuple):
 
 
 class Watching(NamedTuple):
-    """A watch: how much it shows, of which ports, and after how many changes it ends."""
+    """A `watch` command: how much it shows, of which ports, and after how many changes it ends."""
     depth: Depth
     ports: Optional[List[str]]
     limit: Optional[int]
@@ -75,7 +75,7 @@ def of_lldpcli(words: Sequence[str]) -> Command:
 
 
 def read_rest(rest: List[str], able: List[str]) -> Watching:
-    """Reads the words after a command: how much, ports and a limit, each at most once."""
+    """Reads the words after a command: how much to show, ports and a limit, each at most once."""
     told = Watching(Depth.NORMAL, None, None)
     while rest:
         word = meant(rest.pop(0), able)

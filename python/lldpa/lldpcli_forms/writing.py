@@ -1,4 +1,4 @@
-"""Writes a tree in each form: for people, as keys and values, and as JSON."""
+"""Writes a tree in one of the forms: for people, as keys and values, and as JSON."""
 
 import json
 import unicodedata
@@ -44,7 +44,7 @@ def keyvalue(root: Node) -> str:
 
 
 def on_a_terminal(root: Node) -> str:
-    """Returns lines KEY=VALUE, with characters escaped that a terminal may not show as they are."""
+    """Returns lines KEY=VALUE in which characters that are unsafe on a terminal are escaped."""
     return "\n".join(map(printable, keyvalue(root).split("\n")))
 
 
@@ -71,7 +71,7 @@ def one_line(text: str) -> str:
 
 
 def is_control(letter: str) -> bool:
-    """Returns whether a character is a line end, not UTF-8, or a control character except a tab."""
+    """Returns whether a character is a line end, a control character except a tab, or not UTF-8."""
     kind = unicodedata.category(letter)
     return kind in ENDS or kind[0] == "C" and kind not in ("Cf", "Co", "Cn") and letter != "\t"
 
@@ -82,7 +82,7 @@ def json0(root: Node) -> str:
 
 
 def json_short(root: Node) -> str:
-    """Returns JSON in which a list of one is its item, and a node's name is its key."""
+    """Returns JSON in which a list of one item is that item, and a node's name is its key."""
     return json.dumps({root.key: shortened([whole(root)])}, indent=2)
 
 
@@ -125,5 +125,5 @@ FORMS = {"plain": plain, "keyvalue": keyvalue, "json": json_short, "json0": json
 
 
 def form_of(name: str, is_terminal: bool) -> Callable[[Node], str]:
-    """Returns the function that writes a form, to a terminal or to anything else."""
+    """Returns the function that writes a form. On a terminal, keyvalue is made safe to show."""
     return on_a_terminal if is_terminal and name == "keyvalue" else FORMS[name]

@@ -28,7 +28,7 @@ class EtsTables:
 
     @classmethod
     def read(cls, octets: bytes) -> Optional[EtsTables]:
-        """Reads eight classes of half an octet, eight percentages and eight algorithms."""
+        """Reads eight classes of half an octet each, eight percentages and eight algorithms."""
         if len(octets) != 4 + 2 * CLASS_COUNT:
             return None
         classes = tuple(half for octet in octets[:4] for half in (octet >> 4, octet & 0x0f))

@@ -46,7 +46,7 @@ class Fields:
 
     @classmethod
     def read(cls: Type[Some], octets: bytes) -> Optional[Some]:
-        """Reads the values from octets. Returns None if they do not fit. Ignores reserved bits."""
+        """Reads the values and skips reserved bits. Returns None if the octets are invalid."""
         values = values_of(octets, cls.layout)
         return None if values is None else cls(**values)
 
@@ -59,7 +59,7 @@ def fields_of(layout: str) -> List[Tuple[str, int, str]]:
 
 
 def values_of(octets: bytes, layout: str) -> Optional[Object]:
-    """Returns the values of fields by their names, or None if the octets do not fit."""
+    """Returns the values of fields by name. Returns None for a wrong length or VLAN identifier."""
     fields, rest = fields_of(layout), number(octets)
     if 8 * len(octets) != sum(bits for _, bits, _ in fields):
         return None
@@ -77,7 +77,7 @@ def values_of(octets: bytes, layout: str) -> Optional[Object]:
 
 
 class Tlv(Fields):
-    """An organizationally specific TLV. A neighbor may send several of them if it `is_repeated`."""
+    """An organizationally specific TLV. If `is_repeated`, a neighbor may send several of these."""
     is_repeated: ClassVar[bool] = False
     key: ClassVar[str] = ""
     heading: ClassVar[str] = ""
@@ -88,7 +88,7 @@ class Tlv(Fields):
 
     @property
     def part(self) -> str:
-        """Returns what distinguishes TLVs of one class. A neighbor may send each of them once."""
+        """Returns a text that distinguishes TLVs of a class. A neighbor may send one per text."""
         return ""
 
     def words(self) -> str:
@@ -107,7 +107,7 @@ class Tlv(Fields):
 
     @classmethod
     def rows(cls, said: Said) -> List[Row]:
-        """Returns the rows for people of all TLVs of this class."""
+        """Returns the rows that show people all TLVs of this class."""
         texts = (one.words() for one in said.all(cls))
         return [Row(cls.key, cls.heading, cls.between.join(filter(None, texts)), cls.group)]
 
@@ -185,7 +185,7 @@ def load(oui: str = "") -> None:
 
 
 def reader_of(oui: str, subtype: int) -> Optional[Reader]:
-    """Loads the modules of a kind, and returns its reader, or None if the kind is not known."""
+    """Returns the reader of a kind, or None if it is unknown. Loads the modules for the OUI."""
     load(oui)
     return READERS.get((oui, subtype))
 

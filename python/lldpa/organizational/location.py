@@ -22,7 +22,7 @@ ELEMENTS = {
 # lldpcli's names
 LLDPCLI_DATUMS = {1: "WGS84", 2: "NAD83", 3: "NAD83/MLLW"}
 LLDPCLI_UNITS = {1: "m", 2: "floor"}
-# the numbers of bits before and after the point
+# the numbers of bits before and after the binary point
 DEGREES, ALTITUDE = (9, 25), (22, 8)
 
 
@@ -79,7 +79,7 @@ class Coordinates(Location):
                 f"{self.altitude / 256:g} {unit}, {DATUMS.get(self.datum, f'datum {self.datum}')}")
 
     def value(self) -> Any:
-        """Returns degrees, positive to the north and east, and the number of valid bits of each."""
+        """Returns degrees (positive to the north and east), altitude, and numbers of valid bits."""
         return {
             "form": "coordinates",
             "latitude": self.latitude / (1 << 25),
@@ -107,8 +107,8 @@ class Coordinates(Location):
 
 
 def fixed(value: int, places: int, resolution: int, whole: int) -> str:
-    """Returns the absolute value of a number in lldpd's form. Its last `places` bits are those
-    after the point.
+    """Returns the absolute value of a fixed-point number in lldpd's form. Its last `places` bits
+    are those after the point.
 
     `resolution` is the number of valid bits, and `whole` the number of bits before the point. They
     determine how many decimal digits lldpd writes; it cuts off the rest.

@@ -135,12 +135,12 @@ ADVERTISED_NAMES = (
     "1000BASE-T/full")
 
 CHOICE = re.compile(r"\{(.*?)\}")
-# does not match if the directions differ in speed, such as 10/1GBASE-PRX
+# does not match types such as 10/1GBASE-PRX, whose two directions differ in speed
 SPEED = re.compile(r"([0-9.]+)(G?)(?:BASE|PASS|BROAD)")
 
 
 class Mau(NamedTuple):
-    """A MAU type: its name, its speed in Mb/s, and `half` or `full` duplex. None if not defined."""
+    """A MAU type: name, speed in Mb/s, and `half` or `full` duplex. None means undefined."""
     name: str
     speed: Optional[int]
     duplex: Optional[str]

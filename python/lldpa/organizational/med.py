@@ -105,6 +105,6 @@ class NetworkPolicy(Tlv):
 
     @classmethod
     def nodes(cls, said: Said) -> List[Node]:
-        """Returns the node of each known application's last policy."""
+        """Returns a node for the last policy of each known application."""
         last = {one.application: one for one in said.all(cls)}
         return [last[one].node() for one in sorted(last) if one in APPLICATIONS]

@@ -67,7 +67,7 @@ class PowerRequest(Fields):
 @dataclass(frozen=True)
 class PowerOfPairs(Fields):
     """The fields that IEEE 802.3bt adds. Powers are in tenths of a watt. A and B are the modes of a
-    dual-signature PD, or the alternatives of its PSE. `down_seconds` of 0 means no end."""
+    dual-signature PD, or the alternatives of its PSE. `down_seconds` is 0 for an unlimited time."""
     layout = ("requested_a:16 requested_b:16 allocated_a:16 allocated_b:16 "
               "pse_status:2 pd_status:2 pse_pairs:2 class_a:3 class_b:3 power_class:4 "
               "_:4 type:3 is_isolated:1 most_available:16 "

@@ -1,4 +1,4 @@
-"""Reads a neighbor's organizationally specific TLVs: as objects, as rows for people, as JSON."""
+"""Reads a neighbor's organizationally specific TLVs, and converts them to rows and JSON."""
 
 from typing import Dict, Iterable, List, Optional, Tuple
 
@@ -34,7 +34,7 @@ def said_by(org: Org) -> Said:
 
 
 def read_shown(kind: str, digits: str) -> Optional[Tlv]:
-    """Reads a TLV as a show has it: its kind, such as `00120f.1`, and its octets in hexadecimal."""
+    """Reads a TLV from a show: its kind, such as `00120f.1`, and its octets in hexadecimal."""
     oui, _, subtype = kind.partition(".")
     try:
         return read_tlv(oui, int(subtype), bytes.fromhex(digits))
@@ -43,7 +43,7 @@ def read_shown(kind: str, digits: str) -> Optional[Tlv]:
 
 
 def known_to_lldpd(org: Org) -> Tuple[Said, List[Tuple[str, str]]]:
-    """Returns the contents of the TLVs that lldpd knows, and the other TLVs in their order.
+    """Returns the contents of the TLVs that lldpd knows, and all other TLVs in their order.
     Malformed TLVs are among the others."""
     kinds.load()
     shown = list(org)
