@@ -15,7 +15,7 @@ use Rattle.std.proofs.lemmas.Grind.{common_steps}
 
 -- ## MAC addresses
 
--- the octets of pairs of digits with one octet between
+-- decodes pairs of hexadecimal digits, with one octet skipped between two pairs
 pub pairs_read : List ℕ → List ℕ
 pairs_read [] = []
 pairs_read (h ∷ []) = []
@@ -51,12 +51,12 @@ ipv6_back (suc n) (a ∷ b ∷ c ∷ d ∷ cs) e h =
 
 -- ## IPv4 addresses
 
--- the numbers between points; the first argument holds the digits read so far
+-- reads the decimal numbers between dots; the first argument holds the digits of the current number
 pub numbers_read : List ℕ → List ℕ → List ℕ
 numbers_read before [] = digits_value 10 before ∷ []
 numbers_read before (c ∷ cs) = if c == 46 then digits_value 10 before ∷ numbers_read [] cs else numbers_read (before ++ c ∷ []) cs
 
--- the digits of each of the 256 numbers have its value, and none of them is a point or a colon
+-- each of the numbers 0 to 255, written in decimal, is read back, and has no dot or colon
 abbrev reads : ℕ → Bool
 reads n = digits_value 10 (decimal n) == n
 
@@ -106,7 +106,7 @@ ipv4_back [] some h = absurd (omega arith)
 ipv4_back (c ∷ []) some h = last_read c h.0
 ipv4_back (c ∷ d ∷ cs) some h = one_read c (ipv4_text (d ∷ cs)) h.0 ∙ ap (λ x. c ∷ x) (ipv4_back (d ∷ cs) (omega arith) h.1)
 
--- ## An IPv4 address has no colon, an IPv6 address has some
+-- ## IPv4 addresses have no colon, IPv6 addresses have colons
 
 abbrev pub is_colon : ℕ → Bool
 is_colon c = c == 58

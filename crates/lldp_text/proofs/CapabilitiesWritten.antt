@@ -1,4 +1,4 @@
--- The text of capabilities after one more bit.
+-- The text of capabilities grows by at most one name with each bit.
 use Rattle.std.proofs.Common.{◌≡◌, ℕ, ◌+◌, ◌<◌, Bool, true, false, List, [], ◌∷◌, ◌++◌, length, get_or, take, map, refl, ◌∙◌, append-nil, zero-add, arith}
 use Rattle.std.specs.List.{join_with_byte, filter}
 use Rattle.std.proofs.lemmas.List.{map-append, length-map, length-append}
@@ -18,7 +18,7 @@ set_more p i h e = filter_more p capability_bits i 0 h ∙ rw (bit_is i h, e) re
 unset_more : (p : ℕ → Bool) (i : ℕ) → i < 16 → p i ≡ false → filter p (take (i + 1) capability_bits) ≡ filter p (take i capability_bits)
 unset_more p i h e = filter_more p capability_bits i 0 h ∙ rw (bit_is i h, e) (append-nil (filter p (take i capability_bits)))
 
--- the line holds the capabilities of the bits below i, and `written` is their number
+-- the capabilities of the bits below i have been added to `old`, and `written` is their number
 pub record Written (p : ℕ → Bool) (f : ℕ → List ℕ) (old line : List ℕ) (written i : ℕ) : Type 0 where
   pub line_is : line ≡ old ++ join_with_byte 44 (map f (filter p (take i capability_bits)))
   pub written_is : written ≡ length (filter p (take i capability_bits))

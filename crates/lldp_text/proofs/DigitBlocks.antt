@@ -1,4 +1,4 @@
--- Steps of the loops over digits.
+-- Lemmas about the loops that read and write digits in blocks.
 use Rattle.std.proofs.Common.{◌≡◌, ℕ, ◌+◌, ◌*◌, ◌/◌, ◌%◌, ◌<◌, ◌≤◌, ◌-◌, zero, suc, List, Some, ◌++◌, length, drop, take, slice_index, true, Result, Ok, Err, inl, inr, refl, sym, ap, subst, ◌∙◌, arith}
 use Rattle.std.proofs.lemmas.List.{set-get_or, get_or_past}
 use Rattle.std.proofs.lemmas.List.Elements.{All-get_or}
@@ -21,7 +21,7 @@ module _ (s out : List ℕ) (long : length s ≡ 2 * length out) (all : (i : ℕ
       let n : suc i ≡ i + 1 = omega arith in
       rw n (subst (λ o. decode_pairs 0 s ≡ prepend (take (i + 1) o) (decode_pairs (2 * (i + 1)) (drop (2 * (i + 1)) s))) (set-get_or out i 0) step)
 
-  -- if each pair is read, the octets are those that `hex` decodes
+  -- if each pair of digits is read as its octet, the octets are those that `hex` decodes
   pub all_read : decode_pairs 0 s ≡ Ok out
   all_read = decode_done s out (length out) (omega arith) (omega (arith, long)) (up_to (length out) (omega arith))
 
@@ -34,7 +34,7 @@ module _ (input out : List ℕ) (long : length out ≡ 2 * length input) (all : 
       let n : suc i ≡ i + 1 = omega arith in
       rw n (rw (set-get_or out (2 * i) 0, set-get_or out (2 * i + 1) 0) at step)
 
-  -- if each octet is written, the digits are those that `hex` encodes
+  -- if each octet is written as its two digits, the digits are those that `hex` encodes
   pub all_written : out ≡ encode_with lower_digits input
   all_written = encode_done lower_digits input out (length input) (omega arith) long (written_to (length input) (omega arith))
 
@@ -45,7 +45,7 @@ known c v h below = grind (arith)
 small : (c v : ℕ) → IsValue c v → is_hex_digit c ≡ true → v < 16
 small c v h digit = grind (arith)
 
--- text that can be decoded has only digits
+-- text that can be decoded consists of hexadecimal digits only
 pub digits_of_ok : (s : List ℕ) → IsOk (decode_pairs 0 s) → AllPass is_hex_digit s
 digits_of_ok s ok = go (decode_pairs 0 s) refl ok
   where
@@ -63,7 +63,7 @@ block_small s values at many room digits read = λ k. elim (cases_lt k 32) [
   | inr g ↦ rw (get_or_past values k 0 (omega (arith, many))) (omega arith)
 ]
 
--- the two digits of an octet, in a block that is read
+-- in a block that is read, each octet is the value of its two digits
 pub pair_at : (s out values octets : List ℕ) (at i : ℕ) → length s ≡ 2 * length out → at + 16 ≤ length out → length octets ≡ 16
     → ((k : ℕ) → k < 32 → IsValue (slice_index (chunk (2 * at) 32 s) k) (slice_index values k))
     → ((k : ℕ) → k < 16 → slice_index values (2 * k) < 16 → slice_index values (2 * k + 1) < 16 → slice_index octets k ≡ slice_index values (2 * k) * 16 + slice_index values (2 * k + 1))
@@ -84,7 +84,7 @@ pair_at s out values octets at i long room many read joined small from to =
     ap (λ j. slice_index (put_chunk at out octets) j) here ∙ stored ∙ joined k (omega arith) high low in
     rw (first, second, put) refl
 
--- the two digits of an octet, in a block that is written
+-- in a block that is written, each octet is written as its two digits
 pub digits_at : (octets digits hs ls high low both : List ℕ) (at i : ℕ) → length digits ≡ 2 * length octets → at + 16 ≤ length octets → length both ≡ 32
     → ((k : ℕ) → k < 16 → slice_index hs k ≡ slice_index octets (at + k) / 16) → ((k : ℕ) → k < 16 → slice_index ls k ≡ slice_index octets (at + k) % 16)
     → ((k : ℕ) → slice_index octets k < 256)

@@ -19,7 +19,7 @@ use Rattle.std.proofs.lemmas.Grind.{common_steps}
 
 -- ## Forms of an identifier
 
--- a text with the key of its kind, a MAC, IPv4 or IPv6 address, or the whole body
+-- the forms: a text after the key of its kind; a MAC, IPv4 or IPv6 address; the whole body in hex
 data Shown : Type 0 where
   text : IdentifierKind → Shown
   mac : Shown
@@ -27,7 +27,7 @@ data Shown : Type 0 where
   ipv6 : Shown
   whole : Shown
 
--- the form, by the kind, whether the body has seven octets, and the kind of the address
+-- the form of an identifier, from its kind, whether its body has 7 octets, and its address kind
 abbrev shown_as : IdentifierKind → Bool → AddressKind → Shown
 shown_as Mac true address = mac
 shown_as Mac false address = whole
@@ -57,9 +57,9 @@ is_written : (kind : IdentifierKind) (body : List ℕ) (seven : Bool) (address :
     → identifier_text kind body ≡ written (shown_as kind seven address) body
 is_written kind body seven address e f = grind (arith, common_steps)
 
--- ## The form of a line, by its key
+-- ## The form of a line, found from its key
 
--- the form, by the first and third octets of the key and, for addresses, whether there is a colon
+-- finds the form from two octets of the key and, for IP addresses, from whether there is a colon
 shown_by : List ℕ → Shown
 shown_by line =
     if slice_index line 2 == 109 then text Component
@@ -70,14 +70,14 @@ shown_by line =
     else if slice_index line 2 == 61 then (if list_any is_colon line then ipv6 else ipv4)
     else whole
 
--- ## The body of each form
+-- ## The bodies that have each form
 
--- the subtype is the number of the kind
+-- the subtype is the number of this kind; any subtype if the kind is Other
 abbrev HasSubtype : (IdentifierKind → ℕ) → IdentifierKind → ℕ → Type 0
 HasSubtype number Other subtype = Unit {0}
 HasSubtype number kind subtype = subtype ≡ number kind
 
--- the body has the subtype, the family and the length of its form; only some kinds are texts
+-- the body has the subtype of this form and, for IP addresses, the right family and length
 abbrev IsShownAs : (IdentifierKind → ℕ) → Shown → List ℕ → Type 0
 IsShownAs number (text Mac) body = ⊥
 IsShownAs number (text Network) body = ⊥
@@ -111,7 +111,7 @@ by_key number ipv4 body s o = ap (λ (b : Bool). if b then ipv6 else ipv4) (ipv4
 by_key number ipv6 body s o = ap (λ (b : Bool). if b then ipv6 else ipv4) (ipv6_with (drop 2 body) (let n = s.2 in omega arith))
 by_key number shown body s o = refl
 
--- the body of a line that has this form
+-- reads the body back from a line of this form
 read_as : (IdentifierKind → ℕ) → Shown → List ℕ → List ℕ
 read_as number (text kind) line = number kind ∷ unescaped plain (drop (length (key_of kind)) line)
 read_as number mac line = number Mac ∷ pairs_read (drop 4 line)
@@ -137,7 +137,7 @@ read_back number ipv4 t u rest s o = behind_two _ t _ u rest _ s.0 s.1 (ipv4_bac
 read_back number ipv6 t u rest s o = behind_two _ t _ u rest _ s.0 s.1 (ipv6_back 8 rest s.2 o.1.1)
 read_back number whole t u rest s o = hex_back (t ∷ u ∷ rest) o
 
--- the body that a line shows, whatever its form
+-- reads the body back from a line of any form
 body_of : (IdentifierKind → ℕ) → List ℕ → List ℕ
 body_of number line = read_as number (shown_by line) line
 
@@ -157,7 +157,7 @@ identifier_back number kind (t ∷ u ∷ rest) s long o =
 
 -- ## Chassis IDs and port IDs
 
--- the subtypes of table 8-2; 256 stands for a kind that a chassis ID cannot have
+-- the subtypes of table 8-2; 256, which is not a subtype, for kinds that chassis IDs cannot have
 abbrev chassis_number : IdentifierKind → ℕ
 chassis_number Component = 1
 chassis_number InterfaceAlias = 2
@@ -169,7 +169,7 @@ chassis_number Local = 7
 chassis_number CircuitId = 256
 chassis_number Other = 256
 
--- the subtypes of table 8-3; 256 stands for a kind that a port ID cannot have
+-- the subtypes of table 8-3; 256, which is not a subtype, for kinds that port IDs cannot have
 abbrev port_number : IdentifierKind → ℕ
 port_number InterfaceAlias = 1
 port_number Component = 2

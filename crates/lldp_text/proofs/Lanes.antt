@@ -10,7 +10,7 @@ use Rattle.hex.specs.Hex.{hex_digit_value, lower_digits}
 use Rattle.lldp_text.specs.Code.Digits.{IsValue, AreSmall}
 use Rattle.std.proofs.lemmas.Grind.{common_steps}
 
--- one lane of an operator applied to a vector and a splat
+-- if f is applied to a vector and a splat of y, lane k of the result is f of lane k and y
 pub splat_lane : (f : ℕ → ℕ → ℕ) (v : List ℕ) (n y k : ℕ) → length v ≡ n → k < n → get_or (zip2 f v (replicate n y)) k 0 ≡ f (get_or v k 0) y
 splat_lane f v n y k long h = ap (λ l. get_or l k 0) (zip2_splat f v n y long) ∙ get_or-map (λ x. f x y) v k 0 0 (omega (arith, long))
 
@@ -18,7 +18,7 @@ choice : (p : ℕ → Bool) (g h : ℕ → ℕ) (v : List ℕ) → sel_l (map p 
 choice p g h [] = refl
 choice p g h (x ∷ xs) = ap (λ r. cond (p x) (g x) (h x) ∷ r) (choice p g h xs)
 
--- each lane is chosen from two vectors by the test t
+-- a select by the test t takes each lane from the third vector if the test passes, else the fourth
 pub chosen : (t : ℕ → ℕ → ℕ) (f g h k : ℕ → ℕ) (v : List ℕ) {a b c d : List ℕ} → a ≡ map f v → b ≡ map g v → c ≡ map h v → d ≡ map k v
     → sel_l (map (top 7) (zip2 t a b)) c d ≡ map (λ x. cond (top 7 (t (f x) (g x))) (h x) (k x)) v
 chosen t f g h k v p q r s =
@@ -37,7 +37,7 @@ same_is a b t = grind (arith, common_steps)
 abbrev pub value_test : (ℕ → ℕ) → ℕ → Bool
 value_test f c = same (hex_digit_value c) (if nat_lt (f c) 16 then Some (f c) else None)
 
--- if f gives the right value for each of the 256 octets, each lane has the value of its octet
+-- if f computes the digit value of each of the 256 octets, each lane is the value of its octet
 pub values_are : (f : ℕ → ℕ) (v : List ℕ) {z : List ℕ} → z ≡ map f v → length v ≡ 32 → Each1 (Fits w8) v → agree_below (value_test f) (λ _. true) 256 ≡ true
     → (length z ≡ 32) × ((k : ℕ) → k < 32 → IsValue (get_or v k 0) (get_or z k 0))
 values_are f v e long fits all = (
@@ -48,7 +48,7 @@ values_are f v e long fits all = (
       rw at (same_is _ _ (subst T (sym (agree_below_at (value_test f) (λ _. true) 256 (get_or v k 0) all small)) tt)),
 )
 
--- if f gives the right digit for each value below 16, each lane has the digit of its value
+-- if f computes the digit of each value below 16, each lane is the digit of its value
 pub digits_are : (f : ℕ → ℕ) (v : List ℕ) {z : List ℕ} → z ≡ map f v → length v ≡ 16 → agree_below (λ c. eqb (f c) (get_or lower_digits c 0)) (λ _. true) 16 ≡ true
     → (k : ℕ) → k < 16 → get_or v k 0 < 16 → get_or z k 0 ≡ get_or lower_digits (get_or v k 0) 0
 digits_are f v e long all k h small = grind (arith, common_steps, get_or-map, eqb-true, agree_below_at)
@@ -62,7 +62,7 @@ upper_half factor x = x * factor % 65536 / 256
 abbrev pub octet_test : (ℕ → ℕ) → ℕ → Bool
 octet_test f p = eqb (f (p / 16 + 256 * (p % 16))) p
 
--- a factor gives the octet of each two values below 16, if it does so for all 256 pairs of values
+-- if multiplying by `factor` joins each of the 256 pairs of values correctly, so does each lane
 pub octet_at : (factor : ℕ) (v : List ℕ) → length v ≡ 32 → Each1 (Fits w8) v → agree_below (octet_test (upper_half factor)) (λ _. true) 256 ≡ true
     → (k : ℕ) → k < 16 → get_or v (2 * k) 0 < 16 → get_or v (2 * k + 1) 0 < 16
     → get_or (map (upper_half factor) (digits_l 65536 16 (number_l 256 v))) k 0 ≡ get_or v (2 * k) 0 * 16 + get_or v (2 * k + 1) 0
@@ -79,7 +79,7 @@ octet_at factor v long fits all k h high low =
 at_zip2 : (a b : List ℕ) (k : ℕ) → length a ≡ 32 → length b ≡ 32 → k < 32 → get_or (zip2 bit_or a b) k 0 ≡ bit_or (get_or a k 0) (get_or b k 0)
 at_zip2 a b k la lb h = get_or-zip2 bit_or a b k 0 0 0 (omega (arith, la)) (omega (arith, lb))
 
--- if the combination of two vectors is small, both are small
+-- if all lanes of `a | b` are below 16, so are those of a and of b
 pub each_small : (a b : List ℕ) → length a ≡ 32 → length b ≡ 32 → AreSmall (zip2 bit_or a b) → AreSmall a × AreSmall b
 each_small a b la lb all = (
   λ k. elim (cases_lt k 32) [
@@ -92,7 +92,7 @@ each_small a b la lb all = (
   ],
 )
 
--- if two vectors are small, their combination is small
+-- if all lanes of a and of b are below 16, so are those of `a | b`
 pub both_small : (a b : List ℕ) → length a ≡ 32 → length b ≡ 32 → AreSmall a × AreSmall b → AreSmall (zip2 bit_or a b)
 both_small a b la lb each = λ k. elim (cases_lt k 32) [
   | inl l ↦ rw (at_zip2 a b k la lb l) (or_lt 4 (get_or a k 0) (get_or b k 0) (each.0 k) (each.1 k))
@@ -102,7 +102,7 @@ both_small a b la lb each = λ k. elim (cases_lt k 32) [
 abbrev at_least : ℕ → ℕ → ℕ
 at_least a b = cond (leb a b) 255 0
 
--- the mask of the lanes that are not below n
+-- the bit mask of the lanes that are at least n
 abbrev pub not_below : ℕ → List ℕ → ℕ
 not_below n xs = mask_l (map (top 7) (zip2 at_least (replicate (length xs) n) xs))
 
@@ -122,7 +122,7 @@ all_below_n n (x ∷ xs) some e zero = go (leb n x) refl (omega arith)
     go false p q = leb-false n x p
 all_below_n n (x ∷ xs) some e (suc i) = all_below_n n xs some (omega arith) i
 
--- the mask is empty exactly if all lanes are below n
+-- the mask is 0 exactly if all lanes are below n
 pub empty_mask : (n : ℕ) (xs : List ℕ) → length xs ≡ 32 → 0 < n
     → (eqb (mask_l (map (top 7) (zip2 at_least (replicate 32 n) xs)) % 2 ^ 64) 0 ≡ true) ↔ ((i : ℕ) → get_or xs i 0 < n)
 empty_mask n xs long some =
@@ -132,7 +132,7 @@ empty_mask n xs long some =
       λ all. ap (λ m. eqb m 0) (fits ∙ sym same ∙ none_marked n xs all),
     )
 
--- these places pick the lanes of two vectors alternately
+-- a shuffle with these places takes the lanes of a and b alternately, a lane of a first
 pub turns_are : (places a b : List ℕ) → length places ≡ 32 → length a ≡ 16
     → agree_below (λ j. eqb (get_or places (2 * j) 0) j && eqb (get_or places (2 * j + 1) 0) (16 + j)) (λ _. true) 16 ≡ true
     → (k : ℕ) → k < 16 → (get_or (pick_l 0 (a ++ b) places) (2 * k) 0 ≡ get_or a k 0) × (get_or (pick_l 0 (a ++ b) places) (2 * k + 1) 0 ≡ get_or b k 0)
@@ -145,7 +145,7 @@ turns_are places a b many long all k h =
       get_or-map (λ j. get_or (a ++ b) j 0) places (2 * k + 1) 0 0 (omega (arith, many)) ∙ ap (λ j. get_or (a ++ b) j 0) two ∙ get_or-append_right a b 16 (16 + k) 0 long (omega arith) ∙ ap (λ j. get_or b j 0) back,
     )
 
--- the lower four bits are the remainder by 16
+-- the lower four bits of an octet are its remainder modulo 16
 pub low_bits : (x : ℕ) → x < 256 → bit_and x 15 ≡ x % 16
 low_bits x h = eqb-true _ _ (agree_below_at (λ j. eqb (bit_and j 15) (j % 16)) (λ _. true) 256 x refl h)
 

@@ -1,4 +1,4 @@
--- The value of digits that are read one by one.
+-- The value of decimal digits that are read one after another.
 use Rattle.std.proofs.Common.{◌≡◌, ℕ, ◌+◌, ◌-◌, ◌*◌, ◌<◌, Bool, true, List, length, get_or, take, min, arith}
 use Rattle.std.specs.Prelude.{nat_lt, IsTrue, ◌↔◌}
 use Rattle.std.specs.List.{AllPass, list_all}
@@ -11,7 +11,7 @@ use Rattle.std.proofs.lemmas.Int.Digits.{digits_value_more}
 use Rattle.lldp_text.specs.Number.{is_number}
 use Rattle.std.proofs.lemmas.Grind.{common_steps}
 
--- a test that holds exactly if all elements pass is `list_all`
+-- a Boolean that is true exactly if all elements pass is equal to `list_all`
 pub list_all-is : {X : Type 0} (p : X → Bool) (xs : List X) (b : Bool) → (IsTrue b ↔ AllPass p xs) → b ≡ list_all p xs
 list_all-is p xs b h = grind (arith, common_steps, list_all-from_AllPass)
 

@@ -16,7 +16,7 @@ high c = slice_index lower_digits (c / 16)
 abbrev pub low : ℕ → ℕ
 low c = slice_index lower_digits (c % 16)
 
--- the value of a digit
+-- the value of a hexadecimal digit; 0 for any other octet
 pub value : ℕ → ℕ
 value digit = unwrap_or (hex_digit_value digit) 0
 
@@ -24,7 +24,7 @@ value_is : (d : ℕ) → d < 16 → value (slice_index lower_digits d) ≡ d
 unfolding value
 value_is d lt = ap (λ o. unwrap_or o 0) (IsDigits-lower_digits d lt)
 
--- the octet that two digits write
+-- the octet that is written as these two digits
 pub octet : ℕ → ℕ → ℕ
 octet h l = value h * 16 + value l
 
@@ -32,7 +32,7 @@ pub octet_is : (c : ℕ) → c < 256 → octet (high c) (low c) ≡ c
 unfolding octet
 octet_is c lt = grind (arith, common_steps, value_is)
 
--- the octets of pairs of digits
+-- decodes pairs of hexadecimal digits
 pub unhex : List ℕ → List ℕ
 unhex [] = []
 unhex (h ∷ []) = []
@@ -45,7 +45,7 @@ hex_back (c ∷ cs) h = ap (λ x. x ∷ unhex (encode_lower cs)) (octet_is c h.0
 
 -- ## Escaped text
 
--- the position of a reader: at an octet, after a backslash, before the first digit or the second
+-- where a reader is: at a new octet, after a backslash, or before the first or second digit
 pub data Place : Type 0 where
   plain : Place
   slash : Place

@@ -1,4 +1,4 @@
--- No word is longer than its line, and a line without quotes has words.
+-- No word is longer than its line, and a line without quotes can be split into words.
 use Rattle.std.proofs.Common.{◌≡◌, ℕ, ◌+◌, ◌≤◌, true, false, List, [], ◌∷◌, ◌++◌, length, Option, is_some, refl, ap, arith, suc, length-append}
 use Rattle.std.specs.Prelude.{unwrap_or}
 use Rattle.std.specs.Option.{option_map}

@@ -1,4 +1,4 @@
--- A line is read as some words exactly if the grammar spells it with them.
+-- Reading a line returns exactly the words that the line has by the grammar (`AreWords`).
 use Rattle.std.proofs.Common.{◌≡◌, ℕ, Bool, true, false, List, [], ◌∷◌, ◌++◌, Option, Some, refl, ap, sym, ◌∙◌, append-nil, append_assoc, arith, inl, inr, ◌⊎◌}
 use Rattle.std.specs.Prelude.{if◌then◌else◌, IsTrue, ◌↔◌}
 use Rattle.std.specs.Option.{option_map}
@@ -9,11 +9,11 @@ use Rattle.lldp_text.specs.Words.{is_separator, is_quote, is_bare, is_unquote, m
 use Rattle.lldp_text.proofs.WordsReading.{words_of-gap, bare_word, quoted_word, none_read}
 use Rattle.std.proofs.lemmas.Grind.{common_steps}
 
--- a choice has the value of the branch that its test selects
+-- if a choice has the value z, the branch that its test selects has the value z
 chosen : {A : Type 0} (b : Bool) (x y z : A) → (if b then x else y) ≡ z → ((b ≡ true) × (x ≡ z)) ⊎ ((b ≡ false) × (y ≡ z))
 chosen b x y z h = grind (arith, common_steps)
 
--- if a first word is added to words, the result is that word and these words
+-- if adding the word w to the words in `o` gives `ws`, then `ws` is w followed by those words
 mapped : (w : List ℕ) (o : Option (List (List ℕ))) (ws : List (List ℕ)) → option_map (λ words. w ∷ words) o ≡ Some ws → (tail : List (List ℕ)) × (o ≡ Some tail) × (ws ≡ w ∷ tail)
 mapped w o ws h = grind (arith, common_steps)
 
@@ -23,7 +23,7 @@ gap_more c line [] h a = All-cons (λ c. is_separator c ≡ true) c line h a
 gap_more c line (w ∷ ws) h a =
     (c ∷ a.0, a.1, a.2, All-cons (λ c. is_separator c ≡ true) c a.0 h a.3, a.4, a.5, ap (λ l. c ∷ l) a.6, a.7)
 
--- if the grammar spells a line with words, reading the line gives them
+-- if a line has these words by the grammar, reading the line returns them
 pub read_from_spelled : (ws : List (List ℕ)) (line : List ℕ) → AreWords line ws → words_of line ≡ Some ws
 read_from_spelled [] line a = rw (← append-nil line, words_of-gap line [] a) none_read
 read_from_spelled (w ∷ ws) line a =
@@ -35,7 +35,7 @@ read_from_spelled (w ∷ ws) line a =
     ] in
     front ∙ here ∙ ap (option_map (λ words. w ∷ words)) rest
 
--- the grammar of the rest of a line, for a reader at this place
+-- by the grammar, a reader at this place finds these words in the rest of the line
 Spelled : Place → List ℕ → List (List ℕ) → Type 0
 Spelled between line ws = AreWords line ws
 Spelled (bare v) line ws = (w : List ℕ) × (rest : List ℕ) × (tail : List (List ℕ)) × AllPass is_bare w × (line ≡ w ++ rest) × IsTrue (may_end_word rest) × (ws ≡ (v ++ w) ∷ tail) × AreWords rest tail
@@ -45,20 +45,20 @@ Spelled closed line ws = IsTrue (may_end_word line) × AreWords line ws
 is_34 : (c : ℕ) → is_quote c ≡ true → c ≡ 34
 is_34 c h = grind (arith, nat_tests)
 
--- a line that begins with a quoted word, by the grammar after its first quote
+-- after an opening quote, a reader finds the words of the line that begins with that quote
 quoted_front : (c : ℕ) (cs : List ℕ) (ws : List (List ℕ)) → is_quote c ≡ true → Spelled (quoted []) cs ws → AreWords (c ∷ cs) ws
 unfolding Spelled
 quoted_front c cs ws q i =
     rw i.6 ([], 34 ∷ i.0 ++ 34 ∷ [], i.1, All-nil (λ c. is_separator c ≡ true), inr (i.3, refl), i.5, rw (i.4, is_34 c q, append_assoc (34 ∷ i.0) (34 ∷ []) i.1) refl, i.7)
 
--- a line that begins with an unquoted word, by the grammar after its first octet
+-- after the first octet of an unquoted word, a reader finds the words of the whole line
 bare_front : (c : ℕ) (cs : List ℕ) (ws : List (List ℕ)) → is_separator c ≡ false → is_quote c ≡ false → Spelled (bare (c ∷ [])) cs ws → AreWords (c ∷ cs) ws
 unfolding Spelled
 bare_front c cs ws s q i =
     let octet : is_bare c ≡ true = rw (s, q) refl in
     rw i.6 ([], c ∷ i.0, i.1, All-nil (λ c. is_separator c ≡ true), inl (omega arith, All-cons (λ c. is_bare c ≡ true) c i.0 octet i.3, refl), i.5, ap (λ l. c ∷ l) i.4, i.7)
 
--- one more octet of a word
+-- a reader in a word finds the same words before and after one more octet of that word
 bare_more : (c : ℕ) (cs : List ℕ) (v : List ℕ) (ws : List (List ℕ)) → is_separator c ≡ false → is_quote c ≡ false → Spelled (bare (v ++ c ∷ [])) cs ws → Spelled (bare v) (c ∷ cs) ws
 unfolding Spelled
 bare_more c cs v ws s q i = grind (arith, common_steps, All-cons, append_assoc)

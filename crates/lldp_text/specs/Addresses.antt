@@ -9,11 +9,11 @@ use Rattle.lldp_text.specs.declared.addresses.AddressKind.TheVariants.{Ipv4, Ipv
 abbrev pub mac_text : List ℕ → List ℕ
 mac_text octets = join_with_byte 58 (map (λ octet. encode_lower (octet ∷ [])) octets)
 
--- An IPv4 address: decimal numbers joined by points.
+-- An IPv4 address: decimal numbers joined by dots.
 abbrev pub ipv4_text : List ℕ → List ℕ
 ipv4_text octets = join_with_byte 46 (map decimal octets)
 
--- the octets in pairs; a single one at the end is left out
+-- the octets in pairs; an unpaired octet at the end is left out
 abbrev pub pairs : List ℕ → List (List ℕ)
 pairs [] = []
 pairs (a ∷ []) = []
@@ -23,7 +23,7 @@ pairs (a ∷ b ∷ octets) = (a ∷ b ∷ []) ∷ pairs octets
 abbrev pub ipv6_text : List ℕ → List ℕ
 ipv6_text octets = join_with_byte 58 (map encode_lower (pairs octets))
 
--- The kind of an address: family 1 with 4 octets is IPv4, family 2 with 16 octets is IPv6.
+-- Family 1 with 4 octets is IPv4, family 2 with 16 octets is IPv6, and all else is Unknown.
 abbrev pub address_kind : ℕ → ℕ → AddressKind
 address_kind family len =
     if (family == 1) && (len == 4) then Ipv4

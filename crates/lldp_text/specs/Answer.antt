@@ -1,17 +1,17 @@
--- Answers that are a value or a fault.
+-- Functions on results, which are a value or a fault.
 use Rattle.std.specs.Prelude.{Option, Some, None, Result, Ok, Err}
 
--- the value if there is one, else this fault
+-- the value of an option, or this fault if the option is None
 abbrev pub or_fault : {A E : Type 0} → Option A → E → Result A E
 or_fault (Some a) fault = Ok a
 or_fault None fault = Err fault
 
--- applies a function to the value of an answer; a fault stays as it is
+-- applies a function to the value of a result; a fault stays as it is
 abbrev pub on_ok : {A B E : Type 0} → (A → B) → Result A E → Result B E
 on_ok f (Ok a) = Ok (f a)
 on_ok f (Err fault) = Err fault
 
--- continues with the value of an answer; a fault stays as it is
+-- passes the value of a result to the next step; a fault stays as it is
 infixl 10 ◌>>=◌
 abbrev pub ◌>>=◌ : {A B E : Type 0} → Result A E → (A → Result B E) → Result B E
 (Ok a) >>= next = next a

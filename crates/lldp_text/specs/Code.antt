@@ -1,2 +1,2 @@
--- Definitions that follow the code: digits, sixteen octets at a time.
+-- Definitions close to the code: hexadecimal digits, sixteen octets at a time.
 pub mod Digits

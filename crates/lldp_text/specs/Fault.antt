@@ -1,4 +1,4 @@
--- The faults of a command.
+-- The faults of commands: the line and the number of each.
 use Rattle.std.specs.Prelude.{ℕ, List, codes}
 use Rattle.lldp_text.specs.declared.fault.CommandFault.{CommandFault}
 use Rattle.lldp_text.specs.declared.fault.CommandFault.TheVariants.{Unknown, NoSuchPort, Number, Range, Text, Extra, Quote, InUse}

@@ -32,11 +32,11 @@ port_kind subtype =
     else if subtype == 7 then Local
     else Other
 
--- the whole body in hexadecimal, its subtype included
+-- the whole body in hexadecimal, including its subtype
 abbrev pub unhandled_text : List ℕ → List ℕ
 unhandled_text body = codes "unhandled=" ++ encode_lower body
 
--- A network address. The body is a subtype, a family and the address.
+-- A network address as key and value. The body is a subtype, a family and the address.
 abbrev pub network_text : AddressKind → List ℕ → List ℕ
 network_text Ipv4 body = codes "ip=" ++ ipv4_text (drop 2 body)
 network_text Ipv6 body = codes "ip=" ++ ipv6_text (drop 2 body)

@@ -9,25 +9,25 @@ use Rattle.lldp_text.specs.Text.{escaped}
 use Rattle.lldp_text.specs.Capabilities.{capabilities_text}
 use Rattle.lldp_text.specs.ManagementAddress.{management_text}
 
--- a System Capabilities TLV
+-- a System Capabilities TLV as key and value
 abbrev pub system_capabilities_text : List ℕ → List ℕ
 system_capabilities_text body = codes "chassis.caps=" ++ capabilities_text (caps_fields body)
 
--- a Management Address TLV
+-- a Management Address TLV as key and value
 abbrev pub management_tlv_text : List ℕ → List ℕ
 management_tlv_text body = codes "chassis.mgmt=" ++ management_text (address_fields body (slice_index body 0))
 
--- an organizationally specific TLV: an OUI of three octets, a subtype, and the octets after it
+-- an organizationally specific TLV: the OUI (three octets) and the subtype as key, then the rest
 abbrev pub organizational_text : List ℕ → List ℕ
 organizational_text body =
     codes "org." ++ encode_lower (take 3 body) ++ codes "." ++ decimal (slice_index body 3) ++ codes "="
     ++ encode_lower (drop 4 body)
 
--- a TLV of a reserved type
+-- a TLV of a reserved type: the type as key, and the body in hexadecimal
 abbrev pub unknown_text : TlvUnit → List ℕ
 unknown_text tlv = codes "unknown." ++ decimal tlv.kind ++ codes "=" ++ encode_lower tlv.body
 
--- A kept TLV as key and value, by its type. The key of a reserved type is `unknown.` and the type.
+-- A kept TLV as key and value, by its type.
 abbrev pub tlv_text : TlvUnit → List ℕ
 tlv_text tlv =
     if tlv.kind == port_description_type then codes "port.descr=" ++ escaped tlv.body

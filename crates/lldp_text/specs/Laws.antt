@@ -1,3 +1,3 @@
--- Definitions that only the laws use: how values are written, and what is shown alike.
+-- Definitions that only the laws use: how values are written, and when neighbors are shown alike.
 pub mod Alike
 pub mod Forms

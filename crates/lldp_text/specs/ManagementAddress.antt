@@ -6,13 +6,13 @@ use Rattle.lldp_text.specs.Addresses.{ipv4_text, ipv6_text, address_kind}
 use Rattle.lldp_text.specs.declared.addresses.AddressKind.{AddressKind}
 use Rattle.lldp_text.specs.declared.addresses.AddressKind.TheVariants.{Ipv4, Ipv6, Unknown}
 
--- an address, by its kind; an unknown kind is `af`, the family, a colon and hexadecimal digits
+-- an address of this kind; if unknown, `af`, the family, a colon and the octets in hexadecimal
 abbrev pub address_text : AddressKind → ℕ → List ℕ → List ℕ
 address_text Ipv4 family octets = ipv4_text octets
 address_text Ipv6 family octets = ipv6_text octets
 address_text Unknown family octets = codes "af" ++ decimal family ++ codes ":" ++ encode_lower octets
 
--- The address, the numbering subtype, the interface number and the OID, joined by commas.
+-- An address, its numbering subtype, interface number and OID, joined by commas.
 abbrev pub management_text : Address → List ℕ
 management_text a =
     address_text (address_kind a.family (length a.address)) a.family a.address

@@ -6,15 +6,15 @@ use Rattle.std.specs.Str.Parse.{digits_value}
 use Rattle.lldp_text.specs.declared.fault.CommandFault.{CommandFault}
 use Rattle.lldp_text.specs.declared.fault.CommandFault.TheVariants.{Number, Range}
 
--- One or more decimal digits; leading zeros are allowed.
+-- True for one or more decimal digits; leading zeros are allowed.
 abbrev pub is_number : List ℕ → Bool
 is_number word = nat_lt 0 (length word) && list_all is_ascii_digit word
 
--- The number if it is in the range, both ends included, or else the fault Range.
+-- The number if it is from `least` to `greatest`, or else the fault Range.
 abbrev pub in_range : ℕ → ℕ → ℕ → Result ℕ CommandFault
 in_range least greatest n = if nat_le least n && nat_le n greatest then Ok n else Err Range
 
--- The value of a word of digits, however many digits it has, or its first fault.
+-- The value of a word of digits, or the fault Range; for any other word the fault Number.
 abbrev pub number_of : List ℕ → ℕ → ℕ → Result ℕ CommandFault
 number_of word least greatest = if is_number word then in_range least greatest (digits_value 10 word) else Err Number
 

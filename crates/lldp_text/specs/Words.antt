@@ -3,61 +3,61 @@ use Rattle.std.specs.Prelude.{◌≡◌, ℕ, ◌<◌, ◌==◌, ◌||◌, ◌&&
 use Rattle.std.specs.List.{AllPass}
 use Rattle.std.specs.Option.{option_map}
 
--- A space or a tab separates words.
+-- True for a space or a tab, which separate words.
 abbrev pub is_separator : ℕ → Bool
 is_separator c = c == 32 || c == 9
 
--- The quote is `"`.
+-- True for the quote `"`.
 abbrev pub is_quote : ℕ → Bool
 is_quote c = c == 34
 
--- An octet of a quoted word: any except a quote.
+-- True for an octet that may be in a quoted word: any except a quote.
 abbrev pub is_unquote : ℕ → Bool
 is_unquote c = not (is_quote c)
 
--- An octet of an unquoted word: any except a separator or a quote.
+-- True for an octet that may be in an unquoted word: any except a separator or a quote.
 abbrev pub is_bare : ℕ → Bool
 is_bare c = not (is_separator c) && not (is_quote c)
 
--- A word is spelled as its octets, if it has some and none is a separator or a quote, or as its
--- octets between two quotes, if none is a quote.
+-- The text spells the word. A word is spelled as it is, if it is not empty and has no separator or
+-- quote, or between two quotes, if it has no quote.
 abbrev pub IsSpelling : List ℕ → List ℕ → Type 0
 IsSpelling text word =
     ((0 < length word) × AllPass is_bare word × (text ≡ word))
     ⊎ (AllPass is_unquote word × (text ≡ 34 ∷ word ++ 34 ∷ []))
 
--- Whether a word may end before these octets: the line ends, or a separator follows.
+-- True if a word may end before this text: the text is empty or begins with a separator.
 abbrev pub may_end_word : List ℕ → Bool
 may_end_word [] = true
 may_end_word (c ∷ _) = is_separator c
 
--- Whether a separator comes next.
+-- True if the text begins with a separator.
 abbrev pub begins_gap : List ℕ → Bool
 begins_gap [] = false
 begins_gap (c ∷ _) = is_separator c
 
--- Whether an unquoted word begins here.
+-- True if the text begins with an octet of an unquoted word.
 abbrev pub begins_bare : List ℕ → Bool
 begins_bare [] = false
 begins_bare (c ∷ _) = is_bare c
 
--- The line consists of exactly these words: without words, it has only separators; otherwise
--- separators, a spelling of the first word, its end, and the other words.
+-- The line has exactly these words. Without words it is only separators. Otherwise it is separators
+-- (or none), a spelling of the first word, and a rest that may follow a word and has the others.
 abbrev pub AreWords : List ℕ → List (List ℕ) → Type 0
 AreWords line [] = AllPass is_separator line
 AreWords line (word ∷ words) =
     (gap : List ℕ) × (text : List ℕ) × (rest : List ℕ) × AllPass is_separator gap × IsSpelling text word
     × IsTrue (may_end_word rest) × (line ≡ gap ++ text ++ rest) × AreWords rest words
 
--- Where a reader of the line is: between words, in an unquoted or a quoted word with its octets so far, or after a
--- closing quote.
+-- The place of a reader in a line: between words, in an unquoted or quoted word of which it has
+-- read these octets, or after a closing quote.
 pub data Place : Type 0 where
   between : Place
   bare : List ℕ → Place
   quoted : List ℕ → Place
   closed : Place
 
--- The words of the rest of a line, read from this place on; None if a quote is misplaced.
+-- The words that a reader at this place finds in the rest of a line; None if a quote is misplaced.
 unfoldable pub words_from : Place → List ℕ → Option (List (List ℕ))
 words_from between [] = Some []
 words_from (bare word) [] = Some (word ∷ [])

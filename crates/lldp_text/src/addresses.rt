@@ -1,4 +1,4 @@
-//! MAC, IPv4 and IPv6 addresses.
+//! Writes MAC, IPv4 and IPv6 addresses.
 ghost use Rattle.std.specs.Prelude.{◌≡◌, ◌+◌, ◌*◌, ◌≤◌, ◌++◌, length};
 ghost use Rattle.lldp_text.specs.declared.writing.TheConstants.{ROOM};
 ghost use Rattle.lldp_text.specs.Addresses.{mac_text, ipv4_text, ipv6_text, address_kind};
@@ -18,7 +18,7 @@ const FAMILY_IPV4: u8 = 1;
 
 const FAMILY_IPV6: u8 = 2;
 
-/// Returns the kind of an address, by its family and its number of octets.
+/// Returns the kind of an address with this family and this number of octets.
 pub(crate) fn kind_of_address(family: u8, len: usize) -> AddressKind
     ensures { result ≡ address_kind family len }
 {
@@ -31,7 +31,7 @@ pub(crate) fn kind_of_address(family: u8, len: usize) -> AddressKind
     }
 }
 
-/// Writes a MAC address of six octets, in at most 18 octets.
+/// Writes a MAC address of six octets. The text has at most 18 octets.
 pub fn write_mac(line: &mut Writer, octets: &[u8])
     requires room { length line.old + 18 ≤ ROOM }
     requires six { length octets.now ≡ 6 }
@@ -44,7 +44,7 @@ pub fn write_mac(line: &mut Writer, octets: &[u8])
     }
 }
 
-/// Writes an IPv4 address of four octets, in at most 44 octets.
+/// Writes an IPv4 address of four octets. The text has at most 44 octets.
 #[tactic(auto, using(crate::proofs::TextJoined::grown, crate::proofs::TextJoined::joined_more))]
 pub fn write_ipv4(line: &mut Writer, octets: &[u8])
     requires room { length line.old + 44 ≤ ROOM }
@@ -58,7 +58,7 @@ pub fn write_ipv4(line: &mut Writer, octets: &[u8])
     }
 }
 
-/// Writes an IPv6 address of sixteen octets, in at most 40 octets.
+/// Writes an IPv6 address of sixteen octets. The text has at most 40 octets.
 pub(crate) fn write_ipv6(line: &mut Writer, octets: &[u8])
     requires room { length line.old + 40 ≤ ROOM }
     requires sixteen { length octets.now ≡ 16 }

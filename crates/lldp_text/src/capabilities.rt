@@ -9,7 +9,7 @@ use lldp_pdu::Caps;
 /// The number of capability bits.
 const BITS: u8 = 16;
 
-/// Returns the name of a bit.
+/// Returns the name of a capability bit.
 fn name_of_bit(bit: u8) -> &'static [u8]
     requires { bit < 16 }
     ensures value { result.now ≡ capability_name bit }
@@ -49,7 +49,7 @@ fn word_of_switch(on: bool) -> &'static [u8]
     if on { b"on" } else { b"off" }
 }
 
-/// Writes one capability, and whether it is enabled.
+/// Writes the name of a capability, and whether the capability is enabled.
 fn write_capability(line: &mut Writer, caps: Caps, bit: u8)
     requires room { length line.old + 12 ≤ ROOM }
     requires known { bit < 16 }
@@ -61,7 +61,7 @@ fn write_capability(line: &mut Writer, caps: Caps, bit: u8)
     line.text(word_of_switch(has_bit(caps.enabled, bit)));
 }
 
-/// Writes the available capabilities.
+/// Writes the available capabilities, separated by commas.
 pub(crate) fn write_capabilities(line: &mut Writer, caps: Caps)
     requires room { length line.old + 208 ≤ ROOM }
     ensures value { line.new ≡ line.old ++ capabilities_text caps }

@@ -1,14 +1,14 @@
-//! Reads and writes hexadecimal digits sixteen octets at a time, without a branch for each.
+//! Reads and writes hexadecimal digits sixteen octets at a time, without a branch for each octet.
 //!
-//! The definitions of the crate `hex` say what is read and written. This module only makes it fast:
-//! if it returns false, or if there are fewer than sixteen octets to read or write, `hex` itself
-//! decides and does the work.
+//! The results are those that the crate `hex` defines; this module only computes them faster. If
+//! `decode_digits` returns false, its caller uses `hex`. For fewer than sixteen octets
+//! `decode_digits` returns false, and `encode_digits` calls `hex`.
 //!
 //! **Reading.** Thirty-two digits `c` are in the lanes of one vector, and each lane becomes the
 //! value of its digit, or 16 or more if `c` is not a digit. Lanes wrap around at 256. Each table
-//! computes one number, and the value is the lesser of the two:
+//! computes one number in its last column, and the value is the lesser of the two:
 //!
-//! | `c` | `c - 58` | less 6, at least 0 | less 240 |
+//! | `c` | `c - 58` | minus 6, at least 0 | minus 240 |
 //! |---|---|---|---|
 //! | 0 to 47 | 198 to 245 | 192 to 239 | 208 to 255 |
 //! | `0` to `9`, 48 to 57 | 246 to 255 | 240 to 249 | **0 to 9** |
@@ -19,20 +19,20 @@
 //! | `a` to `f`, 97 to 102, and so `A` to `F` | 0 to 5 | 0 to 5 | **10 to 15** |
 //! | every other | 6 to 255 | 6 to 245 | 16 to 255 |
 //!
-//! No `c` is below 16 in both tables. A pair of values, high and low, is one number of 16 bits,
-//! `high + 256 * low`. Multiplied by 4097 it is `high + 256 * (16 * high + low)`, without the bits
-//! above the 16, so its upper half is the octet.
+//! No `c` has a number below 16 in both tables. A pair of values, high and low, is one number of 16
+//! bits, `high + 256 * low`. Its product with 4097 is, modulo 65536,
+//! `high + 256 * (16 * high + low)`, so the upper eight bits are the octet.
 //!
 //! **Wrong digits.** The values of all blocks are combined with `|`, lane by lane. The result is
 //! below 16 exactly if all the values are, so one comparison at the end shows whether any octet was
-//! not a digit. Until then wrong octets may have been written, which nobody reads.
+//! not a digit. If so, wrong octets may have been written, but no caller reads them.
 //!
-//! **Writing.** The digit of a value up to 9 is the value plus `0`. For a greater value 39 more is
-//! added, so that 10 becomes `a`. The digits of the upper and of the lower four bits alternate.
+//! **Writing.** The digit of a value up to 9 is the value plus the octet `0`. For a greater value
+//! 39 more is added, so that 10 becomes `a`. The digits of the upper and lower four bits alternate.
 //!
 //! **The last block** begins sixteen octets before the end, so it may overlap the block before it.
-//! Octets in both blocks are read or written twice, with the same result. So nothing is left to do
-//! octet by octet.
+//! Octets in both blocks are read or written twice, with the same result. So no octets are left to
+//! be read or written one by one.
 ghost use Rattle.std.specs.Prelude.{◌≡◌, ℕ, ◌↔◌, ◌<◌, ◌≤◌, ◌+◌, ◌*◌, length, true, slice_index, IsOk, IsTrue};
 ghost use Rattle.std.specs.List.{AllPass};
 ghost use Rattle.hex.specs.Hex.{decode_pairs, encode_lower, is_hex_digit, lower_digits};
@@ -43,7 +43,7 @@ use std::simd::prelude::*;
 /// How many octets are read or written at a time.
 const BLOCK: usize = 16;
 
-/// Returns the value of each digit, and 16 or more for any other octet.
+/// Returns the value of each hexadecimal digit, and 16 or more for any other octet.
 #[inline(always)]
 fn values_of(digits: u8x32) -> u8x32
     ensures len { length result ≡ 32 }
@@ -56,7 +56,7 @@ fn values_of(digits: u8x32) -> u8x32
     numeral.simd_min(letter)
 }
 
-/// Returns the octet of each pair of values, the high one first.
+/// Returns the octet of each pair of values. The first value of a pair is the high one.
 #[inline(always)]
 fn octets_of(values: u8x32) -> u8x16
     ensures len { length result ≡ 16 }
@@ -68,7 +68,7 @@ fn octets_of(values: u8x32) -> u8x16
     (pairs >> u16x16::splat(8)).cast::<u8>()
 }
 
-/// Returns the bits that are set in either vector.
+/// Returns the bitwise OR of the two vectors.
 #[inline(always)]
 fn either(a: u8x32, b: u8x32) -> u8x32
     ensures { AreSmall result ↔ (AreSmall a × AreSmall b) }
@@ -76,7 +76,7 @@ fn either(a: u8x32, b: u8x32) -> u8x32
     a | b
 }
 
-/// Returns whether each lane is the value of a digit.
+/// Returns whether every lane is below 16, as the values of digits are.
 #[inline(always)]
 fn are_small(values: u8x32) -> bool
     ensures { IsTrue result ↔ AreSmall values }
@@ -84,7 +84,7 @@ fn are_small(values: u8x32) -> bool
     values.simd_ge(u8x32::splat(16)).to_bitmask() == 0
 }
 
-/// Reads sixteen octets, from octet `at` on. Returns the values of their digits.
+/// Decodes the digits of sixteen octets, from octet `at` on. Returns the values of the digits.
 #[inline(always)]
 fn decode_block(digits: &[u8], octets: &mut [u8], at: usize) -> u8x32
     requires fits { at + 16 ≤ length octets.old }
@@ -100,9 +100,9 @@ fn decode_block(digits: &[u8], octets: &mut [u8], at: usize) -> u8x32
     values
 }
 
-/// Reads pairs of digits into the octets, as `hex` does. Returns true exactly if there are sixteen
+/// Decodes pairs of digits into octets, as `hex` does. Returns true exactly if there are sixteen
 /// octets or more and all of `digits` are hexadecimal digits. If it returns false, the octets may
-/// hold anything.
+/// have any values.
 pub fn decode_digits(digits: &[u8], octets: &mut [u8]) -> bool
     requires { length digits.now ≡ 2 * length octets.old }
     ensures octets { result ≡ true → decode_pairs 0 digits.now ≡ Ok octets.new }
@@ -132,7 +132,7 @@ fn digits_of(values: u8x16) -> u8x16
     values + u8x16::splat(b'0') + more
 }
 
-/// Returns the octets of both vectors alternately, one of the first vector first.
+/// Returns the octets of both vectors alternately, an octet of the first vector first.
 #[inline(always)]
 fn by_turns(first: u8x16, second: u8x16) -> u8x32
     ensures len { length result ≡ 32 }
@@ -149,7 +149,7 @@ fn by_turns(first: u8x16, second: u8x16) -> u8x32
     )
 }
 
-/// Writes the digits of sixteen octets, from octet `at` on.
+/// Writes the hexadecimal digits of sixteen octets, from octet `at` on.
 #[inline(always)]
 fn encode_block(octets: &[u8], digits: &mut [u8], at: usize)
     requires fits { at + 16 ≤ length octets.now }
@@ -164,7 +164,7 @@ fn encode_block(octets: &[u8], digits: &mut [u8], at: usize)
     by_turns(high, low).copy_to_slice(&mut digits[2 * at..]);
 }
 
-/// Writes each octet as the two lower-case digits that `hex` writes.
+/// Writes the two lower-case hexadecimal digits of each octet, as `hex` does.
 pub fn encode_digits(octets: &[u8], digits: &mut [u8])
     requires { length digits.old ≡ 2 * length octets.now }
     ensures { digits.new ≡ encode_lower octets.now }

@@ -3,23 +3,23 @@ ghost use Rattle.std.specs.Prelude.{◌≡◌, ◌≤◌, length};
 ghost use Rattle.lldp_text.specs.Fault.{text_of, number_of_fault};
 
 /// Why a command is refused. If a line has several faults, the first of these is reported: a bad
-/// quote anywhere, then the leftmost word that fits no command, then a word too many, then a limit
-/// in use.
+/// quote anywhere, the leftmost word that fits no command, a word too many, a limit that some port
+/// exceeds.
 #[derive(Clone, Copy, Debug, PartialEq, Eq)]
 pub enum CommandFault {
-    /// A word is missing, or no command has that word there.
+    /// A word is missing, or no command has this word at this place.
     Unknown = 1,
     /// No port has that name.
     NoSuchPort = 2,
     /// The word is not one or more decimal digits.
     Number = 3,
-    /// The number is not in its range.
+    /// The number is out of range.
     Range = 4,
-    /// The text has more than 255 octets, or one that is not printable ASCII.
+    /// The text has more than 255 octets, or an octet that is not printable ASCII.
     Text = 5,
     /// A word follows a complete command.
     Extra = 6,
-    /// A quote is inside a word, is not closed, or is closed right before another word.
+    /// A quote is inside an unquoted word, is not closed, or is closed right before another word.
     Quote = 7,
     /// Some port holds more neighbors than the new limit.
     InUse = 8,

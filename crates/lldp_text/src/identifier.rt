@@ -52,7 +52,7 @@ fn kind_of_port(subtype: u8) -> IdentifierKind
     }
 }
 
-/// Writes a whole body in hexadecimal, its subtype included.
+/// Writes a whole body in hexadecimal, including its subtype.
 fn write_unhandled(line: &mut Writer, body: &[u8])
     requires fits { length body.now ≤ 256 }
     requires room { length line.old + VALUE_ROOM ≤ ROOM }
@@ -63,7 +63,7 @@ fn write_unhandled(line: &mut Writer, body: &[u8])
     line.hex(body);
 }
 
-/// Writes a network address, or the whole body if its length is not that of its family.
+/// Writes an IP address, or the whole body if the family is unknown or the length is wrong for it.
 fn write_network(line: &mut Writer, body: &[u8])
     requires fits { IsIdentifier body.now }
     requires room { length line.old + VALUE_ROOM ≤ ROOM }
@@ -86,7 +86,7 @@ fn write_network(line: &mut Writer, body: &[u8])
     }
 }
 
-/// Writes an identifier of this kind. The body begins with its subtype.
+/// Writes an identifier of this kind as key and value. The body begins with its subtype.
 fn write_identifier(line: &mut Writer, kind: IdentifierKind, body: &[u8])
     requires fits { IsIdentifier body.now }
     requires room { length line.old + VALUE_ROOM ≤ ROOM }
@@ -114,7 +114,7 @@ fn write_identifier(line: &mut Writer, kind: IdentifierKind, body: &[u8])
     }
 }
 
-/// Writes a chassis ID, of 2 to 256 octets, as key and value, in at most 1,050 octets.
+/// Writes a chassis ID of 2 to 256 octets as key and value. The text has at most 1,050 octets.
 pub fn write_chassis(line: &mut Writer, body: &[u8])
     requires fits { IsIdentifier body.now }
     requires room { length line.old + VALUE_ROOM ≤ ROOM }
@@ -124,7 +124,7 @@ pub fn write_chassis(line: &mut Writer, body: &[u8])
     write_identifier(line, kind_of_chassis(body[0]), body);
 }
 
-/// Writes a port ID, of 2 to 256 octets, as key and value, in at most 1,050 octets.
+/// Writes a port ID of 2 to 256 octets as key and value. The text has at most 1,050 octets.
 pub fn write_port(line: &mut Writer, body: &[u8])
     requires fits { IsIdentifier body.now }
     requires room { length line.old + VALUE_ROOM ≤ ROOM }

@@ -66,7 +66,7 @@ fn write_management(line: &mut Writer, body: &[u8])
     write_management_address(line, mgmt(body).unwrap());
 }
 
-/// Writes a kept TLV as key and value, in at most 1,050 octets.
+/// Writes a kept TLV as key and value. The text has at most 1,050 octets.
 pub fn write_kept_tlv(line: &mut Writer, tlv: Tlv<'_>)
     requires room { length line.old + VALUE_ROOM ≤ ROOM }
     requires kept { IsKeptTlv (tlv_view tlv) }

@@ -1,4 +1,4 @@
-//! Laws of text: how values are written and lines split, and that neighbors are shown differently.
+//! Laws: how values are written, how lines are split, and that no two neighbors are shown alike.
 pub mod alike;
 pub mod forms;
 pub mod words;

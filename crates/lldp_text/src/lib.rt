@@ -1,5 +1,5 @@
-//! Reads the text of commands and writes the text of shows: words and numbers of a line, digits,
-//! and neighbors' identifiers, addresses, capabilities and kept TLVs (IEEE 802.1AB-2009, clause 8).
+//! Reads the text of commands and writes show lines: the words and numbers of a line, digits, and
+//! neighbors' identifiers, addresses, capabilities and kept TLVs (IEEE 802.1AB-2009, clause 8).
 #![tactic(auto)]
 
 mod addresses;

@@ -9,7 +9,7 @@ use crate::addresses::{AddressKind, kind_of_address, write_ipv4, write_ipv6};
 use crate::writing::Writer;
 use lldp_pdu::Mgmt;
 
-/// Writes an address of any family.
+/// Writes an address of any family, known or not.
 fn write_address(line: &mut Writer, family: u8, octets: &[u8])
     requires room { length line.old + 80 ≤ ROOM }
     requires short { length octets.now ≤ 31 }
@@ -29,7 +29,7 @@ fn write_address(line: &mut Writer, family: u8, octets: &[u8])
     }
 }
 
-/// Writes a management address.
+/// Writes a management address with its interface number and OID.
 pub(crate) fn write_management_address(line: &mut Writer, address: Mgmt<'_>)
     requires room { length line.old + 360 ≤ ROOM }
     requires short { length address.address.now ≤ 31 }

@@ -1,4 +1,4 @@
-//! Numbers among the words of a command.
+//! Reads numbers among the words of a command.
 ghost use Rattle.std.specs.Prelude.{◌≡◌, ◌≤◌, ◌<◌, ◌↔◌, Ok, Err, IfOk, min, IsTrue};
 ghost use Rattle.std.specs.List.{AllPass};
 ghost use Rattle.std.specs.Char.{is_ascii_digit};
@@ -8,7 +8,7 @@ ghost use Rattle.lldp_text.specs.declared.fault.CommandFault.TheVariants.{Number
 
 use crate::fault::CommandFault;
 
-/// The least value that is above every range.
+/// The least number that is too large for every range.
 const TOO_LARGE: u32 = 65536;
 
 fn all_digits(word: &[u8]) -> bool
@@ -23,7 +23,7 @@ fn writes_number(word: &[u8]) -> bool
     !word.is_empty() && all_digits(word)
 }
 
-/// Returns the value of the digits, or `TOO_LARGE` if that is less.
+/// Returns the value of the digits, but at most `TOO_LARGE`.
 #[tactic(auto, using(crate::proofs::NumberDigits::value_more))]
 fn value_of(digits: &[u8]) -> u32
     requires { IsTrue (is_number digits.now) }
@@ -36,8 +36,8 @@ fn value_of(digits: &[u8]) -> u32
     value
 }
 
-/// Returns the value of a word of one or more decimal digits, however many they are. The fault is
-/// Range if the value is not from `least` to `greatest`, and Number for any other word.
+/// Returns the value of a word of one or more decimal digits, of any length. The fault is Range if
+/// the value is not from `least` to `greatest`, and Number for every other word.
 pub fn number(word: &[u8], least: u16, greatest: u16) -> Result<u16, CommandFault>
     ensures value { result ≡ number_of word.now least greatest }
     ensures in_range { IfOk result (λ n. (least ≤ n) × (n ≤ greatest)) }

@@ -1,4 +1,4 @@
-//! Texts: hostnames and descriptions.
+//! Checks texts, such as hostnames and descriptions.
 ghost use Rattle.std.specs.Prelude.{◌≡◌, ◌≤◌, IsTrue, nat_le, ◌&&◌, length};
 ghost use Rattle.std.specs.List.{list_all};
 ghost use Rattle.lldp_text.specs.Text.{is_text};

@@ -16,7 +16,7 @@ fn separates(octet: u8) -> bool
     octet == b' ' || octet == b'\t'
 }
 
-/// Returns the word and the rest of the line, which must be empty or begin with a separator.
+/// Returns the word and the rest, or the fault Quote if the rest begins with a non-separator.
 fn ended_word<'l>(
     word: &'l [u8],
     rest: &'l [u8],
@@ -32,7 +32,7 @@ fn ended_word<'l>(
     }
 }
 
-/// Returns the separators at the front, and what follows them.
+/// Returns the separators at the beginning of the line, and the rest of the line.
 fn split_at_word(line: &[u8]) -> (&[u8], &[u8])
     ensures gap { AllPass is_separator result.0.now }
     ensures whole { line.now ≡ result.0.now ++ result.1.now }
@@ -56,7 +56,7 @@ fn split_at_quote(text: &[u8]) -> Option<(&[u8], &[u8])>
 }
 
 /// Returns the octets before the next space, tab or `"`, and the rest. If the text begins with an
-/// unquoted word, these are that word and what follows it.
+/// unquoted word, the octets are that word.
 pub fn split_at_bare(text: &[u8]) -> (&[u8], &[u8])
     ensures bare { AllPass is_bare result.0.now }
     ensures whole { text.now ≡ result.0.now ++ result.1.now }
@@ -68,7 +68,7 @@ pub fn split_at_bare(text: &[u8]) -> (&[u8], &[u8])
     }
 }
 
-/// Returns the first word, without its quotes, and what follows it, or None if there is no word.
+/// Returns the first word, without its quotes, and the rest of the line; None if there is no word.
 fn first_word(line: &[u8]) -> Result<Option<(&[u8], &[u8])>, CommandFault>
     ensures first { MatchResult result
         (λ found. MatchOption found (words_of line.now ≡ Some [])
@@ -126,12 +126,12 @@ impl<'l> Iterator for Words<'l> {
     }
 }
 
-/// Checks that no quote of a line is misplaced.
+/// Returns the fault Quote if a quote of the line is misplaced.
 fn check_quotes(line: &[u8]) -> Result<(), CommandFault>
     ensures ok { is_ok result ≡ is_some (words_of line.now) }
     ensures err { IfErr result (λ fault. fault ≡ CommandFault.Quote) }
 {
-    // Most lines have no quote, so their words need no check.
+    // Most lines have no quote, and so no misplaced quote.
     if memchr(b'"', line).is_none() {
         return Ok(());
     }
@@ -144,8 +144,8 @@ fn check_quotes(line: &[u8]) -> Result<(), CommandFault>
 
 /// Splits a line into its words, in order. A quoted word is returned without its quotes.
 ///
-/// Spaces and tabs separate words. A word is a longest run of octets other than space, tab and `"`,
-/// or the octets between two `"`; there are no escapes. The fault is `Quote` if a `"` is inside an
+/// Spaces and tabs separate words. A word is a run of octets other than space, tab and `"`, or the
+/// octets between two `"`; there are no escapes. The fault is `Quote` if a `"` is inside an
 /// unquoted word or is not closed, or if a closing `"` is followed by anything but a separator or
 /// the end of the line. No word is longer than its line.
 pub fn split(line: &[u8]) -> Result<Words<'_>, CommandFault>

@@ -8,20 +8,20 @@ use crate::digits::encode_digits;
 use arrayvec::ArrayVec;
 use std::marker::Model;
 
-/// A line, at most 2,048 octets, without its line feed.
+/// A line of at most 2,048 octets, without its line feed.
 pub type Line = ArrayVec<u8, 2048>;
 
 /// The greatest length of a line with its line feed, in octets.
 pub const LINE_ROOM: usize = 2049;
 
-/// The greatest length of a value, in octets. With up to 64 octets before it, it fits in a line.
+/// The greatest length of a value, in octets. A line has room for it after up to 64 other octets.
 pub const VALUE_ROOM: usize = 1050;
 
 /// The greatest number of octets that a writer holds.
 pub const ROOM: usize = 8192;
 
 /// A buffer to which octets are appended. Each method requires the room that it needs, so no octet
-/// is cut off. Clearing it does not overwrite the octets, as clearing an `ArrayVec` would.
+/// is cut off. Unlike clearing an `ArrayVec`, clearing a writer does not overwrite its octets.
 #[derive(Drop)]
 pub struct Writer {
     room: [u8; ROOM],
@@ -38,8 +38,8 @@ impl Model for Writer {
     ghost invariant = { λ w. w.len ≤ 8192 };
 }
 
-/// Returns whether each of these octets is unchanged in escaped text. The loop does not end early:
-/// without branches many octets are checked at a time.
+/// Returns whether escaping leaves each of these octets unchanged. The loop does not end early:
+/// without branches it can check many octets at a time.
 fn are_plain(octets: &[u8]) -> bool
     ensures { result ≡ list_all is_plain octets.now }
 {
@@ -51,7 +51,7 @@ fn are_plain(octets: &[u8]) -> bool
 }
 
 impl Writer {
-    /// Returns a writer with no octets.
+    /// Returns an empty writer.
     pub fn new() -> Self
         ensures { result ≡ [] }
     {
@@ -68,14 +68,14 @@ impl Writer {
         ROOM - self.len
     }
 
-    /// Discards what was written.
+    /// Discards all octets written so far.
     pub fn clear(&mut self)
         ensures { self.new ≡ [] }
     {
         self.len = 0;
     }
 
-    /// Ends a line with a line feed.
+    /// Writes the line feed that ends a line.
     pub fn end_line(&mut self)
         requires { length self.old + 1 ≤ ROOM }
         ensures value { self.new ≡ self.old ++ 10 ∷ [] }
@@ -84,7 +84,7 @@ impl Writer {
         self.text(b"\n");
     }
 
-    /// Writes octets as they are.
+    /// Writes octets unchanged.
     pub fn text(&mut self, octets: &[u8])
         requires { length self.old + length octets.now ≤ ROOM }
         ensures value { self.new ≡ self.old ++ octets.now }
@@ -95,7 +95,7 @@ impl Writer {
         self.len = end;
     }
 
-    /// Writes the separator between the items of a list, or nothing before the first item.
+    /// Writes a separator if `before`, the number of items already written, is not 0.
     pub fn separator(&mut self, between: u8, before: usize)
         requires { length self.old + 1 ≤ ROOM }
         ensures value { self.new ≡ self.old ++ separator between before }
@@ -106,7 +106,7 @@ impl Writer {
         }
     }
 
-    /// Writes octets in hexadecimal.
+    /// Writes octets as lower-case hexadecimal digits.
     pub fn hex(&mut self, octets: &[u8])
         requires { length self.old + 2 * length octets.now ≤ ROOM }
         ensures value { self.new ≡ self.old ++ encode_lower octets.now }
@@ -132,7 +132,7 @@ impl Writer {
         }
     }
 
-    /// Writes escaped text. Most texts need no escape, and are copied in one piece.
+    /// Writes a text in escaped form. Most texts need no escapes and are copied in one piece.
     pub fn escaped(&mut self, octets: &[u8])
         requires { length self.old + 4 * length octets.now ≤ ROOM }
         ensures value { self.new ≡ self.old ++ escaped octets.now }
@@ -156,7 +156,7 @@ impl Writer {
         self.text(digits.format(n).as_bytes());
     }
 
-    /// Writes a key and escaped text.
+    /// Writes a key and, in escaped form, a text.
     pub fn escaped_value(&mut self, key: &[u8], text: &[u8])
         requires { length self.old + length key.now + 4 * length text.now ≤ ROOM }
         ensures value { self.new ≡ self.old ++ (key.now ++ escaped text.now) }
@@ -166,7 +166,7 @@ impl Writer {
         self.escaped(text);
     }
 
-    /// Returns all that was written.
+    /// Returns all octets written so far.
     pub fn as_slice(&self) -> &[u8]
         ensures { result.now ≡ self.now }
     {

@@ -1,4 +1,4 @@
--- Active, rested, start and stop in terms of positions.
+-- Active, rested, start and stop, as computed, agree with their statements by positions.
 use Rattle.std.specs.Prelude.{◌≡◌, ℕ, ◌+◌, ◌≤◌, ◌↔◌, Bool, true, false, cond, not, ◌&&◌, ◌||◌, IsTrue, List, [], ◌∷◌, ◌++◌}
 use Rattle.std.specs.List.{list_any}
 use Rattle.std.proofs.Common.{refl, ap, ap₂, ◌∙◌, arith}
@@ -18,7 +18,7 @@ use Rattle.std.proofs.lemmas.Grind.{common_steps}
 
 -- ---- an active port
 
--- no start is also a stop or a Down, and the link is up at each start
+-- at each start the port neither stops nor loses its link, and the link is up
 abbrev AreApart : List Moment → Type 0
 AreApart [] = Unit {0}
 AreApart (m ∷ past) = (m.start ≡ true → (ends m ≡ false) × (is_up (m ∷ past) ≡ true)) × AreApart past
@@ -88,7 +88,7 @@ apart_reads ms are_apart = (forth, back)
 pub active_reads : (s : Settings) (h : History) → IsTrue (is_active (moments s h)) ↔ HasStarted (moments s h)
 active_reads s h = apart_reads (moments s h) (apart_moments s h)
 
--- ---- another choice of marks changes neither starts nor links
+-- ---- starts and links under another choice of marks
 
 same_up : (s : Settings) (bs : List Bool) (ms : List Moment) → AreTimely s bs ms → is_up (with_marks bs ms) ≡ is_up ms
 same_up s [] [] t = refl
@@ -108,7 +108,7 @@ chosen_reads s h e bs t =
     apart_reads (moment s (moments s h) e ∷ with_marks bs (moments s h))
     (λ start. ((a.0 start).0, ap (up_after (moment s (moments s h) e).cause) (same_up s bs (moments s h) t) ∙ (a.0 start).1), apart_marked s bs (moments s h) t a.1)
 
--- ---- a wait
+-- ---- the wait after a stop
 
 stay : (b q : Bool) (k n t : ℕ) → q ≡ true → n ≤ t → ((b || q) ≡ true) × (cond b 0 (k + n) ≤ k + t)
 stay true q k n t p l = (refl, omega arith)
@@ -140,7 +140,7 @@ rested_reads s past = (forth, λ h. back h (list_any (λ m. m.stop) past) refl)
 pub through : (A B C : Type 0) → (A ↔ B) → (B ↔ C) → A ↔ C
 through A B C f g = (λ a. g.0 (f.0 a), λ c. f.1 (g.1 c))
 
--- a conjunction of two tests holds exactly if the propositions of both hold
+-- if two tests are equivalent to two propositions, both tests hold exactly if both propositions do
 pub and_reads : (a b : Bool) (P Q : Type 0) → (IsTrue a ↔ P) → (IsTrue b ↔ Q) → IsTrue (a && b) ↔ (P × Q)
 and_reads a b P Q f g = (λ h. let p = and_parts a b h in (f.0 p.0, g.0 p.1), λ w. and_from a b (f.1 w.0) (g.1 w.1))
 

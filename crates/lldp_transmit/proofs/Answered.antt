@@ -1,4 +1,4 @@
--- The windows of a history, and those with the answer of a machine to one event.
+-- The three window properties, for a history and for the machine's answer to its next event.
 use Rattle.std.specs.Prelude.{◌≡◌, ◌+◌, ◌↔◌, Bool, true, false, cond, List, [], ◌∷◌}
 use Rattle.std.proofs.Common.{ap, sym, arith, subst}
 use Rattle.lldp_transmit.specs.declared.event.Mark.{Mark}
@@ -16,11 +16,11 @@ use Rattle.lldp_transmit.proofs.Activity.{through, stop_reads}
 use Rattle.lldp_transmit.proofs.Sending.{sent_reads}
 use Rattle.std.proofs.lemmas.Grind.{common_steps}
 
--- The windows of every history hold.
+-- The bounds on frames and stops, and earliest service, hold for every history.
 pub windows_hold : (s : Settings) (h : History) → AreSettings s → WindowsHold s h
 windows_hold s h r = grind (arith, common_steps, is_bounded, stops_rarely, is_earliest)
 
--- if the answer is the mark of the moment, the frame and the stop of the moment are counted
+-- if the answer is the mark of a moment, it adds that moment's frame and stop to the counts
 frames_marked : (x y : Bool) (run : List Moment) → (x ≡ true → y ≡ false) → frames_with (cond x Shutdown (cond y Ordinary Quiet)) run ≡ one_if y + frames run
 frames_marked x y run a = grind (arith, common_steps)
 

@@ -38,7 +38,7 @@ spends_of t c = signal_of t c && (is_neighbor c || (is_tick c && not (start_of t
 abbrev pub left_of : Machine → Cause → ℕ
 left_of t c = cond (start_of t c) 0 (cond (opening_of t c) t.fast_init t.left - one_if (spends_of t c))
 
--- the counters after a step, computed from those before
+-- the counters and the answer after a step, computed from the counters before it
 pub record Makes (t : Machine) (c : Cause) (n : ℕ) (r : Machine × Mark) : Type 0 where
   pub credit : r.0.credit ≡ room_of t c - one_if (sent_of t c)
   pub wait : r.0.wait ≡ cond (stop_of t c) t.reinit (t.wait - one_if (is_tick c))
@@ -57,7 +57,7 @@ module _ (t : Machine) (n : ℕ) (few : t.credit ≤ t.credit_max) where
   abbrev so : (waiting active allowed up : Bool) → Machine
   so waiting active allowed up = record t { waiting = waiting; active = active; allowed = allowed; up = up }
 
-  -- for each state of a port: not allowed, inactive or active, with or without a waiting frame
+  -- a step has these results for each combination of the flags waiting, active, allowed and up
   on : (c : Cause) (wt ac al up : Bool) → (ac ≡ true → al ≡ true) → (ac ≡ true → wt ≡ true → t.credit ≡ 0) → Makes (so wt ac al up) c n (stepped (so wt ac al up) c n)
   on c wt true false up i j = cc (i refl)
   on c true true true up i j = let none : t.credit ≡ 0 = j refl refl in grind (arith, nat_tests)

@@ -1,4 +1,4 @@
--- States that causes turn on and off, and the causes at which frames are sent.
+-- States that certain events turn on and off, and the events at which frames are sent.
 use Rattle.std.specs.Prelude.{◌≡◌, ℕ, ◌⊎◌, ◌↔◌, Bool, true, false, not, ◌&&◌, ◌||◌, IsTrue, List, [], ◌∷◌, ◌++◌, map}
 use Rattle.std.proofs.Common.{refl, ap, sym, ◌∙◌, inl, inr, arith, subst}
 use Rattle.lldp_transmit.specs.declared.event.Cause.{Cause}
@@ -18,9 +18,9 @@ use Rattle.std.proofs.lemmas.Bool.{true_from_ne_false}
 use Rattle.std.proofs.lemmas.Grind.{common_steps}
 use Rattle.lldp_transmit.specs.Laws.Causes.{HasCause, IsGiven, MayTransmit, IsLinked, CanSend, CanStop}
 
--- ---- turned on and off
+-- ---- states turned on and off
 
--- the effect of a cause on a state: it turns the state on, turns it off, or leaves it
+-- f turns a state on if c is `gives`, turns it off if c is `takes`, and else leaves it as it is
 abbrev Reads : (Cause → Bool → Bool) → Cause → Cause → Cause → Type 0
 Reads f gives takes c =
     ((c ≡ gives) × ((b : Bool) → f c b ≡ true))
@@ -40,7 +40,7 @@ nowhere : {X : Type 0} (after before : List X) (x : X) → [] ≡ after ++ x ∷
 nowhere [] before x p = cc p
 nowhere (y ∷ after) before x p = cc p
 
--- whether the state is on after some events
+-- whether the state is on after these events
 abbrev held : (Cause → Bool → Bool) → Bool → History → Bool
 held f b [] = b
 held f b (e ∷ h) = f e.cause (held f b h)
@@ -58,7 +58,7 @@ by_position P e h first rest p = go p.after p.is
 later : (c : Cause) (e : Event) (h : History) → HasCause c h → HasCause c (e ∷ h)
 later c e h g = (older e g.0, g.1)
 
--- if the newest event has another cause, an earlier event has this cause
+-- if some event has the cause c, but not the newest, then an earlier event has it
 earlier : (c : Cause) (e : Event) (h : History) → ¬ (e.cause ≡ c) → HasCause c (e ∷ h) → HasCause c h
 earlier c e h n g = by_position (λ x after. x.cause ≡ c → HasCause c h) e h (λ q. absurd (n q)) (λ p q. (p, q)) g.0 g.1
 
@@ -125,12 +125,12 @@ ordinary_cause t Neighbor n q = inr (inr refl)
 ordinary_cause t Stop n q = grind (arith, common_steps)
 ordinary_cause t _ n q = cc q
 
--- at a start the link is up; a later Down makes the port inactive
+-- after an event that starts the port or leaves it active, the link is up
 up_at : (c : Cause) (x l u r : Bool) → (not ((x && not l) || is_down c) && ((is_tick c && (l && (up_after c u && (not x && r)))) || x)) ≡ true → (x ≡ true → u ≡ true) → up_after c u ≡ true
 up_at Up x l u r e i = refl
 up_at other x l u r e i = grind (arith, common_steps)
 
--- An active port has its link up.
+-- The link of an active port is up.
 up_if_active : (s : Settings) (h : History) → is_active (moments s h) ≡ true → is_up (moments s h) ≡ true
 unfolding moment
 up_if_active s [] a = refl
@@ -172,7 +172,7 @@ shutdown_reads s past e = (forth, back)
     back : CanStop s e past → mark_at s (e ∷ past) ≡ Shutdown
     back k = read.1 ((stop_reads s past e).1 (k.active, ap (λ (c : Cause). allowed_after c (is_allowed s (moments s past))) k.cause))
 
--- ---- the events
+-- ---- the events of the moments
 
 pub events_kept : (s : Settings) (h : History) → map (λ m. event m.cause m.interval) (moments s h) ≡ h
 unfolding moment

@@ -29,14 +29,14 @@ none_from_start false ms = refl
 pub is_waiting-cons : (m : Moment) (past : List Moment) → is_waiting (m ∷ past) ≡ (not m.sent && (m.signal || (not m.start && is_waiting past)))
 is_waiting-cons m past = grind (arith, common_steps, none_from_start)
 
--- the same if no frame is sent at the moment
+-- whether a frame waits after a moment at which no frame is sent
 pub wanted-cons : (m : Moment) (past : List Moment) → is_waiting (record m { sent = false } ∷ past) ≡ (m.signal || (not m.start && is_waiting past))
 wanted-cons m past = is_waiting-cons (record m { sent = false }) past
 
 pub is_active-cons : (m : Moment) (past : List Moment) → is_active (m ∷ past) ≡ (not (ends m) && (m.start || is_active past))
 is_active-cons m past = elim (ends m) as (λ b. list_any (λ x. x.start) (cond b [] (m ∷ since ends past)) ≡ (not b && (m.start || is_active past))) [ true ↦ refl | false ↦ refl ]
 
--- whether a port is active does not depend on the labels set later
+-- whether a port is active does not depend on the labels `signal`, `opening` and `sent`
 pub same_active : (past : List Moment) (m : Moment) (b c d : Bool) → is_active (record m { signal = b; opening = c; sent = d } ∷ past) ≡ is_active (m ∷ past)
 same_active past m b c d = is_active-cons (record m { signal = b; opening = c; sent = d }) past ∙ sym (is_active-cons m past)
 

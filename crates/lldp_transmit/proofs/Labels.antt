@@ -10,7 +10,7 @@ use Rattle.lldp_transmit.proofs.Windows.{bucket, IsPaid, open_is}
 use Rattle.lldp_transmit.proofs.Counters.{rested_is, timer_is, is_active-cons, wanted-cons}
 use Rattle.lldp_transmit.proofs.Carrying.{start_of, stop_of, now_of, signal_of, opening_of, sent_of}
 
--- each counter has the value that the definitions give; the credit is that of the bucket
+-- each counter has the value that the definitions give; the credit is the content of the bucket
 pub record Counts (s : Settings) (past : List Moment) (t : Machine) : Type 0 where
   pub credit_max : t.credit_max ≡ s.credit_max
   pub fast_init : t.fast_init ≡ s.fast_init

@@ -13,7 +13,7 @@ use Rattle.lldp_transmit.proofs.Sending.{sent_reads}
 abbrev usual : Settings
 usual = settings 5 4 2 true
 
--- To answer Quiet at the first tick, where the port starts, breaks `ordinary` and `earliest`.
+-- The answer Quiet at the first tick, when the port starts, breaks `ordinary` and `earliest`.
 quiet_is_not_sent : (Quiet ≡ Ordinary) ↔ IsDueAndOpen usual [] (event Tick 30) → ⊥
 unfolding moment
 quiet_is_not_sent clause =

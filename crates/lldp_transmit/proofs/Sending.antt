@@ -1,4 +1,4 @@
--- Waiting, due, open, sent and the credit in terms of positions.
+-- Waiting, due, open, sent and the credit, as computed, agree with their statements by positions.
 use Rattle.std.specs.Prelude.{◌≡◌, ℕ, ◌+◌, ◌≤◌, ◌<◌, ◌↔◌, ◌⊎◌, Bool, true, false, IsTrue, List, [], ◌∷◌, ◌++◌}
 use Rattle.std.specs.List.{list_all}
 use Rattle.std.proofs.Common.{refl, ap, ◌∙◌, arith, inl, inr, subst}
@@ -17,7 +17,7 @@ use Rattle.std.proofs.lemmas.Grind.{common_steps}
 
 -- ---- open windows
 
--- if a test passes on each front, it passes on each run
+-- if a test passes on each front of a list, it passes on each run in `runs`
 all_runs : {X : Type 0} (p : List X → Bool) (xs : List X) → ((run before : List X) → xs ≡ run ++ before → p run ≡ true) → list_all p (runs xs) ≡ true
 all_runs p [] h = refl
 all_runs p (x ∷ xs) h =
@@ -50,7 +50,7 @@ open_reads s past m most = (forth, back)
 
 -- ---- the credit
 
--- some run leaves exactly what is in the bucket
+-- for some run, its bound less its frames is exactly the content of the bucket
 one_leaves : (s : Settings) (ms : List Moment) → IsPaid s ms → (run before : List Moment) × (ms ≡ run ++ before) × (bucket s ms + frames run ≡ s.credit_max + ticks (after_first run))
 one_leaves s [] paid = ([], [], refl, omega arith)
 one_leaves s (m ∷ past) paid = go (cases_lt (bucket s past + one_if (is_tick m.cause)) s.credit_max) (one_leaves s past paid.1)
@@ -78,7 +78,7 @@ least_bucket s ms paid = record { most = bucket_le s ms; each = each; one = one_
 pub credit_reads : (s : Settings) (h : History) → 1 ≤ s.credit_max → IsLeastRoom s (moments s h) (credit_left s (moments s h))
 credit_reads s h most = grind (arith, common_steps, paid_moments, credit_is, least_bucket)
 
--- there is only one least room
+-- only one number is the credit as `IsLeastRoom` defines it
 pub least_once : (s : Settings) (ms : List Moment) (credit other : ℕ) → IsLeastRoom s ms credit → IsLeastRoom s ms other → credit ≡ other
 least_once s ms credit other c d = grind (arith, common_steps)
 
@@ -89,14 +89,14 @@ waiting_reads = lasts_reads is_waiting (λ m. m.signal) (λ m. m.start) (λ m. m
 
 -- ---- a sent frame
 
--- a frame is due exactly on an active port with a waiting frame
+-- a frame is due exactly if the port is active and a frame waits, as stated by positions
 pub due_reads : (s : Settings) (h : History) (e : Event) → IsTrue (due (moments s h) (moment s (moments s h) e)) ↔ IsDue (moments s h) (moment s (moments s h) e)
 due_reads s h e =
     let m = moment s (moments s h) e in
     let active : IsTrue (is_active (record m { sent = false } ∷ moments s h)) ↔ HasStarted (m ∷ moments s h) = rw (same_active (moments s h) m m.signal m.opening false) (active_reads s (e ∷ h)) in
     and_reads _ _ _ _ active (waiting_reads (record m { sent = false } ∷ moments s h))
 
--- the same with the marks of another choice in place of the frames
+-- a frame is due in the same cases if other marks are in place of the frames sent
 pub chosen_due_reads : (s : Settings) (h : History) (e : Event) (bs : List Bool) → AreTimely s bs (moments s h) →
     IsTrue (due (with_marks bs (moments s h)) (moment s (moments s h) e)) ↔ IsDue (with_marks bs (moments s h)) (moment s (moments s h) e)
 chosen_due_reads s h e bs t =

@@ -1,4 +1,4 @@
--- Signals left, distance, end of the timer, signals and openings in terms of positions.
+-- Signals, bursts, distance and the timer, as computed, agree with their statements by positions.
 use Rattle.std.specs.Prelude.{◌≡◌, ℕ, zero, suc, ◌+◌, ◌-◌, ◌≤◌, ◌↔◌, ◌⊎◌, Bool, true, false, cond, not, ◌&&◌, ◌||◌, ◌==◌, nat_lt, IsTrue, List, [], ◌∷◌}
 use Rattle.std.specs.List.{list_any}
 use Rattle.std.proofs.Common.{refl, ap, ap₂, sym, ◌∙◌, arith, inl, inr, subst}
@@ -24,14 +24,14 @@ is_opened ms = list_any (λ m. m.opening) (since (λ m. m.start) ms)
 opened-cons : (m : Moment) (past : List Moment) → is_opened (m ∷ past) ≡ (not m.start && (m.opening || is_opened past))
 opened-cons m past = elim m.start as (λ b. list_any (λ x. x.opening) (cond b [] (m ∷ since (λ x. x.start) past)) ≡ (not b && (m.opening || is_opened past))) [ true ↦ refl | false ↦ refl ]
 
--- a burst was opened exactly if some opening, and so the last, has no start at it or after it
+-- a burst was opened since the last start exactly if no start is at or after some opening
 some_opening : (ms : List Moment) → IsTrue (is_opened ms) ↔ Lasts (λ m. m.opening) (λ _. false) (λ m. m.start) ms
 some_opening = lasts_reads is_opened (λ m. m.opening) (λ _. false) (λ m. m.start) refl opened-cons
 
 last_opening : (ms : List Moment) → IsTrue (is_opened ms) ↔ Lasts (λ m. m.opening) (λ m. m.opening) (λ m. m.start) ms
 last_opening = lasts_reads is_opened (λ m. m.opening) (λ m. m.opening) (λ m. m.start) refl (λ m past. opened-cons m past ∙ ap (λ b. not m.start && b) (or_again m.opening (is_opened past)))
 
--- the signals left are those that remain since the last opening
+-- the signals left, computed from the position of the last opening
 left_since : (s : Settings) (ms : List Moment) (p : Position ms) → IsTrue p.there.opening → count (λ x. x.opening) p.after ≡ 0 →
     s.fast_init - count spends (from_last (λ x. x.opening) ms) ≡ s.fast_init - count spends (p.there ∷ p.after)
 left_since s ms p g c =
@@ -85,7 +85,7 @@ distance_reads s m before d = (forth, back)
 abbrev is_ended : Settings → List Moment → Bool
 is_ended s past = 1 + ticks (since (λ m. m.signal) past) == distance s (up_to_last (λ m. m.signal) past)
 
--- the same, computed at the position of the last signal
+-- whether the timer ends, computed from the position of the last signal
 ended_is : (s : Settings) (past : List Moment) (p : Position past) → IsTrue p.there.signal → count (λ m. m.signal) p.after ≡ 0 → is_ended s past ≡ (1 + ticks p.after == distance s (p.there ∷ p.before))
 ended_is s past p g c =
     let at = at_last (λ m. m.signal) p g c in ap₂ (λ later last. 1 + ticks later == distance s last) at.0 at.1

@@ -6,7 +6,7 @@ use Rattle.std.proofs.lemmas.Bool.{or_parts}
 use Rattle.lldp_transmit.specs.Fronts.{Position, count, since, from_last, up_to_last}
 use Rattle.lldp_transmit.proofs.Windows.{one_if}
 
--- a position in a longer list: that of the newest element, or of an older one
+-- positions in a list with one more element: of its newest element, or of an older one
 abbrev pub newest : {X : Type 0} (x : X) (xs : List X) → Position (x ∷ xs)
 newest x xs = record { after = []; there = x; before = xs; is = refl }
 
@@ -23,7 +23,7 @@ count_never (x ∷ xs) = omega (arith, count_never xs)
 
 -- ---- an element that is picked and lasts
 
--- a picked element that is not ended by a later element, nor blocked by itself or a later one
+-- some picked element has no ending element after it, and no blocking element at it or after it
 abbrev pub Lasts : {X : Type 0} → (picks ends blocks : X → Bool) → List X → Type 0
 Lasts picks ends blocks xs =
     (p : Position xs) × IsTrue (picks p.there) × (count ends p.after ≡ 0) × (count blocks (p.there ∷ p.after) ≡ 0)
@@ -34,7 +34,7 @@ picks_first b g x e p = grind (arith)
 picks_later : (b g c w : Bool) (n f k : ℕ) → one_if c + n ≡ 0 → k + (one_if b + f) ≡ 0 → w ≡ true → (not b && (g || (not c && w))) ≡ true
 picks_later b g c w n f k e d p = grind (arith)
 
--- A test computed in this way, element by element, holds exactly if some element lasts.
+-- A test with the equations `empty` and `one_more` holds exactly if some element lasts.
 module _ {X : Type 0} (f : List X → Bool) (picks ends blocks : X → Bool) (empty : f [] ≡ false) (one_more : (x : X) (xs : List X) → f (x ∷ xs) ≡ (not (blocks x) && (picks x || (not (ends x) && f xs)))) where
   found : (xs : List X) → IsTrue (f xs) → Lasts picks ends blocks xs
   found [] h = cc empty
@@ -71,7 +71,7 @@ module _ {X : Type 0} (p : X → Bool) where
   pub find_last : (xs : List X) → list_any p xs ≡ true → Lasts p p (λ _. false) xs
   find_last xs = (lasts_reads (list_any p) p p (λ _. false) refl (λ x xs. or_again (p x) (list_any p xs)) xs).0
 
-  -- if no element passes, the count is 0 and there is no last one
+  -- if no element passes, the count is 0 and the list up to the last that passes is empty
   pub none_counted : (xs : List X) → list_any p xs ≡ false → count p xs ≡ 0
   none_counted [] e = refl
   none_counted (x ∷ xs) e = let parts = or_parts _ _ e in ap₂ (λ b n. one_if b + n) parts.0 (none_counted xs parts.1)
@@ -80,7 +80,7 @@ module _ {X : Type 0} (p : X → Bool) where
   up_to_none [] e = refl
   up_to_none (x ∷ xs) e = let parts = or_parts _ _ e in ap (λ b. cond b (x ∷ xs) (up_to_last p xs)) parts.0 ∙ up_to_none xs parts.1
 
-  -- if no element passes, the first one does not
+  -- if no element passes, the newest does not
   first_fails : (b : Bool) (n : ℕ) → one_if b + n ≡ 0 → b ≡ false
   first_fails true n e = absurd (omega arith)
   first_fails false n e = refl
@@ -91,7 +91,7 @@ module _ {X : Type 0} (p : X → Bool) where
       let rest = round after x before q (omega arith) in
       rw (first_fails (p y) (count p after) e) (ap (λ l. y ∷ l) rest.0, rest.1, ap (λ l. y ∷ l) rest.2)
 
-  -- the functions of `Fronts` at the position of the last element that passes
+  -- `since`, `up_to_last` and `from_last`, from the position of the last element that passes
   pub at_last : {xs : List X} (w : Position xs) → p w.there ≡ true → count p w.after ≡ 0 → (since p xs ≡ w.after) × (up_to_last p xs ≡ w.there ∷ w.before) × (from_last p xs ≡ w.after ++ w.there ∷ [])
   at_last w q e =
       let at = round w.after w.there w.before q e in

@@ -15,7 +15,7 @@ use Rattle.lldp_transmit.proofs.Carrying.{start_of, stop_of, signal_of, opening_
 use Rattle.lldp_transmit.proofs.Labels.{Counts, starts_is, stops_is, active_is, signals_is, opens_is, sent_is}
 use Rattle.std.proofs.lemmas.Grind.{common_steps}
 
--- the labels of the moment are those computed from the counters
+-- the labels of the moment m are those computed from the counters
 pub record Labelled (t : Machine) (c : Cause) (n : ℕ) (m : Moment) : Type 0 where
   pub cause : m.cause ≡ c
   pub interval : m.interval ≡ n
@@ -44,7 +44,7 @@ module _ (s : Settings) (past : List Moment) (t : Machine) (e : Event) (h : Coun
         sent = sent_is s past t e.cause h m2 refl start stop signal most paid;
       }
 
--- if a step changes the counters as the labels say, they are right for one more moment
+-- if a step changes the counters as the labels say, the counters stay right
 counted_on : (s : Settings) (past : List Moment) (t : Machine) (c : Cause) (n : ℕ) (m : Moment) (u : Machine × Mark) → Counts s past t → Labelled t c n m → Makes t c n u → Counts s (m ∷ past) u.0
 counted_on s past t c n m u h l k = grind (arith, common_steps, until_start-cons, until_signal-cons, signals_left-cons, is_waiting-cons, active_is)
 
@@ -73,7 +73,7 @@ none_if_waiting s (e ∷ h) most a w =
     (ap (λ b. not n.sent && b) (wanted-cons m past) ∙ sym (is_waiting-cons n past) ∙ w)
     (open_is s past m most (paid_moments s h most))
 
--- A step keeps the counters right.
+-- After a step the counters still have the values that the definitions give.
 pub carries_counts : (s : Settings) (h : History) (t : Machine) (e : Event) → 1 ≤ s.credit_max → Counts s (moments s h) t →
     Counts s (moments s (e ∷ h)) (stepped t e.cause e.interval).0 × ((stepped t e.cause e.interval).1 ≡ mark_of (moment s (moments s h) e))
 carries_counts s h t e most counts =
@@ -83,8 +83,8 @@ carries_counts s h t e most counts =
     let makes = step_makes t e.cause e.interval few (λ a. counts.allowed ∙ allowed_if_active s h (sym counts.active ∙ a)) (λ a w. counts.credit ∙ none_if_waiting s h most (sym counts.active ∙ a) (sym counts.waiting ∙ w)) in
     (counted_on s past t e.cause e.interval (moment s past e) (stepped t e.cause e.interval) counts labels makes, marked_on s past t e.cause e.interval (moment s past e) (stepped t e.cause e.interval) labels makes)
 
--- `Stands` uses windows, `Counts` uses the bucket: the lemmas below lead from one to the other
--- the machine that a history leaves has the right counters
+-- `Stands` uses windows and `Counts` uses the bucket. These lemmas convert between them, first for
+-- the machine that a history leaves.
 counts_left : (s : Settings) (h : History) → AreSettings s → Counts s (moments s h) (machine_of s h)
 unfolding machine_of
 counts_left s h r = grind (arith, common_steps, credit_is, paid_moments)
@@ -102,7 +102,7 @@ stands_of s h t r k =
 pub carries : (s : Settings) (h : History) (t : Machine) (e : Event) → Stands s h t → Stands s (e ∷ h) (stepped t e.cause e.interval).0
 carries s h t e k = stands_of s (e ∷ h) _ k.in_range (carries_counts s h t e k.in_range.some_credit (counts_of s h t k)).0
 
--- The answer of a step is the mark of the event.
+-- The answer of a step is the mark of its event.
 pub marks : (s : Settings) (h : History) (t : Machine) (e : Event) → Stands s h t → (stepped t e.cause e.interval).1 ≡ mark_at s (e ∷ h)
 marks s h t e k = (carries_counts s h t e k.in_range.some_credit (counts_of s h t k)).1
 
@@ -111,7 +111,7 @@ pub stands_at_first : (s : Settings) → AreSettings s → Stands s [] (opened s
 unfolding machine_of
 stands_at_first s r = record { in_range = r; is = refl }
 
--- The machine that a history leaves represents it.
+-- The machine computed from a history represents that history.
 pub stands_left : (s : Settings) (h : History) → AreSettings s → Stands s h (machine_of s h)
 stands_left s h r = record { in_range = r; is = refl }
 

@@ -1,4 +1,4 @@
--- A run that ends now has few stops.
+-- Each run has at most one stop plus one for each reinitDelay ticks in it.
 use Rattle.std.specs.Prelude.{◌≡◌, ℕ, zero, suc, ◌+◌, ◌-◌, ◌*◌, ◌/◌, ◌≤◌, Bool, true, false, cond, not, ◌&&◌, ◌||◌, nat_lt, List, [], ◌∷◌, ◌++◌}
 use Rattle.std.specs.List.{list_any}
 use Rattle.std.proofs.Common.{refl, ap, sym, ◌∙◌, arith}
@@ -21,7 +21,7 @@ rested_if : (x d l tick w r : Bool) (re n : ℕ) → r ≡ nat_lt n 2 → (x ≡
     (not ((x && not l) || d) && ((tick && (l && (w && (not x && r)))) || x)) ≡ true → cond (x && not l) re (n - one_if tick) ≡ 0
 rested_if x d l tick w r re n e i a = grind (arith, nat_tests)
 
--- An active port has no wait left.
+-- If a port is active, its wait after the last stop is over.
 rested_if_active : (s : Settings) (h : History) → is_active (moments s h) ≡ true → until_start s (moments s h) ≡ 0
 unfolding moment
 rested_if_active s [] a = cc
@@ -32,7 +32,7 @@ rested_if_active s (e ∷ h) a =
     ∙ rested_if (is_active past) (is_down e.cause) (allowed_after e.cause (is_allowed s past)) (is_tick e.cause) (up_after e.cause (is_up past)) (rested s past) s.reinit (until_start s past)
     (rested_is s past) (rested_if_active s h) (sym (is_active-cons m past) ∙ a)
 
--- the ticks of a run bound its number of stops and the time since the last one
+-- one more moment keeps the bound on the stops of a run and on the ticks since its last stop
 spaced_after : (r : ℕ) (stop some : Bool) (n w t k : ℕ) → (some ≡ true → r * n + w ≤ t + r) → (some ≡ false → n ≡ 0) → (stop ≡ true → some ≡ true → r ≤ w) →
     (stop || some) ≡ true → r * (one_if stop + n) + cond stop 0 (k + w) ≤ k + t + r
 spaced_after r stop some n w t k i j l o = grind (arith, common_steps)

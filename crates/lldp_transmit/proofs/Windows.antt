@@ -1,5 +1,5 @@
--- The windows of a history, computed with a bucket. Its contents are the least that any run that
--- ends now leaves of its bound.
+-- The windows of a history, computed with a bucket of credits. The bucket's content is the least
+-- that any run that ends now leaves of its bound.
 use Rattle.std.specs.Prelude.{◌≡◌, ℕ, suc, ◌+◌, ◌-◌, ◌≤◌, ◌<◌, Bool, true, false, cond, ◌&&◌, nat_le, min, List, [], ◌∷◌, ◌++◌, map}
 use Rattle.std.specs.List.{list_all, fold}
 use Rattle.std.proofs.Common.{refl, ap, ap₂, sym, ◌∙◌, arith}
@@ -25,12 +25,12 @@ abbrev pub bucket : Settings → List Moment → ℕ
 bucket s [] = s.credit_max
 bucket s (m ∷ past) = filled s (bucket s past) (is_tick m.cause) - one_if m.sent
 
--- the bucket was not empty at any frame
+-- the bucket held a credit at each frame that was sent
 abbrev pub IsPaid : Settings → List Moment → Type 0
 IsPaid s [] = Unit {0}
 IsPaid s (m ∷ past) = (one_if m.sent ≤ filled s (bucket s past) (is_tick m.cause)) × IsPaid s past
 
--- every run that ends now is within its bound, also with a more frames and b more ticks
+-- every run that ends now stays within its bound with `a` more frames and `b` more ticks
 abbrev pub fits : ℕ → ℕ → ℕ → List Moment → Bool
 fits max a b [] = true
 fits max a b (m ∷ past) =
@@ -59,7 +59,7 @@ all_fit max a b (m ∷ past) =
     (λ z zs. ap₂ nat_le (omega arith) (omega arith)) past
     ∙ all_fit max (x + a) (y + b) past)
 
--- The runs fit if the bucket holds enough.
+-- If the bucket and `b` more ticks suffice for `a` more frames, every run has room for them.
 pub fits_enough : (s : Settings) (a b : ℕ) (ms : List Moment) → IsPaid s ms → a ≤ bucket s ms + b → fits s.credit_max a b ms ≡ true
 fits_enough s a b [] paid h = refl
 fits_enough s a b (m ∷ past) paid h = grind (arith, common_steps, and_from, le-leb, fits_enough s (one_if m.sent + a) (one_if (is_tick m.cause) + b) past paid.1 (omega arith))
@@ -75,7 +75,7 @@ enough_fits s a b (m ∷ past) paid h f =
 pub within_is : (s : Settings) (ms : List Moment) → list_all (within s) (runs ms) ≡ fits s.credit_max 0 0 ms
 within_is s ms = same_on_runs (within s) (bounded s.credit_max 0 0) (λ z zs. ap₂ nat_le (omega arith) (omega arith)) ms ∙ all_fit s.credit_max 0 0 ms
 
--- A window is open exactly if the bucket, after this event's tick, is not empty.
+-- A window is open exactly if the bucket, after it is refilled at a tick, is not empty.
 pub open_is : (s : Settings) (past : List Moment) (m : Moment) → 1 ≤ s.credit_max → IsPaid s past → open_at s past m ≡ nat_le 1 (filled s (bucket s past) (is_tick m.cause))
 open_is s past m most paid = within_is s (record m { sent = true } ∷ past) ∙ go _ refl
   where
@@ -90,12 +90,12 @@ open_is s past m most paid = within_is s (record m { sent = true } ∷ past) ∙
 le_min : (c d e : ℕ) → nat_le c (min d e) ≡ (nat_le c d && nat_le c e)
 le_min c d e = grind (arith, nat_tests)
 
--- A number is at most a minimum exactly if it is at most each of the numbers.
+-- c is at most the least of d and the numbers f x exactly if it is at most each of them.
 least_is : {X : Type 0} (c d : ℕ) (f : X → ℕ) (xs : List X) → nat_le c (fold min d (map f xs)) ≡ (nat_le c d && list_all (λ x. nat_le c (f x)) xs)
 least_is c d f [] = sym (and-true (nat_le c d))
 least_is c d f (x ∷ xs) = grind (arith, common_steps, le_min, and_assoc, least_is c (min d (f x)) f xs)
 
--- for c > 0: a run leaves at least c of its bound exactly if it fits with c more frames
+-- a run leaves at least c + 1 of its bound exactly if it fits with c + 1 more frames
 room_is : (s : Settings) (c : ℕ) (run : List Moment) → nat_le (suc c) (room s run) ≡ bounded s.credit_max (suc c) 0 run
 room_is s c run = grind (arith, nat_tests)
 
@@ -109,7 +109,7 @@ bucket_le s (m ∷ past) = omega arith
 has : (s : Settings) (a : ℕ) (ms : List Moment) → IsPaid s ms → (nat_le a s.credit_max && fits s.credit_max a 0 ms) ≡ nat_le a (bucket s ms)
 has s a ms paid = grind (arith, common_steps, leb-true, bucket_le, and_from, le-leb, fits_enough, leb-false, false_from_ne_true, and_parts, enough_fits)
 
--- The credit is what the bucket holds.
+-- The credit is the content of the bucket.
 pub credit_is : (s : Settings) (ms : List Moment) → IsPaid s ms → credit_left s ms ≡ bucket s ms
 credit_is s ms paid = same_from_below _ _ (λ c.
     least_is (suc c) s.credit_max (room s) (runs ms)
@@ -122,7 +122,7 @@ credit_is s ms paid = same_from_below _ _ (λ c.
 pub all_within : (s : Settings) (ms : List Moment) → IsPaid s ms → list_all (within s) (runs ms) ≡ true
 all_within s ms paid = within_is s ms ∙ fits_enough s 0 0 ms paid (omega arith)
 
--- if a test passes on each run, it passes on each front that is not empty
+-- if a test passes on each list of `runs`, it passes on each front that is not empty
 pub run_holds : {X : Type 0} (p : List X → Bool) (x : X) (xs before : List X) → list_all p (runs ((x ∷ xs) ++ before)) ≡ true → p (x ∷ xs) ≡ true
 run_holds p x [] before h = (and_parts _ _ h).0
 run_holds p x (y ∷ ys) before h =

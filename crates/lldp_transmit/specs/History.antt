@@ -30,22 +30,22 @@ event cause interval = record { cause = cause; interval = interval }
 abbrev pub History : Type 0
 History = List Event
 
--- one second has passed
+-- true for a tick: one second has passed
 abbrev pub is_tick : Cause → Bool
 is_tick Tick = true
 is_tick _ = false
 
--- a local change (localChange)
+-- true for a local change (localChange)
 abbrev pub is_change : Cause → Bool
 is_change Change = true
 is_change _ = false
 
--- a new neighbor (newNeighbor)
+-- true for a new neighbor (newNeighbor)
 abbrev pub is_neighbor : Cause → Bool
 is_neighbor Neighbor = true
 is_neighbor _ = false
 
--- the link went down
+-- true if the link went down
 abbrev pub is_down : Cause → Bool
 is_down Down = true
 is_down _ = false

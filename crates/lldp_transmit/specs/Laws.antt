@@ -1,2 +1,2 @@
--- Definitions that only the laws use: whether a port may transmit, and whether its link is up.
+-- Definitions that only the laws use: the state of a port and its frames, by the causes of events.
 pub mod Causes

@@ -1,7 +1,7 @@
--- When a port transmits (IEEE 802.1AB-2009, clause 9, with this project's credit, signals, bursts
--- and distance). Each event of the history becomes a moment: the event with five labels. Each
--- depends on the moments before: on the last one of some kind, the ticks since then, the runs that
--- end now.
+-- When a port transmits (IEEE 802.1AB-2009, clause 9; credit, signals, bursts and distance are this
+-- project's). Each event of the history becomes a moment: the event with five labels. The labels
+-- depend on earlier moments: on the last moment of some kind, the ticks since then, and the runs
+-- that end now.
 use Rattle.std.specs.Prelude.{ℕ, ◌+◌, ◌-◌, Bool, true, false, not, ◌&&◌, ◌||◌, ◌==◌, nat_le, nat_lt, if◌then◌else◌, List, [], ◌∷◌}
 use Rattle.std.specs.List.{list_any, list_all}
 use Rattle.lldp_transmit.specs.declared.event.Cause.{Cause}
@@ -21,9 +21,9 @@ pub record Moment : Type 0 where
   pub opening : Bool  -- a burst of fast transmission is opened here
   pub sent : Bool  -- an ordinary frame is sent here
 
--- ---- in a run of moments
+-- ---- counts in a run of moments
 
--- how many seconds pass in the run
+-- how many ticks, and so seconds, are in the run
 abbrev pub ticks : List Moment → ℕ
 ticks ms = count (λ m. is_tick m.cause) ms
 
@@ -31,7 +31,7 @@ ticks ms = count (λ m. is_tick m.cause) ms
 abbrev pub frames : List Moment → ℕ
 frames ms = count (λ m. m.sent) ms
 
--- ---- the state of the port, after some moments
+-- ---- the state of the port after these moments
 
 -- A Stop forbids transmitting and an Allow permits it (adminStatus); other events change nothing.
 abbrev pub allowed_after : Cause → Bool → Bool
@@ -39,7 +39,7 @@ allowed_after Stop before = false
 allowed_after Allow before = true
 allowed_after _ before = before
 
--- whether the port may transmit: as the last Stop or Allow says, or else as it was opened
+-- whether the port may transmit: as the last Stop or Allow says or, without one, as when opened
 abbrev pub is_allowed : Settings → List Moment → Bool
 is_allowed s [] = s.allowed
 is_allowed s (m ∷ past) = allowed_after m.cause (is_allowed s past)
@@ -50,12 +50,12 @@ up_after Down before = false
 up_after Up before = true
 up_after _ before = before
 
--- whether the link is up: as the last Down or Up says, or else up
+-- whether the link is up: as the last Down or Up says; up if there was none
 abbrev pub is_up : List Moment → Bool
 is_up [] = true
 is_up (m ∷ past) = up_after m.cause (is_up past)
 
--- a stop, or the loss of the link: either makes the port inactive
+-- a stop or the loss of the link: both make the port inactive
 abbrev pub ends : Moment → Bool
 ends m = m.stop || is_down m.cause
 
@@ -67,12 +67,12 @@ is_active ms = list_any (λ m. m.start) (since ends ms)
 abbrev pub rested : Settings → List Moment → Bool
 rested s past = not (list_any (λ m. m.stop) past) || nat_le s.reinit (1 + ticks (since (λ m. m.stop) past))
 
--- a signal of a new neighbor or of the timer: each uses one signal of the burst
+-- true for a signal because of a new neighbor or the timer; it uses one signal of the burst
 abbrev pub spends : Moment → Bool
 spends m = m.signal && (is_neighbor m.cause || (is_tick m.cause && not m.start))
 
--- signals left in the burst (txFast): txFastInit less those used since the last opening, which uses
--- one itself; 0 if no burst was opened since the start
+-- signals left in the burst (txFast): txFastInit less the signals used since the last opening,
+-- which itself uses one; 0 if no burst was opened since the start
 abbrev pub signals_left : Settings → List Moment → ℕ
 signals_left s ms =
     if list_any (λ m. m.opening) (since (λ m. m.start) ms)
@@ -91,7 +91,7 @@ is_waiting ms = list_any (λ m. m.signal) (from_last (λ m. m.start) (since (λ 
 
 -- ---- the labels of the next moment
 
--- Start: the port starts at a tick if it is allowed, has its link up, is not active, and is rested.
+-- Start: at a tick, if the port may transmit, has its link up, is not active, and is rested.
 abbrev pub starts : Settings → List Moment → Moment → Bool
 starts s past m =
     is_tick m.cause
@@ -116,15 +116,15 @@ signals s past m =
 abbrev pub opens : Settings → List Moment → Moment → Bool
 opens s past m = signals s past m && (is_neighbor m.cause && (signals_left s past == 0))
 
--- Due: the port is active, and a frame waits if none is sent now.
+-- Due: the port is active, and a frame waits unless it is sent now.
 abbrev pub due : List Moment → Moment → Bool
 due past m = let now = record m { sent = false } ∷ past in is_active now && is_waiting now
 
--- Within its bound: txCreditMax ordinary frames, plus one for each tick after the first event.
+-- A run's bound: txCreditMax ordinary frames, plus one for each tick after the first event.
 abbrev pub within : Settings → List Moment → Bool
 within s run = nat_le (frames run) (s.credit_max + ticks (after_first run))
 
--- The window is open if, with an ordinary frame now, every run that ends now is within its bound.
+-- The window is open if, with an ordinary frame now, each run that ends now is within its bound.
 abbrev pub open_at : Settings → List Moment → Moment → Bool
 open_at s past m = list_all (within s) (runs (record m { sent = true } ∷ past))
 
@@ -142,11 +142,11 @@ unlabelled e = record {
   sent = false;
 }
 
--- Sets the labels of activity: whether the port starts or stops there.
+-- Sets the labels of activity: whether the port starts or stops at this moment.
 abbrev pub with_activity : Settings → List Moment → Moment → Moment
 with_activity s past m = record m { start = starts s past m; stop = stops s past m }
 
--- Sets the labels of signals: whether a frame is wanted from here on, and a burst opened.
+-- Sets the labels of signals: whether there is a signal, and whether it opens a burst.
 abbrev pub with_signals : Settings → List Moment → Moment → Moment
 with_signals s past m = record m { signal = signals s past m; opening = opens s past m }
 
@@ -154,7 +154,7 @@ with_signals s past m = record m { signal = signals s past m; opening = opens s 
 abbrev pub with_frame : Settings → List Moment → Moment → Moment
 with_frame s past m = record m { sent = due past m && open_at s past m }
 
--- The moment of the next event: its activity is set first, then its signals, then its frame.
+-- The moment of the next event: the labels of activity are set first, then of signals, then `sent`.
 unfoldable pub moment : Settings → List Moment → Event → Moment
 moment s past e = with_frame s past (with_signals s past (with_activity s past (unlabelled e)))
 
@@ -163,7 +163,7 @@ abbrev pub moments : Settings → History → List Moment
 moments s [] = []
 moments s (e ∷ past) = let before = moments s past in moment s before e ∷ before
 
--- the frame of a moment: a shutdown frame at a stop, an ordinary one if `sent`; never both
+-- the frame sent at a moment: shutdown at a stop, ordinary if `sent`; the two never coincide
 abbrev pub mark_of : Moment → Mark
 mark_of m = if m.stop then Shutdown else (if m.sent then Ordinary else Quiet)
 

@@ -1,4 +1,4 @@
--- The labels in terms of positions in the list of moments, for readers who want to check them without computing.
+-- The labels again, stated by positions in the list of moments, to be checked without computing.
 use Rattle.std.specs.Prelude.{false, ◌≡◌, ℕ, ◌+◌, ◌-◌, ◌≤◌, ◌⊎◌, IsTrue, List, ◌∷◌, ◌++◌}
 use Rattle.lldp_transmit.specs.declared.event.Cause.TheVariants.{Tick, Change, Neighbor}
 use Rattle.lldp_transmit.specs.Fronts.{Position, count, after_first}
@@ -41,8 +41,8 @@ IsStart s past m =
 abbrev pub IsStop : Settings → List Moment → Moment → Type 0
 IsStop s past m = HasStarted past × (is_allowed s (m ∷ past) ≡ false)
 
--- a burst was opened since the last start, and n signals are left: txFastInit less those of new
--- neighbors and of the timer from the last opening on
+-- a burst was opened since the last start, and n signals are left: txFastInit less the signals of
+-- new neighbors and of the timer from the last opening on
 abbrev pub HasOpened : Settings → List Moment → ℕ → Type 0
 HasOpened s ms n =
     (p : Position ms) × IsTrue p.there.opening × (count (λ m. m.opening) p.after ≡ 0)
@@ -52,7 +52,7 @@ HasOpened s ms n =
 abbrev pub NoneOpened : List Moment → Type 0
 NoneOpened ms = (p : Position ms) → IsTrue p.there.opening → 1 ≤ starts_in (p.there ∷ p.after)
 
--- Burst: n signals are left; 0 if no burst was opened since the last start.
+-- Burst: n signals are left, which is 0 if no burst was opened since the last start.
 abbrev pub AreLeft : Settings → List Moment → ℕ → Type 0
 AreLeft s ms n = HasOpened s ms n ⊎ (NoneOpened ms × (n ≡ 0))
 
@@ -81,7 +81,7 @@ abbrev pub HasWanted : List Moment → Type 0
 HasWanted ms =
     (p : Position ms) × IsTrue p.there.signal × (starts_in p.after ≡ 0) × (frames (p.there ∷ p.after) ≡ 0)
 
--- Due: the port is active, and some signal since its start has had no frame, if none is sent now.
+-- Due: the port is active, and some signal since its start has had no frame before this moment.
 abbrev pub IsDue : List Moment → Moment → Type 0
 IsDue past m = HasStarted (m ∷ past) × HasWanted (record m { sent = false } ∷ past)
 
@@ -100,7 +100,7 @@ pub record IsLeastRoom (s : Settings) (ms : List Moment) (credit : ℕ) : Type 0
   pub one : (run before : List Moment) × (ms ≡ run ++ before)
       × (credit + frames run ≡ s.credit_max + ticks (after_first run))
 
--- Sent: at the next event a frame is due and the window is open.
+-- Sent: at the next event a frame is due, and the window is open.
 abbrev pub IsDueAndOpen : Settings → History → Event → Type 0
 IsDueAndOpen s past e =
     let before = moments s past in

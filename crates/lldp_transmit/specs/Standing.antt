@@ -1,4 +1,4 @@
--- The machine that a history leaves, and when a machine represents a history.
+-- The machine computed from a history, and when a machine represents a history.
 use Rattle.std.specs.Prelude.{◌≡◌, ◌≤◌}
 use Rattle.lldp_transmit.specs.History.{Settings, History}
 use Rattle.lldp_transmit.specs.Code.Machine.{Machine}
@@ -14,7 +14,7 @@ pub record AreSettings (s : Settings) : Type 0 where
   pub some_wait : 1 ≤ s.reinit
   pub most_wait : s.reinit ≤ 10
 
--- the machine after these events, by the definitions alone
+-- the machine after these events, computed from the definitions in `Moments`
 unfoldable pub machine_of : Settings → History → Machine
 machine_of s h =
     let past = moments s h in
@@ -32,7 +32,7 @@ machine_of s h =
       up = is_up past;
     }
 
--- The settings are in their ranges, and the machine is the one after these events.
+-- The settings are in their ranges, and the machine is the one computed from this history.
 pub record Stands (s : Settings) (h : History) (t : Machine) : Type 0 where
   pub in_range : AreSettings s
   pub is : t ≡ machine_of s h

@@ -1,4 +1,4 @@
--- How much a port sends, and how soon.
+-- Bounds on the frames and stops of a port, and that no frame is sent later than it could be.
 use Rattle.std.specs.Prelude.{◌≡◌, ℕ, ◌+◌, ◌/◌, ◌≤◌, Bool, IsTrue, ◌&&◌, List, [], ◌∷◌, ◌++◌}
 use Rattle.lldp_transmit.specs.declared.event.Mark.{Mark}
 use Rattle.lldp_transmit.specs.declared.event.Mark.TheVariants.{Ordinary, Shutdown}
@@ -8,13 +8,13 @@ use Rattle.lldp_transmit.specs.Moments.{Moment, moment, moments, ticks, frames, 
 
 -- ---- marks: another choice of the moments at which frames are sent
 
--- the moments with these marks as their labels `sent`; no other label depends on `sent`
+-- the moments with these marks as their labels `sent`; the other labels do not depend on `sent`
 abbrev pub with_marks : List Bool → List Moment → List Moment
 with_marks (b ∷ bs) (m ∷ ms) = record m { sent = b } ∷ with_marks bs ms
 with_marks _ _ = []
 
--- there is one mark for each moment, and it is true only if a frame is due and the window is open,
--- both computed with the marks as the frames sent
+-- there is one mark for each moment, and a mark is true only if a frame is due and the window is
+-- open there, with the marks in place of the frames sent
 abbrev pub AreTimely : Settings → List Bool → List Moment → Type 0
 AreTimely s [] [] = Unit {0}
 AreTimely s (b ∷ bs) (m ∷ ms) =
@@ -25,10 +25,10 @@ AreTimely s _ _ = ⊥
 abbrev pub marked : List Bool → ℕ
 marked marks = count (λ b. b) marks
 
--- ---- the windows of a history
+-- ---- the three properties of a history
 
--- A run is a part of the history, with later and earlier events around it. Each run has at most
--- txCreditMax ordinary frames plus one for each tick after its first event.
+-- A run is a part of the history without gaps. Each run has at most txCreditMax ordinary frames
+-- plus one for each tick after its first event.
 abbrev pub IsBounded : Settings → History → Type 0
 IsBounded s h =
     (later run before : List Moment) → moments s h ≡ later ++ (run ++ before) →
@@ -54,14 +54,14 @@ pub record WindowsHold (s : Settings) (h : History) : Type 0 where
   pub few_stops : StopsRarely s h
   pub earliest : IsAlwaysEarliest s h
 
--- ---- the same for one event, with the machine's answer to it
+-- ---- the three properties for one event, with the machine's answer to it
 
--- how many ordinary frames a run has, with the one that the answer sends now
+-- how many ordinary frames a run has, including the frame that the answer sends now
 abbrev pub frames_with : Mark → List Moment → ℕ
 frames_with Ordinary run = 1 + frames run
 frames_with _ run = frames run
 
--- how many stops a run has, with the one now if the answer is a shutdown frame
+-- how many stops a run has, including the present one if the answer is a shutdown frame
 abbrev pub stops_with : Mark → List Moment → ℕ
 stops_with Shutdown run = 1 + count (λ m. m.stop) run
 stops_with _ run = count (λ m. m.stop) run
@@ -80,7 +80,7 @@ StopsRarelyWith s past e answer =
     (run before : List Moment) → moments s past ≡ run ++ before →
     stops_with answer run ≤ 1 + ticks (moment s (moments s past) e ∷ run) / s.reinit
 
--- with this answer no other choice of due and open moments, this one included, has more frames
+-- with this answer, no other choice of due and open moments up to this event has more frames
 abbrev pub IsEarliestWith : Settings → History → Event → Mark → Type 0
 IsEarliestWith s past e answer =
     (marks : List Bool) → AreTimely s marks (moments s (e ∷ past)) → marked marks ≤ frames_with answer (moments s past)

@@ -1,6 +1,6 @@
-//! What an event means for transmitting, and the frame that is sent.
+//! The meaning of an event for the transmit machine, and the frame that is sent at an event.
 
-/// What an event means to the transmit machine of a port.
+/// The meaning of an event for the transmit machine of a port.
 #[derive(Clone, Copy, Debug, PartialEq, Eq)]
 pub enum Cause {
     /// One second has passed.
@@ -9,9 +9,9 @@ pub enum Cause {
     Change,
     /// A new neighbor was stored.
     Neighbor,
-    /// The port may no longer transmit.
+    /// From now on the port may not transmit.
     Stop,
-    /// The port may transmit.
+    /// From now on the port may transmit.
     Allow,
     /// The link went down.
     Down,

@@ -28,8 +28,8 @@ pub fn steps_carry_standing()
         Stands s past t → (stepped t e.cause e.interval).1 ≡ mark_at s (e ∷ past) }
 {}
 
-/// An event whose cause is `Nothing` needs no call: the machine represents the history with that
-/// event too, and no frame is sent.
+/// An event whose cause is `Nothing` needs no call of `event`: the machine represents the history
+/// with that event too, and no frame is sent.
 pub fn causeless_events_change_nothing()
     ensures stands { (s : Settings) (past : History) (t : Machine) (interval : ℕ) →
         Stands s past t → Stands s (event Cause.Nothing interval ∷ past) t }
@@ -37,23 +37,23 @@ pub fn causeless_events_change_nothing()
         Stands s past t → mark_at s (event Cause.Nothing interval ∷ past) ≡ Mark.Quiet }
 {}
 
-/// If a port's settings are in their ranges, the windows of each history hold: no run of events has
-/// more ordinary frames than txCreditMax plus the ticks after its first event, or more stops than
-/// one plus one for each reinitDelay ticks; and after each event, no other choice of due and open
-/// events has had more frames.
+/// If a port's settings are in their ranges, these properties hold for each history: no run of
+/// events has more ordinary frames than txCreditMax plus the ticks after its first event, or more
+/// stops than one plus one for each reinitDelay ticks; and after each event, no other choice of due
+/// and open events has had more frames.
 pub fn windows_hold()
     ensures { (s : Settings) (h : History) → AreSettings s → WindowsHold s h }
 {}
 
-/// The ordinary frames that are sent are themselves a choice of due and open events.
+/// The events at which ordinary frames are sent are themselves a choice of due and open events.
 #[tactic(auto, using(crate::proofs::Earliest::timely))]
 pub fn frames_are_timely()
     ensures { (s : Settings) (h : History) →
         AreTimely s (map (λ m. m.sent) (moments s h)) (moments s h) }
 {}
 
-/// Active, rested, start and stop, in terms of positions: a port is active if it had a start with
-/// no stop and no lost link since; it has rested if each stop is long enough ago.
+/// Active, rested, start and stop, stated by positions: a port is active if it had a start and
+/// since then no stop and no lost link; it has rested if each stop is long enough ago.
 pub fn positions_tell_activity()
     ensures active { (s : Settings) (h : History) →
         IsTrue (is_active (moments s h)) ↔ HasStarted (moments s h) }
@@ -66,8 +66,8 @@ pub fn positions_tell_activity()
         IsTrue (moment s (moments s h) e).stop ↔ IsStop s (moments s h) (moment s (moments s h) e) }
 {}
 
-/// Signals, bursts, distances and the end of the timer, in terms of the positions of the last
-/// signal and of the last opening of a burst.
+/// Signals, bursts, distances and the end of the timer, stated by the positions of the last signal
+/// and of the last opening of a burst.
 pub fn positions_tell_signals()
     ensures signal { (s : Settings) (h : History) (e : Event) →
         IsTrue (moment s (moments s h) e).signal
@@ -83,11 +83,11 @@ pub fn positions_tell_signals()
         IsTrue (timer_ends s past m) ↔ IsTimerEnd s past m }
 {}
 
-/// Waiting, due, open, sent and the credit, in terms of positions. A frame waits if a signal since
-/// the start has had none. It is due if the port is also active (`chosen`: with the frames of any
-/// other timely choice too). If the settings are in their ranges, the window is open if each run
+/// Waiting, due, open, sent and the credit, stated by positions. A frame waits if a signal since
+/// the start has had no frame. It is due if the port is also active (`chosen`: also with the frames
+/// of any other timely choice). If the settings are in their ranges, the window is open if each run
 /// that ends now stays within its bound with one more frame; the credit is the least that these
-/// runs leave of their bounds, and no other number is; and a frame is sent if it is due and the
+/// runs leave of their bounds, and only this number is; and a frame is sent if it is due and the
 /// window is open.
 pub fn positions_tell_sending()
     ensures waiting { (ms : List Moment) → IsTrue (is_waiting ms) ↔ HasWanted ms }
@@ -110,9 +110,9 @@ pub fn positions_tell_sending()
         × IsOpen s (moments s h) (moment s (moments s h) e)) }
 {}
 
-/// A port may transmit exactly if each `Stop` has an `Allow` after it and, if the port was opened
-/// without the right to transmit, there is an `Allow`. Its link is up exactly if each `Down` has an
-/// `Up` after it.
+/// A port may transmit exactly if each `Stop` has a later `Allow` and, if the port was opened
+/// without the right to transmit, there is an `Allow`. Its link is up exactly if each `Down` has a
+/// later `Up`.
 pub fn causes_tell_allowed_and_up()
     ensures allowed { (s : Settings) (h : History) →
         IsTrue (is_allowed s (moments s h)) ↔ MayTransmit s h }
@@ -132,7 +132,7 @@ pub fn shutdown_frames_go_at_stops()
         (mark_at s (e ∷ past) ≡ Mark.Shutdown) ↔ CanStop s e past }
 {}
 
-/// The moments of a history are its events in their order, each with its own tx-interval.
+/// The moments of a history are its events in the same order, each with its own tx-interval.
 #[tactic(auto, using(crate::proofs::Causes::events_kept))]
 pub fn moments_keep_their_events()
     ensures { (s : Settings) (h : History) →

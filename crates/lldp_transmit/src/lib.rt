@@ -2,8 +2,8 @@
 //! allocates memory, and no event is refused.
 //!
 //! A machine receives the events of its port one by one and returns the frame to send. In the
-//! definitions the whole list of events decides it: an ordinary frame is sent exactly if one is due
-//! and its window is open, a shutdown frame exactly if an active port may no longer transmit.
+//! definitions all events so far decide: an ordinary frame is sent exactly if one is due and its
+//! window is open, a shutdown frame exactly if an active port may no longer transmit.
 #![tactic(auto)]
 
 mod event;

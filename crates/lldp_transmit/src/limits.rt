@@ -1,4 +1,4 @@
-//! The greatest numbers that a transmit machine can be opened with.
+//! The greatest settings with which a transmit machine can be opened.
 
 /// The greatest txCreditMax.
 pub const MOST_CREDIT: u8 = 10;

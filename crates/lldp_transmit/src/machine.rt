@@ -111,9 +111,9 @@ impl Transmit {
         ensures shutdown { ForEachHistory self.old (λ s past.
             (result ≡ Mark.Shutdown) ↔ StopsAt s past (event cause interval)) }
 
-        // No run of events up to this one has more frames than txCreditMax plus the ticks after its
-        // first event, or more stops than one plus one for each reinitDelay ticks. No other choice
-        // of due and open events has had more frames.
+        // No run of events that ends with this one has more frames than txCreditMax plus the ticks
+        // after its first event, or more stops than one plus one for each reinitDelay ticks. No
+        // other choice of due and open events has had more frames.
         ensures bounded { ForEachHistory self.old (λ s past.
             IsBoundedWith s past (event cause interval) result) }
         ensures few_stops { ForEachHistory self.old (λ s past.
@@ -124,8 +124,8 @@ impl Transmit {
         self.parts.step(cause, interval)
     }
 
-    /// Returns how many ordinary frames may be sent before the next tick: the least of txCreditMax
-    /// and of what each run that ends now leaves of its bound.
+    /// Returns how many ordinary frames may be sent before the next tick: the least that any run
+    /// that ends now leaves of its bound, and at most txCreditMax.
     pub fn credit(&self) -> u8
         ensures value { result ≡ self.now.credit }
         ensures most { self.now.credit ≤ self.now.credit_max }
@@ -143,8 +143,8 @@ impl Transmit {
         self.parts.active
     }
 
-    /// Returns whether the port may transmit: as the last `Stop` or `Allow` says, or else as it was
-    /// opened.
+    /// Returns whether the port may transmit: as the last `Stop` or `Allow` says or, without one,
+    /// as when the port was opened.
     pub fn is_allowed(&self) -> bool
         ensures value { result ≡ self.now.allowed }
         ensures allowed { ForEachHistory self.now (λ s past. result
@@ -153,7 +153,7 @@ impl Transmit {
         self.parts.allowed
     }
 
-    /// Returns whether the link is up: as the last `Down` or `Up` says, or else true.
+    /// Returns whether the link is up: as the last `Down` or `Up` says; true if there was none.
     pub fn is_up(&self) -> bool
         ensures value { result ≡ self.now.up }
         ensures up { ForEachHistory self.now (λ s past. result ≡ is_up (moments s past)) }
@@ -232,7 +232,7 @@ impl Parts {
         }
     }
 
-    /// Counts both clocks down by one tick.
+    /// Counts `wait` and `timer` down by one tick, unless they are 0.
     fn run_down(&mut self)
         ensures { self.new
             ≡ record self.old { wait = self.old.wait - 1; timer = self.old.timer - 1 } }

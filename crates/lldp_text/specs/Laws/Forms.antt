@@ -17,16 +17,16 @@ pub record IsText (text : List ℕ) : Type 0 where
   pub most : length text ≤ 255
   pub printable : AllByRecursion (λ octet. (0x20 ≤ octet) × (octet ≤ 0x7e)) text
 
--- How a text is written, from its first octet: a backslash is doubled, an octet from the space to
--- the tilde is unchanged, and any other octet is a backslash, `x` and its two hexadecimal digits.
+-- How a text is written, from its first octet: a backslash is doubled, other octets from the space
+-- to the tilde are unchanged, and the rest become a backslash, `x` and two hexadecimal digits.
 pub record IsEscaped (octet : ℕ) (text : List ℕ) : Type 0 where
   pub none : escaped [] ≡ []
   pub backslash : escaped (0x5c ∷ text) ≡ 0x5c ∷ 0x5c ∷ escaped text
   pub plain : 0x20 ≤ octet → octet ≤ 0x7e → ¬ (octet ≡ 0x5c) → escaped (octet ∷ text) ≡ octet ∷ escaped text
   pub other : (octet < 0x20) ⊎ (0x7e < octet) → escaped (octet ∷ text) ≡ 0x5c ∷ 0x78 ∷ encode_lower (octet ∷ []) ++ escaped text
 
--- How an address is written, from its front: each octet in hexadecimal (MAC), each octet in decimal
--- (IPv4), or each two octets in hexadecimal (IPv6), joined by colons, points or colons.
+-- How an address is written, from its first octet on. MAC: octets in hexadecimal, joined by colons.
+-- IPv4: octets in decimal, joined by dots. IPv6: pairs of octets in hexadecimal, joined by colons.
 pub record IsJoined (a b c d : ℕ) (octets : List ℕ) : Type 0 where
   pub mac_end : mac_text (a ∷ []) ≡ encode_lower (a ∷ [])
   pub mac : mac_text (a ∷ b ∷ octets) ≡ encode_lower (a ∷ []) ++ 0x3a ∷ mac_text (b ∷ octets)
@@ -35,7 +35,7 @@ pub record IsJoined (a b c d : ℕ) (octets : List ℕ) : Type 0 where
   pub ipv6_end : ipv6_text (a ∷ b ∷ []) ≡ encode_lower (a ∷ b ∷ [])
   pub ipv6 : ipv6_text (a ∷ b ∷ c ∷ d ∷ octets) ≡ encode_lower (a ∷ b ∷ []) ++ 0x3a ∷ ipv6_text (c ∷ d ∷ octets)
 
--- An IPv4 address has family 1 and 4 octets, an IPv6 address family 2 and 16 octets.
+-- An IPv4 address has family 1 and 4 octets; an IPv6 address has family 2 and 16 octets.
 abbrev pub IsIpv4 : ℕ → List ℕ → Type 0
 IsIpv4 family octets = (family ≡ 1) × (length octets ≡ 4)
 
@@ -47,19 +47,19 @@ abbrev pub with_interface : List ℕ → Address → List ℕ
 with_interface address a =
     address ++ (0x2c ∷ []) ++ decimal a.numbering ++ (0x2c ∷ []) ++ decimal a.interface ++ (0x2c ∷ []) ++ encode_lower a.oid
 
--- A Management Address begins with an IPv4 or an IPv6 address, or with `af`, the family, a colon and the octets.
+-- A management address begins with an IPv4 or IPv6 address, or else with `af` and the family.
 pub record IsManaged (a : Address) : Type 0 where
   pub ipv4 : IsIpv4 a.family a.address → management_text a ≡ with_interface (ipv4_text a.address) a
   pub ipv6 : IsIpv6 a.family a.address → management_text a ≡ with_interface (ipv6_text a.address) a
   pub other : ¬ (IsIpv4 a.family a.address) → ¬ (IsIpv6 a.family a.address) →
       management_text a ≡ with_interface ((codes "af") ++ decimal a.family ++ (0x3a ∷ []) ++ encode_lower a.address) a
 
--- `unhandled=` and the whole body
+-- `unhandled=` and the whole body in hexadecimal
 abbrev pub unhandled : List ℕ → List ℕ
 unhandled body = 0x75 ∷ 0x6e ∷ 0x68 ∷ 0x61 ∷ 0x6e ∷ 0x64 ∷ 0x6c ∷ 0x65 ∷ 0x64 ∷ 0x3d ∷ encode_lower body
 
--- How identifiers that are not texts are written: `mac=` and six octets, `ip=` and an address of
--- its family's length, or else `unhandled=` and all octets, also for the subtypes 0 and 8 to 255.
+-- Identifiers that are not texts: `mac=` and six octets, or `ip=` and an IPv4 or IPv6 address. With
+-- other lengths, families or subtypes (0, 8 to 255) they are `unhandled=` and all octets.
 pub record IsIdentified (mac network : ℕ) (text : List ℕ → List ℕ) (subtype family : ℕ) (octets : List ℕ) : Type 0 where
   pub mac_address : length octets ≡ 6 → text (mac ∷ octets) ≡ 0x6d ∷ 0x61 ∷ 0x63 ∷ 0x3d ∷ mac_text octets
   pub no_mac_address : ¬ (length octets ≡ 6) → text (mac ∷ octets) ≡ unhandled (mac ∷ octets)
@@ -68,8 +68,8 @@ pub record IsIdentified (mac network : ℕ) (text : List ℕ → List ℕ) (subt
   pub other_network : ¬ (IsIpv4 family octets) → ¬ (IsIpv6 family octets) → text (network ∷ family ∷ octets) ≡ unhandled (network ∷ family ∷ octets)
   pub other : (subtype ≡ 0) ⊎ (7 < subtype) → text (subtype ∷ octets) ≡ unhandled (subtype ∷ octets)
 
--- How the bits from `bit` on are shown, given their names: an available bit as its name, a colon,
--- and `on` if it is enabled, else `off`; other bits are not shown.
+-- How the bits from `bit` on are shown, given their names. An available bit is its name, a colon,
+-- and `on` if it is enabled, else `off`. Other bits are not shown.
 abbrev pub shown_from : Caps → ℕ → List (List ℕ) → List (List ℕ)
 shown_from caps bit [] = []
 shown_from caps bit (name ∷ names) =
@@ -78,7 +78,7 @@ shown_from caps bit (name ∷ names) =
     else [])
     ++ shown_from caps (bit + 1) names
 
--- The keys of kept TLVs, and what follows each.
+-- How the kept TLVs of each type are written: a key, then a value.
 pub record HasKeys (body : List ℕ) : Type 0 where
   pub port : tlv_text (record { kind = 4; body = body }) ≡ (codes "port.descr=") ++ escaped body
   pub name : tlv_text (record { kind = 5; body = body }) ≡ (codes "chassis.name=") ++ escaped body
@@ -87,9 +87,9 @@ pub record HasKeys (body : List ℕ) : Type 0 where
       tlv_text (record { kind = 7; body = body }) ≡ (codes "chassis.caps=") ++ capabilities_text caps
   pub address : (address : Address) → address_of body ≡ Some address →
       tlv_text (record { kind = 8; body = body }) ≡ (codes "chassis.mgmt=") ++ management_text address
-  -- unknown.KIND=
+  -- `unknown.`, the type, `=` and the body in hexadecimal
   pub reserved : (kind : ℕ) → 9 ≤ kind → kind ≤ 126 →
       tlv_text (record { kind = kind; body = body }) ≡ (codes "unknown.") ++ decimal kind ++ (0x3d ∷ []) ++ encode_lower body
-  -- org.OUI.SUBTYPE=, and then the octets after these four
+  -- `org.`, the OUI, a dot, the subtype, `=` and the rest of the body in hexadecimal
   pub specific : (a b c subtype : ℕ) →
       tlv_text (record { kind = 127; body = a ∷ b ∷ c ∷ subtype ∷ body }) ≡ (codes "org.") ++ encode_lower (a ∷ b ∷ c ∷ []) ++ (0x2e ∷ []) ++ decimal subtype ++ (0x3d ∷ []) ++ encode_lower body

@@ -6,7 +6,7 @@ ghost use Rattle.lldp_text.specs.Identifier.{chassis_text, port_text};
 ghost use Rattle.lldp_text.specs.Laws.Alike.{TellsApart, IsNameOfOctets, AreShownAlike};
 
 /// Different texts are escaped differently, and different chassis IDs and port IDs are written
-/// differently. So if the identifiers of two neighbors are shown alike, they are the same.
+/// differently. So two neighbors that are shown alike have the same identifiers.
 pub fn neighbors_are_never_shown_alike()
     ensures texts { TellsApart (λ _. ⊤) escaped }
     ensures chassis { TellsApart (λ body. IsIdentifier body) chassis_text }

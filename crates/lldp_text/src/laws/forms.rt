@@ -14,7 +14,7 @@ pub fn texts_are_printable()
 {}
 
 /// Texts, addresses, all sixteen capabilities, identifiers and kept TLVs of every type are written
-/// in these forms, whatever their octets.
+/// as stated here, whatever their octets.
 pub fn values_have_their_forms()
     ensures texts { (octet : ℕ) (text : List ℕ) → IsEscaped octet text }
     ensures addresses { (a b c d : ℕ) (octets : List ℕ) → IsJoined a b c d octets }

@@ -8,7 +8,7 @@ ghost use Rattle.lldp_text.specs.Number.{number_of, IsOfDigits};
 ghost use Rattle.lldp_text.specs.declared.fault.CommandFault.TheVariants.{Unknown, NoSuchPort, Number, Range, Text, Extra, Quote, InUse};
 ghost use Rattle.lldp_text.specs.Fault.{number_of_fault};
 
-/// A line is split into these words exactly if the grammar spells the line with them. Among the 256
+/// A line is split into exactly the words that it has by the grammar (`AreWords`). Among the 256
 /// octets only tab and space separate words, and only `"` is a quote.
 #[tactic(auto, using(crate::proofs::WordsGrammar::words_spelled))]
 pub fn words_are_spelled()
@@ -18,7 +18,7 @@ pub fn words_are_spelled()
     ensures quotes { filter is_quote (range_with_len 0 256) ≡ 0x22 ∷ [] }
 {}
 
-/// A word of digits alone is read as its value, however many digits it has, and is out of range
+/// A word of only digits is read as its value, however many digits it has, and is out of range
 /// exactly if that value is. Any other word is not a number.
 pub fn words_of_digits_alone_are_numbers()
     ensures within { (word : List ℕ) (least greatest : ℕ) → IsOfDigits word →
@@ -33,7 +33,7 @@ pub fn words_of_digits_alone_are_numbers()
         number_of (front ++ c ∷ back) least greatest ≡ Err Number }
 {}
 
-/// The faults of commands have these numbers.
+/// Each fault of a command has a fixed number, from 1 to 8.
 pub fn faults_have_fixed_numbers()
     ensures { map number_of_fault
         (Unknown ∷ NoSuchPort ∷ Number ∷ Range ∷ Text ∷ Extra ∷ Quote ∷ InUse ∷ [])

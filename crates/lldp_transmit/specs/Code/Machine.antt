@@ -1,5 +1,5 @@
 -- The fields of a machine, and one step of it. Proofs of callers compute with these definitions.
--- `Moments` says what a port sends, and `Standing` connects the two.
+-- `Moments` defines when a port sends, and `Standing` relates machines to histories.
 use Rattle.std.specs.Prelude.{ℕ, ◌+◌, ◌-◌, true, false, ◌&&◌, ◌==◌, nat_lt, min, if◌then◌else◌}
 use Rattle.lldp_transmit.specs.History.{Settings}
 use Rattle.lldp_transmit.specs.declared.parts.Parts.{Parts}
@@ -8,7 +8,7 @@ use Rattle.lldp_transmit.specs.declared.event.Cause.TheVariants.{Tick, Change, N
 use Rattle.lldp_transmit.specs.declared.event.Mark.{Mark}
 use Rattle.lldp_transmit.specs.declared.event.Mark.TheVariants.{Quiet, Ordinary, Shutdown}
 
--- a machine is its fields
+-- a machine is described by its fields
 abbrev pub Machine : Type 0
 Machine = Parts
 
@@ -28,7 +28,7 @@ opened s = record {
   up = true;
 }
 
--- sends the requested frame if credit is left; otherwise the frame waits
+-- sends the requested frame if there is credit; otherwise the frame waits
 abbrev pub served : Machine → Machine × Mark
 served t = (record t { waiting = t.credit == 0; credit = t.credit - 1 }, if t.credit == 0 then Quiet else Ordinary)
 
@@ -36,7 +36,7 @@ served t = (record t { waiting = t.credit == 0; credit = t.credit - 1 }, if t.cr
 abbrev pub signalled : Machine → ℕ → Machine × Mark
 signalled t interval = served (record t { timer = if nat_lt 0 t.left then 1 else interval })
 
--- one second passes: the credit grows by 1, up to txCreditMax; `wait` and `timer` go down by 1
+-- counts one tick: credit goes up by 1, to txCreditMax at most; `wait` and `timer` go down by 1
 abbrev pub counted : Machine → Machine
 counted t =
     record t {
@@ -45,7 +45,7 @@ counted t =
       timer = t.timer - 1;
     }
 
--- a tick: an active port's timer may end or its waiting frame be sent; an inactive port may start
+-- a tick: an active port's timer may end, or its waiting frame be sent; an inactive port may start
 abbrev pub ticked : Machine → ℕ → Machine × Mark
 ticked t interval =
     if t.active
@@ -67,7 +67,7 @@ stopped t =
     then (record t { allowed = false; active = false; wait = t.reinit }, Shutdown)
     else (record t { allowed = false }, Quiet)
 
--- one event and the tx-interval in force then: the machine after it, and the frame that is sent
+-- one event, with the tx-interval in force after it: the next machine, and the frame that is sent
 abbrev pub stepped : Machine → Cause → ℕ → Machine × Mark
 stepped t Tick interval = ticked t interval
 stepped t Change interval = if t.active then signalled t interval else (t, Quiet)

@@ -49,7 +49,7 @@ picked {A} p f (bit ∷ bits) = by (p bit) (picked p f bits)
 pub returns-clause-capabilities : goal.returns-clause-capabilities
 returns-clause-capabilities c = λ caps. ap (join_with_byte 0x2c) (picked (is_set caps.available) (capability_text caps) capability_bits)
 
--- ---- addresses of a family
+-- ---- management addresses
 
 managed : (a : Address) → IsManaged a
 managed a = grind (arith, common_steps, eqb-true)

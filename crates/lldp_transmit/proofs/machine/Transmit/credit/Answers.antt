@@ -1,4 +1,4 @@
--- The credit is the least room, in terms of positions.
+-- The credit is the least that any run that ends now leaves of its bound.
 use Rattle.std.proofs.Common.{ap, ◌∙◌, sym, subst}
 use Rattle.lldp_transmit.specs.Moments.{moments}
 use Rattle.lldp_transmit.specs.Positions.{IsLeastRoom}
