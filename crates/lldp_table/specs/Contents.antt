@@ -9,7 +9,7 @@ use Rattle.lldp_table.specs.Msap.{same_msap}
 use Rattle.lldp_table.specs.Events.{Neighbor}
 
 -- a table: the limit given at opening, the current limit, the neighbors in the order in which they
--- were last new, and the remaining ticks of the too-many timer (tooManyNeighborsTimer)
+-- were last added, and the remaining ticks of the too-many timer (tooManyNeighborsTimer)
 pub record Contents : Type 0 where
   pub capacity : ℕ
   pub limit : ℕ

@@ -81,12 +81,12 @@ abbrev pub arrive : TableEvent → List MsapId → List MsapId
 arrive (learned name ttl octets New) names = filter (λ other. not (same_msap name other)) names ++ name ∷ []
 arrive _ names = names
 
--- the MSAP identifiers that were ever new, each once, in the order in which they were last new
+-- the MSAP identifiers that were ever added, each once, in the order in which they were last added
 abbrev pub arrivals : List TableEvent → List MsapId
 arrivals [] = []
 arrivals (event ∷ past) = arrive event (arrivals past)
 
--- the live neighbors, in the order in which each was last new
+-- the live neighbors, in the order in which each was last added
 unfoldable pub neighbors : List TableEvent → List Neighbor
 neighbors events = filter_map (λ name. live name events) (arrivals events)
 

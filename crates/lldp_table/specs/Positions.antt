@@ -34,7 +34,7 @@ abbrev pub makes_new : MsapId → TableEvent → Bool
 makes_new name (learned other ttl octets New) = same_msap other name
 makes_new name _ = false
 
--- The MSAP identifier of `one` was last new before that of `other`: at some moment `one` had been
+-- The MSAP identifier of `one` was last added before that of `other`: at some moment `one` had been
 -- new, `other` became new later, and `one` did not become new again after that moment.
 pub record IsNewBefore (events : List TableEvent) (one other : Neighbor) : Type 0 where
   pub later : List TableEvent

@@ -4,7 +4,7 @@ use Rattle.lldp_table.specs.Events.{Call, learn, forget, purge, tick, set_limit,
 use Rattle.lldp_table.specs.Contents.{Contents, IsExtent}
 
 -- the contents that the definitions give for a table after these calls: the limits, the live
--- neighbors in the order in which they were last new, and the too-many timer
+-- neighbors in the order in which they were last added, and the too-many timer
 abbrev pub table_of : ℕ → List Call → Contents
 table_of opened calls =
     let past = events_of opened calls in

@@ -64,7 +64,7 @@ pub fn extents_can_be_stored()
 /// A list of calls leaves exactly the unexpired last stored frame of each MSAP identifier: since
 /// that frame, no call stored another with this identifier, forgot it or purged the table, and
 /// fewer ticks than its TTL passed. The frames are in the order in which their identifiers were
-/// last new. If the table was opened with a limit of 1 to 128 and each call was possible, the
+/// last added. If the table was opened with a limit of 1 to 128 and each call was possible, the
 /// resulting table is the only one that matches the list, and it is sound: it holds at most as many
 /// neighbors as the limit, with at most 1,500 octets each.
 pub fn tables_hold_last_stored_frames()

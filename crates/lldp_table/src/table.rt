@@ -35,7 +35,7 @@ pub struct Table<A: Allocator> {
     /// slots never move.
     slots: Room<Slot, A>,
     /// The indices of the slots: first those in use, in the order in which their neighbors were
-    /// last new.
+    /// last added.
     order: ArrayVec<u8, MOST_NEIGHBORS>,
     /// How many slots are in use.
     used: u8,
@@ -271,8 +271,8 @@ impl<A: Allocator> Table<A> {
         self.too_many > 0
     }
 
-    /// Returns the neighbors in the order in which they were last new, each with its ticks
-    /// (seconds) left. Takes time linear in the number of neighbors.
+    /// Returns the neighbors in the order in which they were last added, each with its remaining
+    /// ticks (seconds). Takes time linear in the number of neighbors.
     pub fn entries(&self) -> Entries<'_>
         ensures value { result ≡ self.now.shown.neighbors }
         ensures sound { IsSound self.now.shown }

@@ -1,4 +1,4 @@
--- States that certain events turn on and off, and the events at which frames are sent.
+-- Which states are turned on and off by which events, and the events at which frames are sent.
 use Rattle.std.specs.Prelude.{◌≡◌, ℕ, ◌⊎◌, ◌↔◌, Bool, true, false, not, ◌&&◌, ◌||◌, IsTrue, List, [], ◌∷◌, ◌++◌, map}
 use Rattle.std.proofs.Common.{refl, ap, sym, ◌∙◌, inl, inr, arith, subst}
 use Rattle.lldp_transmit.specs.declared.event.Cause.{Cause}

@@ -25,7 +25,7 @@ Q = Quiet
 abbrev X : Mark
 X = Shutdown
 
--- settings, events and the marks of the events; the first 16 rows are named after the examples
+-- settings, events and the marks of the events; the comment over a row says what the row shows
 abbrev rows : List (Settings × List Event × List Mark)
 rows =
     -- changes beyond the credit

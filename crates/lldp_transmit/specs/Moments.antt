@@ -116,7 +116,7 @@ signals s past m =
 abbrev pub opens : Settings → List Moment → Moment → Bool
 opens s past m = signals s past m && (is_neighbor m.cause && (signals_left s past == 0))
 
--- Due: the port is active, and a frame waits unless it is sent now.
+-- Due: the port is active, and a frame would be waiting if none were sent now.
 abbrev pub due : List Moment → Moment → Bool
 due past m = let now = record m { sent = false } ∷ past in is_active now && is_waiting now
 

@@ -56,7 +56,7 @@ fn rest_from(extent: &[u8], next: usize) -> &[u8]
     }
 }
 
-/// Returns the first TLV of these octets that is kept after TLVs of the types in `met`.
+/// Returns the first kept TLV in these octets, if TLVs of the types in `met` came before them.
 fn first_kept(octets: &[u8], met: Seen) -> Option<Found<'_>>
     ensures none { IfNone result (kept_seen met.types (cut octets.now).tlvs ≡ []) }
     ensures some { IfSome result (λ found. kept_seen met.types (cut octets.now).tlvs

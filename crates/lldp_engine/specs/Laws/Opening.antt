@@ -51,7 +51,8 @@ pub record IsConfiguredBy (o : Options) (c : Configuration) : Type 0 where
   pub hold : c.hold ≡ 4
   pub limit : c.limit ≡ o.max_neighbors
 
--- A port is RxAndTx, or RxOnly if the options ask for that; its machine has three of their numbers.
+-- A port is RxAndTx, or RxOnly if the options ask for that. Its machine has the options'
+-- credit_max, fast_init and reinit.
 pub record IsPortOf (o : Options) (port : PortState) : Type 0 where
   pub both : o.receive_only ≡ false → port.status ≡ RxAndTx
   pub receives : o.receive_only ≡ true → port.status ≡ RxOnly

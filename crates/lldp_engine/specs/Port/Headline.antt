@@ -14,7 +14,7 @@ use Rattle.lldp_engine.specs.Status.{transmits}
 use Rattle.lldp_engine.specs.Port.Past.{Happened, status_after, up_after, table_events_after, settings_of, caused_at, causes_after, mark_after}
 
 -- The table holds exactly the last stored frame of each MSAP identifier, unless it has expired. No
--- identifier occurs twice, and the neighbors are in the order in which they were last new. The
+-- identifier occurs twice, and the neighbors are in the order in which they were last added. The
 -- table holds at most as many neighbors as its limit, each with at most 1,500 octets.
 pub record HoldsLastStored (o : Options) (past : List Happened) (table : Contents) : Type 0 where
   pub exactly : (neighbor : Neighbor) → Contains table.neighbors neighbor ↔ IsLastStored (table_events_after o past) neighbor
@@ -32,9 +32,9 @@ DueAndOpen o now earlier = IsDueAndOpen (settings_of o) (causes_after o earlier)
 abbrev pub Stops : Options → Happened → List Happened → Type 0
 Stops o now earlier = StopsAt (settings_of o) (causes_after o earlier) (caused_at o now earlier)
 
--- A port sends an ordinary frame exactly if one is due and the credit window is open: with it, no
--- run of events that ends now contains more ordinary frames than txCreditMax plus the ticks after
--- its first event. It sends a shutdown frame exactly if it was active and may no longer send.
+-- A port sends an ordinary frame exactly if one is due and the credit window is open: counting this
+-- frame, no run of events that ends now has more ordinary frames than txCreditMax plus the ticks
+-- after its first event. It sends a shutdown frame exactly if it was active and may no longer send.
 pub record SendsExactly (o : Options) (now : Happened) (earlier : List Happened) : Type 0 where
   pub ordinary : (mark_after o (now ∷ earlier) ≡ Ordinary) ↔ DueAndOpen o now earlier
   pub shutdown : (mark_after o (now ∷ earlier) ≡ Shutdown) ↔ Stops o now earlier

@@ -26,7 +26,7 @@ pub trait LineSink {
         ensures room { IfSome result (λ writer. length writer.now + 2049 ≤ 8192) };
 
     /// Returns whether no further line changes the sink, so that the other lines can be left out.
-    /// Shows check this before each port and each neighbor, although no clause states it.
+    /// Each show checks this before each port and each neighbor, although no clause states it.
     fn is_done(&self) -> bool
         ensures { result ≡ true → (line : List ℕ) → takes self.now self.now line };
 }

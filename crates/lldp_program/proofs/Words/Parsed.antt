@@ -48,7 +48,8 @@ one_more {old} {new} {a} added before is simple = added.shape (local a (ap (λ r
 
 -- ## The options of a parse
 
--- the ids of `clap` itself: help, version, and the empty id of entries for other commands
+-- the ids that clap itself uses: help, version, and the empty id, which the entry of an external
+-- subcommand has
 abbrev pub own_names : List Text
 own_names = [] ∷ codes "help" ∷ codes "version" ∷ []
 

@@ -45,7 +45,7 @@ all_new (learned name ttl octets New ∷ past) =
     (or_left (same_msap name name) (list_any (makes_new name) past) (same_msap-refl name))
 all_new (event ∷ past) = all_new past
 
--- the arrivals are in the order in which each was last new
+-- the arrivals are in the order in which each was last added
 in_order : (events : List TableEvent) → AllPairs (Before events) (arrivals events)
 in_order [] = λ i j d l m. absurd (omega arith)
 in_order (learned name ttl octets New ∷ past) =
@@ -83,7 +83,7 @@ module _ (events : List TableEvent) where
       one None h r = r
       one (Some y) h r = AllPairs-cons (IsNewBefore events) y (filter_map (λ n. live n events) names) (before_all y names (rw (h y refl) (λ k d l. p 0 (suc k) d (omega arith) (omega arith)))) r
 
--- the neighbors are in the order in which each was last new
+-- the neighbors are in the order in which each was last added
 pub neighbors_in_order : (events : List TableEvent) → AllPairs (IsNewBefore events) (neighbors events)
 unfolding neighbors
 neighbors_in_order events = ordered events (arrivals events) (in_order events)

@@ -118,7 +118,8 @@ const LINES: [&str; 9] = [
     "tick\n",
 ];
 
-/// The frames of these lines, and one more: two further updates have credit for only one frame.
+/// The frames that `LINES` sends, and one more: of the two updates that `fails_at` adds, only one
+/// has credit.
 const FRAMES: [&str; 7] = [SENT; 7];
 
 /// Runs the lines with a writer that fails after this many octets. Then runs the lines that were

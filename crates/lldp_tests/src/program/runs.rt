@@ -129,7 +129,8 @@ fn runs_octets(rt: HostRuntime) -> Result<(), Fail> {
     Ok(())
 }
 
-/// Checks that each adapter calls its stream, and returns the answer of that call.
+/// Checks that each read of a `FromReader` makes one read of its stream and returns the answer of
+/// that read.
 #[test]
 fn adapters_ask(rt: HostRuntime) -> Result<(), Fail> {
     let mut drip = Drip::new(b"abc", 2, 2, Some(2));
