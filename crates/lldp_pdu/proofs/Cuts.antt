@@ -91,7 +91,7 @@ pub cut_some : (octets : List ℕ) (u : TlvUnit) (others : List ℕ) → first_t
 unfolding cut cut_within
 cut_some octets u others h = grind (arith, common_steps, enough, first_shorter)
 
--- the cut of encoded TLVs followed by octets has these TLVs and then those of the octets
+-- encoded TLVs in front of octets add these TLVs to the front of the octets' cut
 pub cut-spellings : (us : List TlvUnit) (octets : List ℕ) → AllByRecursion IsTlv us → cut (spellings us ++ octets) ≡ record { tlvs = us ++ (cut octets).tlvs; rest = (cut octets).rest }
 cut-spellings [] octets h = refl
 cut-spellings (u ∷ us) octets h =

@@ -1,4 +1,4 @@
--- A frame has an LLDPDU exactly if it consists of the LLDP header fields and that LLDPDU.
+-- `lldpdu_of` returns an LLDPDU exactly if the frame is the LLDP header fields and this LLDPDU.
 use Rattle.std.proofs.Common.{◌≡◌, ℕ, ◌≤◌, true, leb, List, [], ◌∷◌, ◌++◌, length, Some, arith, Bool, ◌&&◌, take, drop, sym, ap, ◌∙◌, append_assoc}
 use Rattle.std.proofs.lemmas.Bool.{le-leb, and_parts, leb-true}
 use Rattle.lldp_pdu.specs.Frame.{nearest_bridge, lldp_ethertype, is_lldp_frame, lldpdu_of}

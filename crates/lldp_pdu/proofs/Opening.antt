@@ -13,7 +13,7 @@ use Rattle.lldp_pdu.specs.Fault.{checks, fault_of, is_mandatory}
 use Rattle.lldp_pdu.specs.Code.Survey.{OpensWith}
 use Rattle.std.proofs.lemmas.Grind.{common_steps}
 
--- the cut of the encoded TLV u followed by the octets t
+-- the cut of octets that consist of the encoded TLV u and then t
 abbrev pub with_front : TlvUnit → List ℕ → Cut
 with_front u t = record { tlvs = u ∷ (cut t).tlvs; rest = (cut t).rest }
 

@@ -16,7 +16,7 @@ use Rattle.lldp_pdu.proofs.Opening.{with_front}
 abbrev pub extent_left : List ℕ → List TlvUnit
 extent_left octets = before_end (cut octets).tlvs
 
--- the loop invariant: the counts so far plus those of the octets still to be read are the totals
+-- the loop invariant: the counts so far and the counts still to come add up to the totals
 pub record Surveys (after left : List ℕ) (seen : List Bool) (len lost unknown : ℕ) : Type 0 where
   pub length_is : len + length (spellings (extent_left left)) ≡ length (spellings (extent_left after))
   pub lost_are : lost + count_lost seen (extent_left left) ≡ count_lost none_seen (extent_left after)

@@ -38,7 +38,7 @@ module _ (octets after : List ℕ) (msap : MsapId) (ttl : ℕ) (o : OpensWith oc
   pub last_check : (r : Bool) → 0 < ttl → list_any is_mandatory (before_end (cut after).tlvs) ≡ r → fault_of octets ≡ cond r (Some Repeated) None
   last_check r p h = o.fault ∙ rw (later_is, h, lt-ltb 0 ttl p) refl
 
--- the extent is the octets up to the end of `found`, which has the TLVs after the mandatory ones
+-- `found` holds the TLVs after the mandatory ones, and the extent ends where `found` ends
 pub record Stands (octets after found : List ℕ) : Type 0 where
   pub within : length after ≤ length octets
   pub end : length octets - length after + length found ≤ length octets

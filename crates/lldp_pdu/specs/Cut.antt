@@ -16,7 +16,7 @@ pub record IsCut (octets : List ℕ) (c : Cut) : Type 0 where
 
 -- ---- the cut, computed from the front; it is the only one (the law `octets_have_one_cut`)
 
--- the TLV at the front of the octets and the octets after it, or None if it is not complete
+-- the TLV at the front and the octets after it, or None if no complete TLV is there
 abbrev pub first_tlv : List ℕ → Option (TlvUnit × List ℕ)
 first_tlv [] = None
 first_tlv (high ∷ []) = None

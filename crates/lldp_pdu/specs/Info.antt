@@ -7,8 +7,8 @@ use Rattle.lldp_pdu.specs.Lldpdu.{extent, ttl_of, msap_of}
 use Rattle.lldp_pdu.specs.Fault.{fault_of}
 use Rattle.lldp_pdu.specs.Kept.{kept_of, discarded_of, count_unrecognized, IsKeptTlv}
 
--- the MSAP identifier, TTL, extent and kept TLVs, and the numbers of discarded TLVs and of kept
--- TLVs that are unrecognized
+-- the MSAP identifier, TTL, extent and kept TLVs, then the number of discarded TLVs and the number
+-- of unrecognized kept TLVs
 pub record LldpInfo : Type 0 where
   pub msap : MsapId
   pub ttl : ℕ
@@ -40,7 +40,7 @@ pub record IsInfo (info : LldpInfo) : Type 0 where
   pub few_discarded : 10 + 2 * info.discarded ≤ length info.octets
   pub few_unrecognized : info.unrecognized ≤ length info.kept
 
--- The extent alone is a sound LLDPDU with the same contents and at most as many discarded TLVs.
+-- The extent is a sound LLDPDU with the same contents, except that fewer TLVs may be discarded.
 pub record TellsItself (info : LldpInfo) : Type 0 where
   pub are_octets : AreOctets info.octets
   pub sound : fault_of info.octets ≡ None

@@ -52,9 +52,9 @@ impl<'a> Info<'a> {
     }
 
     /// Returns the kept TLVs, in order. Each has a type from 4 to 127 and a well-formed body of at
-    /// most 511 octets, and none of the types 4 to 7 occurs twice. Their number is at most half the
-    /// number of octets in the extent after its first 12. They are not stored: the iterator reads
-    /// them again from the octets, in linear time.
+    /// most 511 octets, and none of the types 4 to 7 occurs twice. An extent of n octets has at
+    /// most (n - 12) / 2 of them. They are not stored: the iterator reads them again from the
+    /// octets, in linear time.
     pub fn kept(&self) -> Kept<'a>
         ensures value { result ≡ self.now.kept }
         ensures each { AllByRecursion IsKeptTlv self.now.kept }
@@ -63,8 +63,8 @@ impl<'a> Info<'a> {
         Kept::of(self.optional)
     }
 
-    /// Returns the extent: the octets before the End Of LLDPDU, or before an incomplete TLV. The
-    /// extent alone is a sound LLDPDU with the same contents and at most as many discarded TLVs.
+    /// Returns the extent: the octets before the End Of LLDPDU, or before an incomplete TLV. It is
+    /// a sound LLDPDU with the same contents, except that fewer TLVs may be discarded.
     pub fn octets(&self) -> &'a [u8]
         ensures value { result.now ≡ self.now.octets }
         ensures again { TellsItself self.now }
@@ -72,8 +72,8 @@ impl<'a> Info<'a> {
         self.octets
     }
 
-    /// Returns how many TLVs were discarded, including an incomplete one: at most half the number
-    /// of octets in the extent after its first 10.
+    /// Returns how many TLVs were discarded, including an incomplete one: at most (n - 10) / 2 for
+    /// an extent of n octets.
     pub fn discarded(&self) -> usize
         ensures value { result ≡ self.now.discarded }
         ensures few { 10 + 2 * result ≤ length self.now.octets }

@@ -58,8 +58,8 @@ pub fn later_tlvs_are_kept_once()
     ensures counted { (octets : List ℕ) → AreCounted octets }
 {}
 
-/// The extent of a sound LLDPDU with a TTL above 0 has the same contents as the LLDPDU, and at most
-/// as many discarded TLVs.
+/// The extent of a sound LLDPDU with a TTL above 0 is a sound LLDPDU with the same contents, except
+/// that fewer TLVs may be discarded.
 #[tactic(auto, using(crate::proofs::Telling::tells_itself))]
 pub fn extents_tell_the_same()
     ensures info { (octets : List ℕ) → AreOctets octets → fault_of octets ≡ None →
@@ -75,15 +75,15 @@ pub fn lldpdus_begin_with_extents()
         (more : List ℕ) × (octets ≡ extent octets ++ more) }
 {}
 
-/// A frame made of an LLDP header and an LLDPDU of at most 1,500 octets has that LLDPDU.
+/// `lldpdu_of` returns the LLDPDU, of at most 1,500 octets, that follows an LLDP header.
 #[tactic(auto, using(crate::proofs::Framing::has_lldpdu))]
 pub fn frames_hold_lldpdus()
     ensures { (source lldpdu : List ℕ) → length source ≡ 6 → length lldpdu ≤ 1500 →
         lldpdu_of (nearest_bridge ++ source ++ lldp_ethertype ++ lldpdu) ≡ Some lldpdu }
 {}
 
-/// A frame has an LLDPDU exactly if the frame is 01-80-C2-00-00-0E, six octets of source address,
-/// 88-CC and that LLDPDU, of at most 1,500 octets.
+/// `lldpdu_of` returns an LLDPDU exactly if the frame is 01-80-C2-00-00-0E, a source address of six
+/// octets, 88-CC and this LLDPDU, which has at most 1,500 octets.
 pub fn lldp_frames_have_their_form()
     ensures { (frame lldpdu : List ℕ) → (lldpdu_of frame ≡ Some lldpdu) ↔ HasForm frame lldpdu }
 {}
@@ -101,7 +101,7 @@ pub fn drafts_are_read_back()
     ensures read_back { (draft : Draft) → CanBuild draft → IsReadBack draft (lldpdu_octets draft) }
 {}
 
-/// A Management Address body is well formed with these fields exactly if it encodes these fields.
+/// `address_of` returns an address exactly if its fields are in range and the body encodes it.
 pub fn management_addresses_are_spelled()
     ensures { (body : List ℕ) (address : Address) → AreOctets body →
         (address_of body ≡ Some address) ↔ IsSpelled body address }
@@ -124,8 +124,8 @@ pub fn tlv_types_are_the_standards()
         ≡ standard.organizationally_specific_type }
 {}
 
-/// A System Capabilities body is well formed with these fields exactly if it encodes them in four
-/// octets and every enabled bit is available.
+/// `caps_of` returns capabilities exactly if the body encodes them in four octets and every enabled
+/// bit is available.
 pub fn capabilities_are_spelled()
     ensures { (body : List ℕ) (caps : Caps) → AreOctets body →
         (caps_of body ≡ Some caps) ↔ AreSpelled body caps }

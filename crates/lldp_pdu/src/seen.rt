@@ -1,4 +1,4 @@
-//! Records the types of earlier TLVs, for types of which only the first well-formed TLV is kept.
+//! Flags for the types 4 to 7: only the first well-formed TLV of each of these types is kept.
 ghost use Rattle.std.specs.Prelude.{◌≡◌};
 ghost use Rattle.lldp_pdu.specs.Kept.{is_single};
 ghost use Rattle.lldp_pdu.specs.Code.Seen.{has_flag, with_flag, is_kept_seen, seen_after};
@@ -15,8 +15,8 @@ fn counts_once(kind: u8) -> bool
     (PORT_DESCRIPTION..=SYSTEM_CAPABILITIES).contains(&kind)
 }
 
-/// Records, for each type of which at most one TLV is kept, whether a well-formed TLV has occurred.
-/// Code that reads an LLDPDU in parts, without a `Kept`, keeps this value between the parts.
+/// Records for each of the types 4 to 7 whether a well-formed TLV of that type has occurred. Code
+/// that reads an LLDPDU in parts, without a `Kept`, keeps this value between the parts.
 #[derive(Clone, Copy, Debug)]
 pub struct Seen {
     /// One flag for each type from Port Description to System Capabilities.

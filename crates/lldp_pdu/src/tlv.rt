@@ -65,7 +65,7 @@ impl<'a> Iterator for Tlvs<'a> {
     }
 }
 
-/// Returns the TLV at the front and the octets after it, or None if it is not complete.
+/// Returns the TLV at the front and the octets after it, or None if no complete TLV is there.
 fn first(octets: &[u8]) -> Option<(Tlv<'_>, &[u8])>
     ensures { option_map (λ x. (tlv_view x.0, x.1.now)) result ≡ first_tlv octets.now }
 {

@@ -1,4 +1,4 @@
--- The pairs of octets in an address, and its text after one more pair.
+-- The pairs of octets in an IPv6 address, and how the text of an address grows by one more pair.
 use Rattle.std.proofs.Common.{◌≡◌, ℕ, ◌+◌, ◌*◌, ◌≤◌, List, [], ◌∷◌, ◌++◌, length, take, drop, map, refl, ap, ◌∙◌, arith, suc, zero}
 use Rattle.std.specs.List.{join_with_byte}
 use Rattle.std.proofs.lemmas.List.{map-append, length-map}

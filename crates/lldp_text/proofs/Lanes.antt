@@ -62,7 +62,7 @@ upper_half factor x = x * factor % 65536 / 256
 abbrev pub octet_test : (ℕ → ℕ) → ℕ → Bool
 octet_test f p = eqb (f (p / 16 + 256 * (p % 16))) p
 
--- if multiplying by `factor` joins each of the 256 pairs of values correctly, so does each lane
+-- if multiplying by `factor` joins each of the 256 pairs correctly, each lane is its pair's octet
 pub octet_at : (factor : ℕ) (v : List ℕ) → length v ≡ 32 → Each1 (Fits w8) v → agree_below (octet_test (upper_half factor)) (λ _. true) 256 ≡ true
     → (k : ℕ) → k < 16 → get_or v (2 * k) 0 < 16 → get_or v (2 * k + 1) 0 < 16
     → get_or (map (upper_half factor) (digits_l 65536 16 (number_l 256 v))) k 0 ≡ get_or v (2 * k) 0 * 16 + get_or v (2 * k + 1) 0

@@ -15,7 +15,7 @@ join_push c (y ∷ z ∷ zs) x = ap (λ l. y ++ (c ∷ l)) (join_push c (z ∷ z
 pub grown : (old cur mid new j s x j' : List ℕ) → cur ≡ old ++ j → mid ≡ cur ++ s → new ≡ mid ++ x → j' ≡ j ++ (s ++ x) → new ≡ old ++ j'
 grown old cur mid new j s x j' a b c d = rw (c, b, a, d) (simp append_assoc)
 
--- joining the first i + 1 items appends a separator, if needed, and item i to the first i joined
+-- joining one more item, item i, appends a separator, if needed, and that item
 pub joined_more : {A : Type 0} (c : ℕ) (f : A → List ℕ) (xs : List A) (i : ℕ) (d : A) → i < length xs → join_with_byte c (map f (take (i + 1) xs)) ≡ join_with_byte c (map f (take i xs)) ++ (separator c i ++ f (get_or xs i d))
 joined_more c f xs i d h = grind (arith, common_steps, length-map, length-take-le, take_more, map-append, join_push)
 

@@ -6,7 +6,7 @@ use Rattle.lldp_text.specs.Addresses.{ipv4_text, ipv6_text, address_kind}
 use Rattle.lldp_text.specs.declared.addresses.AddressKind.{AddressKind}
 use Rattle.lldp_text.specs.declared.addresses.AddressKind.TheVariants.{Ipv4, Ipv6, Unknown}
 
--- an address of this kind; if unknown, `af`, the family, a colon and the octets in hexadecimal
+-- an address of this kind; for Unknown: `af`, the family, a colon and the octets in hexadecimal
 abbrev pub address_text : AddressKind → ℕ → List ℕ → List ℕ
 address_text Ipv4 family octets = ipv4_text octets
 address_text Ipv6 family octets = ipv6_text octets

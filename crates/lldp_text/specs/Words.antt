@@ -19,8 +19,8 @@ is_unquote c = not (is_quote c)
 abbrev pub is_bare : ℕ → Bool
 is_bare c = not (is_separator c) && not (is_quote c)
 
--- The text spells the word. A word is spelled as it is, if it is not empty and has no separator or
--- quote, or between two quotes, if it has no quote.
+-- The text spells the word. A nonempty word without separators and quotes may be spelled as it is,
+-- and any word without quotes may be spelled between two quotes.
 abbrev pub IsSpelling : List ℕ → List ℕ → Type 0
 IsSpelling text word =
     ((0 < length word) × AllPass is_bare word × (text ≡ word))
@@ -41,16 +41,16 @@ abbrev pub begins_bare : List ℕ → Bool
 begins_bare [] = false
 begins_bare (c ∷ _) = is_bare c
 
--- The line has exactly these words. Without words it is only separators. Otherwise it is separators
--- (or none), a spelling of the first word, and a rest that may follow a word and has the others.
+-- The line has exactly these words: it is only separators (no words), or it is optional separators,
+-- a spelling of the first word, and a rest that may follow a word and has the other words.
 abbrev pub AreWords : List ℕ → List (List ℕ) → Type 0
 AreWords line [] = AllPass is_separator line
 AreWords line (word ∷ words) =
     (gap : List ℕ) × (text : List ℕ) × (rest : List ℕ) × AllPass is_separator gap × IsSpelling text word
     × IsTrue (may_end_word rest) × (line ≡ gap ++ text ++ rest) × AreWords rest words
 
--- The place of a reader in a line: between words, in an unquoted or quoted word of which it has
--- read these octets, or after a closing quote.
+-- The place of a reader in a line: between words, in an unquoted or quoted word (with the octets of
+-- the word read so far), or after a closing quote.
 pub data Place : Type 0 where
   between : Place
   bare : List ℕ → Place

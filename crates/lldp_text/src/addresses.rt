@@ -31,7 +31,7 @@ pub(crate) fn kind_of_address(family: u8, len: usize) -> AddressKind
     }
 }
 
-/// Writes a MAC address of six octets. The text has at most 18 octets.
+/// Writes a MAC address of six octets. Requires room for 18 octets.
 pub fn write_mac(line: &mut Writer, octets: &[u8])
     requires room { length line.old + 18 ≤ ROOM }
     requires six { length octets.now ≡ 6 }
@@ -44,7 +44,7 @@ pub fn write_mac(line: &mut Writer, octets: &[u8])
     }
 }
 
-/// Writes an IPv4 address of four octets. The text has at most 44 octets.
+/// Writes an IPv4 address of four octets. Requires room for 44 octets.
 #[tactic(auto, using(crate::proofs::TextJoined::grown, crate::proofs::TextJoined::joined_more))]
 pub fn write_ipv4(line: &mut Writer, octets: &[u8])
     requires room { length line.old + 44 ≤ ROOM }
@@ -58,7 +58,7 @@ pub fn write_ipv4(line: &mut Writer, octets: &[u8])
     }
 }
 
-/// Writes an IPv6 address of sixteen octets. The text has at most 40 octets.
+/// Writes an IPv6 address of sixteen octets. Requires room for 40 octets.
 pub(crate) fn write_ipv6(line: &mut Writer, octets: &[u8])
     requires room { length line.old + 40 ≤ ROOM }
     requires sixteen { length octets.now ≡ 16 }

@@ -14,7 +14,7 @@ pub type Line = ArrayVec<u8, 2048>;
 /// The greatest length of a line with its line feed, in octets.
 pub const LINE_ROOM: usize = 2049;
 
-/// The greatest length of a value, in octets. A line has room for it after up to 64 other octets.
+/// The greatest length of a value, in octets. A line has room for at least 64 octets before it.
 pub const VALUE_ROOM: usize = 1050;
 
 /// The greatest number of octets that a writer holds.

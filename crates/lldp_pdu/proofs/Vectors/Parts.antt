@@ -48,7 +48,7 @@ abbrev pub behind : Draft → TlvUnit → Option BuildFault → Draft
 behind draft u None = with_tlv draft u
 behind draft u (Some fault) = draft
 
--- the fault number, or 0, of each TLV when `put` is called with one after another
+-- the results of calling `put` with each TLV in turn: the number of the fault, or 0 for success
 abbrev pub answers : Draft → List TlvUnit → List ℕ
 answers draft [] = []
 answers draft (u ∷ us) = answer (put_fault draft u) ∷ answers (behind draft u (put_fault draft u)) us

@@ -17,7 +17,7 @@ draft_of octets = record { msap = msap_of octets; ttl = ttl_of octets; tlvs = dr
 abbrev pub draft_view : Inside → Draft
 draft_view b = draft_of b.octets.items
 
--- each TLV of the second list is kept, given the TLVs before it
+-- each TLV of the second list is kept, if the first list precedes the second
 abbrev pub AllKept : List TlvUnit → List TlvUnit → Type 0
 AllKept earlier [] = Unit {0}
 AllKept earlier (u ∷ us) = (is_kept earlier u ≡ true) × AllKept (u ∷ earlier) us

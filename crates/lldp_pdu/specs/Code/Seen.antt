@@ -19,7 +19,7 @@ pub record Flags (seen : List Bool) (is_met : ℕ → Bool) : Type 0 where
 unfoldable pub has_flag : List Bool → ℕ → Bool
 has_flag seen kind = is_single kind && slice_index_or seen (kind - port_description_type) false
 
--- the flags after setting that of this type, if it has one
+-- the flags after setting the flag of this type, if the type has a flag
 unfoldable pub with_flag : List Bool → ℕ → List Bool
 with_flag seen kind = if is_single kind then slice_set seen (kind - port_description_type) true else seen
 

@@ -33,8 +33,8 @@ pub record AreNamed (chassis port : List ℕ) : Type 0 where
   pub chassis_fits : IsIdentifier chassis
   pub port_fits : IsIdentifier port
 
--- The fault for each defect of the first three TLVs: missing, of another type, or of a wrong
--- length. The first defect determines it. If there is none, a repeated mandatory TLV is the fault.
+-- The fault of an LLDPDU that is not sound: that of the first defect in the first three TLVs (a
+-- missing TLV, a wrong type or a wrong length), or Repeated if these TLVs have no defect.
 pub record HasFaults (octets chassis port ttl : List ℕ) (u : TlvUnit) (us : List TlvUnit) : Type 0 where
   pub nothing : (cut octets).tlvs ≡ [] → fault_of octets ≡ Some Truncated
   pub no_chassis : (cut octets).tlvs ≡ u ∷ us → ¬ (u.kind ≡ 1) → fault_of octets ≡ Some NoChassis

@@ -58,8 +58,8 @@ pub record IsManaged (a : Address) : Type 0 where
 abbrev pub unhandled : List ℕ → List ℕ
 unhandled body = 0x75 ∷ 0x6e ∷ 0x68 ∷ 0x61 ∷ 0x6e ∷ 0x64 ∷ 0x6c ∷ 0x65 ∷ 0x64 ∷ 0x3d ∷ encode_lower body
 
--- Identifiers that are not texts: `mac=` and six octets, or `ip=` and an IPv4 or IPv6 address. With
--- other lengths, families or subtypes (0, 8 to 255) they are `unhandled=` and all octets.
+-- How identifiers that are not texts are written: `mac=` and six octets, `ip=` and an IPv4 or IPv6
+-- address, or `unhandled=` and the whole body if the length, family or subtype fits neither.
 pub record IsIdentified (mac network : ℕ) (text : List ℕ → List ℕ) (subtype family : ℕ) (octets : List ℕ) : Type 0 where
   pub mac_address : length octets ≡ 6 → text (mac ∷ octets) ≡ 0x6d ∷ 0x61 ∷ 0x63 ∷ 0x3d ∷ mac_text octets
   pub no_mac_address : ¬ (length octets ≡ 6) → text (mac ∷ octets) ≡ unhandled (mac ∷ octets)
@@ -68,8 +68,8 @@ pub record IsIdentified (mac network : ℕ) (text : List ℕ → List ℕ) (subt
   pub other_network : ¬ (IsIpv4 family octets) → ¬ (IsIpv6 family octets) → text (network ∷ family ∷ octets) ≡ unhandled (network ∷ family ∷ octets)
   pub other : (subtype ≡ 0) ⊎ (7 < subtype) → text (subtype ∷ octets) ≡ unhandled (subtype ∷ octets)
 
--- How the bits from `bit` on are shown, given their names. An available bit is its name, a colon,
--- and `on` if it is enabled, else `off`. Other bits are not shown.
+-- How the bits from `bit` on are shown, given their names. An available bit is shown as its name, a
+-- colon, and `on` if it is enabled, else `off`. Other bits are not shown.
 abbrev pub shown_from : Caps → ℕ → List (List ℕ) → List (List ℕ)
 shown_from caps bit [] = []
 shown_from caps bit (name ∷ names) =

@@ -1,4 +1,4 @@
-//! Laws of words, of the numbers among them, and of the fault numbers.
+//! Laws about the words of a line, the numbers among these words, and the fault numbers.
 ghost use Rattle.std.specs.Prelude.{◌≡◌, ℕ, ◌<◌, ◌≤◌, List, [], ◌∷◌, ◌++◌, false, ◌↔◌, map, Some, Ok, Err};
 ghost use Rattle.std.specs.List.{filter, range_with_len};
 ghost use Rattle.lldp_text.specs.Words.{words_of, AreWords, is_separator, is_quote};

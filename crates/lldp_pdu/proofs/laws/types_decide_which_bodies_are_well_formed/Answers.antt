@@ -37,7 +37,7 @@ specific : (body : List ℕ) → (is_well_formed (record { kind = 127; body = bo
 unfolding is_well_formed
 specific body = (leb-true 4 (length body), le-leb 4 (length body))
 
--- if `o` is Some a exactly when P a holds, it is Some exactly when P holds for some value
+-- if `o` is Some a exactly when P a holds, `o` is Some exactly when P holds for some value
 by_option : {A : Type 0} {P : A → Type 0} (o : Option A) → ((a : A) → (o ≡ Some a) ↔ P a) → (is_some o ≡ true) ↔ ((a : A) × P a)
 by_option None h = (λ e. absurd (true≢false (sym e)), λ p. absurd (none-some p.0 ((h p.0).1 p.1)))
 by_option (Some a) h = (λ _. (a, (h a).0 refl), λ _. refl)
