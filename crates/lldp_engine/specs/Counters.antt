@@ -43,7 +43,7 @@ abbrev pub is_dropped : TableEvent → Bool
 is_dropped (learned msap ttl octets Dropped) = true
 is_dropped event = false
 
--- Counts the neighbors that aged out at all ticks: those live before a tick and not after it.
+-- Returns how many neighbors aged out in all: at each tick, those live before it but not after it.
 abbrev pub all_aged_out : List TableEvent → ℕ
 all_aged_out [] = 0
 all_aged_out (event ∷ past) = (if is_tick event then aged_out past else 0) + all_aged_out past

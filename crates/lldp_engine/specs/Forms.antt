@@ -69,7 +69,7 @@ abbrev pub and_left : Result Form CommandFault → List Form → List Form
 and_left (Ok next) others = next ∷ others
 and_left (Err fault) others = others
 
--- Returns the fault of one more form, or that of the others if the form has none or has Extra.
+-- Returns the form's fault, or the fault of the others if the form has no fault or has Extra.
 abbrev pub fault_or : Result Form CommandFault → CommandFault → CommandFault
 fault_or (Ok next) others = others
 fault_or (Err Extra) others = others

@@ -26,8 +26,8 @@ command_said agent words = unless_in_use agent.ports (said_by agent words)
 abbrev pub command_given : AgentState → List ℕ → Result Command CommandFault
 command_given agent line = or_fault (words_of line) Quote >>= command_said agent
 
--- Reading part of a command leaves the result unchanged: the remaining words and forms give it. If
--- the part has a fault, that fault is the result.
+-- Reading a part of a command and then the rest gives the same result as reading the whole command.
+-- If the part has a fault, that fault is the result.
 abbrev pub Reads : {A : Type 0} → List (List ℕ) → List Form → List (List ℕ) → Result A CommandFault → (A → List Form) →
     List (List ℕ) → Type 0
 Reads names left words (Ok a) then_left words_left =

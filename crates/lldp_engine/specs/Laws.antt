@@ -1,4 +1,4 @@
--- Definitions that only the laws use. They restate other definitions by positions, octets, counts.
+-- Definitions that only the laws use: other definitions restated with positions, octets or counts.
 pub mod CauseOf
 pub mod Deaf
 pub mod FirstFault

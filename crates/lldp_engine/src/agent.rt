@@ -38,8 +38,8 @@ use lldp_transmit::Transmit;
 use std::alloc::{Allocator, Global};
 use std::marker::Model;
 
-/// An LLDP agent with 1 to 64 ports. Only `open` allocates memory. An agent *stands for* its past,
-/// the options and all events since: the definitions compute the agent from it (`Stands`).
+/// An LLDP agent with 1 to 64 ports. Only `open` allocates memory. Its past is its options and all
+/// events. It *stands for* its past: the definitions compute the agent from the past (`Stands`).
 #[derive(Drop)]
 pub struct Agent<A: Allocator = Global> {
     configuration: Configuration,
@@ -154,7 +154,7 @@ impl<A: Allocator> Agent<A> {
         self.port(port).status()
     }
 
-    /// Returns whether the link of a port is up by its last link event, or true if it had none.
+    /// Returns whether the last link event of a port says up, or true if the port had none.
     pub fn is_up(&self, port: u8) -> bool
         requires { IsPort self.now port }
         ensures value { option_map (λ p. p.machine.up) (slice_get self.now.ports port)
@@ -201,7 +201,7 @@ impl<A: Allocator> Agent<A> {
     }
 
     /// Returns whether the agent accepts the event: its port exists, its number is in range, its
-    /// text has at most 255 octets, all printable, and no port holds more neighbors than its limit.
+    /// text has at most 255 octets, all printable, and no port has more neighbors than a new limit.
     pub fn allows(&self, event: &Event<'_>) -> bool
         ensures { IsTrue result ↔ Allows self.now (event_of event.now) }
     {
@@ -249,8 +249,8 @@ impl<A: Allocator> Agent<A> {
         ensures marks_past { (past : Past) → Stands past self.old →
             result.items ≡ marks_of (with_event past (event_of event.entry)) }
         // Each table holds the last stored frames that have not expired. A port sends an ordinary
-        // frame exactly if one is due and its credit window is open, and no other choice of frames
-        // within these windows has sent more up to any event.
+        // frame exactly if one is due and its credit window is open, and no other choice of due
+        // events with open windows has had more frames up to any event.
         ensures headline { (past : Past) → Stands past self.old →
             PromisedStep past (event_of event.entry) result.items self.new }
     {

@@ -114,8 +114,8 @@ fn refuse_in_use<'l, A: Allocator>(
 
 impl<A: Allocator> Agent<A> {
     /// Reads a command from its first word and the words after it. Returns the command or the first
-    /// fault: the words are checked from left to right, then that no word remains, then that no
-    /// port holds more neighbors than a limit. The agent allows a returned command.
+    /// fault. The checks, in this order: each word, from left to right; no word remains; no port
+    /// holds more neighbors than a new limit. The agent allows a returned command.
     pub fn read_words<'l>(
         &self,
         first: &[u8],

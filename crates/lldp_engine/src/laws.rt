@@ -39,7 +39,7 @@ pub fn steps_carry_standing()
 
 /// Each port's table holds exactly the last stored frames that have not expired. Each port has sent
 /// exactly what was due while its credit window was open and its status let it send. No other
-/// choice of frames within these windows has sent more up to any event.
+/// choice of due events with open windows has had more frames up to any event.
 #[tactic(auto, using(crate::proofs::Headline::Promise::promised))]
 pub fn standing_agents_are_promised()
     ensures { (past : Past) (agent : AgentState) → Stands past agent → Promised past agent }
@@ -52,8 +52,8 @@ pub fn rights_follow_statuses()
     ensures { (options : Options) (past : List Happened) → FollowsStatus options past }
 {}
 
-/// A port's status, its link and each part of the configuration have the value that the last event
-/// for them set; no later event sets it. If no event set a value, it is as at opening.
+/// A port's status, its link and each part of the configuration have the value that was set last:
+/// no later event sets it. If no event set a value, it is as at opening.
 pub fn last_events_decide()
     ensures status { (options : Options) (port : ℕ) (events : List Event) (status : Status) →
         (status ≡ status_after options (port_past options port events))

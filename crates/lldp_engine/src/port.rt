@@ -160,7 +160,7 @@ impl<A: Allocator> Port<A> {
         }
     }
 
-    /// Sets the status, and empties the table if receiving ends. Returns the machine's cause.
+    /// Sets the status. Purges the table if receiving ends. Returns what this means to the machine.
     fn set_status(&mut self, given: Status) -> Cause
         ensures after { self.new ≡ port_after_event (status given) self.old }
         ensures cause { result ≡ port_cause (status given) self.old }

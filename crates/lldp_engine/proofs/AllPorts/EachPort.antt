@@ -92,7 +92,7 @@ next_mark event n s i k [] p e lt h = absurd (omega arith)
 next_mark event n s zero k (x ∷ xs) p e lt h = let place : k ≡ s = omega arith in rw (place, h) refl
 next_mark event n s (suc i) k (x ∷ xs) p e lt h = grind (arith, common_steps, sending-append, next_mark event n (s + 1) i k xs p (omega arith) (omega arith) h)
 
--- When port i also handles the event, the ports and the marks are those for i + 1 ports.
+-- When port i also handles the event, the first i + 1 ports have done so, and the marks are theirs.
 pub one_more : (event : PortEvent) (n i : ℕ) (ports : List PortState) (p q : PortState) (mark : Mark) → i < length ports → p ≡ get_or (so_far event n i ports) i p
     → q ≡ port_step event n p → mark ≡ port_mark event n p
     → (set (so_far event n i ports) i q ≡ so_far event n (suc i) ports)

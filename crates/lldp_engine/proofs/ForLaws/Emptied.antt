@@ -40,7 +40,7 @@ map_same : {X : Type 0} (o : Option X) → option_map (λ x. x) o ≡ o
 map_same None = refl
 map_same (Some x) = refl
 
--- If f of the neighbors after a frame is g of those before it, the same is true of `neighbors_at`.
+-- An equation f (neighbors after a frame) ≡ g (neighbors before it) also holds for `neighbors_at`.
 by_frame : {X : Type 0} (f g : List Neighbor → X) (past : Past) (i : ℕ) (octets : List ℕ)
     → f (held_after past.options.max_neighbors (calls_after past.options (past_of past i)) (heard_now past i octets)) ≡ g (neighbors (events_of past.options.max_neighbors (calls_after past.options (past_of past i))))
     → option_map f (neighbors_at (with_event past (agent.frame i octets)) i) ≡ option_map g (neighbors_at past i)

@@ -1,4 +1,4 @@
--- At the last event a port sends its mark: Ordinary, Shutdown, or Quiet for nothing.
+-- What a port sends at the last event is its last mark. A port whose mark is Quiet sends nothing.
 use Rattle.std.proofs.Common.{◌≡◌, ℕ, ◌+◌, ◌<◌, length, ap, ◌∙◌, subst, sym, arith}
 use Rattle.std.specs.List.{Contains}
 use Rattle.std.proofs.lemmas.List.Elements.{All-from_recursion, All-contains}

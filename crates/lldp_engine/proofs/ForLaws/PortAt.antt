@@ -73,8 +73,8 @@ of_table f past i =
     ∙ map_twice (port_after past.options (past_of past i)) (λ (port : PortState). f port.table) (slice_get past.options.names i)
     ∙ map_agree _ _ (slice_get past.options.names i) (λ name. ap f (table_after past.options (past_of past i) name))
 
--- If f (port i's table after an event) equals h (g (its table before)), the same equation holds for
--- the tables that port_at finds after and before the event.
+-- For port i, an equation f (table after an event) ≡ h (g (table before it)) also holds for the
+-- tables that `port_at` finds.
 pub of_table_after : {X Y : Type 0} (f : Contents → X) (g : Contents → Y) (h : Y → X) (past : Past) (event : Event) (i : ℕ)
     → f (port_table past.options (happened past.options i event past.events ∷ past_of past i)) ≡ h (g (port_table past.options (past_of past i)))
     → option_map (λ port. f port.table) (port_at (with_event past event) i) ≡ option_map h (option_map (λ port. g port.table) (port_at past i))

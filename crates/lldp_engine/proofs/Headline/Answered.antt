@@ -26,7 +26,7 @@ contains_more x y xs h = (suc h.0, omega (arith, h.1), h.2)
 
 -- ## Each mark in the answer is given by the definitions
 
--- The port exists, its number is at least s, and it sends this.
+-- Port x.0 exists, its number is at least s, and it sends x.1, which is not Quiet.
 abbrev pub IsOf : Options → List Event → ℕ → Sending → Type 0
 IsOf o events s x = (s ≤ x.0) × (x.0 < length o.names) × IsSent x.1 × (mark_after o (port_past o x.0 events) ≡ x.1)
 

@@ -54,7 +54,7 @@ purge_told : (table : Contents) (b : Bool) → IfSome (if b then Some purge else
 purge_told table true = tt
 purge_told table false = tt
 
--- The octets of a frame event are octets: numbers below 256.
+-- Each octet of a frame event is a number below 256.
 abbrev pub HasOctets : PortEvent → Type 0
 HasOctets (frame octets) = AreOctets octets
 HasOctets event = Unit {0}

@@ -1,4 +1,4 @@
--- After an event, each port and the agent are those of the past with that event added.
+-- After an event, the agent and its ports are as the definitions give them for the new past.
 use Rattle.std.proofs.Common.{◌≡◌, ℕ, ◌+◌, ◌-◌, Bool, true, false, List, [], ◌∷◌, length, Option, Some, None, refl, ap, sym, ◌∙◌, subst, arith}
 use Rattle.std.specs.Prelude.{if◌then◌else◌, option_and_then, IfSome}
 use Rattle.std.specs.List.{cons_option}

@@ -15,7 +15,7 @@ FitsLimit event table = Unit {0}
 abbrev pub AllFit : PortEvent → List PortState → Type 0
 AllFit event ports = AllByRecursion (λ port. FitsLimit event port.table) ports
 
--- Holds if a port that the event names exists, and a limit that it sets is possible for each table.
+-- If the event is for one port, the port exists. A limit in the event is possible for each table.
 abbrev pub CanTake : Whose → List PortState → Type 0
 CanTake (one_port port event) ports = (port < length ports) × AllFit event ports
 CanTake (each_port event) ports = AllFit event ports

@@ -25,7 +25,7 @@ IsLastStatus o i events value = IsLastSet (λ given. set (status i given)) (stat
 abbrev pub IsLastLink : ℕ → List Event → Bool → Type 0
 IsLastLink i events value = IsLastSet (link i) true events value
 
--- Resets every value that commands can set to its value at opening.
+-- Undoes all commands: the values that commands can set are again those at opening.
 abbrev pub without_commands : Options → Configuration → Configuration
 without_commands o c =
     let first = configuration_at_opening o in

@@ -21,7 +21,7 @@ table_at past i = option_map (λ port. port.table) (port_at past i)
 abbrev pub neighbors_at : Past → ℕ → Option (List Neighbor)
 neighbors_at past i = option_map (λ port. port.table.neighbors) (port_at past i)
 
--- At the last event port i sends this.
+-- Holds if port i sends `mark` at the last event.
 abbrev pub Sends : Past → ℕ → Mark → Type 0
 Sends past i mark = Contains (marks_of past) (i, mark)
 

@@ -13,13 +13,13 @@ use Rattle.lldp_engine.specs.Past.{Past, with_event}
 use Rattle.lldp_engine.specs.Laws.PortAt.{port_at, Sends}
 use Rattle.lldp_engine.specs.Laws.Deaf.{Hears}
 
--- P holds at exactly this many of the events. It may depend on the events before each of them.
+-- P holds at exactly this many of the events. P may depend on an event and all earlier ones.
 pub data AreMany (P : List Event → Type 0) : List Event → ℕ → Type 0 where
   none : AreMany P [] 0
   one_more : {event : Event} {events : List Event} {n : ℕ} → P (event ∷ events) → AreMany P events n → AreMany P (event ∷ events) (suc n)
   no_more : {event : Event} {events : List Event} {n : ℕ} → ¬ (P (event ∷ events)) → AreMany P events n → AreMany P (event ∷ events) n
 
--- Port i sent this at exactly n of the events so far.
+-- Port i sent `mark` at exactly n of the events so far.
 abbrev pub HasSent : Past → ℕ → Mark → ℕ → Type 0
 HasSent past i mark n = AreMany (λ events. Sends (record { options = past.options; events = events }) i mark) past.events n
 

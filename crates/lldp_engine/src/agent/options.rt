@@ -53,7 +53,7 @@ impl<'a> Options<'a> {
             && (1..=MOST_FAST).contains(&self.fast_init)
             && (1..=MOST_REINIT).contains(&self.reinit)
     }
-    /// Returns the fault of the first check of the names and the hostname that fails, if any.
+    /// Checks the names and the hostname. Returns the fault of the first check that fails, if any.
     pub(crate) fn first_fault(&self) -> Option<OpenFault>
         ensures fault { result ≡ fault_of (options_of self.now) }
         ensures names { IfNone result (IsTrue (list_all is_port_name (map (λ n.

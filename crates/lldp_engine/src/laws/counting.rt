@@ -23,9 +23,9 @@ pub fn ports_count_what_they_sent()
         (n : ℕ) × HasSent past i Shutdown n × (port.counters.shutdowns ≡ n % 2 ^ 32) }
 {}
 
-/// An LLDPDU with a fault that a port hears counts as discarded and as an error. If the LLDPDU has
-/// no fault and a TTL above 0, its discarded TLVs and its unrecognized kept TLVs are added, and it
-/// counts as an error if a TLV was discarded. Each LLDPDU is counted once.
+/// A port that hears an LLDPDU with a fault counts it as discarded and as an error. If an LLDPDU
+/// has no fault and a TTL above 0, its discarded TLVs and its unrecognized kept TLVs are added, and
+/// it counts as an error if a TLV was discarded. Each LLDPDU is counted once.
 pub fn ports_count_each_lldpdu_once()
     ensures refused { (past : Past) (i : ℕ) (octets pdu : List ℕ) (fault : PduFault) →
         Hears past i → lldpdu_of octets ≡ Some pdu → fault_of pdu ≡ Some fault →

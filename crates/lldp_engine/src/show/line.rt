@@ -19,7 +19,7 @@ pub trait LineSink {
     ghost takes: { Self → Self → List ℕ → Type 0 };
 
     /// Lends a writer for the next line. What is then appended to the writer is the line: at most
-    /// 2,048 octets and a line feed. Returns None if the sink keeps no line here, so that the line
+    /// 2,048 octets and a line feed. Returns None if the sink does not keep this line, which then
     /// need not be written.
     fn begin_line(&mut self) -> Option<&mut Writer>
         ensures* takes_line { sem 𝓛 (LendsRoom Self.row takes self.entry result) }
