@@ -88,7 +88,7 @@ pub told_by : (fault : ProgramFault) (answer : Result (Unit {0}) DeviceFault) (l
 told_by fault (Ok done) line old new before after is written failures = inl (rw is at written, failures)
 told_by fault (Err _) line old new before after is written failures = let cut = rw is at written in inr (cut.0, cut.1, cut.2, failures)
 
--- what is true of the counts of an adapter is true of its stream, with some number of failures
+-- if P holds for what an adapter reports, P holds for its stream, with some number of failures
 pub told_through : (P : Stream → Stream → Type 0) (old taken left new : Option (List ℕ)) (none failed : ℕ) → taken ≡ old → none ≡ 0 → left ≡ new → P (stream taken none) (stream left failed)
     → (n : ℕ) × P (stream old 0) (stream new n)
 told_through P old taken left new none failed o z n h =

@@ -90,13 +90,13 @@ abbrev pub RefusesAddress : List Row → Stream → Stream → Type 0
 RefusesAddress rows told_before told_after =
     (fault : AddressFault) × HasBadAddress rows fault × IsTold (fault_of_address fault) told_before told_after
 
--- Opening refused the options, by the first failed check or for lack of memory. It was reported.
+-- Opening refused the options (first failed check, or lack of memory), and this was reported.
 abbrev pub RefusesOpening : List Row → Stream → Stream → Type 0
 RefusesOpening rows told_before told_after =
     (options : Options) × (fault : OpenFault) × Asks rows options × IsRefusal options fault
     × IsTold (fault_of_opening fault) told_before told_after
 
--- `clap` rejects the arguments, for a fault that is not a request for help or the version.
+-- `clap` rejects the arguments with an error that is not a request for help or the version.
 abbrev pub AreWrong : List Text → Type 0
 AreWrong words = (kind : ErrorKind) × MayFail words kind × (kind ≢ DisplayHelp) × (kind ≢ DisplayVersion)
 

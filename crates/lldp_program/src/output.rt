@@ -91,7 +91,7 @@ impl<W: Sink> Output<'_, W> {
         self.answer
     }
 
-    /// Appends the line for a frame of a port to the buffer.
+    /// Appends to the buffer the line for a frame that a port sends.
     fn put_frame(&mut self, name: &[u8], frame: &[u8])
         requires name { length name.now ≤ 15 }
         requires frame { length frame.now ≤ 1514 }
@@ -108,7 +108,7 @@ impl<W: Sink> Output<'_, W> {
         }
     }
 
-    /// Appends the lines for the frames that ports send to the buffer.
+    /// Appends to the buffer the lines for the frames that ports send.
     fn put_frames(&mut self, agent: &Agent, marks: &Marks)
         requires { AllByRecursion (λ mark. IsPort agent.now mark.0
             × IsSent mark.1) marks.now.items }

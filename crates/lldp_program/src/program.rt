@@ -46,7 +46,8 @@ const REFUSED: u8 = 2;
 /// argument or its default and is in its range, and opening accepted the options. Without
 /// `--listen` the trace from the reader was run over an agent with these options, as `run_trace`
 /// says; with status 0 all of it was run. With `--listen` nothing was read or written, and the
-/// program listened at that port for as many connections as `--connections` says, 1 by default.
+/// program listened at the given port for the number of connections of `--connections`, 1 by
+/// default.
 ///
 /// With status 0 nothing was written to `faults`. With status 1 one fault was reported there: that
 /// of the run or, if the run had none, of the flush after it; that of the socket with `--listen`;

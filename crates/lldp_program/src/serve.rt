@@ -43,10 +43,10 @@ fn count_fault(ran: Result<(), RunFault>) -> u16
 
 /// Accepts this many connections, one after another, and runs the trace that arrives over each
 /// before it accepts the next, even after a fault. Returns how many of these runs ended with a
-/// fault. The agent keeps its state from one connection to the next. Fails if accepting fails; the
-/// traces of the connections before that have been run. An acceptor that reports its calls reports
-/// these accepts and runs, and no other calls. In every case `KeepsOn` holds: the agent has the
-/// state after its past and some more allowed events.
+/// fault. The agent keeps its state from one connection to the next. Fails if accepting fails; by
+/// then the trace of each accepted connection has been run. An acceptor that reports its calls
+/// reports these accepts and runs, and no other calls. In every case `KeepsOn` holds: the agent has
+/// the state after its past and some more allowed events.
 pub fn serve_connections<D: Acceptor>(
     agent: &mut Agent,
     acceptor: &mut D,

@@ -188,8 +188,8 @@ pub fn run_trace<S: Source, W: Sink>(
         (W.taken writer.old) (W.taken writer.new) agent.old agent.new result }
     // For all devices, even those that report no octets: the agent has the state after its past and
     // more events. Each table holds the last stored frames that have not expired. Each port has
-    // sent exactly what was due while its credit window was open. No run of events has more frames
-    // or stops than its bound. No other choice would have sent more frames up to any event.
+    // sent exactly what was due while its credit window was open. It never sent or stopped more
+    // often than it may. No other choice would have sent more frames up to any event.
     ensures headline { (past : Past) → Stands past agent.old → KeepsOn past agent.new }
     // The answer is Read exactly if a read failed, and Write exactly if a write failed. Only that
     // call failed, and it was the last. With Ok or InputTooLong no device failed.

@@ -67,7 +67,7 @@ failed_early past xs ys a b agent h = record {
   promised = h.promised;
 }
 
--- if xs was done and then an item of ys failed, that item failed as one of xs ++ ys
+-- if xs was done and then an item of ys failed, an item of xs ++ ys failed
 pub failed_later : (past : Past) (xs ys : List Item) (a b c : Option (List ℕ)) (agent : AgentState) → Appends a b (text_of_all past xs) → Failed (after_all past xs) ys b c agent → Failed past (xs ++ ys) a c agent
 failed_later past xs ys a b c agent h k = record {
   before = xs ++ k.before;

@@ -34,7 +34,7 @@ consumes_end a b c xs ys n h zero k =
     let joined : xs ++ take n ys ≡ xs = ap (λ t. xs ++ t) none ∙ append-nil xs in
     rw joined at (consumes_then a b c xs (take n ys) h k)
 
--- how a run ends, for each answer, if the lines before were done
+-- how a run with the answer r ends, if all earlier lines were done
 module _ {T : Type 0} (r : Result T DeviceFault) (past : Past) (a b c : Option (List ℕ)) (agent : AgentState) where
   lines_end : (ls ms : List (List ℕ)) → Appends a b (text_of_all past (items_of_lines past ls))
       → Ended r (after_all past (items_of_lines past ls)) (items_of_lines (after_all past (items_of_lines past ls)) ms) b c agent

@@ -131,7 +131,7 @@ pub a_fault : (r : Answer) → is_err r ≡ true → is_ok r ≡ false
 a_fault (Ok done) h = cc
 a_fault (Err fault) h = refl
 
--- if two references are to the same writer, a line appended through one is appended for both
+-- if x and y are the same writer, a line that was appended through y was appended to x
 pub behind_lent : (x y : MutBor (List ℕ)) (text line : List ℕ) → Some x ≡ Some y → text ≡ y.now ++ line → text ≡ x.now ++ line
 behind_lent x y text line is e =
     let same : x ≡ y = cc in

@@ -20,7 +20,7 @@ appends_kept None b h = tt
 appends_kept (Some xs) None h = h
 appends_kept (Some xs) (Some ys) h = h ∙ sym (append-nil xs)
 
--- a text is still written if the second write adds nothing
+-- if the second of two writes adds nothing, the two wrote exactly the text of the first
 pub appends_and_kept : (a b c : Option (List ℕ)) (x : List ℕ) → Appends a b x → Keeps b c → Appends a c x
 appends_and_kept None b c x h k = tt
 appends_and_kept (Some xs) None c x h k = absurd h

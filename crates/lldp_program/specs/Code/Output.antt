@@ -38,7 +38,7 @@ pub record SameSink {T : Type 0} (answer : Result T DeviceFault) (old new : Outp
   pub place : new.place ≡ old.place
   pub sink : new.sink ≡ old.sink
 
--- Ok: the text was added to the buffered text. Err: only a part of the two was written.
+-- Ok: the text was added to the buffered text. Err: only a part of both texts was written.
 abbrev pub Went : Result (Unit {0}) DeviceFault → List ℕ → Output → Output → Type 0
 Went (Ok done) text old new = GoesOut old.taken old.waits new.taken new.waits text
 Went (Err fault) text old new = IsWritten (IsCutOff (old.waits ++ text)) old.taken new.taken

@@ -25,11 +25,11 @@ use Rattle.lldp_program.specs.declared.arguments.AddressFault.TheVariants.{Mac, 
 abbrev pub valued_rule : Text → Text → Rule
 valued_rule name default = record (new_rule name) { long = Some name; action = Some Set; defaults = default ∷ [] }
 
--- an option with this default, whose value has a name in the help
+-- an option with this default; the help has a name for its value
 abbrev pub text_rule : Text → Text → Rule
 text_rule name default = record (valued_rule name default) { value_names = 1 }
 
--- an option with this default, whose value is a whole number from 1 to `greatest`
+-- an option for a whole number from 1 to `greatest`, with this default
 abbrev pub number_rule : Text → ℕ → Text → Rule
 number_rule name greatest default = record (text_rule name default) { parser = Some (Signed (pos 1) (pos greatest)) }
 

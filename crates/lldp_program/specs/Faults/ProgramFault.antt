@@ -62,7 +62,7 @@ abbrev pub fault_of_address : AddressFault → ProgramFault
 fault_of_address address.Mac = Mac
 fault_of_address address.Management = Management
 
--- how the program ends after a run and the flush; a fault of the run is the one reported
+-- how the program ends after a run and the flush; if both failed, with the fault of the run
 abbrev pub ended_by : Result (Unit {0}) RunFault → Result (Unit {0}) DeviceFault → Result (Unit {0}) ProgramFault
 ended_by (Ok done) (Ok flushed) = Ok tt
 ended_by (Ok done) (Err fault) = Err Write

@@ -31,8 +31,8 @@ pub record AsksItsItems (past : Past) (line : List ℕ) : Type 0 where
   pub work : (work : Work) → IsLineOfWork (agent_of past) work line → AreItemsOf work (items_of past line)
   pub fault : (fault : LineFault) → work_given (agent_of past) line ≡ Err fault → items_of past line ≡ refused fault ∷ []
 
--- The text has one line for each port that sends, in order, and no other line: `tx`, a space, the
--- name of the port, a space, the octets of its frame in lower case hexadecimal, LF.
+-- The text has only these lines, one for each port that sends, in order: `tx`, a space, the name of
+-- the port, a space, the octets of its frame in lower case hexadecimal, LF.
 abbrev pub AreLinesOf : List (List ℕ) → Configuration → List Sending → List ℕ → Type 0
 AreLinesOf names configuration [] text = text ≡ []
 AreLinesOf names configuration (mark ∷ marks) text =

@@ -102,8 +102,8 @@ SaysAddress text given =
     (a b c d : ℕ) × (a < 256) × (b < 256) × (c < 256) × (d < 256) × (text ≡ dotted_text a b c d)
     × (given ≡ Some (a ∷ b ∷ c ∷ d ∷ []))
 
--- Each option has the value of its own argument; `HasOptions` states the defaults. Without such
--- arguments there are no ports and no management address. No options fit a bad address.
+-- Each option has the value of its own argument; `HasOptions` states the defaults. By default there
+-- are no ports and no management address. If an address is bad, no options satisfy this.
 pub record AreAsked (rows : List Row) (o : Options) : Type 0 where
   pub ports : (names : List Text) → all_of (codes "PORT") rows ≡ Some names → o.names ≡ names
   pub no_port : all_of (codes "PORT") rows ≡ None → o.names ≡ []

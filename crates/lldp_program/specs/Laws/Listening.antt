@@ -33,8 +33,8 @@ AskFor roles words listening =
     → AsksListening (one_of (codes "listen") (matches_of (program roles) words)) (one_of (codes "connections") (matches_of (program roles) words)) asked
     → asked ≡ listening
 
--- Without `--listen` nothing is asked for. With it, the port is that of `--listen`, and the number
--- of connections is that of `--connections`, or 1.
+-- Without `--listen` the options do not ask to listen. With it, the port is that of `--listen`, and
+-- the number of connections is that of `--connections`, or 1.
 pub record AskByWords (roles : Bor (List (Bor Text))) : Type 0 where
   pub nothing : AskFor roles (codes "lldpa" ∷ codes "--connections" ∷ codes "7" ∷ codes "eth0" ∷ []) None
   pub one : AskFor roles (codes "lldpa" ∷ codes "--listen" ∷ codes "4711" ∷ codes "eth0" ∷ [])

@@ -59,7 +59,7 @@ AreWordsOfWork agent (link port up) words =
     (name : List ℕ) × NamesPort agent port name × (words ≡ link_word up ∷ name ∷ [])
 AreWordsOfWork agent (command given) words = AreWordsOf agent given words × IsNotInUse agent given
 
--- The lines that ask for this work: blank lines and comments for `skip`, else lines of its words.
+-- The lines that ask for this work: blank lines and comments for `skip`, else lines with its words.
 abbrev pub IsLineOfWork : AgentState → Work → List ℕ → Type 0
 IsLineOfWork agent skip line = (length line ≤ 4096) × IsPassedOver line
 IsLineOfWork agent work line = (words : List (List ℕ)) × IsReadAs line words × AreWordsOfWork agent work words

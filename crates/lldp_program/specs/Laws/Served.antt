@@ -23,7 +23,7 @@ pub record AreServed {C : Type 0} (old new : Option (List (Call C))) (connection
   pub asked : new ≡ logged (asked_in_turn visits) old
 
 -- If serving returned Ok, all requested connections were served. If listening returned Ok, the port
--- of 127.0.0.1 was bound first, they were all served there, and no run had a fault.
+-- of 127.0.0.1 was bound first, all connections were served there, and no run had a fault.
 pub record ServesAll {C : Type 0} (to_come taken : C → Option (List ℕ)) (old new : Option (List (Call C)))
     (before after : AgentState) : Type 0 where
   pub counted : (connections faulty : ℕ) → HasAsked to_come taken old new connections before after (Ok faulty) →

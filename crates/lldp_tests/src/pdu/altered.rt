@@ -64,8 +64,8 @@ fn received(rt: &(impl Abort + AllocGlobal), octets: &[u8]) -> Result<u32, Fail>
     Ok(agent.counters(0).received)
 }
 
-/// Changes one octet of `FRAME` in every way, and passes each result to a new agent. It is not an
-/// LLDP frame exactly if its destination (6 octets) or its EtherType (2) was changed.
+/// Changes one octet of `FRAME` in every way, and passes each result to a new agent. A result is an
+/// LLDP frame unless its destination (6 octets) or its EtherType (2) was changed.
 #[test]
 fn one_octet_changed(rt: HostRuntime) -> Result<(), Fail> {
     let frame = octets(rt.alloc(), FRAME)?;

@@ -80,8 +80,7 @@ fn ttl(tlvs: &[Tlv<'_>]) -> usize {
     256 * octet(0) + octet(1)
 }
 
-/// Returns the TLVs that are kept: all that are well formed, but of each type from 4 to 7 only the
-/// first.
+/// Returns the kept TLVs: all that are well formed, but only the first of each type from 4 to 7.
 fn kept<'a>(alloc: Global, later: &[Tlv<'a>]) -> Result<Vec<Tlv<'a>>, AllocError> {
     let mut kept = Vec::new(alloc);
     for (place, tlv) in later.iter().enumerate() {

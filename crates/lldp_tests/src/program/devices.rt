@@ -5,7 +5,7 @@ use std::io::{Error, ErrorKind, Read, Result, Write};
 use std::net::{Net, SocketAddr, TcpListener, TcpStream};
 
 /// A reader that returns its octets in a first piece and later pieces of these sizes. It can fail
-/// at one call, as interrupted, which must count like any other failure.
+/// at one call with `Interrupted`, which must count like any other failure.
 #[derive(Drop)]
 pub struct Drip<'a> {
     octets: &'a [u8],
@@ -61,8 +61,8 @@ pub enum Burn {
     AtFlush,
 }
 
-/// A writer that accepts pieces of this size, and fails once: after this many octets, or when it is
-/// flushed. It also keeps what is written after the failure.
+/// A writer that accepts pieces of this size. It fails once, after this many octets, or at each
+/// flush. It also keeps what is written after the failure.
 #[derive(Drop)]
 pub struct Fuse {
     octets: [u8; 4096],

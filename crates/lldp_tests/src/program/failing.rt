@@ -118,8 +118,8 @@ const LINES: [&str; 9] = [
     "tick\n",
 ];
 
-/// The frames that `LINES` sends, and one more: of the two updates that `fails_at` adds, only one
-/// has credit.
+/// The lines of the six frames that `LINES` sends, and of one more: `fails_at` adds two updates,
+/// and the credit suffices for one.
 const FRAMES: [&str; 7] = [SENT; 7];
 
 /// Runs the lines with a writer that fails after this many octets. Then runs the lines that were

@@ -102,7 +102,7 @@ fn any_pieces(rt: HostRuntime) -> Result<(), Fail> {
     Ok(())
 }
 
-/// Returns the text of an input. The clauses follow from public contracts alone.
+/// Returns what a run over the input writes. The clauses follow from public contracts alone.
 pub fn text_of_input(
     rt: &(impl Abort + AllocGlobal),
     agent: &mut Agent,

@@ -263,7 +263,7 @@ fn answers_come_at_once(rt: HostRuntime) -> Result<(), Fail> {
     converse(&rt, &steps, Ok(()))
 }
 
-/// Checks the answer to a client that left without reading an answer.
+/// Checks that the run fails with Read if its client leaves without reading an answer.
 #[test]
 fn client_that_resets(rt: HostRuntime) -> Result<(), Fail> {
     let steps = [(HEARD, ""), ("show neighbors\nrx eth0", "")];
