@@ -1,7 +1,7 @@
 /*
  * The functions that programs call. Each checks the pointers that must not be NULL, and then calls the proved function
- * with the same arguments. It replaces a NULL with a length of 0 by another address, since the proved function's contract
- * forbids NULL. tools/library/library.sh puts `proved_` before the names of the proved functions.
+ * with the same arguments. Only a NULL whose length is 0 is replaced by another address, since the contracts of proved
+ * functions forbid NULL. tools/library/library.sh puts `proved_` before the names of the proved functions.
  *
  * A proved function takes the agent out of its handle and puts it back. A function that only reads passes a copy of the
  * handle, so that nothing is written through the caller's pointer to const.

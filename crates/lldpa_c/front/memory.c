@@ -15,7 +15,7 @@ static struct memory found(void *at)
     return (struct memory){at != NULL, at != NULL ? at : &nowhere};
 }
 
-/* Allocates `align` octets instead of 0, so that the address is not NULL and not in use. */
+/* Allocates `align` octets instead of 0, so that each result has an address of its own. */
 struct memory rattle_alloc(size_t octets, size_t align)
 {
     return found(malloc(octets > 0 ? octets : align));

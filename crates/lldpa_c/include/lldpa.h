@@ -136,8 +136,8 @@ typedef struct lldpa_kept {
 
 /*
  * Finds the next kept TLV.
- *   extent, length  the start of an LLDPDU for which lldpa_examine returned 0 and a TTL above 0: as many octets as its
- *                   lldpa_examined.extent. Pass the same octets in every call of a walk
+ *   extent, length  the first lldpa_examined.extent octets of an LLDPDU for which lldpa_examine returned 0 and wrote a
+ *                   TTL above 0. Pass the same octets in every call of a walk
  *   walk            is advanced to the TLV; it is unchanged if no TLV is left
  * Returns true if it found a TLV. If the octets are not such an LLDPDU, it may find any TLV in them, or none.
  */

@@ -1,4 +1,4 @@
--- Definitions for the proofs that a handle's parts own what a box of the agent owns.
+-- Definitions for the proofs that a handle and its parts own the same as a box with the agent.
 use mir.Syntax.{impl, tnil, dnil}
 use mathlib.Core.List.{[]}
 use denote.Signature.{Slot, plain}

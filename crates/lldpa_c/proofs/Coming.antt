@@ -14,7 +14,7 @@ use Rattle.lldpa_c.specs.Filling.{View, begun, put_if, put_unless, come_at, come
 use Rattle.lldpa_c.specs.Answer.{is_over}
 use Rattle.lldpa_c.specs.Filled.{Fills, IsFull}
 
--- `r` is `v` with the first `count` lines added: all lines, or the next one does not fit.
+-- `r` is `v` with the first `count` lines added: all lines, or as many as fit.
 pub record Comes (size : ℕ) (v r : View) (lines : List (List ℕ)) : Type 0 where
   pub count : ℕ
   pub next : r.next ≡ v.next + count

@@ -234,7 +234,7 @@ quiet_before k agent h =
     let quiet = quiet_behind k agent h (waited k agent (after_less k (due_in agent) h).0) in
     record { sends = quiet.sends; ages = quiet.ages }
 
--- ---- agents that result from a past
+-- ---- agents whose state is the result of past events
 
 credit_of : (o : Options) (past : List Happened) (name : List ℕ) → (port_after o past name).machine.credit_max ≡ o.credit_max
 unfolding port_after machine_of

@@ -25,7 +25,7 @@ pub record IsWithin (body : List ℕ) (m : LldpaManagement) : Type 0 where
   pub address : m.address.start + m.address.length ≤ length body
   pub oid : m.oid.start + m.oid.length ≤ length body
 
--- the struct for an address, whose body is 2 octets, the address, 6 octets, the object identifier
+-- the struct for an address; the body has 2 octets, the address, 6 octets, the object identifier
 abbrev pub management_of : Address → LldpaManagement
 management_of a = record {
   address = record { start = 2; length = length a.address };

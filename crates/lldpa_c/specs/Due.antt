@@ -62,8 +62,8 @@ abbrev pub timeless : AgentState → AgentState
 timeless agent = record { configuration = agent.configuration; ports = map timeless_port agent.ports }
 
 -- Nothing is due before tick number `seconds`: until then only credits and clocks change. At that
--- tick a port sends or a neighbor ages out, if the agent results from a past. NEVER means that
--- nothing is ever due.
+-- tick a port sends or a neighbor ages out, if the agent's state is the result of past events.
+-- NEVER means that nothing is ever due.
 pub record IsDue (agent : AgentState) (seconds : ℕ) : Type 0 where
   pub first : 1 ≤ seconds
   pub quiet : (k : ℕ) → k + 1 < seconds → IsQuiet (ticked k agent)

@@ -18,7 +18,7 @@ use Rattle.lldpa_c.specs.Marks.{numbered, marks_told}
 abbrev pub disables : ℕ → Event
 disables port = set (status port Disabled)
 
--- an agent after its first n ports were disabled, and the frames that this sends
+-- an agent after its first n ports were disabled, and the frames that are sent for this
 abbrev pub left : ℕ → AgentState → AgentState
 left zero agent = agent
 left (suc n) agent = agent_after (disables n) (left n agent)
@@ -27,7 +27,7 @@ abbrev pub sent_leaving : ℕ → AgentState → List (ℕ × Mark)
 sent_leaving zero agent = []
 sent_leaving (suc n) agent = sent_leaving n agent ++ agent_marks (disables n) (left n agent)
 
--- the past with the events added that disable the first n ports
+-- the past, followed by the events that disable the first n ports
 abbrev pub with_leaving : ℕ → Past → Past
 with_leaving zero past = past
 with_leaving (suc n) past = with_event (with_leaving n past) (disables n)

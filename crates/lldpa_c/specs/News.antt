@@ -54,7 +54,7 @@ news_on port frame = if hears port then frame_news port.table (lldpdu_of frame) 
 abbrev pub heard_pdu : PortState → List ℕ → Option (List ℕ)
 heard_pdu port frame = if hears port then lldpdu_of frame else None
 
--- converts a range of the LLDPDU to the same range of the frame
+-- converts a range of the LLDPDU to the range of the same octets in the frame
 abbrev pub in_frame : LldpaPlace → LldpaPlace
 in_frame place = record { start = 14 + place.start; length = place.length }
 

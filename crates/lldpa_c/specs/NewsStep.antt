@@ -33,7 +33,7 @@ step_news hears (Some refused) before after = REFUSED
 step_news hears (Some (leaves name)) before after = leaving_news (octets_held before name)
 step_news hears (Some (tells pdu)) before after = telling_news (octets_held before (msap_of pdu)) (octets_held after (msap_of pdu))
 
--- `what` is this news. It is NEW exactly if the table grows by one, GONE exactly if it shrinks.
+-- `what` is the news of this step. It is NEW (GONE) exactly if the table grows (shrinks) by one.
 pub record TellsStep (hears : Bool) (heard : Option Heard) (before after : Contents) (what : ℕ) : Type 0 where
   pub is : what ≡ step_news hears heard before after
   pub new : (what ≡ NEW) ↔ (length after.neighbors ≡ 1 + length before.neighbors)

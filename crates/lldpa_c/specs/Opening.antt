@@ -34,8 +34,8 @@ asked o = record {
   receive_only = o.receive_only;
 }
 
--- The struct can be read: a role has this number, the first 65 names and the hostname are UTF-8,
--- and the four numbers are in their ranges.
+-- The struct can be read: `role` is the number of a role, the first 65 names and the hostname are
+-- UTF-8, and the four numbers are in their ranges.
 pub record IsRead (o : LldpaOptions) : Type 0 where
   pub role : IsSome (role_numbered o.role)
   pub names : All (λ text. IsUtf8 text.octets.now) (take 65 o.ports.now)

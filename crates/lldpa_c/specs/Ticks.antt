@@ -45,7 +45,7 @@ abbrev pub LastDid : ℕ → AgentState → List (ℕ × Mark) → ℕ → Type 
 LastDid zero agent sent gone = (sent ≡ []) × (gone ≡ 0)
 LastDid (suc n) agent sent gone = (sent ≡ agent_marks tick (ticked n agent)) × AgesOut (ticked n agent) (ticked (suc n) agent) gone
 
--- The promise for the last of n ticks, if this past led to the agent before the ticks.
+-- What is promised of the last of n more ticks by an agent with this past: nothing if n is 0.
 abbrev pub LastPromised : ℕ → Past → List (ℕ × Mark) → AgentState → Type 0
 LastPromised zero past sent after = Unit {0}
 LastPromised (suc n) past sent after = (sent ≡ marks_of (with_ticks (suc n) past)) × PromisedStep (with_ticks n past) tick sent after

@@ -15,7 +15,7 @@ abbrev pub may_write : ℕ → List ℕ → Bool
 may_write kind body =
     is_between 1 kind 127 && not (kind == 3) && nat_le (length body) 511 && is_well_formed (record { kind = kind; body = body })
 
--- the text of a TLV after `lldp.PORT.N.`
+-- the text of a TLV in a line of `show neighbors`, without the prefix `lldp.PORT.N.`
 abbrev pub value_of : ℕ → List ℕ → List ℕ
 value_of kind body =
     if kind == 1 then codes "chassis." ++ chassis_text body

@@ -1,4 +1,4 @@
--- A walk over the kept TLVs of an extent: an LLDPDU up to its end, or up to an incomplete TLV.
+-- A walk over the kept TLVs of an extent: the octets before the End Of LLDPDU or an incomplete TLV.
 use Rattle.std.specs.Prelude.{◌≡◌, ℕ, ◌+◌, ◌-◌, ◌<◌, ◌≤◌, ◌==◌, List, length, take, drop, None, if◌then◌else◌}
 use Rattle.lldp_pdu.specs.Tlv.{TlvUnit}
 use Rattle.lldp_pdu.specs.Cut.{cut}
@@ -21,7 +21,7 @@ tlvs_from octets next = if next == 0 then drop 3 (cut octets).tlvs else (cut (dr
 abbrev pub left_of : List ℕ → LldpaKept → List TlvUnit
 left_of octets walk = kept_seen walk.met (tlvs_from octets walk.next)
 
--- The octets end with two octets of a header, the body of the TLV, and `others`.
+-- The octets end with a TLV header of two octets, this body, and `others`.
 pub record GivesKept (octets body others : List ℕ) : Type 0 where
   pub within : 2 + length body + length others ≤ length octets
   pub held : take (length body) (drop (length octets - length others - length body) octets) ≡ body

@@ -27,8 +27,8 @@ fn mark_numbered(number: u32) -> Option<Mark>
 }
 
 /// Fills the start of the caller's buffer with the frame that a port sends.
-// Not inlined: the stack frame exceeds a page. When it was inlined, LLVM moved a branch of the
-// caller before the loop that probes the pages, and the loop overwrote a register of that branch.
+// Not inlined: this function's stack frame exceeds a page. When it was inlined, LLVM moved a branch
+// of the caller before the loop that probes pages. The loop overwrote a register of that branch.
 #[inline(never)]
 fn write(agent: &Agent, port: u32, mark: Mark, room: &mut [u8], written: &mut usize) -> u8
     requires { IsSent mark }

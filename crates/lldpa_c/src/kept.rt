@@ -56,7 +56,7 @@ fn rest_from(extent: &[u8], next: usize) -> &[u8]
     }
 }
 
-/// Returns the first kept TLV in these octets, if TLVs of the types in `met` came before them.
+/// Returns the first kept TLV in these octets. `met` says which types were found before them.
 fn first_kept(octets: &[u8], met: Seen) -> Option<Found<'_>>
     ensures none { IfNone result (kept_seen met.types (cut octets.now).tlvs ≡ []) }
     ensures some { IfSome result (λ found. kept_seen met.types (cut octets.now).tlvs
@@ -78,8 +78,8 @@ fn first_kept(octets: &[u8], met: Seen) -> Option<Found<'_>>
     None
 }
 
-/// Advances a walk to the next kept TLV of an extent (an LLDPDU without its end). Returns false,
-/// and leaves the walk unchanged, if no TLV is left.
+/// Advances a walk to the next kept TLV of an extent (the octets before the End Of LLDPDU or an
+/// incomplete TLV). Returns false, and leaves the walk unchanged, if no TLV is left.
 #[unsafe(no_mangle)]
 pub extern "C" fn lldpa_next_kept(extent: &[u8], walk: &mut LldpaKept) -> bool
     ensures given { IsTrue result → left_of extent.now walk.old

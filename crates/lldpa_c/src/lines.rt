@@ -146,8 +146,8 @@ impl LineSink for Filling<'_> {
 }
 
 /// Writes lines of a show, beginning with line `from`: as many whole lines as fit.
-// Not inlined: the stack frame exceeds a page. When it was inlined, LLVM moved a branch of the
-// caller before the loop that probes the pages, and the loop overwrote a register of that branch.
+// Not inlined: this function's stack frame exceeds a page. When it was inlined, LLVM moved a branch
+// of the caller before the loop that probes pages. The loop overwrote a register of that branch.
 #[inline(never)]
 fn fill(agent: &Agent, show: Show, from: u32, room: &mut [u8]) -> LldpaLines
     ensures within { result.length ≤ length room.new }

@@ -65,7 +65,7 @@ const NOWHERE: LldpaPlace = LldpaPlace {
     length: 0,
 };
 
-/// Returns news about no neighbor: both ranges are empty.
+/// Returns news without a neighbor: both ranges are empty.
 fn unnamed(what: u32, fault: u32) -> LldpaNews
     ensures what { result.what ≡ what }
     ensures fault { result.fault ≡ fault }

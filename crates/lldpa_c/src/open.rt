@@ -28,7 +28,7 @@ fn role_numbered(number: u32) -> Option<Role>
     }
 }
 
-/// Returns the first 65 names, which are one more than allowed, or None if a name is not UTF-8.
+/// Returns the first 65 names (one more than allowed), or None if one of them is not UTF-8.
 fn names_of<'a>(ports: &'a [LldpaText<'a>]) -> Option<ArrayVec<&'a str, 65>>
     ensures names { IfSome result (λ names. map (λ name. name.now) names.items
         ≡ map (λ text. text.octets.now) (take (min (length ports.now) 65) ports.now)) }

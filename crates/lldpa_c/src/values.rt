@@ -51,8 +51,8 @@ fn write_value(line: &mut Writer, tlv: Tlv<'_>)
 }
 
 /// Writes a TLV as text into the caller's buffer.
-// Not inlined: the stack frame exceeds a page. When it was inlined, LLVM moved a branch of the
-// caller before the loop that probes the pages, and the loop overwrote a register of that branch.
+// Not inlined: this function's stack frame exceeds a page. When it was inlined, LLVM moved a branch
+// of the caller before the loop that probes pages. The loop overwrote a register of that branch.
 #[inline(never)]
 fn give_value(tlv: Tlv<'_>, room: &mut [u8], written: &mut usize) -> u8
     requires { IsTrue (may_write tlv.kind tlv.body.now) }

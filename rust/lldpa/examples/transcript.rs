@@ -104,7 +104,7 @@ fn heard(agent: &mut Agent, port: u8, frame: &[u8]) -> Vec<Sent> {
     sent
 }
 
-/// Reports to the agent that `left` seconds passed, as many per call as the agent counts.
+/// Reports to the agent that `left` seconds passed, in as many calls as needed.
 fn tick(agent: &mut Agent, ports: &[&str], mut left: u32) {
     while left > 0 {
         let due = agent.due();

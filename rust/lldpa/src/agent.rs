@@ -41,7 +41,7 @@ pub struct Agent {
     pub(crate) ports: u8,
 }
 
-/// Returns the frames to send that a call wrote.
+/// Returns the frames to send, from the struct that a call wrote.
 fn sent(marks: &sys::lldpa_marks) -> Vec<Sent> {
     marks.items[..usize::from(marks.count)]
         .iter()
@@ -49,7 +49,7 @@ fn sent(marks: &sys::lldpa_marks) -> Vec<Sent> {
         .collect()
 }
 
-/// Returns a pointer to a text and its length. The text must outlive the result.
+/// Returns the pointer and the length of a text. The text must outlive the result.
 fn text_of(text: &str) -> sys::lldpa_text {
     sys::lldpa_text { octets: text.as_ptr(), length: text.len() }
 }
@@ -105,9 +105,9 @@ impl Agent {
         Ticks { taken: told.taken, aged_out: told.aged_out, sent: sent(&marks) }
     }
 
-    /// Returns the seconds until a port sends or a neighbor ages out if you make no other call, or
-    /// None. You may sleep that long, and then pass the seconds to [`Agent::ticks`]. If a frame
-    /// wakes you earlier, first report the seconds that passed, and then the frame.
+    /// Returns the seconds until a port sends or a neighbor ages out without another call. None if
+    /// nothing is due. You may sleep that long, and then pass the seconds to [`Agent::ticks`]. If a
+    /// frame wakes you earlier, first report the seconds that passed, and then the frame.
     #[must_use]
     pub fn due(&self) -> Option<u32> {
         let mut seconds = sys::LLDPA_NEVER;

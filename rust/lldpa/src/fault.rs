@@ -26,7 +26,7 @@ macro_rules! faults {
                 }
             }
 
-            /// Returns the number of the fault in `lldpa.h`, or 255.
+            /// Returns the number in `lldpa.h`. Faults that only this crate has are 254 and 255.
             pub fn number(self) -> u8 {
                 self as u8
             }

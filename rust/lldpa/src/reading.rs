@@ -215,7 +215,7 @@ pub fn tlv_text(kind: u8, body: &[u8]) -> Option<String> {
 }
 
 /// Escapes a neighbor's text, so that you can print it: doubles each backslash, and replaces each
-/// octet that is not printable ASCII by `\x` and two digits. None if it is over 511 octets.
+/// octet that is not printable ASCII by `\x` and two digits. None if the text is over 511 octets.
 ///
 /// ```
 /// assert_eq!(lldpa::escape(b"sw1\x1b").as_deref(), Some("sw1\\x1b"));

@@ -141,8 +141,8 @@ pub struct lldpa_kept {
 }
 extern "C" {
     #[doc = " Finds the next kept TLV."]
-    #[doc = "   extent, length  the start of an LLDPDU for which lldpa_examine returned 0 and a TTL above 0: as many octets as its"]
-    #[doc = "                   lldpa_examined.extent. Pass the same octets in every call of a walk"]
+    #[doc = "   extent, length  the first lldpa_examined.extent octets of an LLDPDU for which lldpa_examine returned 0 and wrote a"]
+    #[doc = "                   TTL above 0. Pass the same octets in every call of a walk"]
     #[doc = "   walk            is advanced to the TLV; it is unchanged if no TLV is left"]
     #[doc = " Returns true if it found a TLV. If the octets are not such an LLDPDU, it may find any TLV in them, or none."]
     pub fn lldpa_next_kept(extent: *const u8, length: usize, walk: *mut lldpa_kept) -> bool;

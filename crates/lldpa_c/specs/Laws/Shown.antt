@@ -58,8 +58,8 @@ pub record AreShown : Type 0 where
       slice_get (neighbor_lines name number neighbor) 3 ≡ Some (neighbor_key name number ++ (codes "expires=" ++ decimal told.left))
   pub ports : (agent : AgentState) (port : ℕ) → (has_no_port agent port ≡ false) ↔ IsPort agent port
 
--- The text of a TLV is a line of `show neighbors` after `lldp.PORT.N.`: the neighbor's first line
--- for the Chassis ID, the second line for the Port ID, and a line for each kept TLV.
+-- The text of a TLV is a line of `show neighbors` without its prefix `lldp.PORT.N.`: the neighbor's
+-- first line for the Chassis ID, the second line for the Port ID, and a line for each kept TLV.
 pub record AreLines : Type 0 where
   pub chassis : (name : List ℕ) (number : ℕ) (neighbor : Neighbor) → IsIdentifier neighbor.msap.chassis →
       option_map (λ text. neighbor_key name number ++ text) (tlv_value 1 neighbor.msap.chassis) ≡ slice_get (neighbor_lines name number neighbor) 0

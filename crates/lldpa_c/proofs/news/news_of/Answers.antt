@@ -10,7 +10,7 @@ use Rattle.lldpa_c.specs.News.{hears}
 use Rattle.lldpa_c.proofs.Newly.{TellsPdu, hears_it, reports}
 use Rattle.lldpa_c.proofs.news.news_of.Goals as goal
 
--- if field `f` of port i was read as `a`, then `f` of that port is `a`
+-- if the list of ports has `a` in field `f` of port i, then `a` is field `f` of `port`
 own : {A : Type 0} (f : PortState → A) (ports : List PortState) (i : ℕ) (port : PortState) (a : A) → slice_get ports i ≡ Some port → option_map f (slice_get ports i) ≡ Some a → f port ≡ a
 own f ports i port a e h =
     let is : Some (f port) ≡ Some a = sym (ap (option_map f) e) ∙ h in
