@@ -1,13 +1,13 @@
 #!/usr/bin/env python3
 """Compares lldpa with plain C that does the same work (tools/bench/yardstick.c), in one run.
 
-Each row is run several times, the programs in turn; the least processor time counts, less that of
-the trace's beginning. C with vector instructions, which checks no TLV, shows the limit. If valgrind
-is installed, callgrind counts instructions on a shorter trace, in columns that begin with #. If
-tshark and tcpdump are installed, their times are measured too. Needs Python and a C compiler.
+Each row runs the programs in turn, several times. A program's least processor time counts, less
+that of the beginning of the trace. C with vector instructions checks no TLVs: it shows what is
+possible. If valgrind is installed, callgrind counts instructions on a shorter trace, in columns
+that begin with #. If tshark and tcpdump are installed, they are measured. Needs a C compiler.
 
-The rows are in bench_rows.py, the counting of instructions in bench_counts.py, the readers of
-captures in bench_captures.py, and the picture in bench_picture.py.
+bench_rows.py has the rows, bench_counts.py counts instructions, bench_captures.py measures readers
+of captures, and bench_picture.py draws the picture.
 """
 from __future__ import annotations
 
@@ -32,7 +32,7 @@ HEADS = ["lldpa", "C", "ratio", "vectors"]
 
 
 def resident(words: list[str]) -> int:
-    """Returns the most kilobytes of memory that a program used before its first line."""
+    """Returns the peak memory, in kilobytes, of a program that waits for its first line."""
     child = subprocess.Popen(words, stdin=subprocess.PIPE, stdout=subprocess.DEVNULL)
     time.sleep(0.2)
     told = Path(f"/proc/{child.pid}/status").read_text()
@@ -42,7 +42,7 @@ def resident(words: list[str]) -> int:
 
 
 def by_turns(row: Row, room: Path, sides: list[list[str]], times: int) -> list[float]:
-    """Runs the programs in turn. Returns each one's least nanoseconds per measured item."""
+    """Runs the programs in turn. Returns each one's least time, in nanoseconds per item."""
     whole, begin, things = row.traces(room, row.lines)
     best = [[float("inf"), float("inf")] for _ in sides]
     for _ in range(times):
@@ -53,7 +53,7 @@ def by_turns(row: Row, room: Path, sides: list[list[str]], times: int) -> list[f
 
 
 def start(program: str, room: Path) -> list[str]:
-    """Returns lines on starting lldpa with one port, and with 64 ports of 128 neighbors."""
+    """Returns lines on the cost of a start: one port, and 64 ports for 128 neighbors each."""
     lines = []
     for title, words in (("one port", ["eth0"]), ("64 ports", ["--max-neighbors=128", *PORTS])):
         least = min(spent([program, *words])[0] for _ in range(20))
@@ -63,7 +63,7 @@ def start(program: str, room: Path) -> list[str]:
 
 
 def columns(figures: list[float], unit: str = "") -> str:
-    """Returns the columns of a row: lldpa's figure, C's, their ratio, and C's with vectors."""
+    """Returns the columns of a row: lldpa, C, their ratio, and C with vector instructions."""
     shown = [f"{value:.0f}{unit}" for value in figures]
     if len(figures) > 1:
         shown.insert(2, f"{figures[0] / figures[1]:.2f}")
@@ -76,7 +76,7 @@ def machine() -> str:
 
 
 def compiled(room: Path) -> str:
-    """Compiles the yardstick in a folder, and returns its path."""
+    """Compiles the yardstick into a folder, and returns the path of the program."""
     yardstick = str(room / "yardstick")
     subprocess.run(["cc", "-O2", "-o", yardstick, str(TOP / "tools/bench/yardstick.c")], check=True)
     return yardstick

@@ -1,4 +1,4 @@
-"""Measures other readers of frames and captures, and lldpa's own scripts."""
+"""Measures other programs that read frames and captures, and lldpa's Python programs."""
 from __future__ import annotations
 
 import os
@@ -28,7 +28,7 @@ def seconds(words: list[str], trace: Path) -> float:
 
 
 def spent(words: list[str], trace: Path = Path(os.devnull)) -> tuple[float, float]:
-    """Returns a program's seconds of processor time and its most megabytes of memory."""
+    """Returns the processor time (in seconds) and the peak memory (in MB) of a program."""
     with trace.open("rb") as file:
         child = subprocess.Popen(words, stdin=file, stdout=subprocess.DEVNULL, stderr=subprocess.DEVNULL)
     ended, kilobytes = 0, ["0"]
@@ -50,20 +50,20 @@ def write_capture(path: Path, packets: Packets) -> None:
 
 
 def small_frames() -> Packets:
-    """Returns 200 MB of small frames that are not LLDP frames, a thousand a second."""
+    """Returns 200 MB of small frames of other protocols, a thousand frames a second."""
     rng = random.Random(3)
     octets = [rng.randbytes(127) for _ in range(100)]
     return ((octets[i % 100], i) for i in range(1_400_000))
 
 
 def lldp_frames() -> Packets:
-    """Returns 100,000 typical LLDP frames, a hundred a second."""
+    """Returns 100,000 typical LLDP frames, a hundred frames a second."""
     frames = mix(992, 32)
     return ((frames[i % len(frames)], 10 * i) for i in range(100_000))
 
 
 def other_readers(room: Path, times: int) -> list[str]:
-    """Runs each tool this many times on the typical frames. Returns a line on each tool."""
+    """Runs each tool `times` times on typical frames. Returns a line for each tool."""
     frames, capture = mix(992, 32), room / "mix.pcap"
     write_capture(capture, ((octets, 0) for octets in frames * 20))
     lines = []
@@ -83,7 +83,7 @@ CAPTURE_READERS = (("lldpa-capture", [sys.executable, str(TOP / "bin/lldpa-captu
 
 
 def capture_row(title: str, capture: Path, times: int) -> str:
-    """Runs each reader of a capture this many times, in turn. Returns a line on the capture."""
+    """Runs each reader `times` times on a capture, in turn. Returns a line with the results."""
     readers = [(name, words) for name, words in CAPTURE_READERS if shutil.which(words[0])]
     runs: dict[str, list[tuple[float, float]]] = {name: [] for name, _ in readers}
     for _ in range(times):
@@ -103,7 +103,7 @@ def capture_rows(room: Path, times: int) -> list[str]:
 
 
 def audit_of_cabling(room: Path) -> list[str]:
-    """Returns a line on the time and the memory of an audit of 100,000 links."""
+    """Returns a line with the time and the memory of an audit of 100,000 links."""
     words = cabling.write(room, 50)
     used, _, megabytes = min(cabling.measured(words) for _ in range(3))
     return [f"{AUDIT}: {used:.1f} s, {megabytes:.0f} MB"]

@@ -3,9 +3,9 @@
 
     python3 tools/bench/bench_counts.py [--program PROGRAM]
 
-A row fails if it needs over 1 % more instructions than the saved count, or over 5 % more if the C
-library is another. Without valgrind the status is 3. The last line is `N passed, M failed`. If a
-row has become slower on purpose, save new counts:
+A row fails if it needs over 1 % more instructions than the saved count (with another C library,
+over 5 % more). Without valgrind the status is 3. The last line is `N passed, M failed`. If a row
+has become slower on purpose, save new counts:
 `tools/bench/bench.py --saved docs/bench.json --counts --save docs/bench.json --svg docs/bench.svg`.
 """
 from __future__ import annotations
@@ -34,8 +34,8 @@ HELD = ("receive a typical frame, 32 neighbors", "receive the shortest frame, 36
 
 
 def instructions(words: list[str], trace: Path) -> int:
-    """Returns how many instructions a program runs for a trace. This includes the loader's, which
-    depend on the environment and the program's path, so both are fixed here."""
+    """Returns how many instructions a program executes for a trace. They include the loader's,
+    which depend on the environment and on the program's path, so both are fixed here."""
     program = Path(words[0])
     run = [shutil.which("valgrind") or "valgrind", "--tool=callgrind", "--callgrind-out-file=/dev/null"]
     with trace.open("rb") as file:
@@ -48,19 +48,19 @@ def instructions(words: list[str], trace: Path) -> int:
 
 
 def library() -> str:
-    """Returns the C library, and whether it finds AVX2, which decides how it copies and searches."""
+    """Returns the C library's version and whether it can use AVX2, which changes the counts."""
     found = re.search(r"\bavx2\b", Path("/proc/cpuinfo").read_text())
     return " ".join(platform.libc_ver()) + (" with AVX2" if found else "")
 
 
 def counted(row: Row, room: Path, sides: list[list[str]]) -> list[float]:
-    """Returns the instructions of each program per measured item of the row."""
+    """Returns the instructions of each program, per measured item of the row."""
     whole, begin, things = row.traces(room, max(1, row.lines // 50))
     return [(instructions(words, whole) - instructions(words, begin)) / things for words in sides]
 
 
 def counted_start(program: str, room: Path) -> int:
-    """Returns the instructions of a start with 64 ports of 128 neighbors and an empty trace."""
+    """Returns the instructions of a start with 64 ports for 128 neighbors, without input."""
     empty = room / "empty"
     empty.write_text("")
     return instructions([program, *MANY, *PORTS], empty)

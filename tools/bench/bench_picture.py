@@ -1,11 +1,11 @@
-"""Draws the picture of the benchmark for readers who do not know its code."""
+"""Draws the figures of the benchmark as a picture in SVG."""
 from __future__ import annotations
 
 import html
 from typing import Any
 
 LEFT, WIDEST, TOP, BAR, WIDTH = 300, 330, 66, 15, 940
-# How the picture names the programs of a row, in the order of the row's figures.
+# The names of the programs in the picture, in the order of a row's figures.
 NAMES = ["lldpa", "plain C", "C that checks nothing, with vector instructions"]
 FILLS = ["#3b7dd8", "#a9b4c2", "#d9b26f"]
 
@@ -16,7 +16,7 @@ def high(row: dict[str, Any]) -> int:
 
 
 def bars(row: dict[str, Any], y: float, scale: float) -> list[str]:
-    """Returns the SVG lines of a row at the height `y`; the bar of C has the length `scale`."""
+    """Returns the SVG lines of a row whose top is at `y`. The bar of plain C is `scale` long."""
     ours, theirs = row["time"][:2]
     middle = y + high(row) / 2
     out = [f'<text x="{LEFT - 10}" y="{middle:.0f}" text-anchor="end">{html.escape(row["title"])}</text>']
@@ -29,7 +29,7 @@ def bars(row: dict[str, Any], y: float, scale: float) -> list[str]:
 
 
 def head(told: dict[str, Any], height: float) -> list[str]:
-    """Returns the SVG lines of the picture's title."""
+    """Returns the SVG lines at the beginning: the background, the title, the machine."""
     return [f'<svg xmlns="http://www.w3.org/2000/svg" width="{WIDTH}" height="{height}" viewBox="0 0 {WIDTH} {height}" '
             'font-family="sans-serif" font-size="13">',
             '<rect width="100%" height="100%" fill="white"/>',
@@ -39,13 +39,13 @@ def head(told: dict[str, Any], height: float) -> list[str]:
 
 
 def picture(told: dict[str, Any]) -> str:
-    """Returns the picture of the table: bars for each row that C has too, and lines of text."""
+    """Returns the picture: bars for rows that C has too, then lines of text for the rest."""
     rows_of_c = [row for row in told["rows"] if len(row["time"]) > 1]
     others = [row for row in told["rows"] if len(row["time"]) == 1]
     end = TOP + sum(high(row) for row in rows_of_c)
     foot = [f"{row['title']}: {row['time'][0]:.0f} ns" for row in others] + told["start"] + told["others"]
     foot += told.get("captures", [])
-    # the length of C's bar in each row, so that the longest bar of all just fits
+    # the length of C's bar, equal in all rows, with which the longest bar of the picture just fits
     scale = WIDEST / max(max(row["time"]) / row["time"][1] for row in rows_of_c)
     out, y = head(told, end + 34 + 19 * len(foot)), TOP
     for row in rows_of_c:

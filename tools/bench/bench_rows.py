@@ -1,4 +1,4 @@
-"""The rows of the benchmark: frames, traces made of them, and the command lines of each program."""
+"""Makes the rows of the benchmark: their frames, their traces, and the programs' command lines."""
 from __future__ import annotations
 
 import random
@@ -19,7 +19,7 @@ def tlv(kind: int, body: bytes) -> bytes:
 
 
 def frame(chassis: bytes, port: bytes, tlvs: list[bytes], ttl: int = 65535) -> bytes:
-    """Returns a frame of a chassis ID, a port ID, a time to live, and the TLVs after them."""
+    """Returns a frame with a chassis ID, a port ID, a time to live, and these other TLVs."""
     begin = tlv(1, chassis) + tlv(2, port) + tlv(3, ttl.to_bytes(2, "big"))
     return NEAREST_BRIDGE + b"\x02\0\0\0\0\x99" + LLDP + begin + b"".join(tlvs) + b"\0\0"
 
@@ -30,7 +30,7 @@ def name(i: int) -> tuple[bytes, bytes]:
 
 
 def common_tlvs(rng: random.Random) -> list[bytes]:
-    """Returns typical TLVs of a switch or a host, few or many, 280 octets on average."""
+    """Returns the TLVs of a typical switch or host, 280 octets on average."""
     system = rng.choice([
         b"Debian GNU/Linux 12 (bookworm) Linux 6.1.0-18-amd64 #1 SMP PREEMPT_DYNAMIC x86_64",
         b"Cisco IOS Software, C3750E Software (C3750E-UNIVERSALK9-M), Version 15.2(4)E8, RELEASE SOFTWARE (fc3)",
@@ -46,35 +46,35 @@ def common_tlvs(rng: random.Random) -> list[bytes]:
 
 
 def mix(count: int, names: int) -> list[bytes]:
-    """Returns this many frames from this many senders in turn."""
+    """Returns `count` frames from `names` senders in turn."""
     rng = random.Random(1)
     return [frame(*name(i % names), common_tlvs(rng)) for i in range(count)]
 
 
 def least(names: int) -> list[bytes]:
-    """Returns a frame of 36 octets from each of this many senders."""
+    """Returns a frame of 36 octets, the least length, from each of `names` senders."""
     return [frame(b"\x04" + i.to_bytes(6, "big"), b"\x05e-%02d" % i, []) for i in range(names)]
 
 
 def greatest(names: int) -> list[bytes]:
-    """Returns a frame of 1,514 octets from each of this many senders."""
+    """Returns a frame of 1,514 octets, the greatest length, from each of `names` senders."""
     said = [tlv(127, b"\0\x80\xc2\x63" + bytes(507))] * 2
     room = [1514 - len(frame(*name(i), said)) for i in range(names)]
     return [frame(*name(i), [*said, tlv(127, b"\0\x80\xc2\x63" + bytes(room[i] - 6))]) for i in range(names)]
 
 
-# Two segments that give a name the same tag in the table; seven in a row make 128 such names.
+# Names that differ only in these segments have the same tag: seven in a row make 128 names.
 ONE_TAG = bytes([70, 40, 10, 107]), bytes([98, 119, 110, 100])
 
 
 def one_tag() -> list[bytes]:
-    """Returns frames of 128 senders whose names have the same tag."""
+    """Returns frames of 128 senders whose names have the same tag in the neighbor table."""
     chassis = [b"\x07" + b"".join(ONE_TAG[i >> k & 1] for k in range(7)) for i in range(128)]
     return [frame(octets, b"\x05swp1", []) for octets in chassis]
 
 
 def own_tags() -> list[bytes]:
-    """Returns frames of 128 senders with names of the same length, each with a tag of its own."""
+    """Returns frames of 128 senders whose names are equally long but have different tags."""
     rng = random.Random(2)
     return [frame(b"\x07" + rng.randbytes(28), b"\x05swp1", []) for _ in range(128)]
 
@@ -85,14 +85,14 @@ def received(frames: list[bytes], port: str = "eth0") -> str:
 
 
 def held_everywhere() -> str:
-    """Returns the trace after which each of 64 ports holds 128 neighbors."""
+    """Returns a trace that stores 128 neighbors on each of 64 ports."""
     frames = mix(128, 128)
     return LONG + "".join(received(frames, port) for port in PORTS)
 
 
 @dataclass
 class Row:
-    """A row of the table: a trace, each program's arguments, and what its cost is divided by."""
+    """A row of the table: its trace, the programs' arguments, and the measured items per line."""
 
     title: str
     words: list[str]
@@ -103,7 +103,7 @@ class Row:
     per: int = 1
 
     def traces(self, room: Path, lines: int) -> tuple[Path, Path, int]:
-        """Writes the trace and its beginning. Returns both, and the number of measured items."""
+        """Writes the trace and its beginning. Returns both paths, and the number of items."""
         whole, begin = room / "trace", room / "begin"
         repeats = max(1, lines // self.line.count("\n"))
         begin.write_text(self.before)
@@ -111,18 +111,18 @@ class Row:
         return whole, begin, repeats * self.line.count("\n") * self.per
 
     def sides(self, program: str, yardstick: str) -> list[list[str]]:
-        """Returns the command lines of lldpa, and of C for each way in which it does the work."""
+        """Returns the command line of lldpa, then those of the C program."""
         return [[program, *self.words]] + [[yardstick, *words] for words in self.yardsticks]
 
 
 def both(neighbors: int) -> list[list[str]]:
-    """Returns the arguments of C that reads frames, plainly and with vector instructions."""
+    """Returns the arguments of C that reads frames, without and with vector instructions."""
     return [["read", str(neighbors)], ["vectors", str(neighbors)]]
 
 
 def rows_received() -> list[Row]:
-    """Returns the rows of frames that one port receives. C with vectors compares 16 octets of a
-    name, too few for names with the same tag."""
+    """Returns the rows in which one port receives frames. C with vector instructions compares only
+    16 octets of a name, so the rows with long names do without it."""
     many, plain = [*MANY, "eth0"], [["read", "128"]]
     own, one = own_tags(), one_tag()
     return [
@@ -136,7 +136,7 @@ def rows_received() -> list[Row]:
 
 
 def rows_of_ports(program: str, room: Path) -> list[Row]:
-    """Returns the rows of 64 ports. In some of them C only writes again what lldpa wrote."""
+    """Returns the rows of 64 ports. In two of them, C only writes what lldpa wrote before."""
     words, held = [*MANY, *PORTS], held_everywhere()
     default, lines = room / "frame", room / "lines"
     sent = subprocess.run([program, "eth0"], input=b"tick\n", capture_output=True, check=True).stdout
@@ -155,5 +155,5 @@ def rows_of_ports(program: str, room: Path) -> list[Row]:
 
 
 def rows(program: str, room: Path) -> list[Row]:
-    """Returns all rows, and writes the files that they read to a folder."""
+    """Returns all rows, and writes the files that the programs read."""
     return rows_received() + rows_of_ports(program, room)

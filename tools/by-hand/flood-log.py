@@ -1,17 +1,17 @@
 #!/usr/bin/env python3
-"""Floods one port of an lldpa-live that logs, and checks that the log of the others continues.
+"""Floods one port of an lldpa-live that logs, and checks that another port loses nothing.
 
     tools/by-hand/flood-log.py [--frames 3000000] [--minutes 10]
 
-One port receives this many frames of 200 neighbors, all of the greatest length, as fast as
-possible; at another port five neighbors come, change and age out. A file of the log has 2
-megabytes, all files together 20. Ten times lldpa-live is asked for its tables, and must answer in
-time; a replay of the log file of that moment must give the same tables. The folder must never be
-larger than its limit, and no frame of the quiet port may be dropped.
+One port receives --frames frames of the greatest length, from 200 neighbors, as fast as possible.
+Another port is quiet: its five neighbors come, change and age out. The log has at most 20
+megabytes, in files of 2. Ten times lldpa-live is asked for its tables. It must answer in a second,
+and a replay of the log file of that moment must give the same tables. The folder of the log must
+not exceed its limit, and no frame of the quiet port may be dropped.
 
 With --minutes, one port receives hostile frames for this long, and another the frames of five quiet
-neighbors; the interface of a third port comes and goes. Settings are reloaded, questions asked,
-addresses changed, and lldpa-live is stopped for a while. No frame of the quiet port may be lost, no
+neighbors; the interface of a third port is removed and added. Settings are reloaded, questions
+asked, addresses changed, and lldpa-live is paused. No frame of the quiet port may be lost, no
 neighbor may be wrong, and memory and descriptors may not grow.
 
 It needs Linux and root. LLDPA names the program. The last line is `N passed, M failed`.
@@ -45,7 +45,7 @@ def numbers(live):
 
 
 def take(peer, moments, folder, number, sent):
-    """Lets the quiet neighbors send, and records the tables. Returns how many frames were sent."""
+    """Sends quiet neighbors' frames, records the tables, and returns how many frames were sent."""
     for place in range(5):
         if place != number % 5:
             peer.send(numbered(place, 30, tlv(5, b"moment %d" % number)))

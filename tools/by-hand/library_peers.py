@@ -1,4 +1,4 @@
-"""Compares the library's answers with those of other decoders, by the rules of docs/STANDARD.md."""
+"""Compares answers of the library and of other decoders, by the rules of docs/STANDARD.md."""
 from __future__ import annotations
 
 import subprocess
@@ -11,7 +11,7 @@ TEXTS = {4: "pdescr", 5: "name", 6: "descr"}
 
 
 class Frame:
-    """A frame and its TLVs."""
+    """A frame, its TLVs, and what the model reads in it."""
 
     def __init__(self, octets: bytes):
         self.octets = octets
@@ -31,16 +31,16 @@ class Frame:
         return [tlv.body for tlv in self.inside if tlv.kind == kind]
 
     def is_shutdown(self) -> bool:
-        """Returns whether the time to live is 0, so that nothing after it matters."""
+        """Returns whether the time to live is 0: then nothing after it matters."""
         return self.told is not None and self.told.ttl == 0
 
 
 LLDPD, SD_LLDP, BOTH = {"lldpd"}, {"sd-lldp"}, {"lldpd", "sd-lldp"}
 
-# The text of a rule, the peers that differ from it, and whether a frame is a case of it.
+# The text of a rule, the peers that do not follow it, and whether it applies to a frame.
 Reason = tuple[str, set[str], Callable[[Frame], bool]]
 
-# Why the library accepts a frame that a peer refuses.
+# Rules by which the library accepts a frame that a peer refuses.
 TAKEN: list[Reason] = [
     ("it may be missing", BOTH, lambda frame: frame.end is None),
     ("one with a length above 0 ends the LLDPDU too", BOTH,
@@ -55,12 +55,12 @@ TAKEN: list[Reason] = [
      Frame.is_shutdown),
     ("Their organization defines what they mean", LLDPD,
      lambda frame: any(body[:3] in OUIS_READ for body in frame.optional(127))),
-    ("1 to 31 octets of address", LLDPD,  # more than 16, or not of IP
+    ("1 to 31 octets of address", LLDPD,  # more than 16 octets, or not an IP address
      lambda frame: any(body[:1] > b"\x11" or body[1:2] not in (b"\1", b"\2")
                        for body in frame.optional(8))),
 ]
 
-# Why a peer accepts a frame that the library refuses, or does not regard as an LLDP frame.
+# Rules by which the library refuses or ignores a frame that a peer accepts.
 REFUSED: list[Reason] = [
     ("Frames are sent to one of three group addresses", BOTH,
      lambda frame: frame.octets[:6] != model.NEAREST_BRIDGE),
@@ -90,13 +90,13 @@ def verdicts(command: list[str]) -> list[Told]:
 
 
 def plain(body: bytes) -> bool:
-    """Returns whether peers show a text unchanged."""
+    """Returns whether peers show this text unchanged."""
     is_plain = all(0x20 <= octet < 0x7f and octet not in b"\"'\\" for octet in body)
     return is_plain and 0 < len(body) <= 255
 
 
 def fault_of_texts(frame: Frame, told: Told) -> str | None:
-    """Returns how a text of a peer differs, or None; compares plain texts that occur once."""
+    """Returns how a peer's text differs, or None. Compares only plain texts that occur once."""
     for kind, name in TEXTS.items():
         bodies = frame.optional(kind)
         if len(bodies) == 1 and plain(bodies[0]) and told.fields.get(name) != bodies[0].hex():
@@ -105,7 +105,7 @@ def fault_of_texts(frame: Frame, told: Told) -> str | None:
 
 
 def compared(peer: str, frame: Frame, theirs: Told) -> str:
-    """Returns "the same", the rule by which the answers differ, or `?` and the difference."""
+    """Returns "the same", the rule that explains a difference, or `?` and the difference."""
     ours = frame.told
     if (ours is not None) != theirs.is_accepted:
         rules = [rule for rule, peers, holds in (REFUSED if ours is None else TAKEN)

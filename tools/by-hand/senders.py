@@ -1,6 +1,6 @@
-"""The settings of the lldpd senders of try-details.py and try-lldpctl.py."""
+"""The settings of the lldpds that send frames for try-details.py and try-lldpctl.py."""
 
-# the commands that configure an lldpd, by the name of its frames
+# the lldpcli commands that configure each sender, by the sender's name
 SENDERS = {
     "lldpd-pse": (
         "configure ports peer0 dot3 power pse supported enabled paircontrol powerpairs spare class class-3 type 2"

@@ -1,11 +1,11 @@
 #!/usr/bin/env python3
-"""Runs a command, and now and then freezes all its processes, as if the machine were busy.
+"""Runs a command, and freezes all its processes now and then, as on a busy machine.
 
     tools/by-hand/standstill.py COMMAND ..
 
 Every 10 to 20 seconds the processes are frozen for 2 to 8 seconds. The parts of the gate, such as
-`tools/gate/test-python.py`, must pass under this too. It needs Linux, root, and control groups of
-either version. Its status is that of the command.
+`tools/gate/test-python.py`, must pass even so. It needs Linux, root, and control groups of either
+version. Its status is that of the command.
 """
 import os
 import pathlib

@@ -3,14 +3,14 @@
 
     tools/by-hand/try-details.py [--save FILE] [--octets]
 
-The frames come from real senders (lldpd, ladvd, lldpad; python/tests/judged.json) and from an lldpd
-configured for it; others are made, with a TLV of each kind and each value that has a name. Each is
-sent to a receiving lldpd, whose lldpcli is asked (-f json0), and to tshark. Their values and those
-read here must be equal, except those that python/tests/judges.py and by_tshark.py list with a
-reason. --save writes the frames with both answers, which python/tests/test_judged.py compares
-without these programs. --octets also gives tshark the beginnings of one TLV of each kind, and the
-TLV with each octet changed to every other value. It needs Linux, root, and Debian's packages lldpd,
-iproute2 and tshark. The last line is `N passed, M failed`.
+Some frames are from real senders: lldpd, ladvd and lldpad (saved in python/tests/judged.json), and
+lldpds that this script configures. Others are made up, with a TLV of each kind and each value that
+has a name. Each frame is sent to an lldpd, whose lldpcli shows it (-f json0), and read by tshark.
+Their values must equal those that lldpa reads, except those that python/tests/judges.py and
+by_tshark.py list with a reason. --save writes the frames with both answers, so that
+python/tests/test_judged.py needs no such programs. --octets also compares tshark on each beginning
+of a TLV of each kind, and with each octet changed to every other value. It needs Linux, root, and
+Debian's packages lldpd, iproute2 and tshark. The last line is `N passed, M failed`.
 """
 import argparse
 import json
@@ -37,7 +37,7 @@ JUDGED = TOP / "python" / "tests" / "judged.json"
 
 
 def sent_by_lldpd(wires):
-    """Yields the name and the frame of each configured lldpd."""
+    """Yields the name of each configured lldpd, and a frame that it sends."""
     hearing = Peer(wires, "eth0")
     for name, commands in SENDERS.items():
         sender = Lldpd(wires.there, wires.folder, "-M", "4", "-S", "a real peer", "-I", "peer0")
@@ -52,7 +52,7 @@ def sent_by_lldpd(wires):
 
 
 def made():
-    """Yields names and bodies of TLVs of each kind, and with each value that has a name."""
+    """Yields names and bodies of made-up TLVs: each kind, and each value that has a name."""
     for number, sample in enumerate(SAMPLES):
         (oui, subtype), octets = sample.kind, bytes.fromhex(sample.octets)
         yield f"{oui}.{subtype}-{number}", bytes.fromhex(oui) + bytes([subtype]) + octets
@@ -78,15 +78,15 @@ def made():
 
 
 def with_tlv(body):
-    """Returns a frame with this organizationally specific TLV. If the TLV is of LLDP-MED, the
-    LLDP-MED Capabilities come before it, without which lldpd ignores it."""
+    """Returns a frame with this organizationally specific TLV. lldpd ignores a TLV of LLDP-MED
+    unless LLDP-MED Capabilities come first, so these are put before it."""
     is_of_med = body.startswith(bytes.fromhex("0012bb")) and body[3] > 1
     before = [tlv(127, bytes.fromhex("0012bb01003f03"))] if is_of_med else []
     return frame(b"\x04\x02\0\0\0\0\1", b"\x05p1", 120, tlv(5, b"made"), *before, tlv(127, body))
 
 
 def shown_by_tshark(frames, room):
-    """Returns what tshark shows of the organizationally specific TLVs of each frame."""
+    """Yields for each frame what tshark shows of its organizationally specific TLVs."""
     path = os.path.join(room, "frames.pcap")
     with open(path, "wb") as file:
         file.write(struct.pack("<IHHiIII", 0xA1B2C3D4, 2, 4, 0, 0, 65535, 1))
@@ -115,9 +115,9 @@ def shown_by_lldpcli(frames, wires):
 
 
 def compare_octets(room):
-    """Returns how many beginnings and changed TLVs are read as tshark reads them, and which are
-    not. Skips those that stay in hexadecimal, that have reserved bits, or whose text has a NUL
-    (tshark cuts it there) or is not UTF-8."""
+    """Compares beginnings and changed versions of TLVs with tshark. Returns how many are equal, and
+    the differences. Skips TLVs that lldpa shows in hexadecimal, that have reserved bits, or
+    whose text is not UTF-8 or has a NUL, where tshark cuts it."""
     equal, differences = 0, []
     for sample in SAMPLES:
         octets = bytes.fromhex(sample.octets)

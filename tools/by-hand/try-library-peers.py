@@ -1,17 +1,17 @@
 #!/usr/bin/env python3
 """Compares the library with lldpd's decoder and systemd's sd-lldp: their answers and their times.
-The library must answer as tools/model/model.py does; where a peer differs, a rule of
-docs/STANDARD.md must explain it.
+The library must answer like tools/model/model.py. If a peer's answer differs, a rule of
+docs/STANDARD.md must explain this.
 
     tools/by-hand/try-library-peers.py --peers FOLDER [--library FOLDER] [--frames FILE ..]
         [--count N]
 
-The folder of the peers holds the programs lldpd_decode and sd_decode, built from the sources of
-their projects. Each is run as `verdict FILE` and `bench FILE N`, where the file has a frame in
-hexadecimal on each line. tools/library/library.sh writes the folder of the library, and runs if
-none is given. --frames names captures (pcap) and traces, besides those of docs and examples. The N
-frames (default 300,000) are all of these, altered copies of them, and frames of
-tools/model/fuzz.py. The last line is `N passed, M failed`.
+--peers names the folder of the programs lldpd_decode and sd_decode, built from the sources of their
+projects. Each runs as `verdict FILE` and as `bench FILE N`; FILE has a frame in hexadecimal on each
+line. --library names a folder that tools/library/library.sh wrote; if it is missing, the script
+runs. --frames adds captures (pcap) and traces to those of docs and examples. The N frames (default
+300,000) are all of these, altered copies of them, and frames made by tools/model/fuzz.py. The last
+line is `N passed, M failed`.
 """
 from __future__ import annotations
 
@@ -36,7 +36,7 @@ SOURCES = TOP / "tools" / "library" / "c"
 
 
 def captured_frames(paths: list[pathlib.Path]) -> list[bytes]:
-    """Returns the frames of captures and of traces, each once."""
+    """Returns the frames of captures and of traces, without repetitions."""
     found: dict[bytes, None] = {}
     for path in paths:
         if path.suffix == ".pcap":
@@ -49,7 +49,7 @@ def captured_frames(paths: list[pathlib.Path]) -> list[bytes]:
 
 
 def corpus(captured: list[bytes], count: int) -> list[bytes]:
-    """Returns the captured frames, then altered copies and frames of tools/model/fuzz.py."""
+    """Returns `count` frames: the captured ones, then altered copies and random frames."""
     dice = fuzz.Dice(1)
     frames = list(captured)
     while len(frames) < count:
@@ -61,7 +61,7 @@ def corpus(captured: list[bytes], count: int) -> list[bytes]:
 
 
 def nanoseconds(command: list[str]) -> float:
-    """Returns the nanoseconds per frame, the least of seven rounds."""
+    """Runs a command seven times. Returns the least nanoseconds per frame."""
     times = []
     for _ in range(7):
         ran = subprocess.run(command, capture_output=True, text=True, check=True)
@@ -77,7 +77,7 @@ def print_times(programs: dict[str, list[str]], files: dict[str, pathlib.Path]) 
 
 
 def judge(peer: str, frames: list[Frame], told: list[Told], counts: Counts) -> None:
-    """Compares all answers of a peer, and prints how they differ."""
+    """Compares all answers of a peer with the model's, and prints how often they differ."""
     assert len(told) == len(frames), f"{peer} reports other frames"
     answers: collections.Counter[str] = collections.Counter()
     for frame, theirs in zip(frames, told):
@@ -120,7 +120,7 @@ def main() -> int:
                "frames of traces": captured_frames(sorted((TOP / "examples").glob("*.trace")))}
     captured = list(dict.fromkeys(frame for found in corpora.values() for frame in found))
     octets = corpus(captured, words.count)
-    print(f"{len(octets)} frames, {len(captured)} of captures and traces")
+    print(f"{len(octets)} frames, {len(captured)} of them from captures and traces")
     frames = [Frame(frame) for frame in octets]
     with tempfile.TemporaryDirectory() as name:
         room = pathlib.Path(name)

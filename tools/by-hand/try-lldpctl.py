@@ -1,14 +1,14 @@
 #!/usr/bin/env python3
-"""Compares what lldpctl prints of lldpa-live with what lldpcli prints of lldpd on the same links.
+"""Compares what lldpctl prints for lldpa-live with what lldpcli prints for lldpd on the same links.
 
     tools/by-hand/try-lldpctl.py
 
-At the far end an lldpd sends the TLVs that it is configured for: IEEE 802.1 and 802.3, LLDP-MED and
-custom ones. Then frames of real senders and made ones (python/tests/judged.json) are sent, and
-texts with every octet. At the near end `lldpd -r` and lldpa-live receive the same frames. Each
-command is asked in the forms plain, keyvalue, json and json0, and all keys and values except ages
-are compared. A difference fails unless docs/LLDPD.md lists it. It needs Linux, root, and Debian's
-packages lldpd and iproute2. The last line is `N passed, M failed`.
+At the far end, an lldpd sends TLVs of IEEE 802.1, IEEE 802.3 and LLDP-MED, and custom TLVs. Then
+the frames of python/tests/judged.json are sent, and frames with every octet in their texts. At the
+near end, `lldpd -r` and lldpa-live receive the same frames. Each command runs in the forms plain,
+keyvalue, json and json0. All keys and values are compared, except ages. A difference fails unless
+docs/LLDPD.md lists it. It needs Linux, root, and Debian's packages lldpd and iproute2. The last
+line is `N passed, M failed`.
 """
 import collections
 import contextlib
@@ -50,7 +50,7 @@ COORDINATES = [(degrees, resolution) for degrees in (0, 48.8566613, -33.8567844,
                for resolution in (0, 5, 9, 10, 15, 22, 25, 34)]
 PLAIN_HOST = ("configure system description \"two words\"", "configure lldp portidsubtype ifname",
               "configure lldp custom-tlv add oui 33,44,55 subtype 254")
-# settings that make the near lldpd show what lldpa-live shows
+# settings with which the near lldpd shows the same as lldpa-live
 ALIKE = ("configure lldp portidsubtype ifname", "configure system description alike",
          "configure system ip management pattern 192.0.2.1")
 
@@ -83,7 +83,7 @@ class Comparison:
             self.listed[row] += max(len(theirs), len(ours))
 
     def row_of(self, where, key, theirs, ours):
-        """Returns the row of the page that lists a difference, or None if none does."""
+        """Returns the row of docs/LLDPD.md that lists a difference, or None."""
         if escaped_alike(theirs) == escaped_alike(ours) and ("neighbors", "a text") in self.rows:
             return "a text"
         if [SIGN.sub("", str(value)) for value in theirs] == [SIGN.sub("", str(value)) for value in ours]:
@@ -93,7 +93,7 @@ class Comparison:
 
 
 def listed_keys(page):
-    """Returns the pairs of show and key in the page's table of differences."""
+    """Returns the rows of the page's table of differences, each as a pair of show and key."""
     table = page.partition(HEADING)[2].partition("\n## ")[0]
     rows = [line.split("|")[1:3] for line in table.splitlines() if line.startswith("|")]
     return [(show, key) for shows, keys in rows for show in re.findall("`([^`]*)`", shows)
@@ -101,7 +101,7 @@ def listed_keys(page):
 
 
 def escaped_alike(values):
-    """Escapes in texts whatever some form escapes."""
+    """Returns the texts with the escapes of every form, so that they can be compared."""
     return [printable(one_line(str(value))) for value in values]
 
 
@@ -113,7 +113,7 @@ def by_key(pairs):
 
 
 def blocks_of(form, octets):
-    """Returns the blocks of an answer in this form: keys and values, by the name of the block."""
+    """Returns the keys and values of each block of an answer, by the name of the block."""
     if form == "plain":
         return named(plain_blocks(octets.decode("utf-8", "surrogateescape")))
     if form == "keyvalue":
@@ -122,7 +122,7 @@ def blocks_of(form, octets):
 
 
 def named(blocks):
-    """Names each block by its port and, if it is of a neighbor, by its identifiers."""
+    """Returns the blocks by name: the port and, for a neighbor, its identifiers."""
     found = {}
     for port, pairs in blocks:
         of = [one_line(str(value)) for key, value in pairs if IDENTIFIER.fullmatch(key)]
@@ -131,7 +131,7 @@ def named(blocks):
 
 
 def plain_blocks(text):
-    """Reads the form plain. The key of a line is the text before its colon."""
+    """Yields the blocks of a plain answer. The key of a line is the text before its colon."""
     title, *blocks = AGE.sub("Time", text).split(LINE + "\n")[1:]
     yield "title", [("title", title)]
     for block in filter(None, blocks):
@@ -169,13 +169,13 @@ def json_blocks(told):
 
 
 def unnamed(key, names):
-    """Returns a key without the name of the chassis, which it contains if the chassis has one."""
+    """Returns a key without the chassis name, which is part of it if the chassis has a name."""
     front = f"chassis.{names[0]}." if names and names != ["id"] else None
     return "chassis." + key[len(front):] if front and key.startswith(front) else key
 
 
 class Lab:
-    """Both ends of the two links, with the lldpd and the lldpa-live that receive."""
+    """Two links, with senders at the far end, and an lldpd and an lldpa-live that receive."""
 
     def __init__(self):
         self.last = None
@@ -215,7 +215,7 @@ class Lab:
                 comparison.compare(f"{where}: {command} -f {form}", of_theirs, blocks_of(form, ours))
 
     def both(self, form, command):
-        """Returns what both print, asked again if the counters changed in between."""
+        """Returns what both programs print. Asks again if the counters changed in between."""
         words = ("-f", form, *command.split())
         while True:
             theirs, ours = self.lldpd.ask(*words), self.lldpctl(form, command)
@@ -223,13 +223,13 @@ class Lab:
                 return theirs, ours
 
     def keys(self):
-        """Returns how many neighbors each of the two shows."""
+        """Returns how many neighbors lldpcli shows, and how many lldpctl shows."""
         return [blocks.count(b".port.ttl=") for blocks in (self.lldpd.ask("-f", "keyvalue", "show", "neighbors"),
                                                            self.lldpctl("keyvalue", "show neighbors"))]
 
     @contextlib.contextmanager
     def hearing(self, name, commands):
-        """Runs an lldpd with these commands at the far end until both have received its frames."""
+        """Runs an lldpd at the far end. The `with` block begins when both receivers show it."""
         sender = Lldpd(self.wires.there, self.wires.folder, "-M", "4", "-S", "a real peer", "-I", "peer0,peer1")
         try:
             for command in commands:
@@ -264,7 +264,7 @@ def configured(lab, comparison):
 
 
 def sent(lab, comparison, name, frames):
-    """Sends these frames unchanged, some at a time, and compares what is shown."""
+    """Sends these frames in batches, and compares what both programs show of each batch."""
     for at in range(0, len(frames), BATCH):
         some = frames[at:at + BATCH]
         for number in range(2):  # one port after the other, so that the order is fixed
@@ -281,7 +281,7 @@ def sent(lab, comparison, name, frames):
 
 
 def judged_frames():
-    """Yields the frames of real senders and made ones, each with a chassis ID of its own."""
+    """Yields the frames of judged.json, each with a chassis ID of its own."""
     for number, one in enumerate(json.loads(JUDGED.read_text())):
         octets = bytes.fromhex(one["frame"])
         rest = octets[16 + (int.from_bytes(octets[14:16], "big") & 511):]
@@ -296,7 +296,7 @@ def place_of(degrees, resolution):
 
 
 def odd_frames():
-    """Yields frames with each octet in names, unusual texts, and identifiers of each kind."""
+    """Yields frames with every octet in texts, unusual texts, and identifiers of each kind."""
     def chassis(number):
         return b"\x04\x02\0\0\x09" + number.to_bytes(2, "big")
     for number in range(1, 256):

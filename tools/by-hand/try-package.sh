@@ -1,12 +1,12 @@
 #!/bin/sh
-# Boots a new Debian in a container. There it installs the package, runs each command of the pages
-# that needs root and the service, upgrades and purges the package, and checks that no file is left.
+# Boots a new Debian in a container. Installs the package there, runs each command of the pages that
+# needs root and the service, upgrades and purges the package, and checks that no file is left.
 #     tools/by-hand/try-package.sh [ROOT]
 # ROOT is a folder with a Debian that has python3, systemd-sysv, dbus and iproute2; it is not
-# changed. Without it debootstrap makes one, which needs a network and a minute. Needs Linux, root,
-# and Debian's packages systemd-container and, without ROOT, debootstrap. LLDPA and LLDPA_LIVE name
-# the programs, as for tools/release/package.sh. If BEFORE names a package of revision 0, upgrades
-# from it first. The last line is `N passed, M failed`. If something is missing, the status is 77.
+# changed. Without it debootstrap gets one from the network. Needs Linux, root, and Debian's
+# packages systemd-container and, without ROOT, debootstrap. LLDPA and LLDPA_LIVE name the programs,
+# as for tools/release/package.sh. If BEFORE names a package of revision 0, upgrades from it first.
+# The last line is `N passed, M failed`. If something is missing, the status is 77.
 set -u
 skip() {
     echo "skipped: $1"
@@ -33,7 +33,7 @@ mkdir "$root/root/packages"
 [ -z "${BEFORE-}" ] || cp "$BEFORE" "$root/root/packages" || exit 1
 python3 "$tools/gate/examples.py" --as-root > "$root/root/commands" || exit 1
 
-# The script that runs there after booting. Each check writes `held` or `FAILED`, and its name.
+# The script that runs in the container. Each check writes `held` or `FAILED`, and its name.
 cat > "$root/root/try.sh" <<'EOF'
 #!/bin/bash
 export DEBIAN_FRONTEND=noninteractive
@@ -43,12 +43,12 @@ check() {
     shift
     if "$@" > /root/said 2>&1; then echo "held: $what"; else echo "FAILED: $what: $(tail -n 3 /root/said)"; fi
 }
-# Lists all files except logs and those that dpkg and systemd write by themselves.
+# Lists all files, except logs and files that dpkg and systemd write for themselves.
 listed() {
     find /etc /usr /opt /srv /var/lib /run/lldpa -path /var/lib/dpkg -prune -o -printf '%p %M %u %g %l\n' 2> /dev/null |
         grep -v '^/var/lib/systemd/\(timers\|random-seed\|catalog\)\|^/\(etc\|var/lib\|var/lib/systemd\) ' | sort
 }
-# Runs a command; one that still runs after 15 seconds succeeds too.
+# Runs a command for at most 15 seconds. Succeeds also if it is still running then.
 for_a_while() {
     local status
     timeout 15 bash -c "$1" < /dev/null
@@ -67,7 +67,7 @@ reads() { lldpa-capture --show /usr/share/doc/lldpa/docs/lab.pcap | lldpa --rece
 
 notifies() { systemctl show -p Type -p StatusText lldpa | grep -c -x -e Type=notify -e 'StatusText=[0-9no]* neighbors\? on 1 port' | grep -x 2; }
 tells() { journalctl -u lldpa -g 'eth0 came: sender p1'; }
-# refuses UNIT ACTS [LINE ..]: succeeds if a service, with these further lines, is refused each act.
+# refuses UNIT ACTS [LINE ..]: succeeds if a service, with these lines, is refused every act.
 refuses() {
     local unit=$1 acts=$2 status
     shift 2
@@ -130,7 +130,7 @@ sender.send(bytes.fromhex("0180c200000e02000000000b88cc02070402000000000b0403057
 keeps() { eventually sh -c 'lldpa-ctl neighbors | grep keeper'; }
 is_another_active() { is_another && systemctl is-active lldpa; }
 starts_anew() { eventually is_another_active; }
-# Sends the frame of a neighbor at the other end of the link each second.
+# Sends a neighbor's frame each second, at the other end of the link.
 neighbor() {
     python3 -c 'import socket, time
 sender = socket.socket(socket.AF_PACKET, socket.SOCK_RAW)
@@ -240,7 +240,7 @@ StandardOutput=file:/root/tried
 EOF
 mkdir -p "$root/etc/systemd/system/multi-user.target.wants"
 ln -s ../try.service "$root/etc/systemd/system/multi-user.target.wants/try.service"
-# systemd needs its own hierarchy of control groups, whatever this host has.
+# systemd needs a control group hierarchy of its own, of version 2.
 unshare --mount --pid --fork --kill-child sh -c 'mount --make-rprivate / && mount -t proc proc /proc &&
     { umount -R -l /sys/fs/cgroup; mount -t cgroup2 none /sys/fs/cgroup; } &&
     exec timeout 500 systemd-nspawn --quiet --register=no --keep-unit --private-network -D "$0" -b' "$root" \

@@ -41,7 +41,7 @@ def hostile_frames(choice: random.Random) -> list[bytes]:
 
 
 def ids_of(frames: list[bytes]) -> set[str]:
-    """Returns the identifiers of the neighbors that an agent stores from each of these frames."""
+    """Returns the identifiers of all neighbors that an agent stores from these frames."""
     found = set()
     with Agent.start(["eth0"], PROGRAM, receive_only=True) as agent:
         for octets in frames:
@@ -52,7 +52,7 @@ def ids_of(frames: list[bytes]) -> set[str]:
 
 
 class Unrest:
-    """An lldpa-live with a hostile port, a quiet one, and one whose interface comes and goes."""
+    """An lldpa-live with three ports: hostile, quiet, and with an interface that comes and goes."""
 
     def __init__(self, wires: Wires) -> None:
         self.wires, self.choice = wires, random.Random(1)
@@ -74,7 +74,7 @@ class Unrest:
         self.figures: list[tuple[float, int, int]] = []  # seconds, KiB and descriptors
         self.began = time.monotonic()
         self.is_over = threading.Event()
-        self.is_there = True  # the interface eth2
+        self.is_there = True  # whether the interface eth2 exists
 
     def flood(self) -> None:
         """Sends hostile frames, 1,000 a second, until the run is over."""
@@ -99,7 +99,7 @@ class Unrest:
             self.wrong.append(f"{seconds:.0f} s: {self.told}, not {self.expected}")
 
     def is_as_sent(self) -> bool:
-        """Returns whether the tables show what was sent, and the quiet neighbors' last names."""
+        """Returns whether the quiet neighbors have their last names, and no neighbor is wrong."""
         try:
             ports = read_show(self.live.ask("show neighbors")).ports
         except Refused as refused:
@@ -145,7 +145,7 @@ class Unrest:
                "dev", "eth1")
 
     def come_or_go(self) -> None:
-        """Removes the interface, or adds it again and sends a frame there."""
+        """Removes the interface eth2, or adds it again and sends it a frame."""
         (self.go if self.is_there else self.come)()
         where = "present" if self.is_there else "awaited"
         if not eventually(lambda: f"live.eth2.interface={where}" in self.live.ask("live")):
@@ -164,7 +164,7 @@ class Unrest:
         self.is_there = True
 
     def stand_still(self) -> None:
-        """Stops lldpa-live for a moment, while an interface is replaced."""
+        """Pauses lldpa-live for a moment, while the interface eth2 is replaced."""
         self.live.signal(signal.SIGSTOP)
         if self.is_there:
             self.go()
@@ -205,7 +205,7 @@ class Unrest:
         return {key: came for key, came in since.items() if key[0] == "eth1"}
 
     def logged(self) -> list[str]:
-        """Returns the quiet port's frames in the log, except those in the heads of its files."""
+        """Returns the quiet port's frames in the log, without repeats at the start of files."""
         lines: list[str] = []
         for path in sorted(self.log.iterdir(), key=lambda one: one.stat().st_mtime_ns):
             text = path.read_text()
@@ -214,7 +214,7 @@ class Unrest:
         return [line for line in lines if line.startswith("rx eth1 ")]
 
     def by_minutes(self, place: int) -> list[int]:
-        """Returns the least figure of each whole minute, or of the whole run if it is shorter."""
+        """Returns the least figure of each whole minute, or of a run shorter than a minute."""
         minutes: dict[int, int] = {}
         whole = self.figures[-1][0] // 60 * 60 or 60
         for figure in (one for one in self.figures if one[0] < whole):
@@ -223,7 +223,7 @@ class Unrest:
         return [*minutes.values()]
 
     def judge(self, judge: Callable[[object, str], None]) -> None:
-        """Ends lldpa-live, and checks everything."""
+        """Ends lldpa-live, and judges everything that the run recorded."""
         same = self.quiet_since() == self.since
         self.live.signal(signal.SIGTERM)
         judge(self.live.ends() == 0, f"it ended with status {self.live.process.returncode}")
@@ -234,7 +234,7 @@ class Unrest:
         wrong = differing(self.log, self.moments)
         judge(not wrong, f"{len(self.moments.answers)} moments can be replayed from one file: {wrong}")
         for place, what, growth in ((1, "KiB", MOST_GROWTH), (2, "descriptors", 0)):
-            least = self.by_minutes(place)  # a question uses a descriptor for a moment
+            least = self.by_minutes(place)  # each question uses a descriptor for a moment
             judge(least[-1] <= least[min(1, len(least) - 1)] + growth,
                   f"lldpa-live: {what}, at most {max(one[place] for one in self.figures)}, "
                   f"the least of each minute: {least}")

@@ -1,16 +1,16 @@
 #!/usr/bin/env python3
-"""Looks up what the pages name, without a network.
+"""Checks that what the pages name exists. Needs no network.
 
     tools/gate/check-links.py [--installed FOLDER]
 
-It looks up links and their anchors; files, calls and options; and the lines of sources in blocks
-that say `rust` or `antt`, which must be consecutive lines of one file. On pages about proofs it
-looks up each clause, definition, lemma and large number. In SECURITY.md each row that says what
-shows it must name a law or call of the crates, a test of python/tests or audit/tests, or a script.
-No page may call lldpa-live "the bridge", and no line of text may be over 120 columns long.
+It checks links and their anchors, and names of files, calls and options. Blocks that say `rust` or
+`antt` must be consecutive lines of one source. On pages about proofs, each clause, definition,
+lemma and large number must occur in the sources. In SECURITY.md, each row of a table with a column
+"Shown by" must name there a law or call of the crates, a test of python/tests or audit/tests, or a
+script. No page may call lldpa-live "the bridge". No line of text may be over 120 columns long.
 
-With --installed it looks up only the links of the pages in that folder, which
-tools/release/install.sh has filled. The last line counts what was looked up.
+With --installed it checks only the links of the pages in FOLDER, which tools/release/install.sh has
+filled. The last line is `N passed, M failed`.
 """
 import pathlib
 import re
@@ -33,7 +33,7 @@ SCRIPTS = "\n".join(path.read_text() for path in (TOP / "tools").rglob("*.*") if
 NUMBERS_OF_CODE = set(re.findall(r"\d+", (SOURCE + DEFINITIONS).replace("_", "")))
 NUMBERS_OF_SOURCES = NUMBERS_OF_CODE | set(re.findall(r"\d+", SCRIPTS.replace("_", "")))
 
-# the files that name the options of the programs
+# the files that mention the options of the programs
 OF_OPTIONS = [TOP / "examples" / "help.txt"] + [
     path for folder in ("python", "audit", "bin", "tools", ".ci", "rust/live/src") for path in (TOP / folder).rglob("*")]
 OPTIONS = {option for path in OF_OPTIONS if path.is_file() and path.suffix != ".pyc"
@@ -75,7 +75,7 @@ def links(text):
 
 
 def is_there(name):
-    """Returns whether a file has this name, from the top or in a crate, or with an ending added."""
+    """Returns whether a path exists below the top or in a crate, perhaps with an ending added."""
     folders = [TOP, TOP / "crates"]
     if name.split("/")[0] in FOLDERS_OF_A_CRATE:
         folders += [TOP / "crates" / crate for crate in CRATES]
@@ -84,7 +84,7 @@ def is_there(name):
 
 
 def file_names(text):
-    """Yields the names of files in backticks, except those that the reader has to fill in."""
+    """Yields the file names in backticks, except those that the reader has to fill in."""
     tops = {path.name for path in TOP.iterdir()} | set(FOLDERS_OF_A_CRATE) | set(CRATES)
     for name in re.findall(r"`([\w.*/-]+)`", text):
         is_path = "/" in name and name.split("/")[0] in tops and "out" not in name.split("/")
@@ -93,13 +93,13 @@ def file_names(text):
 
 
 def excerpts(text):
-    """Yields the lines of each block of a page that says its language (rust or antt)."""
+    """Yields the lines of each block of a page that is marked `rust` or `antt`."""
     for block in re.findall(r"^```(?:rust|antt)\n(.*?)^```$", text, re.M | re.S):
         yield [line.strip() for line in block.splitlines() if line.strip()]
 
 
 def lines_of_sources():
-    """Yields the lines of each source, without empty ones, and which of them can begin an item."""
+    """Yields each source's lines, without empty ones, and which of them can begin an item."""
     for folder in ("src", "specs"):
         for path in TOP.glob(f"crates/*/{folder}/**/*"):
             if path.suffix in (".rt", ".antt"):
@@ -114,7 +114,7 @@ LINES = list(lines_of_sources())
 
 
 def is_shown(lines):
-    """Returns whether a source has these lines in a row, from the beginning of an item on."""
+    """Returns whether a source has these consecutive lines, the first at the start of an item."""
     shown = "\n".join(lines)
     are_closed = all(shown.count(one) == shown.count(other) for one, other in ("()", "{}", "[]"))
     return are_closed and any(
@@ -124,14 +124,14 @@ def is_shown(lines):
 
 
 def large_numbers(text):
-    """Yields the numbers of four digits and more that are whole words, except years."""
+    """Yields the numbers of at least four digits that are whole words, except 2009 and 2016."""
     for number in re.findall(r"(?<![\w.,-])(\d{1,3}(?:,\d{3})+|\d{4,})(?![\w,.-]*\w)", text):
         if number not in ("2009", "2016"):
             yield number.replace(",", "")
 
 
 def faults_of_page(page):
-    """Yields what a page names, each with its fault or None."""
+    """Yields each thing that a page names or must not say, with its fault or None."""
     text = without_code(page.read_text())
     for line in text.splitlines():
         if len(line) > 120 and not line.startswith("|"):
@@ -168,7 +168,7 @@ def is_shown_by(name):
 
 
 def faults_of_security():
-    """Yields the rows of SECURITY.md that must say what shows them, and the names there."""
+    """Yields each row with a column "Shown by", and each name in it, with its fault or None."""
     is_claimed = False
     for line in (TOP / "SECURITY.md").read_text().splitlines():
         if not line.startswith("|"):
@@ -183,7 +183,7 @@ def faults_of_security():
 
 
 def faults_of_installed(page, folder):
-    """Yields the links of an installed page, each of which must lead to an installed file."""
+    """Yields each link of an installed page, with a fault unless its target is installed."""
     for target in links(without_code(page.read_text())):
         is_inside = (page.parent / target.partition("#")[0]).resolve().is_relative_to(folder)
         yield target, fault_of_link(page, target) if is_inside else "it leads out of the folder"

@@ -1,16 +1,16 @@
 #!/usr/bin/env python3
 """Checks in the sources what types and contracts do not show.
 
-Memory: only `Room` has the storage that is allocated at opening. Below the program no other module
-names a type that allocates memory, and no other type has a field with an allocator. Only opening
-calls receive an allocator. They pass it only to opening calls, each once and for no more than what
-is held. `Global` comes from the runtime, and only modules that read the arguments receive it.
+Memory: only `Room` allocates memory, at opening. In lldp_program and the crates below it, no other
+module names a type that allocates memory. Below lldp_program no other type has a field with an
+allocator, and only opening calls receive one. They pass it only to opening calls, each once and for
+no more than is needed. Only modules that read the arguments receive the runtime's `Global`.
 
-Accesses: `Times` counts each get and set of a stored time. So only `get`, `set` and `look` read its
-numbers, and it cannot be copied. `look` is not counted; `Table::entries` and `entry` use it, which
-no tick calls: only the show of neighbors calls the first, and only the tests the second. No type of
-a table has another field, which could store times again. A proof by hand could claim anything of a
-count, so there are only two for `Count`, and those that move the pointer of a C handle.
+Accesses: `Times` counts each access to a stored time. Only its functions `get`, `set` and `look`
+reach the times, and it cannot be copied. `look` does not count; only `Table::entries` and `entry`
+use it. No tick calls these: only the show of neighbors calls `entries`, and only tests `entry`. The
+types of a table have no other fields, which could store times too. A proof by hand could claim any
+count, so `Count` has only two. The other proofs by hand move the pointer of a C handle.
 
     tools/gate/check-memory.py
 
@@ -36,7 +36,7 @@ TAKES_MEMORY = r"\b(?:Vec|VecDeque|Box|String|Rc|Arc|HashMap|BTreeMap|vec!|forma
 ALLOCATOR = r"\b(\w+): (?:&(?:'\w+ )?)?(?:mut )?(?:A|Global|impl Allocator)\b"
 HOLDS_A_ROOM = r"\b(?:Room<\w+(?:<A>)?, A>|Table<A>|Port<A>)"
 LIBRARY_OPENS = "lldpa_c/src/open.rt"
-# Each call that passes an allocator on, and the one module that makes it, once.
+# The calls that pass an allocator on. Each occurs once, in the module that follows it.
 HANDED_ON = {
     "Room::open(alloc, limit as usize)": "lldp_table/src/table.rt",
     "Table::open(alloc, options.max_neighbors)": "lldp_engine/src/port.rt",
@@ -56,7 +56,7 @@ WALKS = ("count/Count/add/Proof.antt", "count/Count/new/Proof.antt")
 TABLE = "lldp_table/src/"
 ABOVE_THE_TABLE = ("lldp_engine", "lldp_program", "lldpa/")
 LOOKS = r"\.(?:entries|entry)\(|::(?:entries|entry)\b(?!::)"
-# How often each of these may occur, in which crates, and in which modules only.
+# Patterns, the crates that are searched for each, and how often it must occur in each module.
 REACHED = (
     (r"\bself\.each\b", TABLE, {TABLE + "times.rt": 3}),
     (r"\bself\.each\[slot as usize\]", TABLE, {TABLE + "times.rt": 3}),
@@ -84,7 +84,7 @@ def without_comments(text: str) -> str:
 
 
 class Sources:
-    """The sources of all crates except the tests, by their names below `crates`."""
+    """The sources of all crates except the tests, by their paths below `crates`."""
 
     def __init__(self) -> None:
         self.texts: dict[str, str] = {}
@@ -107,27 +107,27 @@ class Sources:
 
 
 def counts_of(pattern: str, texts: dict[str, str]) -> dict[str, int]:
-    """Returns how often each text has the pattern, if it has it at all."""
+    """Returns how often each text has the pattern, without the texts that do not have it."""
     counts = {name: len(re.findall(rf"(?<!fn ){pattern}", text)) for name, text in texts.items()}
     return {name: count for name, count in counts.items() if count > 0}
 
 
 def functions_handed(code: str) -> str:
-    """Returns the functions that receive an allocator, with its name if that is not `alloc`."""
+    """Returns the functions with an allocator parameter, and its name if that is not `alloc`."""
     heads = re.findall(r"\bfn (\w+)(?:<[^(]*>)?\(([^{;]*?)\)", code)
     taken = [(name, one) for name, all_taken in heads for one in re.findall(ALLOCATOR, all_taken)]
     return "\n".join(name if one == "alloc" else f"{name} ({one})" for name, one in taken)
 
 
 def fields(code: str) -> str:
-    """Returns the fields of structs and enums, a line for each."""
+    """Returns the bodies of all structs and enums, which declare their fields."""
     bodies = re.findall(r"\b(?:struct|enum) \w+[^{;]*\{(.*?)\n\}", code, re.S)
     return "\n".join(bodies)
 
 
-# What no code may have: the crates, the part of their code that is searched, what is left out of
-# it, the pattern, the modules that may have it, and the fault. So only `Room` has a field with an
-# allocator, and other types have rooms.
+# What code must not contain: the crates, the part of their code that is searched, a pattern that is
+# removed first, the forbidden pattern, the modules that may have it, and the fault. So only `Room`
+# has a field with an allocator; other types may have fields with a `Room`.
 FORBIDDEN = (
     ((*BELOW_THE_PROGRAM, "lldp_program"), str, None, TAKES_MEMORY, (ROOM,),
      "names a type that allocates memory"),
@@ -150,7 +150,7 @@ FORBIDDEN = (
 
 
 def see_room(sources: Sources) -> None:
-    """Checks that one module allocates memory, once, and that it is short enough to be read."""
+    """Checks that the module of `Room` allocates memory once, and is short enough to read."""
     text = sources.texts[ROOM]
     code = re.sub(r"\bstd::alloc\b", "", without_comments(text))
     lines = text.count("\n")
@@ -171,7 +171,7 @@ def see_forbidden(sources: Sources) -> None:
 
 
 def see_reached(sources: Sources) -> None:
-    """Checks how often storage and stored times are used, and that no time can be copied."""
+    """Checks how often each pattern of REACHED occurs, and that no stored time can be copied."""
     for pattern, crates, modules in REACHED:
         found = counts_of(pattern, sources.code(crates))
         sources.see(found == modules, f"{pattern} occurs in {found}")
@@ -184,7 +184,7 @@ def see_reached(sources: Sources) -> None:
 
 
 def see_stores(sources: Sources) -> None:
-    """Checks that a table has only these fields: others could store uncounted times."""
+    """Checks that the types of a table have only known fields: others could store times too."""
     code = "\n".join(sources.code(TABLE).values())
     for name, held in HOLDS.items():
         body = re.search(rf"\bstruct {name}\b[^{{;]*\{{(.*?)\n\}}", code, re.S)
@@ -208,7 +208,7 @@ def see_walks(sources: Sources) -> None:
 
 
 def is_seen(name: str, change: tuple[str, ...]) -> bool:
-    """Returns whether these changes of a file break some rule."""
+    """Returns whether a rule is broken after replacements in a file: old and new texts in turn."""
     sources = Sources()
     for old, new in zip(change[::2], change[1::2]):
         if sources.texts[name].count(old) != 1:

@@ -1,8 +1,8 @@
 #!/usr/bin/env python3
-"""Checks that the gate tries what tools/named.txt names.
+"""Checks that the gate runs everything that tools/named.txt lists.
 
-Each mutant is an edit that the prover must refuse. Each worked example, row and vector is a
-transcript, a test, or a part of tools/gate/check.sh; a theorem alone does not count.
+A mutant must have an edit, which the prover must refuse. Any other entry must be a transcript, a
+row, a test, or a command or script of tools/gate/check.sh; a theorem alone does not count.
 
     tools/gate/check-named.py
 
@@ -23,7 +23,7 @@ TESTS = TOP / "crates" / "lldp_tests" / "src"
 CHECK = (TOP / "tools" / "gate" / "check.sh").read_text()
 WORDS = (TOP / "tools" / "gate" / "words.sh").read_text()
 KINDS = ("body", "tested", "example")
-# the test that runs the rows of each kind
+# the test of lldp_tests that runs the rows of each kind
 TEST_OF_ROWS = {"examine": "pdu::vectors::octets_read", "caps": "pdu::vectors::octets_read",
                 "mgmt": "pdu::vectors::octets_read", "build": "pdu::vectors::built",
                 "machine": "transmit::machine", "open": "engine::opening::openings"}
@@ -40,7 +40,7 @@ def fault_of_counters(name: str) -> str | None:
 
 
 def fault_of_vector(place: str) -> str | None:
-    """Returns what is wrong with a vector, given by kind and name, or None."""
+    """Returns what is wrong with a vector (its kind and its name), or None."""
     kind, _, name = place.partition(" ")
     rows = [row.split("\t")[:2] for row in (TOP / "examples" / "vectors.rows").read_text().splitlines()]
     if [kind, name] not in rows:
@@ -50,7 +50,7 @@ def fault_of_vector(place: str) -> str | None:
 
 @functools.cache
 def bodies() -> dict[str, str]:
-    """Returns the bodies of the functions of lldp_tests by their names."""
+    """Returns the bodies of the functions of lldp_tests, by the functions' names."""
     text = "\n".join(file.read_text() for file in TESTS.rglob("*.rt"))
     functions = re.findall(r"^( *)(?:pub )?fn (\w+)(.*?)^\1\}$", text, re.M | re.S)
     return {name: body for _, name, body in functions}
@@ -82,7 +82,7 @@ def fault_of_test(place: str) -> str | None:
 
 
 def fault_of_shell(command: str) -> str | None:
-    """Returns what is wrong with a command of tools/gate/words.sh, or None."""
+    """Returns a fault if tools/gate/words.sh does not run this command, or None."""
     lines = [line.strip() for line in WORDS.splitlines()]
     return fault_of_script("tools/gate/words.sh") if command in lines else f"tools/gate/words.sh does not run {command}"
 
@@ -116,7 +116,7 @@ def fault_of(kind: str, text: str) -> str | None:
     name, sign, where = text.partition(" = ")
     if not sign or not name:
         return "it does not say where it is tried"
-    # Commands and names may contain commas: only one before a kind of place separates.
+    # Commands and names may contain commas, so only a comma before a kind of place separates.
     places = re.split(rf", (?=(?:{'|'.join(PLACES)}) )", where)
     return next(filter(None, map(fault_of_place, places)), None)
 

@@ -3,8 +3,8 @@
 # programs. Checks that uninstalling removes everything, and that lintian, if installed, finds
 # nothing.
 #     tools/gate/check-package.sh [PROGRAM]
-# It needs no root and installs nothing here. The last line is `N passed, M failed`. Without
-# dpkg-deb or lldpa-live (tools/release/live.sh --dynamic) it says so, and its status is 3.
+# It needs no root, and installs nothing on this host. The last line is `N passed, M failed`.
+# Without dpkg-deb or lldpa-live (tools/release/live.sh --dynamic) it is skipped, with status 3.
 set -u
 LLDPA=$(realpath -- "${1:-$(dirname "$0")/../../crates/lldpa/out/lldpa}")
 export LLDPA
@@ -25,7 +25,7 @@ listed() {
     (cd "$1" && find . -mindepth 1 -printf '%P %M %l\n' | LC_ALL=C sort)
 }
 
-# Installs into a new tree.
+# install_into TREE WORD..: installs into a tree, with these arguments of install.sh.
 install_into() {
     tree=$1
     shift
@@ -41,7 +41,7 @@ says() {
     judge $? "$*: $(cat "$room/out")"
 }
 
-# Succeeds if no file is left in a tree, or else lists them.
+# Succeeds if no file is left in a tree. Otherwise lists the files.
 left_in() {
     [ -z "$(find "$1" ! -type d -o -name lldpa.d | tee /dev/stderr)" ]
 }
@@ -51,7 +51,7 @@ judge $? "tools/release/package.sh: $(cat "$room/said")"
 package=$(cat "$room/name")
 check "dpkg-deb -x $package" dpkg-deb -x "$package" "$room/package"
 
-# The package has what is installed under /usr, and a few files more; postinst writes the settings.
+# The package has the files that install.sh installs, and a few more. postinst adds the settings.
 install_into "$room/usr" --python /usr/lib/python3/dist-packages /usr
 mkdir -p "$room/package/etc/default"
 mv "$room/package/usr/share/lldpa/default" "$room/package/etc/default/lldpa"
@@ -86,7 +86,7 @@ install_into "$room/kept" --uninstall /usr
 check "tools/release/install.sh does not keep a configuration that was changed" \
     grep -qx 'PORTS="swp1"' "$room/kept/etc/default/lldpa"
 
-# Each program has its page and its completions, and runs from the package. lldpctl is elsewhere.
+# Each program has a manual page and completions, and runs. lldpctl is not in usr/bin.
 version=$(dpkg-deb -f "$package" Version)
 for path in "$room"/package/usr/bin/* "$room/package/usr/lib/lldpa/bin/lldpctl"; do
     name=${path##*/}
@@ -121,7 +121,7 @@ check "lldpa-metrics.service does not run lldpa-ctl" \
     grep -q '^ExecStart=/usr/bin/lldpa-ctl metrics ' "$units/lldpa-metrics.service"
 check "there is no timer for metrics, or no rules for Prometheus" \
     ls "$units/lldpa-metrics.timer" "$room/package/usr/share/lldpa/lldpa.rules.yml"
-# The service reads the settings of its folder, which exists. Another prefix has its own folder.
+# The service reads the settings of /etc/lldpa.d. Below another prefix it reads PREFIX/etc/lldpa.d.
 install_into "$room/opt" --python /opt/python /opt/lldpa
 check "there is no folder of settings" \
     ls -d "$room/package/etc/lldpa.d" "$room/local/etc/lldpa.d" "$room/opt/opt/lldpa/etc/lldpa.d"
@@ -131,7 +131,7 @@ check "the service below /opt/lldpa does not read /opt/lldpa/etc/lldpa.d" grep -
     '^ExecStart=/opt/lldpa/bin/lldpa-live .* --config /opt/lldpa/etc/lldpa.conf --config /opt/lldpa/etc/lldpa.d ' \
     "$room/opt/opt/lldpa/lib/systemd/system/lldpa.service"
 
-# The packages of the library have what install.sh --library installs, and pkg-config finds it.
+# The packages of the library have what install.sh --library installs. pkg-config finds it there.
 library_packages() {
     LLDPA_LIB_DIR=$room/built
     export LLDPA_LIB_DIR
@@ -155,11 +155,11 @@ library_packages() {
         told_by_pkg_config liblldpa.so.1
         told_by_pkg_config -l:liblldpa.a
     else
-        echo "skipped: a program that is built with pkg-config, since there is no pkg-config or no cc"
+        echo "skipped: a program built with pkg-config, since there is no pkg-config or no cc"
     fi
 }
 
-# lldpa1 has the shared object and the usual papers. The object exports what the header declares.
+# lldpa1 has the shared object and Debian's usual files. The object exports what lldpa.h declares.
 shared_object() {
     files=$(cd "$room/shared" && find . -type f -printf '%f\n' | LC_ALL=C sort | tr '\n' ' ')
     [ "$files" = "changelog.Debian.gz copyright liblldpa.so.1 lldpa1 " ]
@@ -174,12 +174,12 @@ shared_object() {
     judge $? "lldpa1 or its shlibs file does not have the name of the package"
 }
 
-# Builds examples/c/who.c as pkg-config says, with the shared object or the archive, and runs it.
+# Builds and runs examples/c/who.c with pkg-config's flags and the shared object or the archive.
 told_by_pkg_config() {
     told=$(dirname "$(find "$room/developed" -name lldpa.pc)")
     flags=$(PKG_CONFIG_LIBDIR=$told PKG_CONFIG_SYSROOT_DIR=$room/developed pkg-config --cflags --libs lldpa)
     case $1 in -l*) flags=$(echo "$flags" | sed "s/-llldpa/$1/") ;; esac
-    # shellcheck disable=SC2086 # these are flags, each a word
+    # shellcheck disable=SC2086 # each flag is a word
     cc examples/c/who.c -o "$room/who" $flags > "$room/out" 2>&1 &&
         LD_LIBRARY_PATH=$(dirname "$told") "$room/who" docs/lab.pcap > "$room/out" 2>&1 &&
         cmp -s "$room/out" examples/c/who.expect
@@ -197,7 +197,7 @@ else
 fi
 
 if needs lintian; then
-    # shellcheck disable=SC2086 # these are the packages of the library, each a word
+    # shellcheck disable=SC2086 # each package of the library is a word
     lintian --fail-on error,warning --allow-root "$package" $developed > "$room/out" 2>&1 && [ ! -s "$room/out" ]
     judge $? "lintian: $(cat "$room/out")"
 fi

@@ -1,10 +1,10 @@
 #!/bin/sh
 # Runs the parts of the gate.
 #     tools/gate/check.sh [--cheap | --built | --gate] [PROGRAM]
-# --cheap runs the parts that need no program (90 seconds), --built those that try PROGRAM (default:
-# the gate's), no option both. --gate also proves and tests all crates (rt ci), and stops if a cheap
-# part fails. Needs sh, bash, python3 and a C compiler; parts without their tools are reported, and
-# not counted. The last lines are the seconds of each part, and `N passed, M failed`.
+# --cheap runs the parts that need no program (90 seconds), --built those that test PROGRAM (by
+# default crates/lldpa/out/lldpa). Without an option both run. --gate also proves and tests all
+# crates (rt ci), but stops if a cheap part fails. Needs sh, bash, python3 and a C compiler; parts
+# that lack other tools are skipped. The last lines are the seconds of each part, and the counts.
 set -u
 cd "$(dirname "$0")/../.." || exit 2
 . tools/gate/parts.sh
@@ -34,7 +34,7 @@ built() {
     part "arguments and streams" tools/gate/words.sh "$program"
     part "tests of the Python package" python3 tools/gate/test-python.py "$program"
     part "audit of eight ports" python3 audit/tools/check.py --program "$program"
-    # The first of these proves the library; the second uses that proof.
+    # The first of these proves the crates of the library; the second uses these proofs.
     part "arm64, by qemu" tools/gate/kept.py arm64 python3 tools/library/check-arm64.py
     part "the library" tools/gate/kept.py library python3 tools/library/check-library.py
     part "the package" tools/gate/check-package.sh "$program"

@@ -1,11 +1,11 @@
 #!/usr/bin/env python3
-"""Compares the completions of each program with what its --help says.
+"""Compares the completions of each program with its --help.
 
     tools/gate/completions.py
 
-bash completes words; zsh must be able to read its file, which must offer the same commands. The
-help of lldpa is examples/help.txt, which another part of the gate compares with the program's. What
-is not installed is skipped. The last line is `N passed, M failed`.
+bash is asked for completions. zsh must be able to parse its file, which must have the same
+commands. The help of lldpa is examples/help.txt, which another part of the gate compares with the
+program. What is not installed is skipped. The last line is `N passed, M failed`.
 """
 from __future__ import annotations
 
@@ -24,7 +24,7 @@ LIVE = TOP / "rust" / "live" / "out" / "lldpa-live"
 LIBRARY = Path("/usr/share/bash-completion/bash_completion")
 PROGRAMS = ("lldpa", "lldpa-live", "lldpa-ctl", "lldpctl", "lldpa-audit", "lldpa-capture")
 COMMANDS = {"lldpa-ctl": r"^  ([a-z]+) ", "lldpctl": r"^  (show|watch|configure|update)\b"}
-# Completes the first word after a program's name.
+# A bash script that prints the completions of the first word after a program's name.
 COMPLETE = f"""
 . {LIBRARY}
 . {IN_BASH}
@@ -47,7 +47,7 @@ def help_of(program: str) -> str:
 
 
 def offered(program: str, begun: str) -> set[str]:
-    """Returns what bash offers for the first word after the name of a program."""
+    """Returns what bash offers for a first argument that begins like this."""
     return set(written("bash", "-c", COMPLETE, "bash", program, begun).split())
 
 

@@ -1,4 +1,4 @@
-"""Counts the checks of a script; the gate adds up the last lines of its scripts."""
+"""Counts the checks of a script. tools/gate/check.sh adds up the last lines of its scripts."""
 from __future__ import annotations
 
 

@@ -1,22 +1,22 @@
 #!/usr/bin/env python3
-"""Runs the examples on the built program, and compares what they show.
+"""Runs the examples on the built program, and compares the output.
 
     python3 tools/gate/examples.py PROGRAM [NAME ...]
     python3 tools/gate/examples.py --as-root
 
-The transcripts are in examples/, whose README describes the files. The texts of a filter have small
-letters and hyphens, and each occurs in a shown line. Each transcript is run in four ways: its first
-lines, one more each time; without its last LF, which changes nothing; octet by octet; and in two
-pieces, cut at every place (inputs of up to 10,000 octets). A piece is written when the program has
-read the one before. Each run must end with status 0 and write nothing on standard error.
-receive-counters.rows has counters of eth0, which `show statistics` must show after a transcript.
+The transcripts are in examples/; the README there describes the files. A filter's texts consist of
+small letters and hyphens, and each must occur in a shown line. Each transcript runs in four ways:
+its first N lines, for each N; without its last LF, which changes nothing; octet by octet; and in
+two pieces, cut at every place (inputs of up to 10,000 octets). A piece is written after the program
+has read the one before. Each run must end with status 0 and write nothing on standard error.
+receive-counters.rows has counters of eth0 that `show statistics` must show after a transcript.
 
 Examples of the pages and the manual page are blocks whose first line begins with `$ `. Each such
-line is a command; after <<'EOF' or <<EOF its input follows up to the line EOF. Its output is below,
-up to the next command. `echo $?` shows a status other than 0. Standard error must be empty. A free
-port replaces the number after --listen. A block that takes too long fails, and all that it started
-is ended. tools/by-hand/try-package.sh runs the blocks whose commands begin with sudo; --as-root
-lists these commands. A block with commands of both kinds fails.
+line is a command. If it ends with <<'EOF' or <<EOF, its input follows, up to the line EOF. Its
+output follows, up to the next command. A status other than 0 must be shown by `echo $?`. Standard
+error must be empty. A free port replaces the number after --listen. A block that takes too long
+fails, and its processes are killed. tools/by-hand/try-package.sh runs the blocks whose commands
+begin with sudo; --as-root lists these commands. A block with commands of both kinds fails.
 
 If names are given, only those transcripts and their rows are run. The last line counts the ways of
 each transcript, the rows and the blocks.
@@ -44,7 +44,7 @@ TOP = pathlib.Path(__file__).resolve().parents[2]
 # the beginning of a command that needs root
 AS_ROOT = "$ sudo "
 
-# the rows of counters, and the command that shows counters
+# the file with the rows of counters, and the command that shows counters
 ROWS = TOP / "examples" / "receive-counters.rows"
 SHOW = b"show statistics\n"
 
@@ -63,7 +63,7 @@ def unread(pipe):
 
 
 def feed(ran, pieces):
-    """Writes each piece to a program after it has read the one before, then closes its input."""
+    """Writes each piece when the program has read the one before, then closes its input."""
     pipe = ran.stdin.fileno()
     end = time.monotonic() + SECONDS
     for piece in pieces:
@@ -74,14 +74,14 @@ def feed(ran, pieces):
 
 
 def difference(written, wanted):
-    """Returns in words where two texts first differ."""
+    """Returns a message that says where two texts first differ."""
     got, want = written.splitlines(), wanted.splitlines()
     place = next((at for at in range(len(got) + 1) if got[at:at + 1] != want[at:at + 1]), len(got))
     return f"line {place + 1} of its output is {got[place:place + 1]}, not {want[place:place + 1]}"
 
 
 def words_and_filter(args):
-    """Returns the arguments, and the texts of the filter or None if it cannot be read."""
+    """Returns the arguments, and the filter's texts, or None for these if it is malformed."""
     words = args.splitlines()
     if not words or not words[-1].startswith("|"):
         return words, []
@@ -117,7 +117,7 @@ def fault_of_run(program, words, texts, run):
 
 
 def steps_of(trace, shown):
-    """Returns each line of an input with its output, or says where the two files differ."""
+    """Returns each line of an input with its output, or a message if the files do not agree."""
     lines = trace.removesuffix(b"\n").split(b"\n") if trace else []
     steps = []
     for line in shown.splitlines(keepends=True):
@@ -134,7 +134,7 @@ def steps_of(trace, shown):
 
 
 def ways(trace, steps):
-    """Yields the name of each way to feed an input, and its runs: pieces and output."""
+    """Yields each way to feed an input: its name, and its runs with pieces and wanted output."""
     fronts, texts = [b""], [b""]
     for line, written in steps:
         fronts.append(trace[:len(fronts[-1]) + len(line) + 1])
@@ -157,7 +157,7 @@ def fault_of_filter(texts, steps):
 
 
 def transcripts(only):
-    """Yields each transcript: its name, arguments, filter, input, and lines with their output."""
+    """Yields each transcript: its name, arguments, filter, input, and its steps or a fault."""
     for args in sorted((TOP / "examples").glob("*.args")):
         if not only or args.stem in only:
             words, texts = words_and_filter(args.read_text())
@@ -168,7 +168,7 @@ def transcripts(only):
 
 
 def run_transcripts(program, only):
-    """Runs each transcript in each way. Yields the name of each, and its fault or None."""
+    """Runs each transcript in each way. Yields a name for each way, and its fault if any."""
     with concurrent.futures.ProcessPoolExecutor() as pool:
         for name, words, texts, trace, steps in transcripts(only):
             if isinstance(steps, str):
@@ -196,7 +196,7 @@ def rows(only):
 
 
 def run_rows(program, only):
-    """Runs each row's transcript and its show. Yields the name of each row, and its fault."""
+    """Runs the transcript of each row and then a show. Yields the row's name and its fault."""
     for name, values, found in rows(only):
         fault = found
         if not isinstance(found, str):
@@ -221,7 +221,7 @@ def commands(lines):
 
 
 def script_and_output(lines):
-    """Returns the commands of a block with their input, and their output."""
+    """Returns the commands of a block with their input, and the output that they must have."""
     script, wanted, is_input = [], [], False
     for line in lines:
         if is_input:
@@ -244,14 +244,14 @@ def with_free_ports(text, script):
 
 @functools.lru_cache(None)
 def free_port(number):
-    """Returns a free port of this host, the same one for the same number."""
+    """Returns a free port of this host, always the same one for the same number."""
     with socket.socket() as one:
         one.bind(("127.0.0.1", 0))
         return str(one.getsockname()[1])
 
 
 def ended(ran):
-    """Returns what a script wrote on both streams, or that it took too long, and ends it."""
+    """Returns what a script wrote, or a message if it took too long. Kills what still runs."""
     try:
         return ran.communicate(timeout=SECONDS)
     except subprocess.TimeoutExpired:

@@ -1,12 +1,12 @@
 #!/usr/bin/env python3
-"""Checks which parts of the Python packages import which, and fails if they form a cycle.
+"""Checks that the imports of the Python packages form no cycle.
 
     tools/gate/imports.py
 
-The parts of a folder are its files and its folders. If a file of one part imports from another
-part, the first part imports the second, wherever the import is in the file. The parts of each
-folder must have an order in which each imports only earlier ones. Also, lldpa imports nothing of
-lldpa_audit. The last line is `N passed, M failed`, counted by folder and by rule.
+The parts of a folder are its files and its subfolders. A part imports another if one of its files
+imports something from the other, anywhere in the file. The parts of each folder must have an order
+in which each imports only earlier ones. Also, lldpa must not import lldpa_audit. The last line is
+`N passed, M failed`, with a check for each folder and one for the last rule.
 """
 from __future__ import annotations
 
@@ -21,7 +21,7 @@ from counts import Counts
 
 TOP = Path(__file__).resolve().parents[2]
 NEVER = ("lldpa", "lldpa_audit")
-# The files of the packages by the parts of their names; a package's own file is its `__init__`.
+# The file of each module, by the parts of its name. A package's own module is its `__init__`.
 MODULES = {path.relative_to(package.parents[1]).with_suffix("").parts: path
            for package in TOP.glob("*/lldpa*/__init__.py") for path in package.parent.rglob("*.py")}
 

@@ -1,11 +1,11 @@
 #!/usr/bin/env python3
-"""Runs a part of the gate, unless nothing that it reads has changed since it last passed here.
+"""Runs a part of the gate, or repeats its count if nothing changed since it last passed here.
 
     tools/gate/kept.py NAME COMMAND ..
 
-If the files of READ and the versions of the compilers are the same as then, it repeats the count.
-If something was skipped, the count is not kept. The states are in out/passed, which git ignores, so
-a clean clone runs everything. The last line is `N passed, M failed`.
+The count is repeated if the files of READ and the versions of the compilers are the same as then. A
+count is not kept if something was skipped. Counts are kept in out/passed, which git ignores, so a
+clean clone runs everything. The last line is `N passed, M failed`.
 """
 from __future__ import annotations
 
@@ -18,7 +18,7 @@ from collections.abc import Iterable
 
 TOP = pathlib.Path(__file__).resolve().parents[2]
 KEPT = TOP / "out" / "passed"
-# what tools/library/check-library.py and check-arm64.py read
+# the files that tools/library/check-library.py and check-arm64.py read
 READ = ("crates", "crates.txt", "rust", "examples", "docs/LIBRARY.md", "docs/lab.pcap", "tools/library", "tools/release",
         "tools/model", "tools/gate/examples.py", "tools/gate/counts.py")
 COMPILERS = (("rt", "version"), ("cc", "--version"), ("cargo", "--version"), ("qemu-aarch64", "--version"))

@@ -1,6 +1,6 @@
 #!/bin/sh
-# Checks that the manual pages are well formed, that the services have few rights, and that their
-# settings are in the file of defaults. The last line is `N passed, M failed`.
+# Checks that the manual pages are well formed, that the services have few rights, and that
+# share/default/lldpa has the variables of lldpa.service. The last line is `N passed, M failed`.
 set -u
 cd "$(dirname "$0")/../.." || exit 2
 . tools/gate/parts.sh

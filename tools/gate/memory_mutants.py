@@ -1,8 +1,8 @@
 """Changes of sources that tools/gate/check-memory.py must notice, since each breaks a rule."""
 from __future__ import annotations
 
-# the changes of each file: an old text, which occurs once, and the new text, where @ stands for the
-# old one; a change may have several such pairs
+# The changes of each file. Each has one or more pairs of an old text, which occurs once, and a new
+# text, in which @ means the old text.
 MUTANTS = {
     "lldp_engine/src/agent.rt": (
         ("pub fn find_port(",

@@ -1,5 +1,5 @@
-# Functions with which the scripts of the gate count. They are read from the top of the repository.
-# `room` is a folder that is removed at the end.
+# Functions that count checks, for the scripts of the gate. Scripts source this file from the top of
+# the repository. `room` is a temporary folder, which is removed at the end.
 room=$(mktemp -d) || exit 2
 trap 'rm -rf "$room"' EXIT
 passed=0
@@ -8,7 +8,7 @@ kept=0
 export PYTHONDONTWRITEBYTECODE=1
 : > "$room/seconds"
 
-# judge STATUS WHAT: counts a check that held (status 0), or counts and reports one that did not.
+# judge STATUS WHAT: counts a check as passed if STATUS is 0; otherwise counts and reports it.
 judge() {
     if [ "$1" -eq 0 ]; then
         passed=$((passed + 1))
@@ -18,7 +18,7 @@ judge() {
     fi
 }
 
-# check WHAT COMMAND..: runs a command, and counts whether it succeeds. If not, reports its output.
+# check WHAT COMMAND..: runs a command as a check. If it fails, reports the end of its output.
 check() {
     check_what=$1
     shift

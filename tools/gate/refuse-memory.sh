@@ -1,15 +1,15 @@
 #!/bin/sh
 # Refuses memory to the built program, and checks that it reports this: status 2, `lldpa: no memory`
 # on standard error, and nothing on standard output. Each request for memory of a run is refused
-# once with all later ones, and once alone:
-#  - with all later ones, the run always ends like this;
-#  - alone, the run may also survive, and must then write its right output with status 0: std asks
-#    for all the room that an iterator hints at and, if refused, for less. That is not a fault.
-# The runs are the stored run of the program, and one that opens 64 ports of 128 neighbors. Then
-# each transcript of examples/ is run. It must request memory as often as a run with the same
+# twice:
+#  - with all later requests; the run must end as above;
+#  - alone; the run may also end with its usual output and status 0: the standard library asks for
+#    the room that an iterator hints at and, if this is refused, for less.
+# The runs are the one stored in crates/lldpa, and one that opens 64 ports of 128 neighbors. Then
+# each transcript of examples/ runs. It must request memory as often as a run with the same
 # arguments and empty input, and write the same if all requests after opening are refused. It needs
-# a C compiler for refuse.c, which it preloads, and takes the program (by default the gate's). The
-# last line counts the runs; if it is skipped, the status is 3.
+# a C compiler for refuse.c, which is preloaded; without one the status is 3. The argument is the
+# program (default: crates/lldpa/out/lldpa). The last line is `N passed, M failed`.
 set -u
 cd "$(dirname "$0")/../.." || exit 2
 program=$(realpath -- "${1:-crates/lldpa/out/lldpa}") && [ -x "$program" ] || { echo "no program"; exit 2; }
@@ -18,7 +18,7 @@ command -v cc > /dev/null || { echo "skipped: refused memory, which needs a C co
 cc -O1 -shared -fPIC -o "$room/refuse.so" tools/gate/refuse.c || exit 2
 survived=0
 
-# Runs the program on $room/in with these arguments; the environment says which memory is refused.
+# Runs the program on $room/in with these arguments. REFUSE_AT and REFUSE_LATER refuse memory.
 run() {
     LD_PRELOAD=$room/refuse.so "$program" "$@" < "$room/in" > "$room/out" 2> "$room/err"
     status=$?
@@ -32,12 +32,12 @@ survives() {
     [ "$status" -eq 0 ] && [ ! -s "$room/err" ] && cmp -s "$room/out" "$room/want"
 }
 
-# judge_run STATUS WHAT: counts a run that was right (status 0), or reports what it did.
+# judge_run STATUS WHAT: counts the last run, and reports what it did unless STATUS is 0.
 judge_run() {
     judge "$1" "$2: status $status, wrote $(head -c 200 "$room/out"), said $(head -c 200 "$room/err")"
 }
 
-# Refuses each request of a run with these arguments, which should write what $room/want has.
+# Refuses each request of a run with these arguments in turn. $room/want has its usual output.
 refuse_each() {
     TELL_TO=$room/requests run "$@"
     survives
@@ -54,7 +54,7 @@ refuse_each() {
         says_no_memory || survives
         judge_run $? "request $number refused"
     done
-    echo "$requests requests for memory refused, and the program survived $survived of them alone"
+    echo "$requests requests for memory were refused; refused alone, the program survived $survived"
     survived=0
 }
 
@@ -89,11 +89,11 @@ for args in examples/*.args; do
     cp "${args%.args}.trace" "$room/in"
     whole=$(requests_of_run "$@")
     [ "$opening" -gt 0 ] && [ "$opening" -eq "$whole" ]
-    judge_run $? "$args: $opening requests over an empty input, $whole over its lines"
+    judge_run $? "$args: $opening requests for empty input, $whole for its lines"
     cp "$room/out" "$room/want"
     REFUSE_AT=$((opening + 1)) REFUSE_LATER=1 run "$@"
     survives
-    judge_run $? "$args: each request after the $opening of the opening refused"
+    judge_run $? "$args: all requests after the $opening of the opening refused"
 done
 
 finish

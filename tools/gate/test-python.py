@@ -3,8 +3,8 @@
 
     python3 tools/gate/test-python.py [PROGRAM]
 
-PROGRAM is the lldpa that they run. Two modules run for each processor, since the tests mostly wait.
-Skipped tests are reported, and not counted. The last line is `N passed, M failed`.
+PROGRAM is the lldpa that the tests run. Two modules at a time run for each processor, since tests
+mostly wait. Skipped tests are reported, and not counted. The last line is `N passed, M failed`.
 """
 import concurrent.futures
 import io
@@ -17,11 +17,11 @@ from typing import NamedTuple
 
 TOP = pathlib.Path(__file__).resolve().parents[2]
 TESTS = [TOP / "python" / "tests", TOP / "audit" / "tests"]
-# These take longest, so they begin first: otherwise the gate would wait for them.
+# These modules take longest, so they begin first: otherwise the gate would wait for them.
 LONGEST = ("test_service", "test_state", "test_control_paths", "test_addresses", "test_log_files", "test_relay",
            "test_patterns", "test_control", "test_live_ends", "test_bad_files", "test_live_log", "test_packaging",
            "test_settings", "test_ctl_live", "test_audit_command", "test_identity", "test_ask")
-# tests that need an answer within a tenth of a second run alone
+# modules that run alone, since their tests need an answer within a tenth of a second
 ALONE = ("test_live_flood",)
 
 
@@ -34,8 +34,8 @@ class Ran(NamedTuple):
 
 
 def prepare():
-    """Lets a process import the tests. Background jobs of a shell ignore SIGINT, and so would the
-    programs that are tested, so the default is restored."""
+    """Prepares a process: it can import the tests, and SIGINT has its default effect. A shell's
+    background jobs ignore SIGINT, and so would the programs that the tests run."""
     sys.dont_write_bytecode = True
     signal.signal(signal.SIGINT, signal.default_int_handler)
     sys.path[:0] = [*map(str, TESTS), str(TOP / "audit")]
@@ -53,7 +53,7 @@ def run_module(name):
 
 
 def run_all(names):
-    """Runs each module in a process of its own, and yields the results in order."""
+    """Runs each module in another process, then those that run alone. Yields the results."""
     beside = [name for name in names if name not in ALONE]
     workers = 2 * len(os.sched_getaffinity(0))
     for workers, some in ((workers, beside), (1, [name for name in names if name in ALONE])):

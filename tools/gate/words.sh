@@ -11,9 +11,9 @@ ln -s "$program" "$room/bin/lldpa"
 frame=0180c200000e02000000000188cc020704020000000001040505657468300602007908046574683
 frame=${frame}00a096c6f63616c686f73740c056c6c6470610e04008000800000
 
-# ends STATUS SAID COMMAND [WRITTEN]: runs a command in a folder with empty input. Checks that it
-# ends with this status, writes the line SAID on standard error (none if empty) and the lines
-# WRITTEN on standard output (none unless given). If a text begins with `*`, it is a pattern.
+# ends STATUS SAID COMMAND [WRITTEN]: runs a command with empty input. Checks that it ends with this
+# status, writes SAID on standard error and WRITTEN on standard output, or nothing if the text is
+# empty or missing. A text that begins with `*` is a pattern.
 ends() {
     (cd "$room" && PATH="$room/bin:$PATH" sh -c "$3") < /dev/null > "$room/out" 2> "$room/err"
     status=$?
@@ -24,7 +24,7 @@ ends() {
     judge "$is_so" "$3: status $status, said $(head -c 200 "$room/err"), wrote $(head -c 200 "$room/out")"
 }
 
-# Succeeds if a file has these lines (none if empty), or matches a pattern that begins with `*`.
+# holds TEXT FILE: succeeds if FILE has exactly TEXT, or matches TEXT if this begins with `*`.
 holds() {
     case $1 in
         "") [ ! -s "$2" ] ;;
@@ -33,7 +33,7 @@ holds() {
     esac
 }
 
-# Tries the arguments that the specification says are refused.
+# Tries arguments that the specification refuses.
 echo "== words: refused arguments"
 ends 2 "lldpa: no ports" 'lldpa'
 ends 2 "lldpa: same port twice" 'lldpa eth0 eth0'
@@ -174,7 +174,7 @@ else
     echo "skipped: a full device, since there is no /dev/full"
 fi
 
-# Compares the answers to input that is not text with those of the model.
+# Compares the answers to binary input with the model's.
 echo "== binary input"
 python3 -c 'import random, sys
 sys.stdout.buffer.write(random.Random(1).randbytes(2000000))' > "$room/random"

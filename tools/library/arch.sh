@@ -1,7 +1,7 @@
-# Reads the arguments `[--arch amd64|arm64] [FOLDER]` of tools/library/library.sh and
-# tools/release/build.sh. Sets `arch` and `folder` to them, `target` to the toolchain's name of the
-# architecture, and `tools` to the prefix of the compiler and binutils, if it is not this machine's.
-# A script that reads this file has a function `fail`.
+# Parses the arguments `[--arch amd64|arm64] [FOLDER]` of tools/library/library.sh and
+# tools/release/build.sh. Sets `arch` and `folder`; `target`, the toolchain's options for the
+# architecture; and `tools`, the prefix of the compiler and binutils for another machine. A script
+# that sources this file has a function `fail`.
 here=$(uname -m | sed 's/x86_64/amd64/; s/aarch64/arm64/')
 arch=$here
 folder=

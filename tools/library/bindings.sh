@@ -1,8 +1,8 @@
 #!/bin/sh
 # Prints the declarations of lldpa.h for Rust. After a change of the header run
 #     tools/library/bindings.sh > rust/lldpa/src/sys.rs
-# It needs bindgen, such as Debian's. tools/library/check-library.py compares the two. The comments
-# become Rust's, and lldpa_statistics_told becomes Statistics, as the crate exports it.
+# It needs bindgen. tools/library/check-library.py checks that sys.rs is up to date. Comments are
+# kept, and lldpa_statistics_told becomes Statistics, its name in the crate.
 set -eu
 cd "$(dirname "$0")/../.."
 bindgen crates/lldpa_c/include/lldpa.h --disable-header-comment --use-core --size_t-is-usize --no-layout-tests \

@@ -3,9 +3,9 @@
 
     python3 tools/library/check-arm64.py [FOLDER]
 
-Runs all transcripts of examples/, the vectors, rows and transcripts of the library, NULL for each
-pointer, and random traces beside the model. If FOLDER is missing, tools/release/build.sh makes it.
-Without gcc for arm64 or qemu-user the status is 3. The last line is `N passed, M failed`.
+The program runs all transcripts of examples/, and random traces beside the model. The library runs
+the transcripts, its rows, and its tests with NULL. Without FOLDER, tools/release/build.sh builds
+both. Without gcc for arm64 or qemu-user the status is 3. The last line is `N passed, M failed`.
 """
 from __future__ import annotations
 
@@ -32,7 +32,7 @@ NATIVE = importlib.import_module("check-library")
 
 
 def wrapped(program: pathlib.Path) -> pathlib.Path:
-    """Returns a script that runs a program with qemu."""
+    """Writes a script that runs a program with qemu, and returns its path."""
     script = program.with_name(f"{program.name}-by-qemu")
     script.write_text(f'#!/bin/sh\nexec {" ".join(QEMU)} {program} "$@"\n')
     script.chmod(0o755)
@@ -72,7 +72,7 @@ def check_library(folder: pathlib.Path, room: pathlib.Path, counts: Counts) -> N
 
 
 def has_live(folder: pathlib.Path, counts: Counts) -> bool:
-    """Builds lldpa-live. Returns whether this host can: Rust may have no library for arm64."""
+    """Builds lldpa-live. Returns whether this host can: it may lack Rust's library for arm64."""
     settings = os.environ | {"LLDPA_LIB_DIR": str(folder / "lib")}
     for words in ([], ["--dynamic"]):
         made = ran([TOP / "tools" / "release" / "live.sh", "--arch", "arm64", *words], env=settings)

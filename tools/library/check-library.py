@@ -3,14 +3,14 @@
 
     python3 tools/library/check-library.py [FOLDER]
 
-Programs of tools/library/c run with the library and the compiler's sanitizers: rows, and cut and
-altered LLDPDUs beside the model (vectors.c); the transcripts of examples/ and whole shows beside
-the model (transcript.c); NULL for each pointer, and values out of range (nulls.c); what rows do not
-reach (limits.c); and refused memory under valgrind (refused.c).
+Programs of tools/library/c run with the library and the compiler's sanitizers. vectors.c compares
+rows, and cut and altered LLDPDUs, with the model; transcript.c the transcripts of examples/ and
+whole shows. nulls.c passes NULL for each pointer, and values out of range. limits.c tries what rows
+do not reach. refused.c refuses memory, under valgrind.
 
-FOLDER has liblldpa.a, liblldpa.so.1 and lldpa.h; tools/library/library.sh makes them if none is
-given. What cannot be checked here, for instance without cargo or valgrind, is reported and not
-counted. Without a C compiler or a library the status is 3. The last line is `N passed, M failed`.
+FOLDER has liblldpa.a, liblldpa.so.1 and lldpa.h. Without it tools/library/library.sh makes them.
+Checks that need something missing, such as cargo or valgrind, are reported and not counted. Without
+a C compiler or a library the status is 3. The last line is `N passed, M failed`.
 """
 from __future__ import annotations
 
@@ -76,7 +76,7 @@ def check_plug_in(library: Library, counts: Counts) -> None:
 
 
 def check_size(library: Library, counts: Counts) -> None:
-    """Checks that the archive adds less than 6 KB to a program that uses only the reader."""
+    """Checks that a call of lldpa_examine adds less than 6 KB of the archive to a program."""
     sizes = []
     for name, call in (("without", "0"), ("with", "lldpa_examine((const uint8_t *)words, (size_t)count, &told)")):
         source = library.room / f"{name}.c"
@@ -107,7 +107,7 @@ def check_programs(library: Library, counts: Counts) -> None:
 
 
 def run_program(name: str, command: list[str], room: pathlib.Path, counts: Counts) -> None:
-    """Runs one of the C programs after it was built."""
+    """Runs a C program that is built, and counts its checks."""
     if name == "transcript":
         check_transcripts(command, counts)
     elif name == "vectors":
@@ -117,7 +117,7 @@ def run_program(name: str, command: list[str], room: pathlib.Path, counts: Count
 
 
 def check_refused(library: Library, counts: Counts) -> None:
-    """Refuses memory, under valgrind if installed: AddressSanitizer replaces malloc."""
+    """Refuses memory, under valgrind if installed: AddressSanitizer has its own malloc."""
     wrapper = VALGRIND if shutil.which("valgrind") else []
     if not wrapper:
         skip("valgrind, which is not installed")
@@ -128,7 +128,7 @@ def check_refused(library: Library, counts: Counts) -> None:
 
 
 def check_processor(library: Library, counts: Counts) -> None:
-    """Checks that the library for amd64 runs on an old processor."""
+    """Checks that the library for amd64 runs on an old processor, which qemu emulates."""
     if shutil.which("qemu-x86_64") is None or os.uname().machine != "x86_64":
         skip("an old processor, since there is no qemu-x86_64")
         return
@@ -153,7 +153,7 @@ CHECKS = (check_programs, check_rust, check_front, check_refused, check_receive,
 
 def in_own_room(check: Callable[[Library, Counts], None], folder: pathlib.Path,
                 room: pathlib.Path) -> Callable[[Counts], None]:
-    """Returns the check with the library of this folder, and with a new folder of its own."""
+    """Returns the check of the library in `folder`, with a new folder for its files."""
     own = Library(folder, room / check.__name__)
     own.room.mkdir()
     return lambda counts: check(own, counts)

@@ -3,13 +3,13 @@
 #     tools/library/library.sh [--arch amd64|arm64] [FOLDER]
 # By default FOLDER is crates/lldpa_c/out/lib and the architecture is that of this machine. Another
 # architecture needs a C compiler and binutils, such as the package gcc-aarch64-linux-gnu. The
-# library for amd64 runs on every such processor.
+# library for amd64 runs on every amd64 processor.
 #
-# The functions of the archive that `rt lib` builds get the prefix `proved_`. Programs call those of
-# crates/lldpa_c/front, which handle NULL and call malloc. Each group of calls below is one object
-# of liblldpa.a, with all that it uses, and the archive defines only the global names of lldpa.h.
-# `rt lib` runs if a source, a definition, a proof, crates.txt or the toolchain has changed since it
-# last ran for this architecture. The script prints the name of the folder.
+# `rt lib` builds an archive, whose functions get the prefix `proved_`. Programs call the functions
+# of crates/lldpa_c/front, which check for NULL, and call malloc and the proved functions. Each
+# group of calls below is one object of liblldpa.a, with all that it uses. The archive's only global
+# names are those of lldpa.h. `rt lib` runs if a source, a definition, a proof, crates.txt or the
+# toolchain has changed since it last ran for this architecture. Prints the name of the folder.
 set -eu
 cd "$(dirname "$0")/../.."
 front=crates/lldpa_c/front
@@ -20,7 +20,7 @@ fail() {
     exit 1
 }
 
-# The calls in each object of the archive.
+# Prints the name of each object of the archive, and the calls in it.
 groups() {
     echo "version lldpa_version"
     echo "reading lldpa_frame_pdu lldpa_examine lldpa_next_kept lldpa_caps lldpa_mgmt"
@@ -39,7 +39,7 @@ folder=$(realpath -m -- "${folder:-crates/lldpa_c/out/lib}")
 room=$(mktemp -d)
 trap 'rm -rf "$room"' EXIT
 
-# A digest of everything that the archive is built from.
+# Prints a digest of everything that the archive is built from.
 state() {
     {
         rt version
@@ -59,13 +59,13 @@ if [ "$(cat "$kept/stamp" 2> /dev/null)" != "$(state)" ]; then
     echo "$before" > "$kept/stamp"
 fi
 
-# One object with everything; each function of the front has a section of its own.
+# The proved functions get their prefix. Each function of the front gets a section of its own.
 "${tools}nm" --defined-only "$kept/liblldpa_c.a" | sed -n 's/^.* T \(lldpa_.*\)$/\1 proved_\1/p' > "$room/names"
 "${tools}objcopy" --redefine-syms="$room/names" "$kept/liblldpa_c.a" "$room/proved.a"
 compile() {
     "${tools}gcc" -std=gnu99 -O2 -fPIC -ffunction-sections -Wall -Wextra -Werror -I"$header" -c "$@"
 }
-# If the archive is linked into a shared object, that does not export the archive's functions.
+# A shared object that contains the archive does not export its functions: they are hidden.
 compile -fvisibility=hidden $front/lldpa.c -o "$room/front.o"
 compile $front/lldpa.c -o "$room/exported.o"
 compile $front/memory.c -o "$room/memory.o"
@@ -83,7 +83,7 @@ done
 rm -f "$room/liblldpa.a"
 (cd "$room/objects" && "${tools}ar" rcsD ../liblldpa.a ./*.o)
 install -m 644 "$room/liblldpa.a" "$header/lldpa.h" "$folder"
-# The functions that the front calls, for tests that put another front before them.
+# The functions that the front calls, for tests that link them with a changed front.
 cp "$room/proved.a" "$folder/proved.a"
 "${tools}ar" rsD "$folder/proved.a" "$room/memory.o" 2> /dev/null
 echo 'LLDPA_1 { global: lldpa_*; local: *; };' > "$room/exports"

@@ -3,8 +3,8 @@
 
     python3 tools/library/library_examples.py --hear PROGRAM [WORD ..]
 
-With --hear, in a network namespace of its own, it runs a receive loop of examples/ at one end of a
-link, and sends frames at the other end until the loop has reported each change of their sender.
+With --hear, which needs its own network namespace, it runs a receive loop of examples/ at one end
+of a link. At the other end it sends frames until the loop has reported each change of the sender.
 """
 from __future__ import annotations
 
@@ -26,8 +26,8 @@ EXAMPLES = TOP / "examples"
 PAGE = TOP / "docs" / "LIBRARY.md"
 LINK = ("link add here type veth peer name there", "link set here up", "link set there up")
 
-# Frames of 00:11:22:33:44:55, port eth0, each with its report: it is new, has a name, is gone; is
-# new for one second, and ages out; after a pause longer than its time to live it is new, and stays.
+# Frames of one neighbor, each with its report: new, changed, gone; new for a second, then aged out.
+# After a pause that is longer than its next time to live, it is new again, and changes.
 KEY = "02070400112233445504050565746830"
 PAUSE = "4.5"
 HEARD = ((KEY + "06020078", b"new"), (KEY + "060200780a03737731", b"changed"), (KEY + "06020000", b"gone"),
@@ -93,7 +93,7 @@ def follow(heard: subprocess.Popen[bytes], send: Callable[[bytes], object]) -> b
 
 
 def hear(command: list[str]) -> int:
-    """Returns 0 if a receive loop reports all changes of a neighbor and ends when asked, else 1."""
+    """Returns 0 if a receive loop reports all changes of a neighbor and ends on SIGTERM, else 1."""
     for words in LINK:
         subprocess.run(["ip", *words.split()], check=True)
     with socket.socket(socket.AF_PACKET, socket.SOCK_RAW) as sender, \

@@ -7,7 +7,7 @@ from library_parts import TOP, Counts, Library, fault_of, ran
 FRONT = TOP / "crates" / "lldpa_c" / "front" / "lldpa.c"
 NULLS = TOP / "tools" / "library" / "c" / "nulls.c"
 
-# The fault, the text that the front has once, and the wrong text in its place.
+# Each edit of the front: its fault, a text that occurs once there, and the wrong text for it.
 EDITS = (
     ("lldpa_frame_pdu does not check the place", "is_missing(frame, length) || pdu == NULL",
      "is_missing(frame, length)"),

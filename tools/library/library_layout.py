@@ -1,7 +1,7 @@
 """Compares the structs and functions of lldpa.h with those of crates/lldpa_c.
 
-It compares the names and types of fields, in order, the types of parameters, and which pointers are
-only read. The front asserts the size of each struct, so it does not compile with another header. In
+It compares the names, types and order of fields, the types of parameters, and which pointers are
+const. The front asserts the size of each struct, so it does not compile with sizes that differ. In
 C, a slice of Rattle is a pointer and a length, and a handle's memory is an opaque pointer.
 """
 from __future__ import annotations
@@ -14,7 +14,7 @@ CRATE = TOP / "crates" / "lldpa_c" / "src"
 FRONT = TOP / "crates" / "lldpa_c" / "front" / "lldpa.c"
 PARTS = TOP / "crates" / "lldp_transmit" / "src" / "parts.rt"
 
-# The common names of C's and Rattle's types; a struct's is its name in lower case without prefix.
+# The common names of C's and Rattle's types. A struct's is its lower-case name without prefix.
 TYPES = {"uint8_t": "u8", "uint16_t": "u16", "uint32_t": "u32", "size_t": "usize", "bool": "bool", "void": "()",
          "ticks_taken": "ticks", "parts": "machine", "statistics_told": "statistics",
          "configuration_told": "configuration"}
@@ -57,7 +57,7 @@ def split(text: str, mark: str) -> list[str]:
 
 
 def fields_of_c(body: str) -> list[str]:
-    """Returns the names and types of C fields. A length after a pointer has no name in Rattle."""
+    """Returns the names and types of C fields. A length after a pointer is part of a slice."""
     found: list[str] = []
     for field in split(body, ";"):
         name, kind = re.findall(r"\w+", field.split("[")[0])[-1], of_c(field)
@@ -108,16 +108,16 @@ def check_layout(library: Library, counts: Counts) -> None:
     """Checks that the header and the crate agree, and that the front asserts the sizes."""
     check_sizes(library, counts)
     text = re.sub(r"/\*.*?\*/", "", (library.folder / "lldpa.h").read_text(), flags=re.S)
-    # The front passes a copy of the handle to each proved function that only reads an agent.
+    # The front passes a copy of the handle to functions that only read it: no const is needed.
     wants = header_lists(text.replace("(const lldpa_agent *", "(lldpa_agent *"))
     found: Lists = {}
     for file in [*sorted(CRATE.rglob("*.rt")), PARTS]:
         found |= rust_lists(file.read_text())
-    # The front has one function of its own, and one that calls either of two.
+    # lldpa_version exists only in the front, where lldpa_frame calls one of two functions.
     found["lldpa_version"] = wants["lldpa_version"]
     found["lldpa_frame"] = found.pop("lldpa_frame_news")
     for name, wanted in wants.items():
         is_same = found.get(name) == wanted
         counts.judge(None if is_same else f"{found.get(name)}, and in lldpa.h {wanted}", f"{name} in crates/lldpa_c")
     more = [name for name in found if name not in wants and name not in ("held", "()")]
-    counts.judge(f"{more}" if more else None, "what crates/lldpa_c has and lldpa.h has not")
+    counts.judge(f"{more}" if more else None, "names of crates/lldpa_c that lldpa.h lacks")

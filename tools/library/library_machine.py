@@ -1,5 +1,5 @@
 """Checks the machine code of the archive: no function branches before the loop that touches the
-pages of a large stack frame. A branch there would overwrite a register of the loop."""
+pages of a large stack frame. A compiler that moves a branch there spoils the loop's register."""
 from __future__ import annotations
 
 import re
@@ -26,7 +26,7 @@ def branched_before(code: str) -> list[str]:
 
 
 def check_machine(library: Library, counts: Counts) -> None:
-    """Checks that no function of the archive does this, and that one that does is noticed."""
+    """Checks that no function of the archive does so, and that a function that does is found."""
     code = ran(["objdump", "-d", "--no-show-raw-insn", library.folder / "liblldpa.a"]).stdout
     found = branched_before(code)
     counts.judge(f"{found} branch before they probe" if found else None, "the machine code of the archive")

@@ -14,7 +14,7 @@ from counts import Counts  # noqa: E402
 
 WARNINGS = ["-pedantic", "-Wall", "-Wextra", "-Werror"]
 
-# The most seconds that one command may take. The longest proves the library on a slow machine.
+# The most seconds of one command. The longest proves the library on a slow machine.
 SECONDS = 1800
 
 
@@ -31,7 +31,7 @@ def ran(command: Sequence[object], cwd: pathlib.Path | None = None,
 
 
 def fault_of(command: Sequence[object]) -> str | None:
-    """Returns what a command writes if its status is not 0, or else None."""
+    """Runs a command. Returns what it writes if its status is not 0, or else None."""
     ended = ran(command)
     if ended.returncode == 0:
         return None
@@ -39,7 +39,7 @@ def fault_of(command: Sequence[object]) -> str | None:
 
 
 def count_of(command: Sequence[object], what: str, counts: Counts) -> None:
-    """Adds the counts of a program's last line."""
+    """Runs a program, and adds the counts of its last line."""
     ended = ran(command)
     *lines, last = ended.stdout.splitlines() or [""]
     found = re.fullmatch(r"(\d+) passed, (\d+) failed", last)

@@ -1,4 +1,4 @@
-"""Checks the crate rust/lldpa over the library, for tools/library/check-library.py."""
+"""Checks the crate rust/lldpa with the library, for tools/library/check-library.py."""
 from __future__ import annotations
 
 import os
@@ -15,8 +15,8 @@ CRATE = TOP / "rust" / "lldpa"
 
 
 def strange_archive(library: Library) -> pathlib.Path:
-    """Makes an archive in which all calls except lldpa_open return 77, and which has another
-    version if LLDPA_STRANGE is set. Returns its folder."""
+    """Makes an archive with unexpected answers: most calls return 77, and lldpa_version returns 1
+    if LLDPA_STRANGE is set. Returns its folder."""
     header = (library.folder / "lldpa.h").read_text()
     found = re.search(r"define LLDPA_VERSION (\d+)", header)
     assert found is not None
@@ -67,7 +67,7 @@ def check_bindings(library: Library, counts: Counts) -> None:
         skip("the declarations for Rust, since there is no bindgen")
         return
     written, kept = ran([TOP / "tools" / "library" / "bindings.sh"]).stdout, (CRATE / "src" / "sys.rs").read_text()
-    # bindgen lays them out differently with and without rustfmt.
+    # bindgen's layout depends on whether rustfmt is installed, so it is not compared.
     bare = [re.sub(r"\s+|,(?=\s*[)}])", "", text) for text in (written, kept)]
     counts.judge(None if bare[0] == bare[1] != "" else "bindgen writes something else", "rust/lldpa/src/sys.rs")
 

@@ -1,4 +1,4 @@
-"""Runs transcripts and rows with the library, by tools/library/c/transcript.c and vectors.c."""
+"""Runs tools/library/c/transcript.c and vectors.c on transcripts and rows, for check-library.py."""
 from __future__ import annotations
 
 import importlib
@@ -18,14 +18,14 @@ import model  # noqa: E402
 FRAMES = importlib.import_module("check-frames")
 ROWS = TOP / "examples" / "vectors.rows"
 HEADER = TOP / "crates" / "lldpa_c" / "include" / "lldpa.h"
-# Every cause, how often it occurs, and its mark, worked out by hand for a machine with a credit of
-# 5, bursts of 4, a wait of 2 and the greatest interval.
+# Causes in order, how often each occurs, and the frame that it must send. They are worked out by
+# hand for a credit of 5, bursts of 4, a wait of 2 and the greatest interval.
 CAUSES = """CHANGE:1:QUIET TICK:1:ORDINARY CHANGE:1:ORDINARY NEIGHBOR:1:ORDINARY TICK:3:ORDINARY
 TICK:1:QUIET NOTHING:1:QUIET DOWN:1:QUIET TICK:1:QUIET CHANGE:1:QUIET UP:1:QUIET TICK:1:ORDINARY
 TICK:3599:QUIET TICK:1:ORDINARY STOP:1:SHUTDOWN STOP:1:QUIET ALLOW:1:QUIET TICK:1:QUIET
 TICK:1:ORDINARY"""
 ROLES = ("station", "bridge", "router")
-Steps = Sequence[Tuple[bytes, List[bytes]]]  # lines, each with the lines that it writes
+Steps = Sequence[Tuple[bytes, List[bytes]]]  # input lines, each with its output lines
 
 
 def words_of(agent: model.Agent) -> list[str]:
@@ -61,7 +61,7 @@ def event_of(agent: model.Agent, line: bytes, is_refused: bool) -> bytes | None:
 
 def fault_of_events(command: Sequence[str], words: Sequence[str], steps: Steps,
                     texts: Sequence[str] = ()) -> str | None:
-    """Returns how the output differs, or None. Compares only lines with one of the texts."""
+    """Returns how the output differs, or None. Compares only lines with these texts, if any."""
     agent = model.opened(words)
     given = [(event_of(agent, line, b"".join(written).startswith(b"error: ")), written)
              for line, written in steps]
@@ -82,7 +82,7 @@ def written_by(agent: model.Agent, line: bytes) -> list[bytes]:
 
 
 def leaving(agent: model.Agent, lines: Iterable[bytes]) -> Steps:
-    """Returns the events that make an agent leave after these lines, and leave once more."""
+    """Returns the events after these lines: leaving twice, then a show of the configuration."""
     for line in lines:
         written_by(agent, line)
     disable = [f"configure ports {port.name} lldp status disabled" for port in agent.ports]
@@ -113,7 +113,7 @@ def whole_shows(ports: int, neighbors: int) -> tuple[list[str], Steps]:
 
 
 def check_rows(command: Sequence[str], room: pathlib.Path, counts: Counts) -> None:
-    """Compares vectors.rows, every cause, and cut and altered LLDPDUs with the model."""
+    """Checks the rows of vectors.rows, all causes, and cut and altered LLDPDUs."""
     rows = [line for line in ROWS.read_text().splitlines() if not line.startswith("#")]
     rows.append(row_of_causes())
     for row, found in zip_longest(rows, written_rows(command, rows, room)):
@@ -123,7 +123,7 @@ def check_rows(command: Sequence[str], room: pathlib.Path, counts: Counts) -> No
 
 
 def row_of_causes() -> str:
-    """Returns the row of every cause, with the numbers of lldpa.h."""
+    """Returns a row with all causes, as the numbers that lldpa.h gives them."""
     numbers = dict(re.findall(r"#define LLDPA_(?:CAUSE_)?(\w+) (\d+)", HEADER.read_text()))
     steps = [step.split(":") for step in CAUSES.split()]
     played = [f"{numbers[cause]}:{times}:3600:{numbers[mark]}" for cause, times, mark in steps]
@@ -147,7 +147,7 @@ def fault_of_rows(command: Sequence[str], rows: Iterable[str], room: pathlib.Pat
 
 
 def row_of(pdu: bytes) -> str:
-    """Returns the row of examples/vectors.rows for what the model reads in an LLDPDU."""
+    """Returns what the model reads in an LLDPDU, as a row like those of vectors.rows."""
     fields: list[Any] = ["examine", "altered", pdu.hex() or "-"]
     try:
         told = model.Lldpdu(pdu)

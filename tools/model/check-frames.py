@@ -3,11 +3,11 @@
 
     tools/model/check-frames.py PROGRAM [SEED]
 
-Each frame below is received cut after each octet, and with each octet changed to every other value,
-once by an empty table and once by one that holds the neighbor of the first frame, which shows whom
-a shutdown removes. After each frame the neighbors and counters are compared, and the table is
-emptied. Then eight traces, with the seeds from SEED (default 1), have more neighbors than there is
-room for, random times to live, seconds and shutdown frames. The last line is `N passed, M failed`.
+Each LLDPDU below is received cut after each octet, and with each octet changed to every other
+value: once with an empty table, and once with the neighbor of the first LLDPDU stored, to see which
+neighbor a shutdown frame removes. After each frame the neighbors and counters are compared, and the
+table is emptied. Then eight random traces, with the seeds from SEED (default 1), have more
+neighbors than fit, and shutdown frames. The last line is `N passed, M failed`.
 """
 import random
 import sys
@@ -22,7 +22,7 @@ CHASSIS = spelled(1, bytes.fromhex("04001122334455"))
 PORT = spelled(2, b"\5eth0")
 MANDATORY = CHASSIS + PORT + spelled(3, bytes([0, 120]))
 END = spelled(0, b"")
-# of five octets; with a bit enabled that is not available; well formed
+# System Capabilities: of five octets; with an enabled bit that is not available; well formed
 CAPABILITIES = b"".join(spelled(7, bytes.fromhex(body)) for body in ("0004000400", "00040014", "00140004"))
 ADDRESS = spelled(8, bytes.fromhex("110220010db800000000000000000000000102000000") + b"\7\0")
 MANY_KINDS = ADDRESS + spelled(127, b"\0\x12\x0f\1") + spelled(9, b"") + spelled(6, b"a\\\0b")
@@ -46,7 +46,7 @@ LOOK_EACH = 25
 
 
 def altered(frame):
-    """Yields each front of a frame, and the frame with each octet changed to each other value."""
+    """Yields each beginning of a frame, and the frame with each octet changed to other values."""
     for end in range(1, len(frame) + 1):
         yield frame[:end]
     for place, octet in enumerate(frame):
@@ -64,14 +64,14 @@ def frame_of(number, ttl):
 
 
 def altered_trace(pdu):
-    """Returns the lines with which each altered version of an LLDPDU is received."""
+    """Returns lines in which each altered frame is received by an empty and a filled table."""
     known = heard(HEADER + LLDPDUS[0])
     return [line for frame in altered(HEADER + pdu)
             for line in (heard(frame), *LOOK, *EMPTY, known, heard(frame), *LOOK, *EMPTY)]
 
 
 def random_trace(seed):
-    """Yields lines that fill a table, and let its neighbors expire, be refreshed and leave."""
+    """Yields lines that fill a table, and let its neighbors expire, be refreshed and removed."""
     dice = random.Random(seed)
     for round_ in range(ROUNDS):
         number = dice.randrange(NEIGHBORS)

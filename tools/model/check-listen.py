@@ -4,10 +4,11 @@
     tools/model/check-listen.py PROGRAM
 
 A client asks a question whose answer is written in several pieces, and asks again when it has read
-it all. Each answer must come at once: without TCP_NODELAY the last piece waits until the one before
-it is acknowledged, some 40 milliseconds. If too many are late while the machine stands still, all
-are asked again, at most twice. Then clients connect one after another to a program that may serve
-65,535, the most. Each is answered, and the program runs on. The last line is `N passed, M failed`.
+it all. Each answer must come at once: without TCP_NODELAY its last piece would wait about 40
+milliseconds, until the piece before is acknowledged. If too many are late while the machine stands
+still, all are asked again, at most twice. Then clients connect one after another to a program that
+may serve 65,535, the most. It must answer each and keep running. The last line is `N passed, M
+failed`.
 """
 import pathlib
 import socket
@@ -26,11 +27,11 @@ from patience import NOTICEABLE, TRIES, Standstill  # noqa: E402
 PORTS = [f"p{place}" for place in range(64)]
 QUESTIONS = 100
 
-# a line that is refused marks the end of an answer
+# the second line is refused, and this marks the end of an answer
 QUESTION = b"show statistics\nx\n"
 END = b"error: unknown command\n"
 
-# An answer that takes longer was delayed, or the machine was busy; this many may be late.
+# The seconds after which an answer is late, and how many may be late: a machine may be busy.
 LATE = 0.02
 MOST_LATE = QUESTIONS // 4
 
@@ -39,7 +40,7 @@ CLIENTS = 5
 
 
 def answer(client):
-    """Returns what is received up to the mark."""
+    """Receives an answer, including the mark at its end."""
     octets = b""
     while not octets.endswith(END):
         piece = client.recv(65536)
@@ -67,14 +68,14 @@ def late_by_the_program(client):
         with Standstill() as standstill:
             late = late_answers(client)
             seconds = standstill.seconds()
-        print(f"of {QUESTIONS} questions over a connection {late} were answered late")
+        print(f"{late} of {QUESTIONS} questions over a connection were answered late")
         if late is None or late <= MOST_LATE or not left or seconds < NOTICEABLE:
             return late
         print(f"asked again, since the machine stood still for {seconds:.2f} s")
 
 
 def serves_the_most():
-    """Returns whether a program that may serve the most connections serves some and runs on."""
+    """Returns whether a program that may serve 65,535 clients serves some and keeps running."""
     number = free_port()
     words = [sys.argv[1], "--listen", number, "--connections", "65535", "--receive-only", "eth0"]
     with subprocess.Popen(words, stdin=subprocess.DEVNULL) as program:

@@ -1,12 +1,12 @@
 #!/usr/bin/env python3
-"""Tries every value of every range, and one past each end, on the built program and the model.
+"""Tries every number of every range, and one past each end, on the built program and the model.
 
     tools/model/check-ranges.py PROGRAM
 
---listen, --connections and the seconds of `tick N` have too many values: it tries those near a
-power of two or of ten and those near the ends. It also opens agents with a hostname of every
-length, and with every role, since it is not proved that no opening fails for lack of memory. The
-last line is `N passed, M failed`.
+--listen, --connections and `tick N` accept too many numbers: it tries those near a power of two or
+of ten and near the ends. It also opens agents with a hostname of every length and with every role,
+since the contracts allow any opening to fail for lack of memory. The last line is `N passed, M
+failed`.
 """
 import sys
 from concurrent.futures import ThreadPoolExecutor
@@ -17,7 +17,7 @@ from counts import Counts
 
 SHOWS = [b"show configuration", b"show chassis", b""]
 
-# options whose numbers have no effect here: no connection is served, or the port name is wrong
+# options with too many numbers, each with a port name with which the program does not listen
 MANY = {"--connections": ["eth0"], "--listen": ["a.b"]}
 
 # the numbers that `configure lldp` sets, with their greatest values

@@ -1,12 +1,12 @@
 #!/usr/bin/env python3
-"""Gives the built program and the model lines that are nearly right.
+"""Compares the built program with the model on lines that are nearly right.
 
     tools/model/check-words.py PROGRAM
 
-In each form of a line each word in turn is one slip away, or another word of English or of lldpcli;
-a word is added or removed; and each octet comes before the line. Options and roles that are nearly
-right must be refused. If only one of the two accepts a line, the difference is made small and
-shown. The last line is `N passed, M failed`, counted by form.
+In each valid line, each word in turn is misspelled or replaced by another word of English or
+lldpcli, a word is added or removed, and each octet is put before or after the line. Options and
+roles that are nearly right must be refused. If a line has different answers, it is made as short as
+possible and shown. The last line is `N passed, M failed`, with a check for each valid line.
 """
 import string
 import subprocess
@@ -19,7 +19,7 @@ import model
 import near
 from counts import Counts
 
-# the right lines, and one with octets that have no upper case in latin-1
+# the valid lines, and one with characters that have no upper case in Latin-1
 FORMS = [*near.LINES, ["configure", "system", "hostname", "\u00ff\u00b5"]]
 OPTIONS = [*(name.replace("_", "-") for name in model.VALUED), "receive-only", "help", "version"]
 SHORT = "hV"
@@ -28,7 +28,7 @@ SENDING = ["eth0"]
 
 
 def lines_of(form):
-    """Returns all lines that are nearly this one, and this one with each mark at its ends."""
+    """Returns all lines that are nearly this one, and this one with a mark before or after it."""
     lines = [" ".join(words).encode("latin-1") for words in near.lines_near(form)]
     whole = " ".join(form).encode("latin-1")
     for mark in near.MARKS:
@@ -60,7 +60,7 @@ def options():
 
 
 def is_taken(arguments):
-    """Returns whether the program runs with these arguments."""
+    """Returns whether the program accepts these arguments."""
     return subprocess.run([sys.argv[1], *arguments], stdin=subprocess.DEVNULL, capture_output=True).returncode != 2
 
 

@@ -1,5 +1,5 @@
-"""Runs lldpa with arguments and a trace, over standard input or connections, and compares it with
-model.py, judge.py and the wrong arguments of docs/TRACE.md."""
+"""Runs lldpa with arguments and a trace, over standard input or connections. Compares its answers
+with model.py and judge.py, and its messages about arguments with docs/TRACE.md."""
 import contextlib
 import itertools
 import os
@@ -14,12 +14,12 @@ sys.path.append(str(pathlib.Path(__file__).resolve().parents[1] / "gate"))
 import judge  # noqa: E402
 import model  # noqa: E402
 
-# stands for the number of a free port of this host
+# replaced in arguments by the number of a free port of this host
 FREE_PORT = "FREE"
 
 SECONDS = 60
 
-# how the program reports wrong arguments, by docs/TRACE.md
+# the program's messages about wrong arguments, as in docs/TRACE.md
 WRONG_WORDS = (
     r"error: unexpected argument '(?P<word>.+)' found",
     r"error: invalid value '(?P<value>.*)' for '(?P<option>--[a-z-]+) <.*",
@@ -30,7 +30,7 @@ WRONG_WORDS = (
 
 
 def free_port():
-    """Returns a free port from this process's own hundred, which the kernel hands out to nobody."""
+    """Returns a free port of this process's own range, from which the kernel assigns none."""
     first = 10000 + os.getpid() % 200 * 100
     for number in itertools.cycle(range(first, first + 100)):
         with socket.socket() as one, contextlib.suppress(OSError):
@@ -39,7 +39,7 @@ def free_port():
 
 
 def connected(number, program):
-    """Returns a connection to the program, or None if it ended before it listened."""
+    """Returns a connection to the program, or None if it ended or did not listen in time."""
     end = time.monotonic() + SECONDS
     while time.monotonic() < end:
         try:
@@ -112,7 +112,7 @@ def answer_of_program(program, words, trace):
 
 
 def is_told(complaint, words):
-    """Returns whether a message has a form of docs/TRACE.md, and names what is wrong."""
+    """Returns whether a message has a form of docs/TRACE.md and names one of these arguments."""
     first = complaint.split("\n")[0]
     found = next(filter(None, (re.fullmatch(form, first) for form in WRONG_WORDS)), None)
     if found is None:

@@ -3,10 +3,10 @@
 
     python3 tools/model/fuzz.py [--program FILE] [--seed N] [--seconds S] [--traces N]
 
-In some of the traces tools/model/judge.py also checks when frames were sent. Trace K of a run has
-the seed N + K, so `--seed SEED --traces 1` runs one alone. The first seed is printed first. After
-the first difference the trace is made small and printed with its seed. Without --seconds and
---traces it runs for half a minute. The last line is `1 passed, 0 failed` or `0 passed, 1 failed`.
+For one trace in 20, tools/model/judge.py also checks when frames were sent. Trace K of a run has
+the seed N + K, so `--seed SEED --traces 1` runs that trace alone. The first seed is printed first.
+The first difference ends the run; its trace is made small and printed with its seed. Without
+--seconds and --traces it runs for half a minute. The last line is `N passed, M failed`.
 """
 import argparse
 import functools
@@ -26,7 +26,7 @@ from examples import words_and_filter
 TOP = pathlib.Path(__file__).resolve().parents[2]
 
 
-# how many traces are given to the processors at once, and one in how many is judged
+# how many traces are given to the processors at once, and one in how many is also judged
 AT_ONCE, JUDGED_ONE_IN = 200, 20
 
 # ------------------------------------------------------------------------------------------------ frames
@@ -37,7 +37,7 @@ LENGTHS = (0, 0, 1, 2, 3, 4, 5, 6, 7, 9, 16, 17, 30, 128, 254, 255, 256, 257, 50
 
 class Dice(random.Random):
     def happens(self, one_in):
-        """Returns true once in this many tries."""
+        """Returns True at random, on average once in `one_in` calls."""
         return self.randrange(one_in) == 0
 
     def octets(self, length):
@@ -47,17 +47,17 @@ class Dice(random.Random):
         return bytes(self.choices(PRINTABLE, k=length))
 
     def weighted(self, weights):
-        """Returns one of the keys, each as often as its weight says."""
+        """Returns one of the keys at random, with the values as weights."""
         return self.choices(list(weights), list(weights.values()))[0]
 
 
 def spelled(kind, body):
-    """Returns a TLV. A body that is too long for it is cut."""
+    """Returns a TLV. A body that is too long is cut."""
     return model.spelled(kind, body[:511])
 
 
 def identifier(dice):
-    """Returns the body of a Chassis ID or Port ID, mostly one of a few, so that names recur."""
+    """Returns the body of a Chassis ID or Port ID, mostly one of a few, so that names repeat."""
     if not dice.happens(8):
         return dice.choice([b"\4\0\1\2\3\4" + bytes([dice.randrange(3)]), b"\5p%d" % dice.randrange(4)])
     if dice.happens(2):
@@ -92,7 +92,7 @@ def optional_tlv(dice):
 
 
 def lldpdu(dice):
-    """Returns an LLDPDU, most often a sound one."""
+    """Returns an LLDPDU, most often one that must be accepted."""
     ttl = dice.choice([0, 1, 1, 2, 3, 5, 9, 20, 120, 65535, dice.randrange(65536)])
     time_to_live = ttl.to_bytes(2, "big") + dice.octets(dice.choice([0, 0, 0, 0, 0, 0, 1, 5]))
     parts = [spelled(1, identifier(dice)), spelled(2, identifier(dice)), spelled(3, time_to_live)]
@@ -144,7 +144,7 @@ ODD_WORDS = (b"x tick rx up show lldp status neighbors eth9 0 TICK tick\r \xff c
 
 
 def ticks(dice, port_count):
-    """Returns a tick line. Long waits are rare, and rarer with many ports, since each tick of a port takes time."""
+    """Returns a tick line. Long waits are rare, and rarer with many ports: they take time."""
     if port_count > 9:
         return b"tick"
     if dice.happens(20000 * port_count):
@@ -196,7 +196,7 @@ def restart(dice, port):
 
 
 def altered_line(dice, line):
-    """Returns a line made wrong or unusual."""
+    """Returns a line with something wrong or unusual."""
     words = line.split(b" ")
     place = dice.randrange(len(words))
     change = dice.weighted({"near": 12, "word": 5, "number": 4, "drop": 4, "add": 4, "quote": 4, "mark": 4, "space": 3,
@@ -241,7 +241,7 @@ def line_of(dice, ports):
 
 
 def near_line(dice):
-    """Returns a line that is nearly right. All forms are equally likely."""
+    """Returns a line that is nearly right. All valid lines are equally likely."""
     words = list(dice.choice(near.LINES))
     if dice.happens(20):
         return dice.choice(near.MARKS) + " ".join(words).encode()
@@ -250,7 +250,7 @@ def near_line(dice):
     return " ".join(words).encode("latin-1").replace(b"\n", b"")
 
 
-# ---------------------------------------------------------------------------------------- words and traces
+# ------------------------------------------------------------------------------------ arguments and traces
 ODD_VALUES = ["", "-", "0", "00:11", "00:11:22:33:44:5g", "1.2.3", "1.2.3.04", "1.2.3.256", "129", "+1",
               "007", "-1", "x", "Bridge", "a.b", "0123456789abcdef", "~" * 256, "caf\u00e9", "a\tb",
               "192.0.2.1 ", "4294967297", "\udcff"]
@@ -265,7 +265,7 @@ def ports_of(dice):
 
 
 def words_of(dice):
-    """Returns options and ports, most of them right: with wrong ones no trace is run."""
+    """Returns options and ports, most often right: with wrong ones the program runs no trace."""
     ports = ports_of(dice)
     options = []
     for name, most in model.OPENING.items():
@@ -315,7 +315,7 @@ def altered_words(dice, options, ports):
 
 @functools.cache
 def examples():
-    """Returns the arguments and the lines of the pages' examples and of the transcripts."""
+    """Returns the arguments and the lines of each example of the pages and each transcript."""
     found = []
     pages = "".join(path.read_text() for path in sorted((TOP / "docs").glob("*.md")))
     command = r"\$ (?:lldpa ([^\n|]*?) *(?:2>&1)?|\(lldpa ([^\n|]*?) *\|[^\n]*\)) *<<'EOF'"
@@ -368,9 +368,9 @@ def case(seed):
     return words, lines + [b""] * dice.happens(4)
 
 
-# ------------------------------------------------------------------------------------------- making small
+# -------------------------------------------------------------------------------------- reducing a trace
 def without_runs(items, differs):
-    """Removes the runs of items that a difference does not need, longest runs first."""
+    """Returns the items without the runs that a difference does not need, long runs first."""
     size = len(items)
     while size:
         at = 0
@@ -385,7 +385,7 @@ def without_runs(items, differs):
 
 
 def shorter_line(line, differs):
-    """Removes the words, pairs of octets and octets that a difference does not need."""
+    """Removes words, then pairs of octets, then octets that a difference does not need."""
     line = b" ".join(without_runs(line.split(b" "), lambda words: differs(b" ".join(words))))
     for size in (2, 1):
         parts = [line[at:at + size] for at in range(0, len(line), size)]
@@ -394,7 +394,7 @@ def shorter_line(line, differs):
 
 
 def made_small(find, program, words, lines):
-    """Removes what a difference does not need, for two minutes at most."""
+    """Removes lines and arguments that a difference does not need, for at most two minutes."""
     end = time.monotonic() + 120
 
     def differs(words, lines):
@@ -439,7 +439,7 @@ def main():
                     show(finder, given.program, seed)
                     return 1
             ran += len(seeds)
-    print(f"{ran} traces agree, {time.monotonic() - begin:.0f} seconds\n1 passed, 0 failed")
+    print(f"{ran} traces agree, in {time.monotonic() - begin:.0f} seconds\n1 passed, 0 failed")
     return 0
 
 
@@ -451,7 +451,7 @@ def finder_of(given, seed):
 
 
 def show(find, program, seed):
-    """Makes the trace of a seed small, and prints what is wrong with it."""
+    """Prints what is wrong with the trace of a seed, and the same for a smaller trace."""
     words, lines = case(seed)
     print(f"seed {seed} differs: {find(program, words, lines)[:1000]}", flush=True)
     words, lines = made_small(find, program, words, lines)

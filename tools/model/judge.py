@@ -1,11 +1,11 @@
-"""Checks when ports send, and shares no state with tools/model/model.py.
+"""Checks when ports send, without the timers and credits of tools/model/model.py.
 
 It reads arguments, a trace, and the frames that the program sent at each event. For each event it
-computes from the whole list of events, as the definitions of lldp_transmit and lldp_engine do:
-whether a port stops, whether a frame is due, and whether no run of events that ends there would
-have more frames than the greatest credit plus one for each second after its first event. A frame
-must be sent exactly if both hold, so none is late. There is no timer, no credit and no table here:
-each question goes back over the events.
+computes three things from the whole list of events, like the definitions of lldp_transmit and
+lldp_engine: whether a port stops, whether a frame is due, and whether one more frame is within the
+limit. A run of events may have at most as many frames as the greatest credit, plus one for each
+second after its first event. A frame must be sent exactly if it is due and within the limit of
+every run that ends there. Each question goes over the events again.
 """
 import functools
 import re
@@ -14,14 +14,14 @@ from typing import NamedTuple, Optional
 
 import model
 
-# a comment one octet too long: the answer to it marks the end of the answer before it
+# a comment that is one octet too long: its answer marks the end of the answer before
 MARK = b"#" * 4097
 MARK_ANSWER = b"error: line too long"
 
-# the most seconds of a judged trace, since each question goes over all events
+# the most seconds of a trace that is judged, since each question goes over all events
 MOST_TICKS = 300
 
-# events that are not local changes; all others are settings or updates, which are
+# events that are not local changes; all other events (settings and updates) are
 NO_CHANGES = ("tick", "frame", "link", "status")
 
 
@@ -33,7 +33,7 @@ class Event(NamedTuple):
 
 
 def events_of_line(line):
-    """Returns the events of a line that was accepted: its seconds, one other event, or none (a show)."""
+    """Returns the events of an accepted line: one for each tick, another event, or none."""
     words = model.Words(line.decode("latin-1")).left
     if words[0] == "tick":
         return [Event("tick")] * int(words[1] if words[1:] else 1)
@@ -49,8 +49,8 @@ def events_of_line(line):
 
 
 def single_seconds(lines):
-    """Returns the lines, with each line of several seconds as lines of one second. Returns None if
-    they cannot be judged: too many seconds, a line as long as a mark, or a quote in a tick line."""
+    """Returns the lines, with `tick N` as N lines `tick`. Returns None if they cannot be judged:
+    too many seconds, a line as long as a mark, or a quote in a tick line."""
     single, ticks = [], 0
     for line in lines:
         words = re.split(rb"[ \t]+", line.strip(b" \t"))
@@ -64,7 +64,7 @@ def single_seconds(lines):
 
 
 def answers(output):
-    """Returns for each mark the lines that are written before the answer to it."""
+    """Splits the output at the answers to the marks. Returns the lines of each part."""
     parts = re.split(rb"(?m)^%s\n" % MARK_ANSWER, output)[:-1]
     return [part.split(b"\n")[:-1] for part in parts]
 
@@ -106,7 +106,7 @@ class Port:
 
     # ---- receiving
     def learned(self, k):
-        """Returns the sound LLDPDU that is received at k, or None."""
+        """Returns the LLDPDU that is received at k, or None if there is none or it is refused."""
         event = self.events[k]
         is_heard = event.kind == "frame" and event.port == self.name and self.hears(k - 1) and self.up(k - 1)
         octets = event.value if is_heard else b""
@@ -121,7 +121,7 @@ class Port:
         return self.hears(k - 1) and not self.hears(k)
 
     def stored(self, k):
-        """Returns whether an LLDPDU is stored at k: its neighbor is live, or there is room for one more."""
+        """Returns whether an LLDPDU is stored at k: its neighbor is live, or there is room."""
         heard = self.learned(k)
         if heard is None or heard.ttl == 0:
             return False
@@ -131,7 +131,7 @@ class Port:
         return heard.name in live or len(live) < limit
 
     def live(self, name, k):
-        """Returns whether the last event about this neighbor stored it, and it has not expired."""
+        """Returns whether the last event about this neighbor stored it, and it is not expired."""
         for p in range(k, -1, -1):
             heard = self.learned(p)
             if self.purges(p) or heard is not None and heard.name == name and heard.ttl == 0:
@@ -166,7 +166,7 @@ class Port:
         return next(p for p in range(k, -1, -1) if self.starts(p))
 
     def signal(self, k):
-        """Returns why a frame is wanted at k: "start", "change", "new", "timer", or None."""
+        """Returns why a frame is requested at k: "start", "change", "new", "timer", or None."""
         if not self.active(k):
             return None
         if self.starts(k):
@@ -180,7 +180,7 @@ class Port:
         return "timer" if ends else None
 
     def left(self, k):
-        """Returns how many signals of a burst are left after k."""
+        """Returns how many signals of an open burst are left after k."""
         if k < 0 or not self.active(k):
             return 0
         start = self.last_start(k)
@@ -195,13 +195,13 @@ class Port:
         return 1 if self.left(s) > 0 else int(self.last("tx-interval", s, 30))
 
     def is_due(self, k):
-        """Returns whether a signal since the start has had no frame yet."""
+        """Returns whether some signal since the start was not followed by a frame yet."""
         if not self.active(k):
             return False
         return any(self.signal(s) and self.sent_to[k] == self.sent_to[s] for s in range(self.last_start(k), k + 1))
 
     def is_open(self, k):
-        """Returns whether, with one more frame at k, no run that ends there has too many frames."""
+        """Returns whether one more frame at k is within the limit of each run that ends there."""
         most = self.options.tx_credit_max
         return all(self.sent_to[k] - self.sent_to[i] + 1 <= most + self.ticks(i + 1, k) for i in range(k + 1))
 
@@ -214,13 +214,13 @@ class Port:
 
 
 def is_shutdown(frame):
-    """Returns whether a frame of the agent is a shutdown frame: its third TLV is a TTL of 0."""
+    """Returns whether a frame of the agent is a shutdown frame: its time to live is 0."""
     tlvs, _ = model.cut(frame[14:])
     return tlvs[2].body == b"\0\0"
 
 
 def fault_of(words, lines, said):
-    """Returns what is wrong with the answers to these lines, or None. No line has more than one second."""
+    """Returns what is wrong with the answers to lines of at most one second each, or None."""
     given, names = model.read_words(words)
     options = model.SimpleNamespace(**{**model.DEFAULTS, **given})
     events, ordinary, shutdowns = [], {name: set() for name in names}, {name: set() for name in names}

@@ -1,14 +1,14 @@
 #!/usr/bin/env python3
-"""lldpa once more, as a model that can be read in one sitting.
+"""A model of lldpa that is short enough to be read in one sitting.
 
     python3 tools/model/model.py WORDS.. < TRACE
 
-It accepts the arguments of lldpa and a trace, and writes what lldpa must write, over connections as
-on standard output. It was written from IEEE 802.1AB-2009 (clauses 8 and 9) and docs/TRACE.md, and
-shares no code with lldpa. tools/model/fuzz.py compares the two. If lldpa's parser of arguments
-answers by itself (a bad option, --help), the model knows the status but not the text.
+It accepts the arguments of lldpa and a trace, and writes what lldpa must write, on standard output
+or over connections. It was written from IEEE 802.1AB-2009 (clauses 8 and 9) and docs/TRACE.md, and
+shares no code with lldpa. tools/model/fuzz.py compares the two. If lldpa's argument parser answers
+(a bad option, --help), the model knows the status but not the text.
 
-Time is a clock that counts ticks since opening. What lasts some ticks is stored as its end.
+The time is the number of ticks since opening. A period is stored as the time of its end.
 """
 import re
 import sys
@@ -35,7 +35,7 @@ def number(octets):
     return int.from_bytes(octets, "big")
 
 def cut(octets):
-    """Returns the complete TLVs from the front, and the rest, which does not begin with a complete TLV."""
+    """Returns the complete TLVs at the beginning, and the octets after them."""
     tlvs, at = [], 0
     while at + 2 <= len(octets):
         header = number(octets[at:at + 2])
@@ -48,7 +48,7 @@ def cut(octets):
 
 def management_fields(body):
     """Returns family, address, interface numbering, interface number and OID of a Management
-    Address, or None if its length is not exactly what the two lengths in it say."""
+    Address, or None if the two lengths in it do not fit its own length."""
     if not body or not 2 <= body[0] <= 32 or len(body) < body[0] + 7:
         return None
     address, behind = body[1:1 + body[0]], body[1 + body[0]:]
@@ -70,11 +70,11 @@ def is_well_formed(tlv):
 MANDATORY = ((CHASSIS_ID, 256), (PORT_ID, 256), (TIME_TO_LIVE, 511))
 
 class UnsoundLldpdu(Exception):
-    """An LLDPDU is refused. The argument is the number of the first check that it fails."""
+    """Raised if an LLDPDU is refused, with the number of the first check that it fails."""
 
 class Lldpdu:
-    """A sound LLDPDU: its MSAP identifier as `name`, its `ttl` and, if that is above 0, `extent`,
-    the `kept` TLVs, and the numbers of `unrecognized` and of `discarded` TLVs."""
+    """An accepted LLDPDU: its MSAP identifier `name`, its `ttl` and, if that is above 0, `extent`
+    (the TLVs before End), `kept` TLVs, and how many are `unrecognized` and `discarded`."""
 
     def __init__(self, octets):
         tlvs, rest = cut(octets)
@@ -105,15 +105,15 @@ class Lldpdu:
 
 # ------------------------------------------------------------------------ the neighbors of a port (clause 9)
 class Table:
-    """The neighbors of a port by name, in the order in which they were last new, each with its last
-    LLDPDU and the time when it expires; and until when some dropped LLDPDU would have lasted."""
+    """The neighbors of a port by name, oldest first, each with its last LLDPDU and the time when it
+    expires. `too_many_until` is when the last dropped LLDPDU would have expired."""
 
     def __init__(self):
         self.held = {}
         self.too_many_until = 0
 
     def learn(self, lldpdu, limit, now):
-        """Stores an LLDPDU, or drops it for lack of room; returns "new", "refreshed" or "dropped"."""
+        """Stores an LLDPDU ("new" or "refreshed"), or drops it for lack of room ("dropped")."""
         expires_at = now + lldpdu.ttl
         is_held = lldpdu.name in self.held
         if not is_held and len(self.held) >= limit:
@@ -152,20 +152,20 @@ class Transmitter:
         return self.frame_if_due()
 
     def local_change(self):
-        """Handles a local change: of what the frames contain, or of how often they are sent."""
+        """Handles a local change of what the frames contain, or of how often they are sent."""
         if self.is_active:
             self.signal()
         return self.frame_if_due()
 
     def new_neighbor(self):
-        """Handles a new neighbor: it opens a burst if none is open, and uses a signal of it."""
+        """Handles a new neighbor: opens a burst if none is open, and uses one of its signals."""
         if self.is_active:
             self.signals_left = (self.signals_left or self.agent.options.tx_fast_init) - 1
             self.signal()
         return self.frame_if_due()
 
     def signal(self):
-        """Requests a frame, and sets the timer to the next signal: one second in a burst, else the interval."""
+        """Requests a frame, and sets the timer: to one second in a burst, else to the interval."""
         self.is_frame_wanted = True
         self.timer_ends_at = self.agent.now + (1 if self.signals_left else self.agent.tx_interval)
 
@@ -196,7 +196,7 @@ COUNTERS = ("sent", "shutdowns", "received", "discarded", "errors", "tlvs-discar
             "ageouts", "drops")
 
 class Port:
-    """A port: status, link, neighbors, transmitter, counters. Events return what it sends."""
+    """A port: status, link, neighbors, transmitter, counters. Events return the frame to send."""
 
     def __init__(self, name, agent):
         self.name = name
@@ -212,7 +212,7 @@ class Port:
         return self.transmitter.tick(self.status in TRANSMITTING and self.is_up)
 
     def hear(self, frame):
-        """Receives a frame, unless it is not an LLDP frame or the port does not receive."""
+        """Handles a frame, unless it is not an LLDP frame or the port does not receive."""
         is_lldp = frame[:6] == NEAREST_BRIDGE and frame[12:14] == ETHERTYPE and len(frame) <= 1514
         if not is_lldp or self.status not in RECEIVING or not self.is_up:
             return None
@@ -252,15 +252,15 @@ DEFAULTS = {"mac": "02:00:00:00:00:01", "hostname": "localhost", "management": "
             "max_neighbors": 32, "tx_credit_max": 5, "tx_fast_init": 4, "reinit_delay": 2}
 
 class Range(NamedTuple):
-    """A number that `configure lldp` sets, at least 1: its greatest and its first value."""
+    """The greatest and the first value of a number that `configure lldp` sets; the least is 1."""
     greatest: int
     at_start: int
 
-# all except max-neighbors, which starts with the value of its option and cannot exceed it
+# all these numbers except max-neighbors: its option sets its first and its greatest value
 SETTINGS = {"tx-interval": Range(3600, 30), "tx-hold": Range(100, 4)}
 
 def attribute(name):
-    """Returns the name of the agent's attribute for a number."""
+    """Returns the name of the attribute of `Agent` that stores a number."""
     return name.replace("-", "_")
 
 class Agent:
@@ -420,7 +420,7 @@ WORD = re.compile(r'(?:"([^"]*)"|([^ \t"]+))(?=[ \t]|\Z)')
 NUMBER, HEXADECIMAL, TEXT = "[0-9]+", "([0-9a-fA-F]{2})*", "[ -~]{0,255}"
 
 class RefusedLine(Exception):
-    """A line is refused. The argument is the text that follows `error: `."""
+    """Raised if a line is refused, with the text that follows `error: `."""
 
 class Words:
     """The words of a line, read from left to right. The first wrong word decides the line's fault.
@@ -494,7 +494,7 @@ def set_text(agent, words):
     return agent.local_change()
 
 def set_number(agent, words):
-    """Sets a number. max-neighbors cannot be less than the number of neighbors of a port."""
+    """Sets a number. max-neighbors cannot be less than the number of neighbors of any port."""
     greatest = {name: setting.greatest for name, setting in SETTINGS.items()}
     greatest["max-neighbors"] = agent.options.max_neighbors
     name = words.next(greatest)
@@ -524,10 +524,10 @@ def answer(agent, line):
 
 # ----------------------------------------------------------------------------------------------- the program
 class NoRun(Exception):
-    """Arguments with which no trace is run: the status, and the line on standard error, or None if
-    lldpa's parser of arguments writes it."""
+    """Raised if no trace is run with these arguments: the status, and the line on standard error,
+    or None if lldpa's argument parser writes that line."""
 
-# the greatest numbers of options: those with which the agent is opened, and those of sockets
+# the greatest numbers of the agent's options, and of all options with a number
 OPENING = {"max_neighbors": 128, "tx_credit_max": 10, "tx_fast_init": 8, "reinit_delay": 10}
 GREATEST = {**OPENING, "listen": 65535, "connections": 65535}
 VALUED = (*GREATEST, "mac", "hostname", "management", "role")
@@ -540,7 +540,7 @@ def option_word(name):
     return "--" + name.replace("_", "-")
 
 def option_value(name, word):
-    """Returns the value of an option, checked as far as the parser of arguments does."""
+    """Returns the value of an option, checked as far as lldpa's argument parser does."""
     is_number = name in GREATEST and re.fullmatch("[+-]?[0-9]+", word) is not None
     if name in GREATEST and not (is_number and 1 <= int(word) <= GREATEST[name]):
         raise NoRun(2, None)
@@ -603,7 +603,7 @@ def main():
     status, output, complaint = run(sys.argv[1:], sys.stdin.buffer.read())
     sys.stdout.write(output)
     if complaint != "":
-        print(complaint or "model: lldpa's parser of arguments answers these", file=sys.stderr)
+        print(complaint or "model: lldpa's argument parser has its own text for this", file=sys.stderr)
     return status
 
 if __name__ == "__main__":

@@ -1,5 +1,5 @@
 """Words that are nearly right: with a letter added, removed, replaced or exchanged, cut short or in
-another case; and words of English, other commands and lldpcli. None should be accepted."""
+another case; and words of English, other commands and lldpcli."""
 
 LETTERS = "abcdefghijklmnopqrstuvwxyz0189-_.=+;:/?!"
 
@@ -35,17 +35,17 @@ quiet silent verbose-mode daemon foreground config-file no-mac oneshot dry-run h
 
 UNITS = ("s", "sec", "secs", "ms", "m", "min", "h", "x", "%")
 
-# may come before or after a port's name, if a program reads only a part of the word
+# put before or after a port's name, in case a program reads only a part of the word
 FILLINGS = "@.:/-_0xe%*~"
 
-# begins a comment elsewhere, or is ignored there
+# marks that begin a comment in other languages, or that other programs ignore
 MARKS = [bytes([octet]) for octet in range(256) if octet != 0x0a] + [b"//", b"--", b"/*", b"REM ", b"> ", b"$ ", b"\xef\xbb\xbf"]
 
 PORT = "eth0"
 
 FRAME = "0180c200000e00112233445588cc02070400112233445504050565746830060200780000"
 
-# lines that are accepted, word by word
+# accepted lines, each as a list of words
 LINES = [line.split() for line in (
     "tick", "tick 2", f"rx eth0 {FRAME}", "up eth0", "down eth0", "update", "show neighbors", "show statistics",
     "show chassis", "show configuration", "configure system hostname sw1", "configure system description sw1",
@@ -55,7 +55,7 @@ LINES = [line.split() for line in (
 
 
 def misspelled(word):
-    """Yields each word that is one slip away from this word."""
+    """Yields the beginnings of a word, and the words that one typing error makes of it."""
     for place in range(len(word) + 1):
         front, rest = word[:place], word[place:]
         yield front
@@ -67,7 +67,7 @@ def misspelled(word):
 
 
 def otherwise_written(word):
-    """Yields a word in upper case, quoted, and joined differently. Only ASCII has case here."""
+    """Yields a word in upper case, quoted, and joined differently. Only ASCII letters change."""
     octets = word.encode("latin-1")
     yield from (octets.upper().decode("latin-1"), octets.capitalize().decode("latin-1"))
     yield from (word + word, word.replace("-", "_"), word.replace("-", ""))
@@ -75,7 +75,7 @@ def otherwise_written(word):
 
 
 def numbers(word):
-    """Yields a number with zeros before or after it, numbers of nines, and with units."""
+    """Yields a number with zeros before or after it, or with a unit, and numbers of nines."""
     for count in (*range(1, 70), 255, 1000):
         yield "0" * count + word
         yield word + "0" * count
@@ -92,7 +92,7 @@ def longer_names(name):
 
 
 def slips(word):
-    """Returns what a slip may make of a word, in a fixed order."""
+    """Returns wrong spellings of a word, in a fixed order."""
     found = list(otherwise_written(word))
     if len(word) < len(FRAME):
         found += misspelled(word)
@@ -102,17 +102,17 @@ def slips(word):
 
 
 def near(word):
-    """Returns each word that is nearly this one, without repetitions."""
+    """Returns all words that are nearly this one, and those of WORDS, without repetitions."""
     return [other for other in dict.fromkeys([*WORDS, *slips(word)]) if other != word]
 
 
 def some_near(dice, word):
-    """Returns a word that is nearly this one: half of the time one of WORDS, else a slip."""
+    """Returns a word that is nearly this one: half of the time one of WORDS."""
     return dice.choice(WORDS if dice.happens(2) else slips(word))
 
 
 def lines_near(words):
-    """Yields lines nearly like this one: a word replaced, added or removed, or one alone."""
+    """Yields this line with a word replaced, added or removed, and each of WORDS as a line."""
     yield from ([other] for other in WORDS)
     for place, word in enumerate(words):
         front, behind = words[:place], words[place + 1:]

@@ -3,15 +3,15 @@
 # package, the manual pages, completions for bash and zsh, the service with its configuration, a
 # timer that writes its metrics, alerts for Prometheus, and the pages for operators.
 #     tools/release/install.sh [--list] [--uninstall] [--python FOLDER] [--library] [PREFIX]
-# The default prefix is /usr/local. --list only lists what would be installed, and needs nothing
-# built: mode, name and source of each file, and the target of each link. --uninstall removes what
-# it installs, except a configuration that was changed. `import lldpa` works for a python3 that
-# searches FOLDER, by default the first folder below the prefix that python3 searches. DESTDIR, if
-# set, comes before all paths. LLDPA names the program (default crates/lldpa/out/lldpa), and
+# The default prefix is /usr/local. --list needs nothing built. It only prints what would be
+# installed: mode, name and source of each file, and the target of each link. --uninstall removes
+# what was installed, except a configuration that was changed. `import lldpa` works for a python3
+# that searches FOLDER (default: the first folder below the prefix that python3 searches). DESTDIR,
+# if set, is put before all paths. LLDPA names the program (default crates/lldpa/out/lldpa),
 # LLDPA_LIVE lldpa-live (default rust/live/out/lldpa-live). --library installs the library for C
 # instead: the header, the archive, the shared object and their file for pkg-config. LLDPA_LIB_DIR
 # names the folder that tools/library/library.sh made (default crates/lldpa_c/out/lib).
-# tools/release/package.sh makes its packages of what this installs under /usr.
+# tools/release/package.sh packs what this installs under /usr.
 set -eu
 usage() {
     echo "usage: tools/release/install.sh [--list] [--uninstall] [--python FOLDER] [--library] [PREFIX]" >&2
@@ -46,14 +46,14 @@ umask 022
 root=${DESTDIR:-}
 packages=$prefix/lib/lldpa
 documents=$prefix/share/doc/lldpa
-# Debian has its own folders below /usr. For /usr and /usr/local the configuration is in /etc.
+# Debian has other names for some folders. For /usr and /usr/local the configuration is in /etc.
 case $prefix in
     /usr) etc=/etc zsh=vendor-completions interpreter='/usr/bin/python3 -I' ;;
     /usr/local) etc=/etc zsh=site-functions interpreter='/usr/bin/env -S python3 -I' ;;
     *) etc=$prefix/etc zsh=site-functions interpreter='/usr/bin/env -S python3 -I' ;;
 esac
 
-# The folder of the archive: below /usr it is that of the architecture.
+# The folder of the library: below /usr it is that of the architecture.
 archives=$prefix/lib
 [ "$prefix" != /usr ] || archives=$prefix/lib/$(dpkg-architecture -qDEB_HOST_MULTIARCH 2> /dev/null || true)
 archives=${archives%/}
@@ -64,7 +64,7 @@ others=$(for file in docs/*.md; do
     case " $pages " in *" $file "*) ;; *) basename "$file" .md ;; esac
 done | paste -sd '|')
 
-# each WAY FOLDER FILE..: lists files that are installed in this way into this folder.
+# each WAY FOLDER FILE..: lists these files, which are installed in this way into this folder.
 each() {
     way=$1 into=$2
     shift 2
@@ -144,7 +144,7 @@ mode_of() {
 written() {
     case $1 in
         script) sed "1s,.*,#!$interpreter," "$2" ;;
-        page) # a link to a page that is not installed becomes its name; other links become their text
+        page) # a link to what is not installed becomes text, with the page's name if it is a page
             sed -zE "s,\[([^]]*)\]\((\.\./)?(docs/)?($others)\.md[^)]*\),\1 (docs/\4.md in the sources),g
                 s,\[([^]]*)\]\((\.\./)?(crates|examples|man|tools|share|python|CONTRIBUTING|CHANGELOG|lldpa-audit\.1)[^)]*\),\1,g" \
                 "$2"

@@ -1,13 +1,12 @@
 #!/bin/sh
-# Builds lldpa-live, which needs the library that tools/library/library.sh makes, and prints its
-# path.
+# Builds lldpa-live with the library that tools/library/library.sh makes, and prints its path.
 #     tools/release/live.sh [--arch amd64|arm64] [--dynamic]
 # The program is rust/live/out/lldpa-live for this machine, rust/live/out/ARCH/lldpa-live for
-# another architecture. It runs in an empty folder. With --dynamic it uses the GNU C library of the
-# system, and is in the folder `dynamic` beside it, where tools/release/package.sh looks for it.
-# LLDPA_LIB_DIR names the folder of liblldpa.a if that is elsewhere. Needs cargo, and no network.
+# another architecture. It is linked statically. With --dynamic it uses the GNU C library of the
+# system, and is in a folder `dynamic` beside that, where tools/release/package.sh looks for it.
+# LLDPA_LIB_DIR names the folder of liblldpa.a if that is elsewhere. Needs cargo, but no network.
 # Another architecture needs its gcc and its standard library of Rust, such as libstd-rust-dev:arm64
-# for Debian's cargo; without it the status is 3.
+# for Debian's cargo. Without such a library the status is 3.
 set -eu
 cd "$(dirname "$0")/../.."
 fail() {

@@ -1,15 +1,15 @@
 #!/bin/sh
 # Makes a Debian package, lldpa_VERSION-REVISION_ARCH.deb, of what tools/release/install.sh installs
-# under /usr. With --shared or --library it packs what install.sh --library installs: lldpa1 is the
-# shared object, and lldpa-dev the rest.
+# under /usr. --shared and --library pack the library that install.sh --library installs: its shared
+# object as lldpa1, and its other files as lldpa-dev.
 #     tools/release/package.sh [--library | --shared] [--arch ARCH] [--revision N] [FOLDER]
 # It writes the package to FOLDER (default: the current one) and prints its name. VERSION is the
 # newest in CHANGELOG.md, which the program must report too. N is the Debian revision (default 1).
 # It packs what tools/release/build.sh and tools/release/live.sh --dynamic made for the
-# architecture, amd64 or arm64 (default: this machine's), or the programs LLDPA and LLDPA_LIVE. qemu
-# runs a program for another machine, to get its version. DEBFULLNAME and DEBEMAIL name the
-# maintainer (default: the author of the last commit). Needs dpkg-deb, dpkg and binutils, but not
-# root.
+# architecture, amd64 or arm64 (default: this machine's), or the programs that LLDPA and LLDPA_LIVE
+# name. qemu runs a program for another machine, to get its version. DEBFULLNAME and DEBEMAIL name
+# the maintainer (default: the author of the last commit). Needs dpkg-deb, dpkg and binutils, but
+# not root.
 set -eu
 usage() {
     echo "usage: tools/release/package.sh [--library | --shared] [--arch ARCH] [--revision N] [FOLDER]" >&2
@@ -65,7 +65,7 @@ said=$($emulator "$program" --version)
 [ "$said" = "lldpa $version" ] || fail "CHANGELOG.md begins with $version, but the program reports: $said"
 version=$version-$revision
 maker="${DEBFULLNAME:-$(git log -1 --format=%an)} <${DEBEMAIL:-$(git log -1 --format=%ae)}>"
-# The same sources give the same package: its time is that of the last commit.
+# The package has the time of the last commit, so the same sources give the same package.
 SOURCE_DATE_EPOCH=${SOURCE_DATE_EPOCH:-$(git log -1 --format=%ct)}
 export SOURCE_DATE_EPOCH
 umask 022
@@ -73,12 +73,12 @@ room=$(mktemp -d)
 trap 'rm -rf "$room"' EXIT
 tree=$room/tree
 
-# Prints the oldest GNU C library that programs or a shared object can run with.
+# Prints the oldest GNU C library that these programs, or a shared object, can run with.
 c_library() {
     "${tools}objdump" -T "$@" | grep -o 'GLIBC_[0-9.]*' | sort -uV | tail -n 1 | sed 's/GLIBC_//'
 }
 
-# The control fields of the package.
+# Prints the control fields of the package.
 control() {
     cat << END
 Package: $name
@@ -137,7 +137,7 @@ if [ "$name" = lldpa ]; then
     for file in lldpa lldpa-live; do
         "${tools}strip" --remove-section=.comment --remove-section=.note "$tree/usr/bin/$file"
     done
-    # /etc/default/lldpa is not a conffile, so dpkg never asks about it. postinst installs it if it is missing.
+    # dpkg may ask about a conffile. So postinst installs /etc/default/lldpa if it is missing.
     mv "$tree/etc/default/lldpa" "$tree/usr/share/lldpa/default"
     rmdir "$tree/etc/default"
 else

@@ -1,6 +1,6 @@
 /*
- * The C functions, besides memory, that the program needs on a platform without an archive of the
- * toolchain: its arguments, and the number of the last error.
+ * The C functions, besides memory, that the program needs on a platform for which the toolchain
+ * has no archive: its arguments, and the number of the last error.
  */
 #include <errno.h>
 #include <string.h>

@@ -1,5 +1,5 @@
 #!/bin/sh
-# Makes a wheel of the Python packages with the program lldpa, so that pip installs all at once.
+# Makes a wheel of the Python packages and the program lldpa, so that pip installs all at once.
 #     tools/release/wheel.sh [FOLDER]
 # It writes the wheel to FOLDER (default: the current one) and prints its name. The wheel is for the
 # machine of the program: linux_x86_64 or linux_aarch64. LLDPA names the program (default

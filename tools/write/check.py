@@ -16,7 +16,7 @@ TOP = pathlib.Path(__file__).resolve().parents[2]
 sys.path.append(str(TOP / "tools" / "gate"))
 from counts import Counts  # noqa: E402
 
-# each file, and the command that writes it, without the name of the file at its end
+# each file, and the command that writes it, to which the name of the file is added
 WRITTEN_BY = {
     "crates/lldpa/proofs/Transcripts.antt": "tools/write/transcripts.py",
     "crates/lldp_pdu/proofs/Vectors/Rows.antt": "tools/write/vectors.py",

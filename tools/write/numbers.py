@@ -1,13 +1,13 @@
 #!/usr/bin/env python3
-"""Counts what docs/TESTING.md says in numbers.
+"""Counts what the table of docs/TESTING.md lists.
 
     tools/write/numbers.py [--check | --parts [FOLDER]]
 
-Without --check it prints the table. With --check it fails if a number of the page is off by more
+Without options it prints the table. With --check it fails if a number of the page is off by more
 than a twentieth, or if people keep more lines by hand than tools/write/lines.txt says; the last
-line is then `N passed, M failed`. --parts prints how many lines people keep by hand, part by part,
-here or in another checkout. If you add lines, remove others in the same change. If there are fewer,
-save them:
+line is then `N passed, M failed`. --parts prints how many lines people keep by hand in each part,
+here or in another checkout. If you add lines, remove others in the same change. If there are fewer
+lines, save their numbers:
 
     tools/write/numbers.py --parts > tools/write/lines.txt
 
@@ -49,7 +49,7 @@ def is_written(name):
 
 
 def files(pattern, without="lldp_tests"):
-    """Returns the files of a pattern that people keep by hand, except paths with `without`."""
+    """Returns matching files that people keep by hand, except paths that contain `without`."""
     found = [path.relative_to(CRATES).as_posix() for path in sorted(CRATES.glob(pattern))]
     return [CRATES / name for name in found if without not in name and not is_written(name)]
 
@@ -64,7 +64,7 @@ def occurrences(pattern, paths):
 
 
 def numbers():
-    """Returns what is counted, with the numbers."""
+    """Returns the rows of the table: what is counted, and the number."""
     sources = files("*/src/**/*.rt")
     tests = sorted([*TOP.glob("python/tests/test_*.py"), *TOP.glob("audit/tests/test_*.py")])
     traces = re.search(r"fuzz\.py .*--traces (\d+)", (TOP / "tools/gate/check.sh").read_text())[1]

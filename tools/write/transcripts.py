@@ -3,13 +3,12 @@
 
     python3 tools/write/transcripts.py [FILE]
 
-A theorem leads from the program's arguments to its options, and from the octets of the input to
-those of the output, or to the lines that pass the transcript's filter. Each row of
-receive-counters.rows is a theorem too: which of its counters `show statistics` writes after the
-transcript's input.
+A theorem states the options that the program's arguments mean, and the output for the input, or the
+lines of it that pass the transcript's filter. Each row of receive-counters.rows is a theorem too.
+It states which of its counters `show statistics` writes after the transcript's input.
 
 FILE is crates/lldpa/proofs/Transcripts.antt by default. A transcript of more than MOST_TICKS ticks
-is left out: for each moment the definitions look at all moments before.
+is left out: for each moment the definitions look at all earlier moments.
 """
 import pathlib
 import re
@@ -134,7 +133,7 @@ unfolding digits encode_with decode_pairs
 computed = tt
 """
 
-# what the theorems of the rows are stated with; the counters are put in between
+# the definitions for the theorems of the rows; the list of counters replaces `%s`
 COUNTED = f"""
 -- the counters that {ROWS.name} checks
 abbrev counters : List Text
@@ -158,7 +157,7 @@ def octets(values):
 
 
 def codes(line):
-    """Returns a line as a term: printable octets and LF in quotes, each other octet by itself."""
+    """Returns a line as a term: printable octets and LF in quotes, other octets as numbers."""
     parts = []
     for part in re.findall(rb"[ -~\n]+|[^ -~\n]+", line):
         quoted = part.decode("latin-1").replace("\\", "\\\\").replace('"', '\\"').replace("\n", "\\n")
@@ -181,7 +180,7 @@ def packed(between, terms):
     return f"\n   {between}".join(rows)
 
 
-# How the fields of the options are written, except numbers.
+# How the fields of options are written, except those with numbers.
 FIELDS = {
     "mac": lambda value: f"mac = {octets(bytes.fromhex(value.replace(':', '')))}",
     "hostname": lambda value: f"hostname = {codes(value.encode())}",
@@ -192,7 +191,7 @@ FIELDS = {
 
 
 def options(words):
-    """Returns the options as a term, compared with the usual ones, and the management address."""
+    """Returns the options as a term, a change of `usual`, and the address of --management."""
     given, names = model.read_words(words)
     fields = [FIELDS[name](value) if name in FIELDS
               else f"{name.removeprefix('tx_').removesuffix('_delay')} = {value}" for name, value in given.items()]
@@ -207,7 +206,7 @@ def listed(texts):
 
 
 def asked(name, words):
-    """Returns the theorem that these arguments give their options."""
+    """Returns the theorem that states the options that these arguments mean."""
     given, management = options(words)
     dotted = "refl"
     if management:
@@ -231,7 +230,7 @@ def list_of_words(words):
 
 
 def theorem(name, words, sought, trace, steps, asks):
-    """Returns the theorem of a transcript with its proof; `asks` is that of its arguments."""
+    """Returns a transcript's theorem with its proof; `asks` names that of its arguments."""
     if isinstance(steps, str):
         sys.exit(f"{name}: {steps}")
     lines = re.findall(rb"[^\n]*\n|[^\n]+", trace)
@@ -248,7 +247,7 @@ unfolding computed
 
 
 def theorems(shown):
-    """Yields the theorems of transcripts and, before the first with the same arguments, theirs."""
+    """Yields each transcript's theorem, and before it one for its arguments if they are new."""
     names = {}
     for name, words, sought, trace, steps in shown:
         name = name.replace("-", "_")
@@ -275,7 +274,7 @@ counters_of_{name} = refl
 
 
 def ticks(trace):
-    """Returns how many ticks a trace has; a line of more than 65,535 is refused."""
+    """Returns how many ticks a trace has. The program refuses a line of more than 65,535."""
     numbers = [int(n or 1) for n in re.findall(rb"^tick *(\d*)$", trace, re.M)]
     return sum(n for n in numbers if n <= 65535)
 

@@ -3,8 +3,8 @@
 
     tools/write/vectors.py [--table] [FILE]
 
-The theorems are of the rows about LLDPDUs. FILE is crates/lldp_pdu/proofs/Vectors/Rows.antt by
-default, and with --table crates/lldp_tests/src/rows.rt.
+The rows about LLDPDUs become theorems. FILE is crates/lldp_pdu/proofs/Vectors/Rows.antt by default,
+and with --table crates/lldp_tests/src/rows.rt.
 """
 from __future__ import annotations
 

@@ -1,5 +1,5 @@
-/* Counts of checks, and blocks of octets, for the programs of this folder. Each block is allocated
- * with its exact size, so that valgrind and AddressSanitizer notice reads beyond its end. */
+/* Counts checks, and makes blocks of octets, for the programs of this folder. Each block has its
+ * exact size, so that valgrind and AddressSanitizer notice reads beyond its end. */
 #ifndef CHECKS_H
 #define CHECKS_H
 

@@ -7,7 +7,7 @@
 #include "checks.h"
 #include "lldpa.h"
 
-/* The longest text of a fault just fits in LLDPA_FAULT_ROOM. A law fixes each number's text. */
+/* Checks that the longest text of a fault just fits LLDPA_FAULT_ROOM. A law fixes the texts. */
 static void try_words(void)
 {
     uint8_t room[LLDPA_FAULT_ROOM];
@@ -31,7 +31,7 @@ static uint8_t value_of(uint32_t kind, octets body, uint8_t *room, size_t room_l
                      : lldpa_tlv_text(kind, body.at, body.length, room, room_length, length);
 }
 
-/* TLVs and texts, with what must be written for each, worked out by hand; NULL if it is refused. */
+/* Tries TLVs and texts. The output was worked out by hand; NULL means that the call refuses it. */
 static void try_values(void)
 {
     static const struct {
@@ -95,7 +95,7 @@ static octets odd_octets(size_t length)
     return block;
 }
 
-/* A walk over any octets, from any start, only returns bodies inside them, and it ends. */
+/* Checks that a walk over any octets, from any start, ends and returns only bodies in them. */
 static void try_odd_walks(void)
 {
     for (unsigned done = 0; done < 500; done++) {

@@ -1,7 +1,7 @@
 /*
  * Calls each function of the library with NULL for each of its pointers, with handles that are not
- * open, and with numbers, ports and buffers that are out of range. It must report this and write
- * nothing. NULL with a length of 0 means no octets, no TLVs, no ports or no buffer.
+ * open, and with numbers, ports and buffers that are out of range. A call must report this and
+ * write nothing. NULL with a length of 0 means no octets, no TLVs, no ports or no buffer.
  *     nulls
  * Failed checks are reported; the last line is `N passed, M failed`.
  */
@@ -79,7 +79,7 @@ static void read_nulls(void)
     ANSWERS(lldpa_mgmt((const uint8_t *)"\5\1\n\0\0\1\2\0\0\0\1", 11, &now.management), false);
 }
 
-/* A frame may have any source address; the rest of the header is fixed. */
+/* Checks that a frame may have any source address, but no other change of its header. */
 static void read_headers(void)
 {
     for (size_t at = 0; at < 14; at++) {
@@ -104,7 +104,7 @@ static uint8_t built(const lldpa_tlv *tlvs, size_t count, uint8_t *faults, size_
                        length);
 }
 
-/* A TLV whose body is NULL is treated like one whose body is not NULL but has no octets. */
+/* Checks that a TLV with NULL for its body is treated like one with a body of no octets. */
 static void build_empty_bodies(void)
 {
     for (int kind = 0; kind < 256; kind++) {

@@ -1,6 +1,6 @@
 /*
  * Refuses memory to the library: each allocation of an opening in turn, and then all allocations.
- * An opening without memory must report it and keep none, an open agent must request none, and a
+ * An opening without memory must report this and keep none. An open agent must request none. A
  * close must free all.
  *     refused
  * It is linked with --wrap=malloc, --wrap=realloc and --wrap=free, to see each call of the library.
@@ -12,7 +12,7 @@ void *__real_malloc(size_t size);
 void *__real_realloc(void *block, size_t size);
 void __real_free(void *block);
 
-/* The blocks requested so far, which is refused (0: none, ALL: each), and the blocks allocated. */
+/* The requests so far, the request to refuse (0: none, ALL: each), and the allocated blocks. */
 #define ALL (~0ul)
 static unsigned long asked;
 static unsigned long refused;

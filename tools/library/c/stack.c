@@ -1,8 +1,8 @@
 /*
  * Measures how much stack each call of the library uses, on a stack filled with a pattern.
  *     stack
- * It prints the octets of each call, and fails if one uses more than lldpa.h says. The last line is
- * `N passed, M failed`.
+ * It prints the octets of each call, and fails if a call uses more than lldpa.h says. The last line
+ * is `N passed, M failed`.
  */
 #define _GNU_SOURCE
 #include "calls.h"

@@ -4,7 +4,7 @@
  * MAC and ADDRESS are hexadecimal, ADDRESS may be empty, ROLE and RECEIVE-ONLY are numbers. A line
  * of standard input is an event: `tick SECONDS`, `rx PORT FRAME`, `link PORT UP`, `leave` or
  * `command LINE`, with port numbers and hexadecimal octets. library_transcripts.py writes them. At
- * each show the agent's structs are compared with its lines. If a check fails, the status is 2.
+ * each show the agent's structs are compared with the lines. If a check fails, the status is 2.
  */
 #define _POSIX_C_SOURCE 200809L
 #include "checks.h"
@@ -145,7 +145,7 @@ static void write_show(uint32_t show)
     }
 }
 
-/* Lets seconds pass: one if their number is odd, else all, but stops when something is due. */
+/* Lets seconds pass, one at a time or many. Checks that a call stops when something is due. */
 static void tick(uint32_t seconds)
 {
     lldpa_ticks_taken done = {0, 0};
@@ -166,7 +166,7 @@ static uint32_t count_of(uint32_t port)
     return count;
 }
 
-/* Returns whether the news of a frame are about this neighbor. */
+/* Returns whether a frame's news is about this neighbor. */
 static int is_of(const lldpa_news *news, octets frame, const lldpa_examined *pdu, const uint8_t *room)
 {
     return news->chassis.length == pdu->chassis.length && news->port.length == pdu->port.length &&
@@ -174,7 +174,7 @@ static int is_of(const lldpa_news *news, octets frame, const lldpa_examined *pdu
            memcmp(frame.at + news->port.start, room + pdu->port.start, news->port.length) == 0;
 }
 
-/* Receives a frame on a port, and checks that its neighbors then are those that the news imply. */
+/* Receives a frame on a port, and checks that the port's neighbors agree with the frame's news. */
 static void hear(uint32_t port, octets frame)
 {
     static uint8_t room[LLDPA_NEIGHBOR_ROOM];
@@ -191,7 +191,7 @@ static void hear(uint32_t port, octets frame)
         found += is_of(&news, frame, &held.pdu, room);
     }
     must(found == (news.what >= LLDPA_NEWS_NEW && news.what <= LLDPA_NEWS_SAME), "the neighbor of the news");
-    must(lldpa_neighbor(&agent, port, after, room, sizeof room, &held) == LLDPA_OUT_OF_RANGE, "there is one neighbor more");
+    must(lldpa_neighbor(&agent, port, after, room, sizeof room, &held) == LLDPA_OUT_OF_RANGE, "a neighbor after the last");
 }
 
 static void command(const char *line, size_t length)

@@ -1,8 +1,8 @@
 /*
  * Writes each row of a file with the library's results: what it reads in octets, builds from TLVs,
- * or answers to causes or to ports. If the library is right, these are the rows of the file.
+ * or answers to causes or ports. If the library is right, these rows equal those of the file.
  *     vectors FILE
- * The head of examples/vectors.rows describes the rows; tools/library/check-library.py compares.
+ * The head of examples/vectors.rows describes the rows; check-library.py compares them.
  */
 #include "checks.h"
 #include "lldpa.h"
@@ -20,7 +20,7 @@ static uint32_t number(size_t field)
     return (uint32_t)strtoul(fields[field], NULL, 10);
 }
 
-/* Returns the octets of the digits up to a colon or the end of the field; `-` is no octets. */
+/* Returns the octets of the digits up to a colon or the end of the field; `-` means none. */
 static octets octets_of(const char *digits)
 {
     return spelled(digits, *digits == '-' ? 0 : strcspn(digits, ":"));
@@ -58,7 +58,7 @@ static void write_kept(const uint8_t *pdu, size_t length)
     free(extent.at);
 }
 
-/* examine NAME LLDPDU .. */
+/* Writes a row: examine NAME LLDPDU .. */
 static void write_examined(void)
 {
     octets pdu = octets_of(fields[2]);
@@ -79,7 +79,7 @@ static void write_examined(void)
     free(pdu.at);
 }
 
-/* caps NAME BODY .. */
+/* Writes a row: caps NAME BODY .. */
 static void write_capabilities(void)
 {
     octets body = octets_of(fields[2]);
@@ -91,7 +91,7 @@ static void write_capabilities(void)
     free(body.at);
 }
 
-/* mgmt NAME BODY .. */
+/* Writes a row: mgmt NAME BODY .. */
 static void write_management(void)
 {
     octets body = octets_of(fields[2]);
@@ -106,7 +106,7 @@ static void write_management(void)
     free(body.at);
 }
 
-/* build NAME TTL CHASSIS PORT LENGTH LLDPDU [KIND:BODY:ANSWER ..], in a buffer of LENGTH octets */
+/* Writes a row: build NAME TTL CHASSIS PORT LENGTH LLDPDU [KIND:BODY:ANSWER ..] */
 static void write_built(void)
 {
     octets chassis = octets_of(fields[3]), port = octets_of(fields[4]);
@@ -135,7 +135,7 @@ static void write_built(void)
     free(chassis.at);
 }
 
-/* machine NAME CREDIT_MAX [CAUSE:TIMES:INTERVAL:MARK ..]; writes all differing marks of a cause */
+/* Writes a row: machine NAME CREDIT_MAX [CAUSE:TIMES:INTERVAL:MARKS ..] */
 static void write_machine(void)
 {
     lldpa_machine machine = {0};
@@ -158,7 +158,7 @@ static void write_machine(void)
     }
 }
 
-/* open NAME HOSTNAME FAULT [PORT ..] */
+/* Writes a row: open NAME HOSTNAME FAULT [PORT ..] */
 static void write_opening(void)
 {
     octets hostname = octets_of(fields[2]);
