@@ -106,7 +106,7 @@ the_timer_ends : table_of 2 (tick ∷ tick ∷ frame 0x32 2 ∷ frame 0x31 120 �
 unfolding neighbors live events_of too_many_left
 the_timer_ends = refl
 
--- a frame of a neighbor that has aged out is also dropped
+-- a neighbor that has aged out is not held: if the table is full, its next frame is dropped
 who_is_dropped_is_not_held : table_of 2 (frame 0x30 9 ∷ frame 0x32 60 ∷ tick ∷ frame 0x31 60 ∷ frame 0x30 1 ∷ []) ≡ table 2 9 (held 0x31 60 59 ∷ held 0x32 60 60 ∷ [])
 unfolding neighbors live events_of too_many_left
 who_is_dropped_is_not_held = refl

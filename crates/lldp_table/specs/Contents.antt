@@ -1,4 +1,4 @@
--- The contents of a table, and what holds for every table.
+-- The contents of a table, and the invariant of every table.
 use Rattle.std.specs.Prelude.{◌≡◌, ℕ, ◌<◌, ◌≤◌, Bool, List, length, map, None}
 use Rattle.std.specs.List.{list_any, IsDistinct, AllByRecursion}
 use Rattle.lldp_pdu.specs.Tlv.{AreOctets}

@@ -71,12 +71,12 @@ live_after n (learned msap ttl octets answer) =
     if nat_lt n ttl then Some (record { msap = msap; octets = octets; ttl = ttl; left = ttl - n }) else None
 live_after n _ = None
 
--- The neighbor with this MSAP identifier, if it is live: of the events that stored it, forgot it or
--- purged the table, the last one stored it, and fewer ticks than its TTL have passed since.
+-- The neighbor with this MSAP identifier, if it is live: since its last stored frame, the
+-- identifier was not forgotten, the table was not purged, and fewer ticks than the TTL have passed.
 unfoldable pub live : MsapId → List TableEvent → Option Neighbor
 live name events = option_and_then (live_after (ticks (since (decides_on name) events))) (find (decides_on name) events)
 
--- the MSAP identifiers after an event: one that becomes new is moved to the end
+-- the MSAP identifiers after an event: adding a neighbor moves its identifier to the end
 abbrev pub arrive : TableEvent → List MsapId → List MsapId
 arrive (learned name ttl octets New) names = filter (λ other. not (same_msap name other)) names ++ name ∷ []
 arrive _ names = names
@@ -105,7 +105,7 @@ answer opened name past =
     if is_some (live name past) then Refreshed
     else (if nat_lt (length (neighbors past)) (limit_after opened past) then New else Dropped)
 
--- the event that a call makes after these events
+-- the event of a call that is made after these events
 abbrev pub event_of : ℕ → Call → List TableEvent → TableEvent
 event_of opened (learn msap ttl octets) past = learned msap ttl octets (answer opened msap past)
 event_of opened (forget msap) past = forgot msap
@@ -124,13 +124,13 @@ aged_out past = count_by (λ (neighbor : Neighbor). is_none (live neighbor.msap 
 
 -- ## Too many neighbors
 
--- the most ticks that a dropped frame among these events has left, n ticks after the last event
+-- the most remaining ticks of any dropped frame, n ticks after the last of these events
 abbrev pub most_left : ℕ → List TableEvent → ℕ
 most_left n [] = 0
 most_left n (learned msap ttl octets Dropped ∷ past) = max (ttl - n) (most_left n past)
 most_left n (ticked ∷ past) = most_left (suc n) past
 most_left n (event ∷ past) = most_left n past
 
--- The most ticks that a frame dropped since the last purge has left. Above 0 means `too_many`.
+-- The too-many timer: the most remaining ticks of any frame dropped since the last purge.
 unfoldable pub too_many_left : List TableEvent → ℕ
 too_many_left events = most_left 0 (since is_purge events)

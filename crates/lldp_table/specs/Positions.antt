@@ -9,8 +9,8 @@ use Rattle.lldp_table.specs.declared.learned.Learned.TheVariants.{New, Dropped}
 use Rattle.lldp_table.specs.Events.{TableEvent, learned, Neighbor, neighbors, limit_after, is_purge, is_stored, decides_on, ticks}
 
 -- The neighbor has the last stored frame of its MSAP identifier, which has not expired: no later
--- event stored another, forgot the identifier or purged the table, and the ticks since then and
--- those left, at least one, add up to the TTL.
+-- event stored another, forgot the identifier or purged the table. The ticks since that frame plus
+-- the remaining ticks, which are at least 1, are the TTL.
 pub record IsLastStored (events : List TableEvent) (neighbor : Neighbor) : Type 0 where
   pub later : List TableEvent
   pub answer : Learned
@@ -29,13 +29,13 @@ IsLive events name = (neighbor : Neighbor) × (neighbor.msap ≡ name) × IsLast
 abbrev pub HasRoom : ℕ → List TableEvent → Type 0
 HasRoom opened events = length (neighbors events) < limit_after opened events
 
--- the event made this MSAP identifier new
+-- the event added a neighbor with this MSAP identifier
 abbrev pub makes_new : MsapId → TableEvent → Bool
 makes_new name (learned other ttl octets New) = same_msap other name
 makes_new name _ = false
 
--- The MSAP identifier of `one` was last added before that of `other`: at some moment `one` had been
--- new, `other` became new later, and `one` did not become new again after that moment.
+-- `one` was last added before `other`: for some split of the events, `one` was added in the earlier
+-- part, and in the later part `other` was added and `one` was not.
 pub record IsNewBefore (events : List TableEvent) (one other : Neighbor) : Type 0 where
   pub later : List TableEvent
   pub earlier : List TableEvent

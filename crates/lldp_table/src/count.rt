@@ -15,8 +15,8 @@ impl Model for Count {
 }
 
 impl Count {
-    /// Returns a counter that starts at a number that no clause states. So code cannot replace a
-    /// counter by a new one to claim that less was counted.
+    /// Returns a counter. No clause states the number at which it starts, so code cannot replace a
+    /// counter by a new one to hide what was counted.
     pub(crate) fn new() -> Count
         ensures { result ≡ result }
     {

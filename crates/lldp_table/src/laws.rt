@@ -26,8 +26,7 @@ pub fn calls_carry_standing()
 
 /// A table opened with a limit of 1 to 128 matches the empty list of calls. If a table matches a
 /// list of calls, its results are those that the definitions give for the list. Each call adds one
-/// event. The neighbors that a tick ages out and those that remain are together as many as before
-/// it.
+/// event. The neighbors that a tick ages out plus those that remain are as many as before the tick.
 pub fn calls_tell_standing_tables()
     ensures opened { (opened : ℕ) → 0 < opened → opened ≤ 128 →
         Stands opened [] (newly_opened opened) }
@@ -61,12 +60,12 @@ pub fn extents_can_be_stored()
         12 + 2 * length (kept_of neighbor.octets) ≤ length neighbor.octets }
 {}
 
-/// A list of calls leaves exactly the unexpired last stored frame of each MSAP identifier: since
-/// that frame, no call stored another with this identifier, forgot it or purged the table, and
-/// fewer ticks than its TTL passed. The frames are in the order in which their identifiers were
-/// last added. If the table was opened with a limit of 1 to 128 and each call was possible, the
-/// resulting table is the only one that matches the list, and it is sound: it holds at most as many
-/// neighbors as the limit, with at most 1,500 octets each.
+/// After a list of calls, exactly the unexpired last stored frame of each MSAP identifier is held:
+/// since that frame, no call stored another with this identifier, forgot the identifier or purged
+/// the table, and fewer ticks than its TTL passed. The frames are in the order in which their
+/// identifiers were last added. If the table was opened with a limit of 1 to 128 and each call was
+/// possible, the resulting table is the only one that matches the list. It is sound: it holds at
+/// most as many neighbors as the limit, with at most 1,500 octets each.
 pub fn tables_hold_last_stored_frames()
     ensures held { (opened : ℕ) (calls : List Call) (neighbor : Neighbor) →
         Contains (neighbors (events_of opened calls)) neighbor

@@ -116,7 +116,7 @@ impl<A: Allocator> Table<A> {
         Learned::Dropped
     }
 
-    /// Returns the place in the order of the neighbor with this MSAP identifier, if it is held.
+    /// Returns the neighbor's place in the order, if a neighbor with this MSAP identifier is held.
     fn place(&self, name: &Msap<'_>, tag: u32) -> Option<usize>
         requires { tag ≡ tag_of (msap_view name.now) }
         ensures { MatchOption result (holds_name self.now.shown (msap_view name.now) ≡ false)
@@ -197,9 +197,9 @@ impl<A: Allocator> Table<A> {
 
     /// Processes a tick: a second has passed, so each neighbor and the too-many timer have one tick
     /// less. Returns how many neighbors aged out, that is, were live before and no longer are.
-    /// Makes at most 2 reads and writes of stored times, plus 2 for each neighbor that aged out.
-    /// This is inlined into the caller's loop with all that it calls, since most ticks look only at
-    /// the first neighbor.
+    /// Accesses stored times (reads and writes together) at most 2 times, plus 2 for each neighbor
+    /// that aged out. This is inlined into the caller's loop with all that it calls, since most
+    /// ticks look only at the first neighbor.
     #[inline(always)]
     pub fn tick(&mut self) -> u8
         ensures answer { result + length self.new.shown.neighbors ≡ length self.old.shown.neighbors }
@@ -248,7 +248,7 @@ impl<A: Allocator> Table<A> {
         self.limit
     }
 
-    /// Returns the limit given at opening: how many neighbors may ever be held.
+    /// Returns the limit given at opening, which no later limit exceeds.
     pub fn capacity(&self) -> u8
         ensures value { result ≡ self.now.shown.capacity }
         ensures sound { IsSound self.now.shown }

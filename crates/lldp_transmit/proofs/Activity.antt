@@ -1,4 +1,4 @@
--- Active, rested, start and stop, as computed, agree with their statements by positions.
+-- `is_active`, `rested`, `start` and `stop` agree with their statements by positions.
 use Rattle.std.specs.Prelude.{◌≡◌, ℕ, ◌+◌, ◌≤◌, ◌↔◌, Bool, true, false, cond, not, ◌&&◌, ◌||◌, IsTrue, List, [], ◌∷◌, ◌++◌}
 use Rattle.std.specs.List.{list_any}
 use Rattle.std.proofs.Common.{refl, ap, ap₂, ◌∙◌, arith}

@@ -1,4 +1,4 @@
--- Which states are turned on and off by which events, and the events at which frames are sent.
+-- How the causes of events decide whether a port may transmit, its link is up, and it sends.
 use Rattle.std.specs.Prelude.{◌≡◌, ℕ, ◌⊎◌, ◌↔◌, Bool, true, false, not, ◌&&◌, ◌||◌, IsTrue, List, [], ◌∷◌, ◌++◌, map}
 use Rattle.std.proofs.Common.{refl, ap, sym, ◌∙◌, inl, inr, arith, subst}
 use Rattle.lldp_transmit.specs.declared.event.Cause.{Cause}
@@ -117,7 +117,7 @@ up_reads s h = rw (up_held s h) (given_reads up_after Up Down reads_up (λ q. cc
 
 -- ---- frames
 
--- the answer to an event is an ordinary frame only at these causes
+-- the answer to an event is an ordinary frame only if the event has one of these causes
 ordinary_cause : (t : Machine) (c : Cause) (n : ℕ) → (stepped t c n).1 ≡ Ordinary → (c ≡ Tick) ⊎ ((c ≡ Change) ⊎ (c ≡ Neighbor))
 ordinary_cause t Tick n q = inl refl
 ordinary_cause t Change n q = inr (inl refl)

@@ -1,4 +1,4 @@
--- The worked examples, computed from the definitions: the marks of each event, oldest first.
+-- Worked examples, computed from the definitions: the mark of each event, oldest first.
 use Rattle.std.specs.Prelude.{◌≡◌, ℕ, true, false, List, [], ◌∷◌, ◌++◌, map, replicate, reverse}
 use Rattle.std.proofs.Common.{refl}
 use Rattle.lldp_transmit.specs.declared.event.Cause.{Cause}

@@ -1,4 +1,4 @@
--- Wrong answers, each of which a contract of `event` rules out.
+-- Wrong answers, each of which a clause of `event` rules out.
 use Rattle.std.specs.Prelude.{◌≡◌, ◌↔◌, true, [], ◌∷◌}
 use Rattle.std.proofs.Common.{refl, arith}
 use Rattle.lldp_transmit.specs.declared.event.Cause.TheVariants.{Tick, Change, Stop}

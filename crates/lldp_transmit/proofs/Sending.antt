@@ -1,4 +1,4 @@
--- Waiting, due, open, sent and the credit, as computed, agree with their statements by positions.
+-- `is_waiting`, `due`, `open_at`, `sent` and the credit agree with their statements by positions.
 use Rattle.std.specs.Prelude.{◌≡◌, ℕ, ◌+◌, ◌≤◌, ◌<◌, ◌↔◌, ◌⊎◌, Bool, true, false, IsTrue, List, [], ◌∷◌, ◌++◌}
 use Rattle.std.specs.List.{list_all}
 use Rattle.std.proofs.Common.{refl, ap, ◌∙◌, arith, inl, inr, subst}
@@ -96,7 +96,7 @@ due_reads s h e =
     let active : IsTrue (is_active (record m { sent = false } ∷ moments s h)) ↔ HasStarted (m ∷ moments s h) = rw (same_active (moments s h) m m.signal m.opening false) (active_reads s (e ∷ h)) in
     and_reads _ _ _ _ active (waiting_reads (record m { sent = false } ∷ moments s h))
 
--- a frame is due in the same cases if other marks are in place of the frames sent
+-- the same, with timely marks (`AreTimely`) in place of the frames sent
 pub chosen_due_reads : (s : Settings) (h : History) (e : Event) (bs : List Bool) → AreTimely s bs (moments s h) →
     IsTrue (due (with_marks bs (moments s h)) (moment s (moments s h) e)) ↔ IsDue (with_marks bs (moments s h)) (moment s (moments s h) e)
 chosen_due_reads s h e bs t =

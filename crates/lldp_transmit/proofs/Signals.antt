@@ -24,7 +24,7 @@ is_opened ms = list_any (λ m. m.opening) (since (λ m. m.start) ms)
 opened-cons : (m : Moment) (past : List Moment) → is_opened (m ∷ past) ≡ (not m.start && (m.opening || is_opened past))
 opened-cons m past = elim m.start as (λ b. list_any (λ x. x.opening) (cond b [] (m ∷ since (λ x. x.start) past)) ≡ (not b && (m.opening || is_opened past))) [ true ↦ refl | false ↦ refl ]
 
--- a burst was opened since the last start exactly if no start is at or after some opening
+-- a burst was opened since the last start exactly if some opening has no start at it or after it
 some_opening : (ms : List Moment) → IsTrue (is_opened ms) ↔ Lasts (λ m. m.opening) (λ _. false) (λ m. m.start) ms
 some_opening = lasts_reads is_opened (λ m. m.opening) (λ _. false) (λ m. m.start) refl opened-cons
 

@@ -44,7 +44,7 @@ module _ (s : Settings) (past : List Moment) (t : Machine) (e : Event) (h : Coun
         sent = sent_is s past t e.cause h m2 refl start stop signal most paid;
       }
 
--- if a step changes the counters as the labels say, the counters stay right
+-- if a step changes the counters as the labels say, they still have their defined values
 counted_on : (s : Settings) (past : List Moment) (t : Machine) (c : Cause) (n : ℕ) (m : Moment) (u : Machine × Mark) → Counts s past t → Labelled t c n m → Makes t c n u → Counts s (m ∷ past) u.0
 counted_on s past t c n m u h l k = grind (arith, common_steps, until_start-cons, until_signal-cons, signals_left-cons, is_waiting-cons, active_is)
 
@@ -84,7 +84,7 @@ carries_counts s h t e most counts =
     (counted_on s past t e.cause e.interval (moment s past e) (stepped t e.cause e.interval) counts labels makes, marked_on s past t e.cause e.interval (moment s past e) (stepped t e.cause e.interval) labels makes)
 
 -- `Stands` uses windows and `Counts` uses the bucket. These lemmas convert between them, first for
--- the machine that a history leaves.
+-- the machine computed from a history.
 counts_left : (s : Settings) (h : History) → AreSettings s → Counts s (moments s h) (machine_of s h)
 unfolding machine_of
 counts_left s h r = grind (arith, common_steps, credit_is, paid_moments)

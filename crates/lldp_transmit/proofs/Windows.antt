@@ -1,5 +1,5 @@
--- The windows of a history, computed with a bucket of credits. The bucket's content is the least
--- that any run that ends now leaves of its bound.
+-- The windows of a history, computed with a bucket of credits. For each run that ends now, take its
+-- bound less its frames: the bucket holds the least of these numbers.
 use Rattle.std.specs.Prelude.{◌≡◌, ℕ, suc, ◌+◌, ◌-◌, ◌≤◌, ◌<◌, Bool, true, false, cond, ◌&&◌, nat_le, min, List, [], ◌∷◌, ◌++◌, map}
 use Rattle.std.specs.List.{list_all, fold}
 use Rattle.std.proofs.Common.{refl, ap, ap₂, sym, ◌∙◌, arith}
@@ -95,7 +95,7 @@ least_is : {X : Type 0} (c d : ℕ) (f : X → ℕ) (xs : List X) → nat_le c (
 least_is c d f [] = sym (and-true (nat_le c d))
 least_is c d f (x ∷ xs) = grind (arith, common_steps, le_min, and_assoc, least_is c (min d (f x)) f xs)
 
--- a run leaves at least c + 1 of its bound exactly if it fits with c + 1 more frames
+-- a run's bound less its frames is at least c + 1 exactly if c + 1 more frames fit
 room_is : (s : Settings) (c : ℕ) (run : List Moment) → nat_le (suc c) (room s run) ≡ bounded s.credit_max (suc c) 0 run
 room_is s c run = grind (arith, nat_tests)
 
@@ -145,7 +145,7 @@ front_bounded s h most (m ∷ run) before e =
     let all : list_all (within s) (runs (moments s h)) ≡ true = all_within s (moments s h) (paid_moments s h most) in
     leb-true _ _ (run_holds (within s) m run before (rw e at all))
 
--- the older moments of a history are all the moments of an earlier history
+-- if newer moments of a history are left out, the rest are the moments of an earlier history
 pub earlier : (s : Settings) (h : History) (later rest : List Moment) → moments s h ≡ later ++ rest → (g : History) × (moments s g ≡ rest)
 earlier s h [] rest e = (h, e)
 earlier s [] (m ∷ later) rest e = cc e

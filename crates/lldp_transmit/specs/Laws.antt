@@ -1,2 +1,2 @@
--- Definitions that only the laws use: the state of a port and its frames, by the causes of events.
+-- Definitions that only the laws use: how the causes of events decide a port's state and frames.
 pub mod Causes

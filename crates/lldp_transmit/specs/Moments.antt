@@ -1,7 +1,7 @@
--- When a port transmits (IEEE 802.1AB-2009, clause 9; credit, signals, bursts and distance are this
--- project's). Each event of the history becomes a moment: the event with five labels. The labels
--- depend on earlier moments: on the last moment of some kind, the ticks since then, and the runs
--- that end now.
+-- When a port transmits (IEEE 802.1AB-2009, clause 9; the terms credit, signal, burst and distance
+-- are this project's). Each event of the history becomes a moment: the event with five labels. The
+-- labels depend on earlier moments: on the last moment of some kind, the ticks since then, and the
+-- runs that end now.
 use Rattle.std.specs.Prelude.{ℕ, ◌+◌, ◌-◌, Bool, true, false, not, ◌&&◌, ◌||◌, ◌==◌, nat_le, nat_lt, if◌then◌else◌, List, [], ◌∷◌}
 use Rattle.std.specs.List.{list_any, list_all}
 use Rattle.lldp_transmit.specs.declared.event.Cause.{Cause}
@@ -63,11 +63,11 @@ ends m = m.stop || is_down m.cause
 abbrev pub is_active : List Moment → Bool
 is_active ms = list_any (λ m. m.start) (since ends ms)
 
--- whether reinitDelay ticks have passed since the last stop, this tick counted; true without a stop
+-- true if reinitDelay ticks, including this one, have passed since the last stop, or without a stop
 abbrev pub rested : Settings → List Moment → Bool
 rested s past = not (list_any (λ m. m.stop) past) || nat_le s.reinit (1 + ticks (since (λ m. m.stop) past))
 
--- true for a signal because of a new neighbor or the timer; it uses one signal of the burst
+-- true if the moment uses a signal of the burst: a signal caused by a new neighbor or by the timer
 abbrev pub spends : Moment → Bool
 spends m = m.signal && (is_neighbor m.cause || (is_tick m.cause && not m.start))
 
@@ -79,8 +79,8 @@ signals_left s ms =
     then s.fast_init - count spends (from_last (λ m. m.opening) ms)
     else 0
 
--- ticks from the newest moment, a signal, to the next signal: 1 (msgFastTx) if signals are left,
--- else its tx-interval
+-- ticks from the newest moment, which is a signal, to the next signal: 1 (msgFastTx) if signals are
+-- left, else the tx-interval of the newest moment
 abbrev pub distance : Settings → List Moment → ℕ
 distance s [] = 0
 distance s (m ∷ past) = if nat_lt 0 (signals_left s (m ∷ past)) then 1 else m.interval
@@ -101,7 +101,7 @@ starts s past m =
 abbrev pub stops : Settings → List Moment → Moment → Bool
 stops s past m = is_active past && not (is_allowed s (m ∷ past))
 
--- The timer (txTTR) ends at a tick, not a start, when the last signal's distance has passed.
+-- The timer (txTTR) ends when the last signal's distance has passed, at a tick without a start.
 abbrev pub timer_ends : Settings → List Moment → Moment → Bool
 timer_ends s past m =
     is_tick m.cause && (not m.start &&
@@ -116,7 +116,7 @@ signals s past m =
 abbrev pub opens : Settings → List Moment → Moment → Bool
 opens s past m = signals s past m && (is_neighbor m.cause && (signals_left s past == 0))
 
--- Due: the port is active, and a frame would be waiting if none were sent now.
+-- Due: the port is active, and a frame waits (the label `sent` of this moment is set afterwards).
 abbrev pub due : List Moment → Moment → Bool
 due past m = let now = record m { sent = false } ∷ past in is_active now && is_waiting now
 

@@ -1,4 +1,4 @@
--- The labels again, stated by positions in the list of moments, to be checked without computing.
+-- The labels again, stated by positions in the list of moments, so that nothing must be computed.
 use Rattle.std.specs.Prelude.{false, ◌≡◌, ℕ, ◌+◌, ◌-◌, ◌≤◌, ◌⊎◌, IsTrue, List, ◌∷◌, ◌++◌}
 use Rattle.lldp_transmit.specs.declared.event.Cause.TheVariants.{Tick, Change, Neighbor}
 use Rattle.lldp_transmit.specs.Fronts.{Position, count, after_first}
@@ -48,7 +48,7 @@ HasOpened s ms n =
     (p : Position ms) × IsTrue p.there.opening × (count (λ m. m.opening) p.after ≡ 0)
     × (starts_in (p.there ∷ p.after) ≡ 0) × (n ≡ s.fast_init - count spends (p.there ∷ p.after))
 
--- no burst was opened since the last start: each opening has a start at it or after it
+-- no burst was opened since the last start: each opening has a start at its moment or later
 abbrev pub NoneOpened : List Moment → Type 0
 NoneOpened ms = (p : Position ms) → IsTrue p.there.opening → 1 ≤ starts_in (p.there ∷ p.after)
 
@@ -60,7 +60,7 @@ AreLeft s ms n = HasOpened s ms n ⊎ (NoneOpened ms × (n ≡ 0))
 abbrev pub IsDistance : Settings → Moment → List Moment → ℕ → Type 0
 IsDistance s m before d = (n : ℕ) × AreLeft s (m ∷ before) n × (1 ≤ n → d ≡ 1) × (n ≡ 0 → d ≡ m.interval)
 
--- End of the timer: a tick, not a start, when the distance set at the last signal has passed.
+-- End of the timer: a tick without a start, when the distance set at the last signal has passed.
 abbrev pub IsTimerEnd : Settings → List Moment → Moment → Type 0
 IsTimerEnd s past m =
     (m.cause ≡ Tick) × (m.start ≡ false)
@@ -92,7 +92,7 @@ IsOpen s past m =
     (run before : List Moment) → past ≡ run ++ before →
     frames run + 1 ≤ s.credit_max + ticks (after_first (m ∷ run))
 
--- Credit: the least of txCreditMax and of what each run that ends now leaves of its bound.
+-- Credit: the least of txCreditMax and, for each run that ends now, its bound less its frames.
 pub record IsLeastRoom (s : Settings) (ms : List Moment) (credit : ℕ) : Type 0 where
   pub most : credit ≤ s.credit_max
   pub each : (run before : List Moment) → ms ≡ run ++ before →

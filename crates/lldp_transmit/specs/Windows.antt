@@ -1,4 +1,4 @@
--- Bounds on the frames and stops of a port, and that no frame is sent later than it could be.
+-- Bounds on a port's frames and stops, and earliest service: no frame is sent later than possible.
 use Rattle.std.specs.Prelude.{◌≡◌, ℕ, ◌+◌, ◌/◌, ◌≤◌, Bool, IsTrue, ◌&&◌, List, [], ◌∷◌, ◌++◌}
 use Rattle.lldp_transmit.specs.declared.event.Mark.{Mark}
 use Rattle.lldp_transmit.specs.declared.event.Mark.TheVariants.{Ordinary, Shutdown}
@@ -40,7 +40,7 @@ StopsRarely s h =
     (later run before : List Moment) → moments s h ≡ later ++ (run ++ before) →
     count (λ m. m.stop) run ≤ 1 + ticks run / s.reinit
 
--- Earliest service: no other choice of moments that are due and open has more frames up to now.
+-- Earliest service: no other choice of moments (`AreTimely`) has more frames up to now.
 abbrev pub IsEarliest : Settings → History → Type 0
 IsEarliest s h = (marks : List Bool) → AreTimely s marks (moments s h) → marked marks ≤ frames (moments s h)
 
@@ -80,7 +80,7 @@ StopsRarelyWith s past e answer =
     (run before : List Moment) → moments s past ≡ run ++ before →
     stops_with answer run ≤ 1 + ticks (moment s (moments s past) e ∷ run) / s.reinit
 
--- with this answer, no other choice of due and open moments up to this event has more frames
+-- with this answer, no other choice of moments (`AreTimely`) has more frames up to this event
 abbrev pub IsEarliestWith : Settings → History → Event → Mark → Type 0
 IsEarliestWith s past e answer =
     (marks : List Bool) → AreTimely s marks (moments s (e ∷ past)) → marked marks ≤ frames_with answer (moments s past)

@@ -39,13 +39,13 @@ pub fn causeless_events_change_nothing()
 
 /// If a port's settings are in their ranges, these properties hold for each history: no run of
 /// events has more ordinary frames than txCreditMax plus the ticks after its first event, or more
-/// stops than one plus one for each reinitDelay ticks; and after each event, no other choice of due
-/// and open events has had more frames.
+/// stops than one plus one for each reinitDelay ticks; and after each event, no other choice of
+/// events, each with a due frame and an open window, has had more frames.
 pub fn windows_hold()
     ensures { (s : Settings) (h : History) → AreSettings s → WindowsHold s h }
 {}
 
-/// The events at which ordinary frames are sent are themselves a choice of due and open events.
+/// At each event with an ordinary frame, a frame is due and the window is open (`AreTimely`).
 #[tactic(auto, using(crate::proofs::Earliest::timely))]
 pub fn frames_are_timely()
     ensures { (s : Settings) (h : History) →
@@ -84,10 +84,10 @@ pub fn positions_tell_signals()
 {}
 
 /// Waiting, due, open, sent and the credit, stated by positions. A frame waits if a signal since
-/// the start has had no frame. It is due if the port is also active (`chosen`: also with the frames
-/// of any other timely choice). If the settings are in their ranges, the window is open if each run
-/// that ends now stays within its bound with one more frame; the credit is the least that these
-/// runs leave of their bounds, and only this number is; and a frame is sent if it is due and the
+/// the start has had no frame. It is due if the port is also active (`chosen`: also for any other
+/// choice of frames that is timely, as `AreTimely` defines). If the settings are in their ranges,
+/// the window is open if, with one more frame, each run that ends now is within its bound; the
+/// credit is the only number that `IsLeastRoom` accepts; and a frame is sent if it is due and the
 /// window is open.
 pub fn positions_tell_sending()
     ensures waiting { (ms : List Moment) → IsTrue (is_waiting ms) ↔ HasWanted ms }
@@ -139,8 +139,8 @@ pub fn moments_keep_their_events()
         map (λ m. event m.cause m.interval) (moments s h) ≡ h }
 {}
 
-/// A port can be opened with all three constants at once, and each is the greatest value that the
-/// definitions accept.
+/// A port can be opened with `MOST_CREDIT`, `MOST_FAST` and `MOST_REINIT` together, and each of
+/// them is the greatest value that the definitions accept.
 pub fn constants_are_the_greatest_settings()
     ensures allowed { (allowed : Bool) →
         AreSettings (settings MOST_CREDIT MOST_FAST MOST_REINIT allowed) }

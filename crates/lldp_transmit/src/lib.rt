@@ -1,9 +1,9 @@
 //! The transmit machine, which decides when a port sends (IEEE 802.1AB-2009, clause 9). No call
 //! allocates memory, and no event is refused.
 //!
-//! A machine receives the events of its port one by one and returns the frame to send. In the
-//! definitions all events so far decide: an ordinary frame is sent exactly if one is due and its
-//! window is open, a shutdown frame exactly if an active port may no longer transmit.
+//! A machine receives the events of its port one by one and returns the frame to send. By the
+//! definitions, it depends on all events so far: an ordinary frame is sent exactly if one is due
+//! and the window is open, a shutdown frame exactly if an active port may no longer transmit.
 #![tactic(auto)]
 
 mod event;

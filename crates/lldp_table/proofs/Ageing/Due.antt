@@ -170,7 +170,7 @@ two_fit times slots k slot l e =
     let next : (get_or (dues times slots) (suc k) (due 0 0)).gap ≡ get_or times (get_or slots (k + 1) 0) 0 = gap_at times slots (suc k) (omega arith) ∙ ap (λ n. get_or times (get_or slots n 0) 0) one in
     omega (arith, two_of_total (dues times slots) k (due 0 0) (omega (arith, length-dues times slots, l)), first, next)
 
--- the remaining ticks of the last slot after another slot, or the last slot itself, was removed
+-- the remaining ticks of the last slot, after another slot or the last slot itself was removed
 module _ (times slots : List ℕ) (k slot : ℕ) (l : k < length slots) (e : get_or slots k 0 ≡ slot) (d : IsDistinct nat_eq slots) where
   abbrev front : List Due
   front = take k (dues times slots)
@@ -241,7 +241,7 @@ pub queue_popped : (times slots : List ℕ) → IsQueue times slots → IsQueue 
 queue_popped times [] h = h
 queue_popped times (i ∷ is) h = grind (arith, common_steps, IsDistinct-tail, total-cons)
 
--- the sum of all gaps after a first slot with no ticks left was removed, and after a tick
+-- the sum of all gaps after the removal of a first slot with no ticks left, and after a tick
 pub total_popped : (times slots : List ℕ) → is_spent (dues times slots) ≡ true → total (dues times (remove slots 0)) ≡ total (dues times slots)
 total_popped times slots e = grind (arith, common_steps, eqb-true, total-cons)
 

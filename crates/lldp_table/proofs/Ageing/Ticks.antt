@@ -1,5 +1,5 @@
--- The loop of `age_out`, which removes expired slots from the queue and the order one by one, has
--- the effect on the neighbors that the definition of a tick states.
+-- The loop of `age_out` removes expired slots from the queue and the order, one by one. Its effect
+-- on the neighbors is the one that the definition of a tick states.
 use Rattle.std.proofs.Common.{◌≡◌, ℕ, zero, suc, ◌-◌, ◌<◌, ◌≤◌, Bool, true, false, cond, nat_eq, nat_lt, List, [], ◌∷◌, ◌++◌, length, take, get_or, refl, ap, ◌∙◌, sym, subst, arith, map, length-take-le}
 use Rattle.std.specs.List.{list_any, filter, filter_map, cons_option, AllByRecursion, IsDistinct, remove}
 use Rattle.std.specs.List.Sorted.{IsPermutation}
@@ -54,7 +54,7 @@ module _ (slots : List Stored) where
   others_same slot queue [] a = refl
   others_same slot queue (i ∷ order) a = grind (arith, common_steps, left-front_other, others_same slot queue order a.1)
 
-  -- removing that slot from the queue and the order leaves the same living neighbors
+  -- removing an expired first slot from queue and order leaves the same living neighbors
   living-expired : (slot : ℕ) (queue : List Due) (order : List ℕ) (at : ℕ) → at < length order → get_or order at 0 ≡ slot → IsDistinct nat_eq order → filter lives (in_queue (due slot 0 ∷ queue) order) ≡ filter lives (in_queue queue (remove order at))
   living-expired slot queue [] at h e u = absurd (omega arith)
   living-expired slot queue (i ∷ order) zero h e u =
@@ -68,7 +68,7 @@ module _ (slots : List Stored) where
       ap (λ n. cond (nat_lt 0 n) (with_left i n ∷ filter lives rest) (filter lives rest)) (left-front_other slot i queue differs)
       ∙ ap (λ xs. cond (nat_lt 0 (ticks_left queue i)) (with_left i (ticks_left queue i) ∷ xs) xs) (living-expired slot queue order at (omega arith) e (IsDistinct-tail nat_eq i order u))
 
-  -- if the first slot has ticks left, all neighbors live
+  -- if the first slot has ticks left, so has every neighbor
   all_live : (queue : List Due) → IsRunning queue → (order : List ℕ) → AllByRecursion (λ i. holds i queue ≡ true) order → filter lives (in_queue queue order) ≡ in_queue queue order
   all_live queue r [] a = refl
   all_live queue r (i ∷ order) a = grind (arith, common_steps, cond-true, lt-ltb, left-positive, all_live queue r order a.1)

@@ -35,7 +35,7 @@ Before-more event past one other f h = record {
   one_not_later = or_from (makes_new one event) (list_any (makes_new one) h.later) f h.one_not_later;
 }
 
--- each MSAP identifier among the arrivals was made new by some event
+-- each MSAP identifier among the arrivals was added by some event
 all_new : (events : List TableEvent) → All (λ n. list_any (makes_new n) events ≡ true) (arrivals events)
 all_new [] = All-nil (λ n. false ≡ true)
 all_new (learned name ttl octets New ∷ past) =

@@ -41,7 +41,7 @@ stands_limit table opened calls h = ap (λ (t : Contents). t.limit) h.is
 pub stands_neighbors : (table : Contents) (opened : ℕ) (calls : List Call) → Stands opened calls table → table.neighbors ≡ neighbors (events_of opened calls)
 stands_neighbors table opened calls h = ap (λ (t : Contents). t.neighbors) h.is
 
--- the list of calls that a table matches determines the result of `learn`
+-- the result of `learn` is the one that the definitions give for the list of calls
 answered : (opened : ℕ) (calls : List Call) (name : MsapId) → learn_answer (table_of opened calls) name ≡ answer opened name (events_of opened calls)
 answered opened calls name = grind (arith, common_steps, answer_by, has-live, arrived)
 

@@ -56,6 +56,6 @@ module _ (opened : ℕ) (calls : List Call) (name : MsapId) where
   pub dropped_is : (answer opened name past ≡ Dropped) ↔ ((¬ (IsLive past name)) × (¬ (HasRoom opened past)))
   dropped_is = grind (arith, common_steps, by_dropped, last_is_live, false≢true, lt-ltb, answer_by, live_is_last, false_from_ne_true, ltb-true)
 
-  -- when the result is Dropped, in terms of the number of neighbors
+  -- `Dropped` exactly if the MSAP identifier is not live and the table is full
   pub dropped_where_full : (answer opened name past ≡ Dropped) ↔ ((¬ (IsLive past name)) × (limit_after opened past ≤ length (neighbors past)))
   dropped_where_full = grind (arith, common_steps, by_dropped, false≢true, last_is_live, ltb-false, answer_by, false_from_ne_true, live_is_last, le-ltb)

@@ -84,7 +84,7 @@ sound_forgotten table name h =
 
 -- ## `learn`
 
--- no neighbor has this MSAP identifier
+-- an MSAP identifier that no neighbor has is not among the identifiers of the neighbors
 names_none : (name : MsapId) (xs : List Neighbor) → list_any (is_named name) xs ≡ false → list_any (same_msap name) (names_of xs) ≡ false
 names_none name [] h = h
 names_none name (x ∷ xs) h = let p = or_parts (same_msap name x.msap) (list_any (is_named name) xs) h in or_from (same_msap name x.msap) (list_any (same_msap name) (names_of xs)) p.0 (names_none name xs p.1)

@@ -57,7 +57,7 @@ contents_of capacity slots left order used limit too_many = record {
   too_many_left = too_many;
 }
 
--- the invariant of a table's parts, except that of the queue
+-- the invariant of a table's parts other than the queue
 pub record IsLaidOut (capacity : ℕ) (slots : List Stored) (left : ℕ → ℕ) (order : List ℕ) (used limit too_many : ℕ) :
     Type 0 where
   pub indices : IsOrder (length slots) order

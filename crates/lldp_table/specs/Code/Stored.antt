@@ -14,7 +14,7 @@ abbrev pub mixed : ℕ → List ℕ → ℕ
 mixed tag [] = tag
 mixed tag (octet ∷ octets) = mixed ((tag * 16777619 % 2 ^ 32 + octet) % 2 ^ 32) octets
 
--- the tag of an MSAP identifier: a mix of all its octets, the Chassis ID's first
+-- the tag of an MSAP identifier: all its octets mixed, those of the Chassis ID first
 abbrev pub tag_of : MsapId → ℕ
 tag_of name = mixed (mixed 0 name.chassis) name.port
 

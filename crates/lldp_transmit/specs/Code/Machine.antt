@@ -45,7 +45,7 @@ counted t =
       timer = t.timer - 1;
     }
 
--- a tick: an active port's timer may end, or its waiting frame be sent; an inactive port may start
+-- a tick: if active, the timer may end or a waiting frame may be sent; if not, the port may start
 abbrev pub ticked : Machine → ℕ → Machine × Mark
 ticked t interval =
     if t.active

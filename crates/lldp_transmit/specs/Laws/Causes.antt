@@ -1,4 +1,4 @@
--- Whether a port may transmit, whether its link is up, and when it sends, by the causes of events.
+-- Whether a port may transmit, whether its link is up, and when it sends, stated by event causes.
 use Rattle.std.specs.Prelude.{◌≡◌, ◌⊎◌, Bool, true, false, ◌∷◌}
 use Rattle.lldp_transmit.specs.declared.event.Cause.{Cause}
 use Rattle.lldp_transmit.specs.declared.event.Cause.TheVariants.{Tick, Change, Neighbor, Stop, Allow, Down, Up}
@@ -11,13 +11,13 @@ use Rattle.lldp_transmit.specs.Positions.{HasStarted}
 abbrev pub HasCause : Cause → History → Type 0
 HasCause cause h = (p : Position h) × (p.there.cause ≡ cause)
 
--- True if a state that `gives` turns on and `takes` turns off is on: each `takes` has a later
--- `gives`, and if the state was off at first, there is at least one `gives`.
+-- A state, turned on by `gives` and off by `takes`, is on: each `takes` has a later `gives`, and if
+-- the state was off at first, there is at least one `gives`.
 pub record IsGiven (gives takes : Cause) (at_first : Bool) (h : History) : Type 0 where
   pub since : (p : Position h) → p.there.cause ≡ takes → HasCause gives p.after
   pub once : at_first ≡ false → HasCause gives h
 
--- May transmit: each Stop has a later Allow, and if not allowed at first, the port had an Allow.
+-- May transmit: each Stop has a later Allow, and if not allowed at first, there was an Allow.
 abbrev pub MayTransmit : Settings → History → Type 0
 MayTransmit s h = IsGiven Allow Stop s.allowed h
 

@@ -1,4 +1,4 @@
--- The credit is the least that any run that ends now leaves of its bound.
+-- The credit: the least of txCreditMax and, for each run that ends now, its bound less its frames.
 use Rattle.std.proofs.Common.{ap, ◌∙◌, sym, subst}
 use Rattle.lldp_transmit.specs.Moments.{moments}
 use Rattle.lldp_transmit.specs.Positions.{IsLeastRoom}

@@ -1,4 +1,4 @@
--- After a step the machine represents one more event, and the answer is that event's mark.
+-- After a step the machine represents its history with the event; the answer is the event's mark.
 use Rattle.lldp_transmit.specs.History.{event}
 use Rattle.lldp_transmit.proofs.Standing.{carries, marks}
 use Rattle.lldp_transmit.proofs.Answered.{bounded_with, stops_rarely_with, earliest_with, ordinary_with, shutdown_with}
