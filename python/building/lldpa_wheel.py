@@ -14,7 +14,7 @@ from typing import Any, Dict, Iterator, Optional
 TOP = Path(__file__).resolve().parent.parent
 NAME = "lldpa"
 SUMMARY = "An LLDP agent as a library, and programs that use it; this wheel contains "
-WITHOUT = "everything except the program lldpa, which they run"
+WITHOUT = "everything except the program lldpa itself"
 PYTHON = ">=3.9"
 # each package and its folder in the repository; a source archive has both in its top folder
 PACKAGES = {"lldpa": "python", "lldpa_audit": "audit"}

@@ -65,7 +65,7 @@ def readable_octets(octets: bytes) -> str:
 
 def printable(text: str) -> str:
     """Escapes everything that controls a terminal, is invisible or changes the direction of
-    writing. Only letters, signs and spaces remain."""
+    writing. Only visible characters and spaces remain."""
     if text.isascii() and text.isprintable():
         return text
     parts = []

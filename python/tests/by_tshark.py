@@ -1,4 +1,4 @@
-"""For tests: what tshark must show for organizationally specific TLVs as lldpa reads them."""
+"""For tests: computes what tshark must show for TLVs from what lldpa reads in them."""
 
 from typing import Any, Callable, Dict, List, Tuple
 

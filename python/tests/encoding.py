@@ -6,8 +6,8 @@ from lldpa.organizational import Tlv
 
 
 class Sample(NamedTuple):
-    """A TLV's octets and their value. `changed`: how many changes of one octet can still be read;
-    `fronts`: which lengths of its beginning can be read; `ignored`: bits without a meaning."""
+    """A TLV's octets and value. `changed`: how many variants with one other octet can be read;
+    `fronts`: the lengths of beginnings that can be read; `ignored`: bits without a meaning."""
     kind: Tuple[str, int]
     octets: str
     tlv: Tlv

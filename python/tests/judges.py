@@ -23,7 +23,7 @@ SLIPS = {
 
 
 class Judged(NamedTuple):
-    """A frame, and the keys and values that lldpcli shows for it, and tshark for each TLV."""
+    """A frame, the keys and values that lldpcli shows for it, and those of tshark for each TLV."""
     name: str
     frame: str
     lldpcli: List[Pair]

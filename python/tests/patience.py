@@ -9,7 +9,7 @@ import time
 from pathlib import Path
 from typing import Any, Callable, Sequence
 
-SECONDS = 30.0  # the longest wait for a condition; they pass only if it stays false
+SECONDS = 30.0  # the longest wait for a condition, used up only if it stays false
 TRIES = 3
 NOTICEABLE = 0.05  # seconds of a standstill after which a failed test is repeated
 NAP = 0.01

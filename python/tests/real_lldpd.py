@@ -15,7 +15,7 @@ beside_lldpd = unittest.skipUnless(shutil.which("lldpd"), "it needs Debian's pac
 
 
 class Lldpd:
-    """A running lldpd in a namespace. Its socket is in a folder."""
+    """A running lldpd in a namespace, with its socket in `folder`."""
 
     def __init__(self, namespace: str, folder: Path, *words: str) -> None:
         os.makedirs("/run/lldpd", exist_ok=True)

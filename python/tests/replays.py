@@ -52,8 +52,8 @@ def replayed(log: Path, line: str) -> Optional[list[str]]:
 
 
 def sent(folder: Path, port: str, source: bytes) -> list[bytes]:
-    """Returns the frames that a port sends in replays of each file of a folder, with the source
-    address of its interface. Frames from the head of a file are left out."""
+    """Returns the frames that a port sends when each file of a folder is replayed, with this source
+    address. Frames from the head of a file are left out."""
     frames: list[str] = []
     for log in sorted(folder.iterdir(), key=lambda path: path.stat().st_mtime_ns):
         text = log.read_text()

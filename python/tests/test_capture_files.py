@@ -1,4 +1,4 @@
-"""Tests captures in practice: compressed, from pipes, with set clocks and other frames."""
+"""Tests captures in practice: compressed, from pipes, with clocks that were set, and so on."""
 
 import os
 import random

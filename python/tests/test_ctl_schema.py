@@ -22,7 +22,7 @@ COMMANDS = (["show", "neighbors"], ["details"], ["show", "statistics"], ["statis
 
 @unittest.skipIf(jsonschema is None, "there is no jsonschema")
 class Schema(Program):
-    """Tests each answer, with neighbors of real senders and made ones."""
+    """Tests each answer, with frames of real senders and with frames made for tests."""
 
     def told(self, *words: str) -> Any:
         return json.loads(self.run_ctl("--json", *words))

@@ -21,7 +21,7 @@ class TestFrames(OnLinks):
         self.port = self.live("eth0", "--", "--receive-only")
 
     def takes(self, number: int, octets: bytes) -> bool:
-        """True if this frame makes a neighbor of this number. A later frame shows when to look."""
+        """True if a frame adds this neighbor. A frame of neighbor 99 follows, and ends the wait."""
         self.sender.send(octets)
         self.sender.send(numbered(99))
         name = f"ifname=p{number}"
@@ -74,7 +74,7 @@ class TestFrames(OnLinks):
 
 
 class TestNews(OnLinks):
-    """Tests news of interfaces that the kernel could not deliver."""
+    """Tests that news of interfaces is requested again if the kernel lost it."""
 
     links = 2
 

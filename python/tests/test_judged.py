@@ -1,7 +1,7 @@
 """Compares how lldpa reads organizationally specific TLVs with what lldpcli and tshark show.
 
-`judged.json` has frames of real senders and made ones, with the output of lldpcli 1.0.16 and
-tshark 4.0.17 for each; `tools/by-hand/try-details.py --save` makes it anew.
+`judged.json` has frames of real senders and frames made for tests, each with the output of
+lldpcli 1.0.16 and tshark 4.0.17; `tools/by-hand/try-details.py --save` writes it again.
 """
 
 import json

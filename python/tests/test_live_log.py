@@ -56,7 +56,7 @@ class TestLog(OnLinks):
         live.spend(1)
 
     def test_each_session_has_a_file_of_its_own(self) -> None:
-        self.log.mkdir(mode=0o755)  # root's, who gives it to lldpa-live's user
+        self.log.mkdir(mode=0o755)  # owned by root, which gives it to lldpa-live's user
         for _ in range(3):
             self.assertEqual(self.live("--log", str(self.log), "eth0").ended(), 0)
         self.assertEqual(len(self.logs()), 3)

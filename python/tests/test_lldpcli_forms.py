@@ -46,7 +46,7 @@ class BesideLldpcli(unittest.TestCase):
             ours, theirs = FORMS[form](tree), lldpd_heard.sample(name, form).decode()
             ours, theirs = AGE.sub("", ours), AGE.sub("", theirs)
             if form.startswith("json"):
-                theirs = theirs.replace('"ho\\01', '"ho\\\\01')  # a key, which it does not escape
+                theirs = theirs.replace('"ho\\01', '"ho\\\\01')  # lldpcli does not escape keys
                 self.assertEqual(json.loads(ours), json.loads(theirs, strict=False))
                 continue
             theirs = theirs.replace("\r", "\\x0d")

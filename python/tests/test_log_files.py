@@ -41,7 +41,7 @@ class StoppedWriter:
         self.trace(PTRACE_DETACH)
 
     def bury(self) -> None:
-        """Waits in the background for the thread's end: else the process seems to go on."""
+        """Reaps the traced thread in the background, since the process cannot end before that."""
         threading.Thread(target=os.waitpid, args=[self.thread, WALL], daemon=True).start()
 
 

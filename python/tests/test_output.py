@@ -21,8 +21,8 @@ def run_with(output: str, words: Sequence[str]) -> Tuple[int, str]:
 
 
 def unread(words: Sequence[str]) -> Tuple[int, str]:
-    """Returns the status and the messages of a program whose output nobody reads. Checks that it
-    reports neither that nor a traceback."""
+    """Returns the status and the messages of a program whose output nobody reads. Checks that the
+    messages have no traceback, and nothing about the output."""
     reader, writer = os.pipe()
     os.close(reader)
     ran = subprocess.run([sys.executable, *words], stdout=writer, stderr=subprocess.PIPE,

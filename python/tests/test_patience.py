@@ -1,4 +1,4 @@
-"""Tests which tests are repeated, and how often."""
+"""Tests which failed tests are repeated, and how often."""
 
 import contextlib
 import io
@@ -10,7 +10,7 @@ from patience import TRIES, Standstill, by_the_clock, eventually, mostly, stolen
 
 
 class Tried(unittest.TestCase):
-    """Tests a test that fails a number of times while the machine stands still for given times."""
+    """Tests `by_the_clock` with given standstills, on a test that fails a given number of times."""
 
     def ran(self, standstills: Sequence[float], failures: int) -> "tuple[bool, list[str], str]":
         """Returns whether it passes in the end, the steps in their order, and what is printed."""

@@ -1,4 +1,4 @@
-"""Tests lldpa-live between an agent and real links, with faults that occurred there."""
+"""Tests lldpa-live on real links: late seconds and frames, and changes of links and interfaces."""
 
 import re
 import time
@@ -194,8 +194,8 @@ def seconds_left(shown: list[str]) -> int:
 
 
 def begins_of_its_seconds(live: Live) -> list[tuple[float, float]]:
-    """Reads its count of seconds for 1.2 seconds. Returns for each count the interval in which its
-    clock must have begun. All intervals overlap if each second is passed on exactly once."""
+    """Reads lldpa-live's count of seconds for 1.2 seconds. Returns for each reading when the count
+    must have begun. All these intervals overlap if each second is passed on exactly once."""
     last, begins = now() + 1.2, []
     while (before := now()) < last:
         live.ask("show chassis")  # it answers after the seconds up to now

@@ -89,7 +89,7 @@ def random_show(seed: int) -> List[str]:
 
 
 class ThereAndBack(unittest.TestCase):
-    """Tests that what is read gives the same lines again."""
+    """Tests that a show that was read is written as the same lines."""
 
     def test_each_show_of_the_transcripts(self) -> None:
         count = neighbors = 0

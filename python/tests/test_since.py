@@ -1,4 +1,4 @@
-"""Tests since when lldpa-live has heard each neighbor, and the numbers of chassis."""
+"""Tests the times since which lldpa-live has heard neighbors, and the numbers of chassis."""
 
 import time
 from typing import Dict

@@ -57,7 +57,7 @@ SAMPLES += [
     Sample(("0012bb", 1), "003f 03", MedCapabilities(63, 3), 3 * 255),
     Sample(("0012bb", 2), "01 43e96e", NetworkPolicy(1, False, True, 500, 5, 46), 4 * 255,
            ignored="00 200000"),
-    # a changed octet is read if the resolutions stay within 34 and 30, and the place on the globe
+    # a variant is read if its resolutions are at most 34 and 30, and its degrees are in range
     Sample(("0012bb", 3), "01 48 61000000 48 04800000 12 40 00 2380 01",
            Coordinates(18, 97 << 24, 18, 9 << 23, 1, 9, 0x2380, 1),
            (35 * 2 - 1) + 180 + 3 * 255 + (35 * 3 - 1) + 4 * 255 + (16 * 8 - 1) + 5 * 255),

@@ -35,8 +35,8 @@ def inside(namespace: str) -> Iterator[None]:
 
 
 class Wires:
-    """Links eth0, eth1 .. in the namespace `here` to peer0, peer1 .. in `there`, and a folder that
-    other users may enter."""
+    """Links that join eth0, eth1 .. in the namespace `here` to peer0, peer1 .. in `there`, and a
+    folder that other users may enter."""
 
     numbers = iter(range(1000))
 

@@ -95,7 +95,7 @@ def identifier_text(identifier: Identifier) -> str:
 
 
 def address_text(address: str) -> str:
-    """Returns an address for people. IPv6 addresses are written in their short form."""
+    """Returns an address as text for people. IPv6 addresses are in their short form."""
     try:
         return socket.inet_ntop(socket.AF_INET6, socket.inet_pton(socket.AF_INET6, address))
     except (OSError, ValueError):

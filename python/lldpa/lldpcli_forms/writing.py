@@ -82,7 +82,7 @@ def json0(root: Node) -> str:
 
 
 def json_short(root: Node) -> str:
-    """Returns JSON in which a list of one item is that item, and a node's name is its key."""
+    """Returns JSON in which a single item is not in a list, and a node's name is its key."""
     return json.dumps({root.key: shortened([whole(root)])}, indent=2)
 
 

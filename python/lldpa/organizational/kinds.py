@@ -88,7 +88,7 @@ class Tlv(Fields):
 
     @property
     def part(self) -> str:
-        """Returns a text that distinguishes TLVs of a class. A neighbor may send one per text."""
+        """Returns a text that distinguishes TLVs of a class: for each text one TLV may be sent."""
         return ""
 
     def words(self) -> str:

@@ -51,7 +51,7 @@ pub fn set_status(port: &str, status: Status) -> Line {
     Line::Command(format!("configure ports {port} lldp status {status}"))
 }
 
-/// Returns the status that receives like this one but never sends.
+/// Returns this status without sending: `RxOnly` for `RxAndTx`, `Disabled` for `TxOnly`.
 fn without_sending(status: Status) -> Status {
     match status {
         Status::RxAndTx => Status::RxOnly,
@@ -80,7 +80,7 @@ fn frame(port: &str, octets: &[u8]) -> Line {
     Line::Frame(port.into(), frame)
 }
 
-/// Returns the line of an LLDPDU that has only these identifiers and this time to live.
+/// Returns the line that reports an LLDPDU with only these identifiers and this time to live.
 fn made(port: &str, msap: &Msap<'_>, ttl: u32) -> Line {
     let mut octets = Vec::new();
     for (kind, body) in [(1u16, msap.chassis), (2, msap.port), (3, &(ttl as u16).to_be_bytes()[..])] {
@@ -203,7 +203,7 @@ impl Running {
         lines.push(Line::Command(format!("configure lldp tx-interval {}", told.interval)));
         lines.push(Line::Command(format!("configure lldp tx-hold {}", told.hold)));
         for (port, left) in full {
-            // Restores the too-many-neighbors condition: a second neighbor is over a limit of 1.
+            // Restores the too-many-neighbors condition: the second neighbor exceeds a limit of 1.
             let named = |name: &'static [u8], ttl| made(port, &Msap { chassis: name, port: name }, ttl);
             let dropped = named(b"\x07dropped", MOST_TTL.min(left + oldest));
             lines.extend([limit(1), named(b"\x07held", MOST_TTL), dropped, named(b"\x07held", 0)]);

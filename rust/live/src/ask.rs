@@ -31,7 +31,7 @@ pub fn ask(path: &str, line: &str) -> Result<i32> {
     Ok(0)
 }
 
-/// Reads an answer: a line `=N`, then N lines. Fails if it is not complete at this moment.
+/// Reads an answer: a line `=N`, then N lines. Fails if it is not complete by `moment`.
 fn read(stream: &mut UnixStream, moment: i64) -> Result<Vec<u8>> {
     let wrong = |what: &str| Err(Error::new(ErrorKind::Other, what));
     let (mut answer, mut room, mut lines) = (Vec::new(), [0u8; 65536], 0);

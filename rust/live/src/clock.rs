@@ -4,7 +4,7 @@ use crate::sys;
 
 pub const SECOND: i64 = 1_000_000_000;
 pub const MILLISECOND: i64 = 1_000_000;
-/// The greatest error in the difference between the clocks, and so in the moment of a stamp.
+/// Smaller changes of the wall clock are ignored, so a moment may be wrong by this much.
 pub const INEXACT: i64 = MILLISECOND;
 
 /// Reads a clock in nanoseconds. Clock 0 starts in 1970, 1 and 7 start at boot; 1 stops in suspend.
@@ -34,8 +34,8 @@ impl Clock {
         Clock { begin: now(), given: 0, ahead: wall_clock_ahead() }
     }
 
-    /// Updates the difference between the clocks if the wall clock was set. Smaller changes are
-    /// ignored, so that moments keep the order of their stamps.
+    /// Updates the difference between the clocks if it changed by more than INEXACT. Smaller
+    /// changes are ignored, so that moments keep the order of their stamps.
     pub fn note_wall_clock(&mut self) {
         let ahead = wall_clock_ahead();
         if (ahead - self.ahead).abs() > INEXACT {
@@ -43,7 +43,7 @@ impl Clock {
         }
     }
 
-    /// Converts a stamp of the wall clock to a moment, but not after now. No stamp means now.
+    /// Converts a time stamp of the wall clock to a moment, now at the latest. No stamp means now.
     pub fn moment(&self, stamp: Option<i64>) -> i64 {
         stamp.map_or(i64::MAX, |stamp| stamp - self.ahead).min(now())
     }

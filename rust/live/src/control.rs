@@ -101,7 +101,7 @@ impl Client {
 pub struct Control {
     pub listening: Listening,
     clients: Vec<Client>,
-    /// The place at which the search for the next question begins.
+    /// The index of the client with which the search for the next question begins.
     next: usize,
     /// When to accept clients again after a failure.
     pause: i64,
@@ -178,7 +178,7 @@ impl Control {
                 Some(longest) => drop(self.clients.remove(longest)),
                 None => {
                     let _ = stream.write(b"=1\nerror: too many clients\n");
-                    is_over = true; // only at the next turn, so that a client that asks first can read this
+                    is_over = true; // only next turn, so that a client can send before it reads
                 }
             }
         }

@@ -15,7 +15,7 @@ use std::net::Ipv4Addr;
 
 /// How long an address must be new, or a pattern's interface gone, before the agent is replaced.
 const TO_STAY: i64 = 2 * SECOND;
-/// The longest wait. It is short enough for a comment with the time in each minute of a log.
+/// The longest wait: short enough that a log has a comment with the time in each minute.
 const LONGEST_SLEEP: i64 = 30 * SECOND;
 const BETWEEN_STATES: i64 = 60 * SECOND;
 
@@ -42,7 +42,7 @@ impl Live {
         }
     }
 
-    /// Returns when an interface will have been gone, or an address new, for long enough.
+    /// Returns when an interface will have been gone, or an address new, for `TO_STAY`.
     pub fn next_change(&self) -> Option<i64> {
         let gone = self.ports.all.iter().filter(|port| !port.is_named).filter_map(|port| port.gone_since);
         gone.chain(self.other_management.map(|other| other.1)).min().map(|since| since + TO_STAY)

@@ -183,7 +183,7 @@ impl Log {
         }
     }
 
-    /// True if a new file should begin: this one is large enough, or lost lines and a retry is due.
+    /// True if a new file should begin: this one is large, or has lost lines and a retry is due.
     pub fn wants_beginning(&self) -> bool {
         match self.least {
             0 => false,

@@ -40,7 +40,7 @@ fn gives_name(part: &str, name: &str) -> bool {
     gives(part) && matches(part.trim_start_matches('!'), name)
 }
 
-/// True if a pattern with `!!` matches this name, or none with a single `!` does.
+/// True if a pattern with `!!` matches this name, or no pattern with a single `!` matches it.
 fn is_wanted(name: &str, parts: &[String]) -> bool {
     let is_matched = |signs: usize| {
         let of_signs = parts.iter().map(|part| (part, part.trim_start_matches('!')));
@@ -50,7 +50,7 @@ fn is_wanted(name: &str, parts: &[String]) -> bool {
 }
 
 /// True if a pattern adds an interface. A pattern that begins with `*`, `?` or `[` adds only
-/// hardware and interfaces that are also named.
+/// hardware interfaces, and interfaces that are also given by name.
 fn gives_interface(part: &str, one: &Link, parts: &[String]) -> bool {
     let may_be_virtual = !part.trim_start_matches('!').starts_with(&['*', '?', '['][..]);
     gives_name(part, &one.name) && (one.is_hardware || may_be_virtual || parts.contains(&one.name))

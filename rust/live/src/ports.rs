@@ -198,8 +198,8 @@ impl Ports {
     }
 }
 
-/// Splits news in two: the first part has, for each name, all up to the last running interface.
-/// Both parts keep their order, even if several interfaces had the name in turn.
+/// Splits news in two: for each name, the first part ends with the last news of a running
+/// interface. Both parts keep their order, even if several interfaces had the name in turn.
 pub fn ran_and_later(news: Vec<Link>) -> (Vec<Link>, Vec<Link>) {
     let last_run = |one: &Link| news.iter().rposition(|other| other.name == one.name && other.is_running);
     let ran: Vec<bool> = news.iter().enumerate().map(|(place, one)| last_run(one) >= Some(place)).collect();

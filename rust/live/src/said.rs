@@ -49,7 +49,7 @@ pub fn id(msap: &Msap<'_>) -> String {
     format!("{} {}", chassis_id(msap.chassis), identifier(PORT_ID, msap.port))
 }
 
-/// Returns an identifier or an address for people, and its key.
+/// Returns an identifier or an address as text for people, and its key.
 fn name_of(kind: u8, body: &[u8]) -> (String, String) {
     let (key, value) = shown(kind, body);
     let name = match key.rsplit('.').next() {

@@ -32,7 +32,7 @@ impl Held {
     }
 }
 
-/// Returns a digest of a frame's LLDPDU with a secret key, so that nobody can make two that match.
+/// Returns a digest of a frame's LLDPDU. Its key is secret, so nobody can find two that collide.
 pub fn digest(state: &RandomState, frame: &[u8]) -> u64 {
     let mut hasher = state.build_hasher();
     hasher.write(frame.get(14..).unwrap_or(&[]));
