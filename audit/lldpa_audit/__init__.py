@@ -1,1 +1,1 @@
-"""lldpa-audit: a plan of the cabling, and how what is seen is judged by it."""
+"""lldpa-audit: compares a plan of the cabling with what is seen at the ports."""

@@ -1,5 +1,6 @@
-"""How old what is seen is, in seconds and in words."""
+"""The ages of sources, in seconds and in words."""
 import re
+from argparse import ArgumentTypeError
 from typing import NamedTuple, Sequence
 
 UNITS = (("d", 86400, "day"), ("h", 3600, "hour"), ("m", 60, "minute"), ("s", 1, "second"))
@@ -18,21 +19,21 @@ class Ages(NamedTuple):
 
 
 def ages_of(times: Sequence[float], now: float) -> Ages:
-    """Returns the ages of one source or more by their times. What comes from the future is new."""
+    """Returns the ages of the newest and the oldest source. A time in the future counts as now."""
     return Ages(max(now - max(times), 0.0), max(now - min(times), 0.0))
 
 
 def worded(seconds: float) -> str:
-    """Returns a span in the greatest unit that it has at least once: `3 days`."""
+    """Returns a span in the largest unit that fits at least once, such as `3 days`."""
     _, size, name = next((unit for unit in UNITS if seconds >= unit[1]), UNITS[-1])
     count = int(seconds // size)
     return f"{count} {name}{'' if count == 1 else 's'}"
 
 
 def seconds_of(text: str) -> float:
-    """Returns the seconds of a span such as `90`, `15m`, `12h` or `1d`. Raises ValueError."""
+    """Reads a span such as `90` (seconds), `15m`, `12h` or `1d`. Raises ArgumentTypeError."""
     found = SPAN.fullmatch(text)
     if found is None:
-        raise ValueError(text)
+        raise ArgumentTypeError(f"{text!r} is not a time such as 90, 15m, 12h or 1d")
     sizes = {mark: size for mark, size, _ in UNITS}
     return float(found[1]) * sizes[found[2] or "s"]

@@ -1,4 +1,4 @@
-"""Further names of hosts and ports, from a file of rows `host,port,alias`."""
+"""Reads aliases: further names of hosts and ports, in rows `host,port,alias`."""
 from .names import Aliases, End, Names
 from .plan import Faults
 from .rows import table_of
@@ -8,20 +8,20 @@ MOST_PORTS = 64  # no aggregate has so many members
 
 
 def read_aliases(file: str, names: Names) -> Aliases:
-    """Returns the further names of a file, as they are compared. A row without a port names a host,
-    and one without a host a port of any host. A neighbor of a name that several ports share answers
-    to each. Raises PlanFault and OSError."""
+    """Returns the aliases in a file, normalized. A row without a port is for a host; a row without
+    a host is for a port of any host. Several ports may share an alias: a neighbor of that name
+    answers to each of them. Raises PlanFault and OSError."""
     faults, aliases = Faults(file), Aliases({}, {})
     for line, fields in table_of(faults, COLUMNS):
         if len(fields) != len(COLUMNS) or not fields[2] or not any(fields[:2]):
-            faults.add(line, "it has no alias, or neither a host nor a port")
+            faults.add(line, "it needs an alias, and a host or a port or both")
             continue
         why = added(aliases, names, *fields)
         if why:
             faults.add(line, why)
     for alias, host in aliases.hosts.items():
         if host in aliases.hosts:
-            faults.add(None, f"{host} has the alias {alias}, and is an alias itself")
+            faults.add(None, f"{host} is an alias itself, so it cannot have the alias {alias}")
     faults.end()
     ports: dict[End, list[str]] = {}
     for end, names_of_port in aliases.ports.items():
@@ -31,7 +31,7 @@ def read_aliases(file: str, names: Names) -> Aliases:
 
 
 def added(aliases: Aliases, names: Names, host: str, port: str, alias: str) -> str:
-    """Adds a further name. Returns why it cannot be one, or an empty text."""
+    """Adds an alias. Returns why it cannot be one, or an empty text."""
     host = names.plain_host(host)
     if not port:
         key = names.plain_host(alias)

@@ -1,4 +1,4 @@
-"""Breakout cables of NetBox: one port at one side, and the ends of its lanes at the other."""
+"""Breakout cables of NetBox: one port at one side, one end for each lane at the other."""
 import re
 from typing import Iterator, Optional, Sequence
 
@@ -10,8 +10,8 @@ LANE = re.compile(r"[s:/.][0-9]")
 
 
 def join_lanes(plan: Plan, tables: Tables) -> None:
-    """Plans a link for each lane of a breakout cable: with the end that the lane hears if that is
-    one of the cable's, each once, and otherwise with one that is left."""
+    """Plans a link for each lane of a breakout cable: with the end that the lane hears if it is one
+    of the cable's, otherwise with one that is left over. No end is used twice."""
     of_hosts: dict[str, list[End]] = {whole.host: [] for whole in plan.breakouts}
     for key in tables.ends if plan.breakouts else ():
         if key.host in of_hosts:
@@ -30,8 +30,8 @@ def join_lanes(plan: Plan, tables: Tables) -> None:
 
 
 def is_lane(port: str, whole: str) -> bool:
-    """Returns whether a port is a lane of another, or that one itself: swp1s0 of swp1, et-0/0/0:0
-    of et-0/0/0, Ethernet1/2 of Ethernet1, and of Ethernet1/1."""
+    """Returns whether a port is `whole` or one of its lanes: swp1s0 of swp1, et-0/0/0:0 of
+    et-0/0/0, Ethernet1/2 of Ethernet1 or of Ethernet1/1."""
     if port.startswith(whole):
         rest = port[len(whole):]
         return not rest or LANE.fullmatch(rest) is not None
@@ -39,7 +39,7 @@ def is_lane(port: str, whole: str) -> bool:
 
 
 def split(tables: Tables, whole: End) -> list[End]:
-    """Makes a lane of each neighbor of a port, if it has several. Returns the lanes."""
+    """Splits a port with several neighbors into a lane for each. Returns the lanes."""
     known = tables.ends[whole]
     if len(known.neighbors) < 2:
         return [whole]
@@ -52,7 +52,7 @@ def split(tables: Tables, whole: End) -> list[End]:
 
 def joined(lanes: Sequence[End], links: Sequence[Link], whole: End, tables: Tables
            ) -> Iterator[tuple[End, Link]]:
-    """Yields each lane with its link. Unknown lanes are numbered."""
+    """Yields each lane with its link. Lanes that nobody saw are named by a number."""
     left = list(links)
     unheard: list[End] = []
     for lane in lanes:
@@ -81,7 +81,7 @@ def hears(tables: Tables, lane: End, end: End) -> bool:
 
 
 def lane_heard(tables: Tables, end: End, whole: End) -> Optional[End]:
-    """Returns the lane of a port that an end hears, as it is compared."""
+    """Returns the lane of the port `whole` that an end hears, normalized."""
     known = tables.ends.get(tables.names.end(end))
     heard = [key for one in (known.neighbors if known else ()) for key in tables.names.ends(one)]
     return next((key for key in heard if key.host == whole.host
@@ -89,5 +89,5 @@ def lane_heard(tables: Tables, end: End, whole: End) -> Optional[End]:
 
 
 def numbered(whole: End, number: int) -> End:
-    """Returns a lane whose name is not known."""
+    """Returns a lane that is named by its number, since its real name is not known."""
     return End(whole.host, f"{whole.port}:{number}")

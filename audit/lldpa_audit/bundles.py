@@ -1,4 +1,4 @@
-"""Which aggregates of two hosts belong together, by the numbers that ends of links announce."""
+"""Finds which aggregates of two hosts belong together, by the numbers that they announce."""
 from collections import Counter
 from typing import Optional
 
@@ -6,19 +6,19 @@ from .names import End
 from .plan import Plan
 from .seen.tables import Tables
 
-# an aggregate between two hosts: of the first one or not, and its number
+# an aggregate: the two hosts that it joins, whether the first one has it, and its number
 Side = tuple[str, str, bool, int]
 
 
 class Bundles:
-    """Counts, for each two hosts, how many planned links announce each pair of aggregates. An
-    aggregate of one host ends at one of the other. So a link whose pair shares one side with
-    another pair, of as many links or more, ends at another aggregate than it ought to."""
+    """Counts for each two hosts how many planned links announce each pair of aggregates. An
+    aggregate of one host leads to one aggregate of the other. So if an aggregate is in several
+    pairs, only the pair with most links belongs together; in a tie none does."""
 
     def __init__(self, plan: Plan, tables: Tables) -> None:
         self._tables = tables
         self._counts = Counter(self._pair(end, wish.wanted) for end, wish in plan.ends.items())
-        # the two greatest counts of the pairs that share a side
+        # for each side, the two greatest counts of its pairs
         self._greatest: dict[Side, list[int]] = {}
         for pair, times in self._counts.items():
             for side in pair:
@@ -26,18 +26,18 @@ class Bundles:
                 self._greatest[side] = sorted([*greatest, times])[1:]
 
     def part(self, end: End, other: End) -> bool:
-        """Returns whether the ends of a link are of aggregates that do not belong together."""
+        """Returns whether the two ends of a link are in aggregates that do not belong together."""
         pair = self._pair(end, other)
         return any(self._greatest[side][0] >= self._counts[pair] for side in pair)
 
     def _pair(self, end: End, other: End) -> tuple[Side, ...]:
-        """Returns the aggregates that both ends of a link announce, or none if one does not."""
+        """Returns the aggregates that both ends of a link announce, or () if one announces none."""
         ours, theirs = self._heard(other, end.host), self._heard(end, other.host)
         return () if ours is None or theirs is None else (
             (end.host, other.host, True, ours), (end.host, other.host, False, theirs))
 
     def _heard(self, end: End, host: str) -> Optional[int]:
-        """Returns the aggregate that the only neighbor of an end names, if it is of a host."""
+        """Returns the aggregate number of an end's only neighbor, if that is of this host."""
         told = self._tables.ends.get(end)
         if told is None or len(told.neighbors) != 1:
             return None

@@ -1,4 +1,4 @@
-"""lldpa-audit: what is wrong with the cabling, by a plan of it."""
+"""The program lldpa-audit: reads a plan and what was seen, and reports what is wrong."""
 import argparse
 import datetime
 import gc
@@ -26,9 +26,10 @@ from .report.page import page_of
 from .report.pipelines import junit_of, metrics_of
 from .report.report import Report
 from .report.whole_hosts import several_chassis
-from .seen.files import SeenFile, read_files
+from .seen.files import read_files
 from .seen.folders import read_whats
 from .seen.gather import Gathering
+from .seen.listing import Listing
 from .seen.tables import Tables
 from .what import What, of_hosts, placed
 from .words import read_words
@@ -38,17 +39,15 @@ PROGRAM = "lldpa"  # the agent that reads captures
 
 
 class Audit:
-    """One run of the program."""
-
     def __init__(self, given: argparse.Namespace) -> None:
         self.given = given
         self.progress = Progress(NAME)
-        self.status = 0  # by what is wrong with files
+        self.status = 0  # of damaged or unreadable files
 
     def run(self) -> int:
-        """Audits, prints and writes. Returns the status."""
+        """Audits, prints the report and writes its files. Returns the exit status."""
         limit_memory()
-        gc.disable()  # what is made stays to the end; to look for garbage costs a third of the time
+        gc.disable()  # all objects live to the end; looking for garbage costs a third of the time
         given, names = self.given, self.names()
         plan, known, tables = self.read(names)
         self.progress.show("comparing")
@@ -69,22 +68,22 @@ class Audit:
         whats = list(read_whats(given.what, given.host, self.say))
         for what in whats:
             hold(what.file)
-        files = read_files(of_hosts(whats))  # beside the plan
+        files = read_files(of_hosts(whats))  # while the plan is read
         with limited(given.plan):
             plan = read_plan(given.plan, names, given.columns, given.panels, self.progress)
         today = datetime.date.today()
         known = read_known(given.known, names, today) if given.known else NOTHING_KNOWN
         if given.by and key_of(given.by) not in map(key_of, plan.columns):
-            raise ValueError(f"{plan.file} has no column {given.by}")
+            raise ValueError(f"--by: {plan.file} has no column {given.by}")
         self.say_all((*plan.notes, *known.notes))
         whats = [placed(what, plan, names, given.host) for what in whats]
         tables = self.gather(whats, self.progress.over(files, len(whats), "files"), plan, names)
         join_lanes(plan, tables)
         return plan, known, tables
 
-    def gather(self, whats: Sequence[What], files: Iterator[SeenFile], plan: Plan, names: Names
-               ) -> Tables:
-        """Returns what is known of the audited hosts."""
+    def gather(self, whats: Sequence[What], files: Iterator[Optional[Listing]], plan: Plan,
+               names: Names) -> Tables:
+        """Returns the tables of the audited hosts, from files and from lldpa-live."""
         given, tables = self.given, Tables(names)
         gathering = Gathering(tables, PROGRAM, self.say, given.stale_after)
         gathering.add_files(whats, files)
@@ -104,7 +103,7 @@ class Audit:
         return tables
 
     def names(self) -> Names:
-        """Returns how names are compared."""
+        """Returns the rules by which names are compared."""
         given = self.given
         rules = given.ignore_case, given.short_names, given.vendor_names
         with limited(given.aliases or ""):
@@ -112,7 +111,7 @@ class Audit:
         return Names(*rules, aliases)
 
     def show(self, report: Report) -> None:
-        """Prints what was found, and writes the files that are asked for."""
+        """Prints the report, and writes the files that were asked for."""
         given = self.given
         self.progress.clear()
         if given.json:
@@ -137,9 +136,9 @@ class Audit:
 
 
 def unplanned_hosts(tables: Tables, plan: Plan, files: Mapping[str, str]) -> Sequence[str]:
-    """Returns which hosts with a list have no planned cable. Raises ValueError if that is all."""
+    """Returns notes on listed hosts without planned cables. Raises ValueError if all lack them."""
     if not tables.hosts:
-        raise ValueError(f"no file lists neighbors of hosts of {plan.file}")
+        raise ValueError(f"no file lists the neighbors of a host in {plan.file}")
     unplanned = {key: host for key, host in tables.hosts.items() if key not in plan.hosts}
     loose = Names(ignore_case=True, short_names=True)
     like = {loose.host(one): one for one in plan.hosts.values()} if unplanned else {}
@@ -152,22 +151,22 @@ def unplanned_hosts(tables: Tables, plan: Plan, files: Mapping[str, str]) -> Seq
 
 
 def advice(like: Optional[str], file: str, plan: Plan) -> str:
-    """Returns what to do if nothing of a host is planned, in words."""
+    """Returns advice for a host that has no planned cable."""
     if like:
-        return f", but of {shown(like)}: see --host, --ignore-case, --short-names"
+        return f", but some of {shown(like)}: see --host, --ignore-case, --short-names"
     first = next(iter(plan.hosts.values()))
     return (f": if the file is of another host, write HOST:FILE, such as {first}:{file}" if file
             else "")
 
 
 def harmless(line: str) -> str:
-    """Returns a line in which no pipeline's runner finds a command, as `##vso[..` is."""
+    """Escapes what a pipeline's runner would take for a command, such as `##vso[..`."""
     line = line.replace("##", "#\\x23")
     return line.replace("::", "\\x3a:", 1) if line.lstrip().startswith("::") else line
 
 
 def status_of(words: Optional[Sequence[str]]) -> int:
-    """Returns the status, if the output does not fail."""
+    """Runs the program, reports its faults, and returns the exit status."""
     given = read_words(words)
     program = Audit(given)
     try:
@@ -189,5 +188,5 @@ def status_of(words: Optional[Sequence[str]]) -> int:
 
 
 def main(words: Optional[Sequence[str]] = None) -> int:
-    """Runs the program: 0 if all is right, 1 if something is not, 2 if it cannot be known."""
+    """Runs the program. Returns 0 if all is right, 1 if something is not, 2 if it cannot audit."""
     return output.run(NAME, lambda: status_of(words), 2, errors="backslashreplace")

@@ -1,4 +1,4 @@
-"""What alone keeps a neighbor from answering: the case, the domain, or the vendor's spelling."""
+"""Finds what alone keeps two names from matching: case, domain or the vendor's spelling."""
 from typing import Optional
 
 from .names import End, Names, Seen
@@ -8,14 +8,14 @@ DIFFERENCES = (("case",), ("domain",), ("case", "domain"), ("spelling",), ("case
 
 
 class Differences:
-    """Looks for the least difference in names that, if it were let pass, would end a fault."""
+    """Looks for the smallest difference that explains why two names do not match."""
 
     def __init__(self, names: Names) -> None:
         self._names = names
         self._looser = [(differences, names.looser(*differences)) for differences in DIFFERENCES]
 
     def of_neighbor(self, neighbor: Seen, end: End) -> Optional[str]:
-        """Returns the only difference that keeps a neighbor from answering to an end."""
+        """Returns the only difference that keeps a neighbor from answering to an end, if any."""
         if self._names.answers(neighbor, self._names.end(end)):
             return None
         for differences, rule in self._looser:
@@ -26,14 +26,14 @@ class Differences:
         return None
 
     def of_ends(self, one: End, other: End) -> Optional[str]:
-        """Returns the only difference between two ends."""
+        """Returns the only difference between the names of two ends, if any."""
         for differences, rule in self._looser:
             if rule.end(one) == rule.end(other):
                 return words_of(differences)
         return None
 
     def loosest(self, end: End) -> End:
-        """Returns an end as it is compared if all differences are allowed."""
+        """Returns an end, normalized as if all differences were allowed."""
         return self._looser[-1][1].end(end)
 
 

@@ -1,8 +1,8 @@
-"""A topology in DOT as ptmd reads it: edges between ports, with attributes.
+"""Reads a topology in DOT, as ptmd does: edges between ports, with attributes.
 
     graph G { "leaf1":"swp1" -- "spine1":"swp3" [color=red]; leaf1:swp2 -- spine2:swp3 }
 
-Attributes, nodes and defaults are skipped; what else DOT has, such as subgraphs, is refused.
+Attributes, nodes and defaults are skipped. Anything else in DOT, such as subgraphs, is refused.
 """
 import re
 from typing import Iterator
@@ -22,12 +22,12 @@ LONGEST_SHOWN = 60
 
 
 def is_dot(text: str) -> bool:
-    """Returns whether a text begins as a graph does."""
+    """Returns whether a text begins like a graph in DOT."""
     return HEAD.match(text, after_skipped(text, 0)) is not None
 
 
 def edges_of(text: str, faults: Faults) -> Iterator[Cable]:
-    """Yields the edges of a graph in their order. What is not an edge is a fault, and the last."""
+    """Yields the edges of a graph in order. Stops with a fault at what it refuses."""
     found = HEAD.match(text, after_skipped(text, 0))
     before, line = 0, 1
     at = after_skipped(text, found.end() if found else 0)
@@ -39,7 +39,7 @@ def edges_of(text: str, faults: Faults) -> Iterator[Cable]:
             names = [name[1:-1].replace('\\"', '"') if name.startswith('"') else name
                      for name in found.groups()]
             if not all(names):
-                faults.add(line, "a name in it is empty")
+                faults.add(line, "the edge has an empty name")
             yield Cable((names,), line)
         else:
             found = OTHER.match(text, at)
@@ -59,7 +59,7 @@ def after_skipped(text: str, at: int) -> int:
 
 
 def refused(text: str, at: int) -> str:
-    """Returns why what is at a place is not an edge of two ports."""
+    """Returns the fault of a text that is not an edge between two ports."""
     found = text[at:at + LONGEST_SHOWN].split("\n")[0].rstrip()
-    what = repr(found) if found else "its end"
-    return f'{what} is not an edge such as "leaf1":"swp1" -- "spine1":"swp2"'
+    return (f'{found!r} is not an edge such as "leaf1":"swp1" -- "spine1":"swp2"' if found else
+            "it ends without }")

@@ -1,4 +1,4 @@
-"""Judges what is seen at the ports of hosts by a plan. audit/README.md defines each verdict."""
+"""Judges by a plan what is seen at the ports of hosts. audit/README.md defines each verdict."""
 from collections import defaultdict
 from enum import Enum
 from functools import cached_property
@@ -10,13 +10,11 @@ from .plan import Plan, Wish
 from .seen.tables import Tables, KnownPort
 
 
-# an end is exchanged neither with itself nor with the one that it wants, but with the next
+# three are enough: only the end itself and the end that it wants cannot be its partner
 MOST_TRIED = 3
 
 
 class Verdict(Enum):
-    """What an audit says of an end."""
-
     RIGHT = "right"
     WRONG = "wrong"
     SWAPPED = "swapped"
@@ -32,8 +30,8 @@ class Verdict(Enum):
 
 
 class Finding(NamedTuple):
-    """The verdict on an end, the end that it wants if it is planned, and its neighbors. `partner`
-    is the end that it is swapped with. `reason` says why its fault is known."""
+    """The verdict on an end. `wants` is the end that it should see, None if it is unplanned; `has`
+    has its neighbors, `partner` is the end it is swapped with, and `reason` excuses its fault."""
 
     end: End
     verdict: Verdict
@@ -44,8 +42,8 @@ class Finding(NamedTuple):
 
 
 def audit(plan: Plan, tables: Tables, planned_only: bool = False) -> list[Finding]:
-    """Returns a finding for each planned end of the audited hosts, and for each end of a link that
-    nobody looked at, in the order of the plan, and then for each other port with a neighbor."""
+    """Returns a finding for each planned end of an audited host and each end of a link that nobody
+    looked at, in the plan's order, and then for each unplanned port with a neighbor."""
     judge = Judge(plan, tables)
     findings = list(judge.planned())
     if judge.names.short_names:
@@ -54,7 +52,7 @@ def audit(plan: Plan, tables: Tables, planned_only: bool = False) -> list[Findin
 
 
 class Judge:
-    """Knows a plan and what is seen. It is asked of ends by their names as they are compared."""
+    """Judges ends by a plan and by what is seen. Its methods take normalized ends."""
 
     def __init__(self, plan: Plan, tables: Tables) -> None:
         self.plan = plan
@@ -63,7 +61,7 @@ class Judge:
         self._bundles = Bundles(plan, tables) if self.names.vendor_names else None
 
     def planned(self) -> Iterator[Finding]:
-        """Yields the findings on ends of audited hosts, and of links that nobody looked at."""
+        """Yields a finding for each planned end of an audited host or of a link not looked at."""
         hosts, ends, items = self.tables.hosts, self.tables.ends, iter(self.plan.ends.items())
         for (one, wish), (other, other_wish) in zip(items, items):  # the two ends of a link
             told, other_told = ends.get(one), ends.get(other)
@@ -77,7 +75,7 @@ class Judge:
                     yield Finding(its_wish.end, Verdict.NOT_LOOKED_AT, its_wish.wants)
 
     def of_several_domains(self, findings: Sequence[Finding]) -> Iterator[Finding]:
-        """Yields the findings; right ends are doubled if several domains answer by one name."""
+        """Yields the findings; right ends are `doubled` if hosts of two domains share a name."""
         heard: dict[str, set[str]] = defaultdict(set)
         names, right = self.names, Verdict.RIGHT
         for one in findings:
@@ -91,14 +89,14 @@ class Judge:
             yield one._replace(verdict=Verdict.DOUBLED) if is_apart else one
 
     def unplanned(self) -> Iterator[Finding]:
-        """Returns the findings on ports that are not in the plan."""
+        """Yields a finding for each unplanned port with a neighbor."""
         for end in self.tables.beside(self.plan):
             told = self.tables.ends[end]
             if told.neighbors and end not in self.plan.unknown:
                 yield Finding(told.end, Verdict.UNPLANNED, None, told.neighbors)
 
     def finding(self, end: End, wish: Wish, told: Optional[KnownPort], is_right: bool) -> Finding:
-        """Returns the finding on a planned end; `is_right` if known ends hear only each other."""
+        """Judges a planned end. `is_right` means that the ends with data hear only each other."""
         if told is None:
             return Finding(wish.end, Verdict.NO_DATA, wish.wants)
         if self._bundles is not None and self.is_of_another_bundle(end, wish.wanted, told):
@@ -112,18 +110,18 @@ class Judge:
                        told.neighbors, partner)
 
     def is_of_another_bundle(self, end: End, wanted: End, told: KnownPort) -> bool:
-        """Returns whether the only neighbor of an end names an aggregate of another link."""
+        """Returns whether an end's only neighbor names an aggregate of another link."""
         return (self._bundles is not None and len(told.neighbors) == 1
                 and self.names.is_any_member(told.neighbors[0], wanted.host)
                 and wanted not in self.names.ends(told.neighbors[0])
                 and self._bundles.part(end, wanted))
 
     def has_only(self, told: KnownPort, end: End) -> bool:
-        """Returns whether a port has one neighbor, which answers to an end."""
+        """Returns whether a port has exactly one neighbor, and that answers to an end."""
         return len(told.neighbors) == 1 and self.names.answers(told.neighbors[0], end)
 
     def verdict(self, end: End, wanted: End, neighbors: Sequence[Seen]) -> Verdict:
-        """Returns the verdict on an end that is known. One that is swapped is still wrong here."""
+        """Returns the verdict on an end with data. A swapped end is still wrong here."""
         if not neighbors:
             return Verdict.ONE_SIDED if self.sees(wanted, end) else Verdict.SILENT
         if len(neighbors) > 1:
@@ -139,14 +137,11 @@ class Judge:
     def sees(self, end: End, other: End) -> bool:
         """Returns whether one of an end's neighbors answers to the other end."""
         told = self.tables.ends.get(end)
-        for one in told.neighbors if told is not None else ():
-            if self.names.answers(one, other):
-                return True
-        return False
+        return told is not None and any(self.names.answers(one, other) for one in told.neighbors)
 
     def partner(self, end: End, wanted: End, neighbor: Seen) -> Optional[End]:
-        """Returns the first end of another link with which an end is swapped that has only this
-        neighbor: each has what the other one wants, and not what it wants itself."""
+        """Returns the first end of another link that an end with only this neighbor is swapped
+        with: each of the two has what the other wants, and not what it wants itself."""
         ends = (key for key in self.names.ends(neighbor) if key in self.plan.ends)
         others = {self.plan.ends[key].wanted for key in ends}
         for host in self.hosts_of_aggregate(neighbor):
@@ -162,18 +157,17 @@ class Judge:
 
     @cached_property
     def _ranks(self) -> Mapping[End, int]:
-        """Returns the place of each end in the plan."""
         return {end: rank for rank, end in enumerate(self.plan.ends)}
 
     def hosts_of_aggregate(self, neighbor: Seen) -> set[str]:
-        """Returns the hosts whose ports a neighbor may be, since it names its aggregate."""
+        """Returns the hosts at which a neighbor may be any port, because it names an aggregate."""
         return {host for host in self.names.hosts_of(neighbor)
                 if self.names.is_any_member(neighbor, host)}
 
     @cached_property
     def _with_another(self) -> Mapping[tuple[str, Union[End, str]], Sequence[End]]:
-        """Returns the first ends of the plan that have only another neighbor than they want: by the
-        host that they want, and by what they have, which is an end, or any of a host."""
+        """Returns the first planned ends that have only a wrong neighbor, by the host that they
+        want and by what they have: an end, or a host if it may be any of that host's ports."""
         found: dict[tuple[str, Union[End, str]], list[End]] = defaultdict(list)
         for end, wish in self.plan.ends.items():
             told = self.tables.ends.get(end)

@@ -1,4 +1,4 @@
-"""Faults that are known: ends and hosts whose silence is excused, each with a reason and a day."""
+"""Known faults: verdicts that are excused at an end or a host, for a reason, until a day."""
 import datetime
 from typing import NamedTuple, Optional, Sequence
 
@@ -14,7 +14,7 @@ VERDICTS = {one.value: (one,) for one in Verdict if one not in NOT_EXCUSED}
 
 
 class Row(NamedTuple):
-    """An end, the verdicts that are excused there, and why. A whole host has an empty port."""
+    """A row: an end, or a host if the port is empty, the verdicts excused there, and the reason."""
 
     end: End
     verdicts: Sequence[Verdict]
@@ -23,7 +23,7 @@ class Row(NamedTuple):
 
 
 class Known(NamedTuple):
-    """The rows by end, as it is compared. `notes` names those whose last day is over."""
+    """The rows by normalized end. `notes` names the rows whose last day is over."""
 
     file: str
     rows: dict[End, list[Row]]
@@ -38,8 +38,8 @@ class Known(NamedTuple):
         return next((row.reason for row in rows if verdict in row.verdicts), "")
 
     def applied(self, one: Finding, names: Names) -> Finding:
-        """Returns a finding, as known if it is excused at either end of its link, or at both if
-        nobody looked at that."""
+        """Returns a finding, made known if a row excuses it at either end of its link. If nobody
+        looked at the link, rows must excuse it at both ends."""
         if one.verdict is Verdict.RIGHT:
             return one
         ours, theirs = (self.reason(names, end, one.verdict) for end in (one.end, one.wants))
@@ -47,7 +47,7 @@ class Known(NamedTuple):
         return one._replace(verdict=Verdict.KNOWN, reason=reason) if reason else one
 
     def unplanned(self, plan: Plan) -> list[str]:
-        """Returns which rows name nothing that is planned, and so excuse nothing."""
+        """Returns a note on each row that names nothing planned, and so excuses nothing."""
         return [f"{self.file}: line {row.line}: {place_of(row.end)} is not planned"
                 for key, rows in self.rows.items() for row in rows
                 if Verdict.UNPLANNED not in row.verdicts
@@ -58,18 +58,18 @@ NOTHING_KNOWN = Known("", {}, [])
 
 
 def read_known(file: str, names: Names, today: datetime.date) -> Known:
-    """Reads rows `host,port,reason,until` and perhaps `verdict`. Raises PlanFault and OSError."""
+    """Reads rows `host,port,reason,until`, perhaps with `verdict`. Raises PlanFault and OSError."""
     faults, known = Faults(file), Known(file, {}, [])
     for line, fields in table_of(faults, COLUMNS, FURTHER):
         host, port, reason, last, verdict, *rest = [*fields, ""]
         until, verdicts = date_of(last), VERDICTS.get(verdict) if verdict else SILENCE
         if rest[1:] or not host or not reason or until is None:
-            faults.add(line, "a host or a reason is missing, or a date such as 2026-12-31")
+            faults.add(line, "it needs a host and a reason, and a date looks like 2026-12-31")
         elif verdicts is None:
-            faults.add(line, f"{verdict!r} is not a verdict: {', '.join(VERDICTS)}")
+            faults.add(line, f"{verdict!r} is not one of the verdicts {', '.join(VERDICTS)}")
         elif until < today:
-            known.notes.append(f"{file}: line {line}: {place_of(End(host, port))} was known until "
-                               f"{until}, and is judged")
+            known.notes.append(f"{file}: line {line}: {place_of(End(host, port))} was excused "
+                               f"until {until}, and is judged again")
         else:
             key = names.end(End(host, port))
             row = Row(End(host, port), verdicts, reason, line)
@@ -79,12 +79,12 @@ def read_known(file: str, names: Names, today: datetime.date) -> Known:
 
 
 def place_of(end: End) -> str:
-    """Returns an end, or only the host if the port is empty."""
+    """Returns an end as a note shows it: only the host if the port is empty."""
     return " ".join(shown(name) for name in end if name)
 
 
 def date_of(text: str) -> Optional[datetime.date]:
-    """Reads a date. An empty text gives the latest date, and a text that is not one None."""
+    """Reads a date. Returns the latest one for an empty text, and None for a wrong one."""
     try:
         return datetime.date.fromisoformat(text) if text else datetime.date.max
     except ValueError:

@@ -1,4 +1,4 @@
-"""The limits of a run: memory for all of it, and time of the processor for each file."""
+"""Limits the memory of a run, and the processor time for each file."""
 import resource
 import signal
 import sys
@@ -16,22 +16,22 @@ class TooLong(Exception):
 
 
 class LimitFault(LldpaFault, ValueError):
-    """Why a file is not read to its end."""
+    """Says which limit a file exceeds."""
 
 
 def limit_memory() -> None:
-    """Limits the memory of this process and of those that it starts."""
+    """Limits the memory of this process and of the processes that it starts."""
     most = MEGABYTES << 20
     hard = resource.getrlimit(resource.RLIMIT_DATA)[1]
     with suppress(OSError, ValueError):  # a lower limit stays
         resource.setrlimit(resource.RLIMIT_DATA, (most, hard))
-    # a generator that is closed without memory would print a traceback
+    # closing a generator without memory would print a traceback
     sys.unraisablehook = lambda _: None
 
 
 @contextmanager
 def limited(file: str, seconds: float = SECONDS) -> Iterator[None]:
-    """Ends what is done with a file if it needs too much time or memory. Raises LimitFault."""
+    """Stops the work on a file that needs too much time or memory, and raises LimitFault."""
     before = signal.signal(signal.SIGPROF, stop)
     signal.setitimer(signal.ITIMER_PROF, seconds)
     try:
@@ -40,7 +40,7 @@ def limited(file: str, seconds: float = SECONDS) -> Iterator[None]:
     except MemoryError:
         why = f"it needs more than {MEGABYTES} MB of memory"
     except TooLong:
-        why = f"it needs more than {seconds:.0f} seconds of the processor"
+        why = f"it needs more than {seconds:.0f} seconds of processor time"
     finally:
         signal.setitimer(signal.ITIMER_PROF, 0)
         signal.signal(signal.SIGPROF, before)

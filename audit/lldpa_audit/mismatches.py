@@ -1,4 +1,4 @@
-"""In what the two ends of right links differ, by what both say of the link and by the plan."""
+"""Finds settings in which the ends of right links differ from each other or from the plan."""
 from itertools import combinations
 from typing import Iterable, Iterator, Mapping, NamedTuple, Optional, Union
 
@@ -9,15 +9,15 @@ from .names import End
 from .plan import Plan
 from .seen.tables import Tables
 
-# the settings that are compared, each with its unit, and the columns of a plan with the first ones
+# the settings that are compared, with their units, and the plan's columns for the first three
 NAMES = (("MTU", ""), ("PVID", ""), ("speed", " Mb/s"), ("duplex", ""), ("aggregation", ""))
 COLUMNS = ("mtu", "pvid", "speed")
-MISMATCH = "mismatch: "
+MISMATCH = "mismatch"
 
 
 class Mismatch(NamedTuple):
-    """In what the ends of a link differ: in words, and by how much, seen from either end. Links
-    that differ by the same may have one cause at a host."""
+    """How the ends of a link differ: in words, and by how much as seen from each end. Links of a
+    host that differ by the same amount may have one cause."""
 
     text: str
     ends: tuple[End, End]
@@ -26,7 +26,7 @@ class Mismatch(NamedTuple):
 
 
 class Said(NamedTuple):
-    """What is said of a right link: by its two ends, and by the plan."""
+    """What the two ends of a right link announce, and what the plan says."""
 
     ends: tuple[End, End]
     one: Settings
@@ -35,7 +35,7 @@ class Said(NamedTuple):
 
 
 def said_of_links(findings: Iterable[Finding], tables: Tables, plan: Plan) -> Iterator[Said]:
-    """Yields what is said of each right link, once for each end, by each end's neighbor."""
+    """Yields the settings of each right link, once from each end, as the other end heard them."""
     names = tables.names
     right = {names.end(one.end): one for one in findings if one.verdict is Verdict.RIGHT}
     wanted = expected(plan)
@@ -48,7 +48,7 @@ def said_of_links(findings: Iterable[Finding], tables: Tables, plan: Plan) -> It
 
 
 def mismatches(findings: Iterable[Finding], tables: Tables, plan: Plan) -> dict[End, Mismatch]:
-    """Returns the mismatch of each right link that has one, at its first end in the plan."""
+    """Returns the mismatch of each right link that has one, under its first end in the plan."""
     found: dict[End, Mismatch] = {}
     for said in said_of_links(findings, tables, plan):
         one = mismatch(said) if said.ends[1] not in found else None
@@ -66,21 +66,21 @@ def compared(findings: Iterable[Finding], tables: Tables, plan: Plan) -> bool:
 
 
 def mismatch(said: Said) -> Optional[Mismatch]:
-    """Returns in what the ends of a link differ from one another, and from the plan."""
+    """Returns how the ends of a link differ from each other and from the plan, if they do."""
     end, other = said.ends
     unlike_plan = [f"{place} says {text}, the plan has {planned}"
                    for place, settings in ((end, said.one), (other, said.other))
                    for text, planned, _, _ in differing(settings, said.planned)]
     pairs = list(differing(said.one, said.other))
     if not pairs:
-        return Mismatch(MISMATCH + "; ".join(unlike_plan), said.ends) if unlike_plan else None
+        return Mismatch(f"{MISMATCH}: {'; '.join(unlike_plan)}", said.ends) if unlike_plan else None
     ones, others, more, less = (" and ".join(words) for words in zip(*pairs))
-    text = MISMATCH + "; ".join([f"{end} says {ones}, {other} says {others}", *unlike_plan])
+    text = "; ".join([f"{MISMATCH}: {end} says {ones}, {other} says {others}", *unlike_plan])
     return Mismatch(text, said.ends) if unlike_plan else Mismatch(text, said.ends, more, less)
 
 
 def differing(one: Settings, other: Settings) -> Iterator[tuple[str, str, str, str]]:
-    """Yields in what two ends differ: what each says, and how each differs from the other."""
+    """Yields each difference of two ends: what each announces, and how each differs."""
     for (name, unit), value, its in zip(NAMES, one, other):
         if value is not None and its is not None and value != its:
             texts = f"{name} {worded(value)}{unit}", f"{worded(its)}{unit}"
@@ -92,14 +92,14 @@ def differing(one: Settings, other: Settings) -> Iterator[tuple[str, str, str, s
 
 
 def expected(plan: Plan) -> Mapping[End, Settings]:
-    """Returns what the plan's columns of settings say of each link. Raises ValueError."""
+    """Returns the settings that the plan's columns give for each link. Raises ValueError."""
     if not set(COLUMNS).intersection(map(key_of, plan.columns)):
         return {}
     return {key: planned(plan, key) for key in plan.ends}
 
 
 def planned(plan: Plan, key: End) -> Settings:
-    """Returns what the plan's columns say of a link. Raises ValueError."""
+    """Returns the settings that the plan's columns give for a link. Raises ValueError."""
     texts = {key_of(name): text for name, text in plan.details(plan.ends[key])}
     speed = texts.get("speed", "")
     wanted = Settings(number(texts.get("mtu", "")), number(texts.get("pvid", "")),
@@ -107,7 +107,7 @@ def planned(plan: Plan, key: End) -> Settings:
     for name, value in zip(COLUMNS, wanted):
         if texts.get(name) and value is None:
             raise ValueError(f"{plan.file}: {plan.ends[key].end}: {name} {texts[name]!r} is not a "
-                             "number to compare with")
+                             "valid number")
     return wanted
 
 

@@ -1,4 +1,4 @@
-"""How the names of a plan are compared with what neighbors say of themselves."""
+"""Compares the names in a plan with those that neighbors announce."""
 from __future__ import annotations
 
 import ipaddress
@@ -11,7 +11,8 @@ from .link_settings import Settings
 from .spelling import is_aggregate, plain, plain_port
 
 
-LONGEST = 255  # no neighbor says a longer name
+LONGEST = 255  # LLDP can send no longer name
+MOST_NAMED = 3  # hosts, ends or neighbors in one line
 
 
 class End(NamedTuple):
@@ -25,9 +26,9 @@ class End(NamedTuple):
 
 
 class Seen(NamedTuple):
-    """A neighbor: the names of its host and of its port, the best first. By its own words its port
-    is `aggregated` or not, and its link has `settings`. If its Port ID is the name or the alias of
-    an interface, it `is_named`, and that is the first of its ports."""
+    """A neighbor: the names of its host and of its port, the best first. It announces whether its
+    port is `aggregated`, and the `settings` of its link. If its Port ID is the name or alias of
+    an interface, it `is_named`, and the Port ID is the first of its ports."""
 
     hosts: tuple[str, ...]
     ports: tuple[str, ...]
@@ -43,13 +44,13 @@ class Seen(NamedTuple):
         return f"{shown(self.hosts[0])} {shown(self.ports[0])}"
 
 
-# a neighbor for which the table had no room: nothing else is known
+# a neighbor for which the table had no room, so nothing is known of it
 NAMELESS = Seen((), ())
 
 
 class Aliases(NamedTuple):
-    """Further names of hosts, and of the ports of a host, or of any if the host is empty, all as
-    they are compared. Several ports may share a further name."""
+    """Aliases of hosts and of ports, all normalized. An alias may be shared by several ports. With
+    an empty host, it is for a port of any host."""
 
     hosts: dict[str, str]
     ports: dict[End, list[str]]
@@ -59,9 +60,9 @@ NO_ALIASES = Aliases({}, {})
 
 
 class Names:
-    """Which names are the same: those that are equal, and what else the rules let pass. `planned`
-    has the ends of the plan, and `planned_ports` their ports, as they are compared: they say
-    whether a Port Description counts, which people write."""
+    """The rules for comparing names: two are the same if their normalized forms are equal.
+    `planned` has the normalized ends of the plan, and `planned_ports` their ports. These decide
+    whether a Port Description counts, since people write it by hand."""
 
     def __init__(self, ignore_case: bool = False, short_names: bool = False,
                  vendor_names: bool = False, aliases: Aliases = NO_ALIASES) -> None:
@@ -78,7 +79,7 @@ class Names:
         self._ports: dict[str, str] = {}
 
     def host(self, name: str) -> str:
-        """Returns a host's name as it is compared."""
+        """Returns a host's name, normalized."""
         if self._is_strict:
             return name
         key = self._hosts.get(name)
@@ -88,8 +89,8 @@ class Names:
         return key
 
     def hosts_of(self, neighbor: Seen) -> Sequence[str]:
-        """Returns the hosts that a neighbor may be, as they are compared: by a name without its
-        domain, it may be each planned host of that name."""
+        """Returns the normalized hosts that a neighbor may be: several for a name without domain.
+        """
         if self._is_strict:
             return neighbor.hosts
         keys = [self.host(name) for name in neighbor.hosts]
@@ -99,25 +100,25 @@ class Names:
         return keys
 
     def plain_host(self, name: str) -> str:
-        """Returns a host's name as it is compared, except for its aliases."""
+        """Returns a host's name, normalized except for aliases."""
         name = self.whole_host(name)
         return self._with_planned_domain(name) if self.short_names else name
 
     def whole_host(self, name: str) -> str:
-        """Returns a host's name as it is compared, with its domain."""
+        """Returns a host's name, normalized except for its domain and aliases."""
         if self.vendor_names:
             name = plain(name)
         return name.casefold() if self.ignore_case else name
 
     def _with_planned_domain(self, name: str) -> str:
-        """Returns a name without its domain, unless the plan has such a host in another one."""
+        """Returns a name without its domain, unless the plan has this host in another domain."""
         short = without_domain(name)
         domains = self.domains.get(short, {""})
         is_only = "" in domains or domains == {name[len(short) + 1:]}
         return short if is_only else name
 
     def learn_domains(self, hosts: Iterable[str]) -> None:
-        """Learns the domains of planned hosts, so that names with different ones differ."""
+        """Remembers the domains of planned hosts, so that hosts in different domains differ."""
         self._hosts.clear()
         for host in set(hosts):
             short = without_domain(self.whole_host(host))
@@ -129,7 +130,7 @@ class Names:
         return name[len(without_domain(name)) + 1:]
 
     def plain_port(self, name: str) -> str:
-        """Returns a port's name as it is compared, except for its aliases."""
+        """Returns a port's name, normalized except for aliases."""
         key = self._ports.get(name)
         if key is None:
             key = name.casefold() if self.ignore_case else name
@@ -137,13 +138,15 @@ class Names:
         return key
 
     def ports(self, host: str, name: str) -> Sequence[str]:
-        """Returns the ports that a name means at a host, all as they are compared."""
+        """Returns the normalized ports that a name means at a host."""
+        if self._is_strict:
+            return (name,)
         port = self.plain_port(name)
         aliases = self.aliases.ports
         return aliases.get(End(host, port)) or aliases.get(End("", port)) or (port,)
 
     def end(self, end: End) -> End:
-        """Returns an end as it is compared. A name of several ports is unchanged."""
+        """Returns an end, normalized. An alias that several ports share is not resolved."""
         if self._is_strict:
             return end
         host = self.host(end.host)
@@ -151,7 +154,7 @@ class Names:
         return End(host, ports[0] if len(ports) == 1 else self.plain_port(end.port))
 
     def answers(self, neighbor: Seen, end: End) -> bool:
-        """Returns whether a neighbor answers to an end, which is given as it is compared."""
+        """Returns whether a neighbor answers to a normalized end."""
         if self._is_strict:
             return end.host in neighbor.hosts and (end.port == neighbor.port_id
                                                    or end.port in self.heeded(neighbor))
@@ -161,8 +164,8 @@ class Names:
                 or any(end.port in self.ports(end.host, port) for port in self.heeded(neighbor)))
 
     def heeded(self, neighbor: Seen) -> Sequence[str]:
-        """Returns the names of a neighbor's port that count: all, or only its Port ID if that is a
-        planned port of its host, or names an interface as the plan names one anywhere."""
+        """Returns the names of a neighbor's port that count: only the Port ID if that is a planned
+        port of its host, or an interface name that is a planned port of any host; otherwise all."""
         ports = neighbor.ports
         if len(ports) < 2:
             return ports
@@ -170,37 +173,31 @@ class Names:
         return (port_id,) if self._rules.is_planned(neighbor, port_id) else ports
 
     def is_planned(self, neighbor: Seen, port_id: str) -> bool:
-        """Returns whether a Port ID is planned at its host, or anywhere if of an interface."""
-        if self._is_strict:
-            return (neighbor.is_named and port_id in self.planned_ports
-                    or any(End(host, port_id) in self.planned for host in neighbor.hosts))
+        """Returns whether a Port ID is planned at its host or, if an interface's, anywhere."""
         return any(End(host, port) in self.planned
                    or neighbor.is_named and port in self.planned_ports
                    for host in self.hosts_of(neighbor) for port in self.ports(host, port_id))
 
     def is_any_member(self, neighbor: Seen, host: str) -> bool:
-        """Returns whether a neighbor of a host, as it is compared, names an aggregate in place of
-        its port and no alias says which ports are its members: it may be each port."""
+        """Returns whether a neighbor may be any port of a normalized host: it names an aggregate in
+        place of its port, and no alias says which ports are members."""
         return (self.vendor_names and neighbor.aggregated
                 and any(is_aggregate(port) and not self.has_alias(host, port)
                         for port in self.heeded(neighbor)))
 
     def has_alias(self, host: str, name: str) -> bool:
-        """Returns whether the name of a port is an alias at a host, given as it is compared."""
+        """Returns whether the name of a port is an alias at a normalized host."""
         port, aliases = self.plain_port(name), self.aliases.ports
         return End(host, port) in aliases or End("", port) in aliases
 
     def ends(self, neighbor: Seen) -> Iterable[End]:
-        """Yields each end that a neighbor answers to by its port, as it is compared."""
+        """Yields each normalized end that a neighbor answers to by the names of its port."""
         ports = self.heeded(neighbor)
-        if self._is_strict:
-            yield from (End(host, port) for host in neighbor.hosts for port in ports)
-            return
         for host in self.hosts_of(neighbor):
             yield from (End(host, key) for port in ports for key in self.ports(host, port))
 
     def looser(self, *differences: str) -> Names:
-        """Rules that let these differences pass, too: of case, domain and spelling."""
+        """Returns rules that also ignore these differences: case, domain or spelling."""
         looser = Names(self.ignore_case or "case" in differences,
                        self.short_names or "domain" in differences,
                        self.vendor_names or "spelling" in differences, self.aliases)
@@ -211,12 +208,12 @@ class Names:
         return looser
 
     def with_domains(self) -> Names:
-        """Returns the same rules, with hosts' names compared whole."""
+        """Returns the same rules, but with domains compared."""
         return Names(self.ignore_case, False, self.vendor_names, self.aliases)
 
 
 def without_domain(name: str) -> str:
-    """Returns a host's name up to its first dot. An IPv4 address has dots and no domain."""
+    """Returns a host's name up to its first dot, or an IP address as it is."""
     with suppress(ValueError):
         ipaddress.ip_address(name)
         return name
@@ -224,21 +221,21 @@ def without_domain(name: str) -> str:
 
 
 def shown(name: str) -> str:
-    """Returns a name as a line shows it. What a terminal cannot show is escaped by its octets. A
-    name with a blank is in quotes. A name that is longer than a neighbor can send is cut."""
+    """Returns a name as a line shows it: unprintable characters are escaped as octets, a name with
+    a blank is in quotes, and a name that is too long for LLDP is cut."""
     text = printable(text_of(name[:LONGEST])) + (CUT if len(name) > LONGEST else "")
     return text if text and " " not in text else f'"{text}"'
 
 
 def escaped(letter: str) -> str:
-    """Returns the octets of a letter in hexadecimal, as a show writes them."""
+    """Returns the octets of a letter in hexadecimal, escaped as in lldpa's shows."""
     is_octet = "\udc80" <= letter <= "\udcff"
     octets = letter.encode(errors="surrogateescape" if is_octet else "surrogatepass")
     return "".join(f"\\x{octet:02x}" for octet in octets)
 
 
 def text_of(name: str) -> str:
-    """Returns a name as Unicode text, with an escape for each octet that is not part of one."""
+    """Returns a name as valid Unicode: octets that are not UTF-8 are escaped."""
     if name.isascii():
         return name
     return "".join(escaped(letter) if "\ud800" <= letter <= "\udfff" else letter for letter in name)

@@ -1,4 +1,4 @@
-"""NetBox's cables: which ends each joins, and which of them are left out."""
+"""Reads NetBox's cables: which ends each joins, and why some are left out."""
 import json
 import re
 from itertools import product
@@ -7,32 +7,32 @@ from typing import Any, Iterable, Iterator, NamedTuple, Optional, Sequence, Unio
 from .plan import FIRST, NO_END, Faults
 
 
-# what else of a cable is reported with its faults
+# the further fields of a cable that are reported with its faults
 DETAILS = ("id", "label", "type", "color", "length", "length_unit", "status", "description")
 
-# the ends of cables, as NetBox calls them, that are ports of a network or of a panel
+# NetBox's types of cable ends that are network ports or ports of panels
 OF_PANELS = ("frontport", "rearport")
 PORTS = ("interface", *OF_PANELS)
 CIRCUIT = "circuittermination"
-# the names of power and console ports: exports with the headings of tables have no types
+# names of power and console ports, since exports with the headings of tables have no types
 OTHER_PORT = re.compile(r"(?:(?:rj45|(?:mini-?)?usb)[ _-]?)?"
                         r"(?:psu?|pem|pwr|power|outlet|inlet|con|console|serial|tty[a-z]?|aux)"
                         r"(?:[ _-]?(?:supply|feed|port))?[ _:/.-]?[a-z]?[0-9]{0,3}", re.I)
 
-# why a cable of NetBox is left out
-POWER, ABSENT, FREE, UNPAIRED = ("of power or consoles", "planned or decommissioning",
-                                 "without a port of a device at both ends",
+# reasons to leave out a cable of NetBox
+POWER, ABSENT, FREE, UNPAIRED = ("for power or consoles", "planned or decommissioning",
+                                 "with an end that is not a port of a device",
                                  "with ends that cannot be paired")
 
-# the host and the port of an end, and of the two ends that are joined
+# the host and the port of an end
 Pair = tuple[str, str]
 AT_NO_PANEL = (False, False)
 
 
 class Cable(NamedTuple):
-    """The ends that a cable of a plan joins, several at a side if it breaks out, and the line of
-    the plan. `texts` has what else the plan says of it, `at_panels` whether each side is at a
-    panel, and `position` where a front port of a panel is at its rear port."""
+    """A cable of a plan. `rows` has host, port, peer and peer's port of each link in it, `line` is
+    its line in the plan, and `texts` are its further columns. `at_panels` says whether each side
+    is at a panel, and `position` is that of a front port at its rear port."""
 
     rows: Sequence[Sequence[str]]
     line: Optional[int] = None
@@ -42,21 +42,21 @@ class Cable(NamedTuple):
 
 
 class Side(NamedTuple):
-    """The ends of a cable at one side, and their kinds if these are known."""
+    """The ends at one side of a cable, and NetBox's types of them if these are known."""
 
     ends: Sequence[Pair]
     kinds: Sequence[str]
 
     @property
     def is_at_panel(self) -> bool:
-        """Returns whether it has ports of panels."""
+        """Returns whether an end at this side is a port of a panel."""
         return any(kind.endswith(OF_PANELS) for kind in self.kinds)
 
 
 def between(one: Side, other: Side, kind: str, status: str, line: Optional[int],
             texts: Sequence[str]) -> Union[Cable, str]:
-    """Returns the cable between two sides, or why it is left out. It joins the first two ends, the
-    second two .., or each with the only one of the other side."""
+    """Returns the cable between two sides, or why it is left out. It joins the first ends of both
+    sides, the second ones and so on, or each end with the only end of the other side."""
     kinds, ends = [*one.kinds, *other.kinds], [*one.ends, *other.ends]
     if status in ("planned", "decommissioning"):
         return ABSENT
@@ -74,13 +74,8 @@ def between(one: Side, other: Side, kind: str, status: str, line: Optional[int],
     return Cable(rows, line, texts, at_panels) if rows else UNPAIRED
 
 
-def is_json(text: str) -> bool:
-    """Returns whether a plan is JSON: neither CSV nor DOT begins so."""
-    return text.lstrip()[:1] in ("{", "[")
-
-
 def cables_of(text: str, faults: Faults) -> Iterator[Union[Cable, str]]:
-    """Yields each cable of one answer or several, or why it is left out. Adds other faults."""
+    """Yields each cable in one or more answers of the API, or why it is left out. Adds faults."""
     try:
         tree = json.loads(text)
     except (ValueError, RecursionError) as fault:
@@ -90,7 +85,7 @@ def cables_of(text: str, faults: Faults) -> Iterator[Union[Cable, str]]:
     for page in pages:
         found = page.get("results") if isinstance(page, dict) else None
         if not isinstance(found, list):
-            faults.add(None, "it is JSON, but not of NetBox's /api/dcim/cables/")
+            faults.add(None, "it is JSON, but not an answer of NetBox's /api/dcim/cables/")
             return
         if page.get("next") and page is pages[-1]:
             faults.add(None, "it is one page of several: ask with ?limit=0, or put the pages into "
@@ -109,14 +104,14 @@ def cable_of(node: Any) -> Union[Cable, str]:
 
 
 def side_of(terminations: Any) -> Side:
-    """Returns a side of a cable, with an end without names for what is not a port of a device."""
+    """Returns one side of a cable. An end that is not a port of a device has empty names."""
     nodes = [one for one in terminations or () if isinstance(one, dict)]
     kinds = [str(node.get("object_type")).partition(".")[2] for node in nodes]
     return Side([end_of(node.get("object")) for node in nodes] or [NO_END], kinds)
 
 
 def end_of(port: Any) -> Pair:
-    """Returns the host and the port of an end, or no names if it is not a port of a device."""
+    """Returns the host and the port of an end, both empty if it is not a port of a device."""
     device = port.get("device") if isinstance(port, dict) else None
     if not isinstance(device, dict):
         return NO_END
@@ -125,7 +120,7 @@ def end_of(port: Any) -> Pair:
 
 
 def text_of(value: Any) -> str:
-    """Returns a value of a cable as text. The text of a choice is its field `value`."""
+    """Returns a field of a cable as text. A choice is an object with its text in `value`."""
     if isinstance(value, dict):
         value = value.get("value")
     return "" if value is None else str(value)

@@ -1,4 +1,4 @@
-"""Patch panels: a cable that ends at a panel goes on at the panel's other side."""
+"""Follows links through patch panels: a cable that ends at a panel continues at its other side."""
 from collections import Counter
 from typing import Iterable, Iterator, NamedTuple, Optional, Sequence, Union
 
@@ -6,12 +6,13 @@ from .names import End, Names
 from .plan import Detail, Faults, Link
 
 
-# the most panels that a link is followed through: in a ring of panels it would never end
+# a link is followed through at most this many panels, since a ring of panels has no end
 MOST_PANELS = 100
+ENDLESS = f"it passes more than {MOST_PANELS} panels"
 
 
 class Cable(NamedTuple):
-    """The other end of a cable that ends at a panel, and the cable's line and detail."""
+    """The far end of a cable at a panel, as written and normalized, its line and its detail."""
 
     end: End
     key: End
@@ -20,9 +21,9 @@ class Cable(NamedTuple):
 
 
 class Panels:
-    """Follows cables through panels. Behind a rear port that several front ports share, such as a
-    trunk's, a link goes on at the position at which it began. `dead_ends` has the ends whose link
-    cannot be followed, each with the reason."""
+    """Follows cables through panels. If several front ports share a rear port, such as a trunk's, a
+    link leaves the far panel at the position where it entered the first. `dead_ends` has the
+    ends whose links cannot be followed, each with the reason."""
 
     def __init__(self, pairs: Iterable[Link], names: Names, faults: Faults,
                  faults_of_pairs: Faults) -> None:
@@ -38,7 +39,7 @@ class Panels:
             self._add_pair(pair, faults_of_pairs)
 
     def _add_pair(self, pair: Link, faults: Faults) -> None:
-        """Remembers a pair. A port in two pairs is a fault, except a rear port at two positions."""
+        """Adds a pair of ports. A port in two pairs is a fault, except a shared rear port."""
         front, rear = self._names.end(pair.one), self._names.end(pair.other)
         back = self._pairs.get(rear)
         if back is not None and self._names.end(back.other) == front:
@@ -47,13 +48,13 @@ class Panels:
         taken = self._fronts_of.setdefault(rear, {}).setdefault(pair.position, pair.one)
         is_other = before[:2] != pair[:2] or before.position != pair.position
         if is_other or front in self._fronts_of:
-            faults.add(pair.line, f"{pair.one} is planned already in line {before.line}")
+            faults.add(pair.line, f"{pair.one} is already planned in line {before.line}")
         elif taken != pair.one or back is not None:
-            faults.add(pair.line, f"{pair.other} is planned already for {taken}")
+            faults.add(pair.line, f"{pair.other} is already joined to {taken}")
         self._hosts.update((front.host, rear.host))
 
     def through(self, links: Iterable[Link]) -> Iterator[Link]:
-        """Yields links without panels, twice if they were followed from both their ends."""
+        """Yields the links between devices; a link through panels comes once from each end."""
         links = list(links)
         for link in links:
             if self.has(link.one) or self.has(link.other):
@@ -62,53 +63,48 @@ class Panels:
             one, other = self.has(link.one), self.has(link.other)
             if not one and not other:
                 yield link
-            elif one != other and not self._faults.count:  # one that was refused may close a ring
+            elif one != other and not self._faults.count:  # a refused cable may close a ring
                 begin, end = (link.other, link.one) if one else link[:2]
                 yield from self._followed(begin, self._cable(link, end))
 
     def has(self, end: End) -> bool:
-        """Returns whether an end is at a panel."""
+        """Returns whether an end is a port of a panel."""
         return self._names.host(end.host) in self._hosts
 
     def _cable(self, link: Link, end: End) -> Cable:
         return Cable(end, self._names.end(end), link.line, link.detail)
 
     def _add(self, link: Link) -> None:
-        """Remembers a cable of a panel. Two at one side of a panel are a fault of the plan."""
+        """Adds a cable of a panel. Two cables at one port of a panel are a fault of the plan."""
         one, other = self._cable(link, link.one), self._cable(link, link.other)
         for near, far in ((one, other), (other, one)):
             before = self._cables.get(near.key)
             if before is not None and before.key != far.key and self.has(near.end):
-                self._faults.add(link.line, f"{near.end} is planned already in line {before.line}")
+                self._faults.add(link.line, f"{near.end} is already planned in line {before.line}")
                 return
         self._cables[one.key], self._cables[other.key] = other, one
 
     def _followed(self, begin: End, cable: Cable) -> Iterator[Link]:
-        """Yields the link that begins with a cable, unless it ends at a panel or in a ring."""
+        """Yields the link that begins with a cable, unless it cannot be followed to a device."""
         first = cable
         path: list[End] = []
         positions: list[str] = []
         while self.has(cable.end):
-            side = self._other_side(cable, positions)
+            is_endless = len(path) > 2 * MOST_PANELS
+            side = ENDLESS if is_endless else self._other_side(cable, positions)
             further = None if isinstance(side, str) else self._cables.get(self._names.end(side))
-            if isinstance(side, str) or further is None or len(path) > 2 * MOST_PANELS:
-                self.dead_ends.append((begin, self._why(side, further)))
+            if isinstance(side, str) or further is None:
+                no_cable = f"{self._faults.file} has no cable at {side}"
+                self.dead_ends.append((begin, side if isinstance(side, str) else no_cable))
                 return
             path += [cable.end, side]
             cable = further
         yield Link(begin, cable.end, first.line, cable.line, Detail(first.detail.texts, path),
                    Detail(cable.detail.texts, path[::-1]))
 
-    def _why(self, side: Union[End, str], further: Optional[Cable]) -> str:
-        """Returns why a link ends at a panel, by what is behind the panel's port."""
-        if isinstance(side, str):
-            return side
-        return (f"it goes through over {MOST_PANELS} panels" if further else
-                f"{self._faults.file} has no cable at {side}")
-
     def _other_side(self, cable: Cable, positions: list[str]) -> Union[End, str]:
-        """Returns the other side of the panel at which a cable ends, or why that is not known.
-        `positions` are those at which the link is in trunks."""
+        """Returns the other side of the panel where a cable ends, or why it is not known.
+        `positions` has the link's position in each trunk that it has entered and not left."""
         pair = self._pairs.get(cable.key)
         if pair is not None:
             positions.append(pair.position)
@@ -118,12 +114,12 @@ class Panels:
             return f"{self._file} has no row for {cable.end}"
         if not positions:
             return next(iter(fronts.values())) if len(fronts) == 1 else (
-                f"{cable.end} has {len(fronts)} positions")
+                f"{cable.end} has {len(fronts)} positions, and which one is meant is unknown")
         position = positions.pop()
         return fronts.get(position) or f"{self._file} has no position {position} at {cable.end}"
 
 
 def fewest_links(begins: Sequence[End]) -> int:
-    """Returns how many links at least have these ends: a link joins two ends, and two hosts."""
+    """Returns the least number of links with these ends: each link has two, at two hosts."""
     of_hosts = Counter(end.host for end in begins)
     return max((len(begins) + 1) // 2, *of_hosts.values()) if begins else 0

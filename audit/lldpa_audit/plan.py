@@ -1,4 +1,4 @@
-"""A plan of the cabling: which end is to be joined to which, and what is wrong with its file."""
+"""A plan of the cabling: which ends are to be joined, and what is wrong with its file."""
 from collections import defaultdict
 from functools import cached_property
 from typing import Iterable, Mapping, NamedTuple, Optional, Sequence, Set
@@ -28,7 +28,7 @@ class Faults:
         self._texts: list[str] = []
 
     def add(self, line: Optional[int], text: str) -> None:
-        """Adds a fault, and its line if it has one. Raises PlanFault after very many."""
+        """Adds a fault, with its line if known. Raises PlanFault after MOST_COUNTED faults."""
         self.count += 1
         if self.count > MOST_COUNTED:
             self.end()
@@ -48,7 +48,7 @@ class Faults:
 
 
 class Detail(NamedTuple):
-    """What else a plan says of a cable: other columns in their order, and the way at panels."""
+    """What else a plan says of a cable: its further columns in order, and its path at panels."""
 
     texts: Sequence[str] = ()
     path: Sequence[End] = ()
@@ -59,9 +59,9 @@ FIRST = "1"
 
 
 class Link(NamedTuple):
-    """A planned link: its two ends, and the line of each in the plan if that is known. At panels
-    they are at two cables, each with a line and a detail. A pair of ports of a panel is a link from
-    the front port to the rear port, with its position there, from 1 on."""
+    """A planned link: its two ends, and the plan's line for each, if known. The ends of a link
+    through panels are of two cables, each with a line and a detail. A panel's pair of ports is
+    also a link: from the front port to the rear port, with its position there, counted from 1."""
 
     one: End
     other: End
@@ -73,8 +73,8 @@ class Link(NamedTuple):
 
 
 class Wish(NamedTuple):
-    """A planned end and the one that it wants, as the plan writes them, its line, and what else the
-    plan says. `wanted` is the one that it wants as it is compared."""
+    """A planned end and the end that it wants, as the plan writes them; `wanted` is the latter,
+    normalized. `line` and `detail` are those of its cable."""
 
     end: End
     wants: End
@@ -88,11 +88,10 @@ NOT_PLANNED = Wish(NO_END, NO_END, NO_END)
 
 
 class Plan:
-    """The planned ends in the order of the plan, by their names as they are compared. The two ends
-    of a link follow one another. No end is joined to two, except those in `whole`, at which the
-    several links of a breakout cable begin: `breakouts` has these. Raises PlanFault. `columns`
-    names the texts of each detail, `notes` has what is left out, `not_judged` counts the links that
-    go on at an unknown place, and `unknown` has their ends."""
+    """The planned ends by their normalized names, in the plan's order; the two ends of a link are
+    adjacent. Only an end in `whole` has several links, those of a breakout cable; `breakouts`
+    has these. `columns` names the texts of a detail, `notes` says what is left out, `not_judged`
+    counts the links that cannot be followed, and `unknown` has their ends. Raises PlanFault."""
 
     def __init__(self, file: str, links: Iterable[Link], names: Names,
                  faults: Optional[Faults] = None, whole: Optional[Set[End]] = None) -> None:
@@ -113,7 +112,7 @@ class Plan:
             else:
                 self._add(link, names, faults)
         if not self.ends and not self.breakouts and not faults.count:
-            faults.add(None, "it plans no link")
+            faults.add(None, "it has no links")
         self.hosts = {key.host: wish.end.host for key, wish in self.ends.items()}
         for key, some in self.breakouts.items():
             self.hosts.update((names.host(end.host), end.host) for link in some for end in link[:2])
@@ -123,16 +122,16 @@ class Plan:
         names.planned, names.planned_ports = self.ends, {key.port for key in self.ends}
 
     def _need_hosts_apart(self, whole: Names, faults: Faults) -> None:
-        """Refuses two hosts whose names differ only in their domains: they would be one."""
+        """Refuses two planned hosts that --short-names would make one."""
         firsts: dict[str, str] = {}
         for key, wish in self.ends.items():
             first = firsts.setdefault(key.host, wish.end.host)
             if whole.host(wish.end.host) != whole.host(first):
                 faults.add(wish.line, f"{shown(wish.end.host)} and {shown(first)} are planned, and "
-                                      "would be one host by --short-names")
+                                      "would be one host with --short-names")
 
     def _add(self, link: Link, names: Names, faults: Faults) -> None:
-        """Plans a link, unless it is planned already."""
+        """Plans a link, unless it is already planned."""
         one, other, line, other_line, detail, other_detail, _ = link
         one_key, other_key = names.end(one), names.end(other)
         before, other_before = self.ends.get(one_key), self.ends.get(other_key)
@@ -145,7 +144,7 @@ class Plan:
             faults.add(line, planned_twice(twice, before or other_before, line))
 
     def _add_lane(self, link: Link, whole: Set[End], names: Names, faults: Faults) -> None:
-        """Plans a link of a breakout cable: its end in `whole` has several links."""
+        """Adds a link of a breakout cable: its end in `whole` has several links."""
         if link.one not in whole:
             link = Link(link.other, link.one, link.line, link.other_line, link.detail,
                         link.other_detail)
@@ -155,28 +154,28 @@ class Plan:
         some.append(link)
 
     def add_lane(self, lane: End, link: Link, names: Names, wanted: Optional[End]) -> None:
-        """Plans a link of a breakout cable at its lane. The other end wants that or a given end."""
+        """Plans a breakout cable's link at this lane. Its other end wants `wanted`, or the lane."""
         self._add(link._replace(one=lane), names, Faults(self.file))
         other = names.end(link.other)
         self.ends[other] = self.ends[other]._replace(wanted=wanted or names.end(lane))
 
     @cached_property
     def ends_of_hosts(self) -> Mapping[str, Sequence[End]]:
-        """Returns the planned ends of each host, all as they are compared."""
+        """Returns the planned ends of each host, all normalized."""
         ends: dict[str, list[End]] = defaultdict(list)
         for key in self.ends:
             ends[key.host].append(key)
         return ends
 
     def details(self, wish: Wish) -> Sequence[tuple[str, str]]:
-        """Returns the name and the text of each other column for an end."""
+        """Returns the name and the text of each further column of an end that is not empty."""
         return [(name, text) for name, text in zip(self.columns, wish.detail.texts) if text]
 
 
 def planned_twice(end: End, before: Optional[Wish], line: Optional[int]) -> str:
-    """Returns the fault of an end that is joined to two, or to itself."""
+    """Returns the fault of an end that is joined twice, or to itself."""
     if before is not None and before.line == line is not None:
-        return f"{end} is planned twice in it"
+        return f"{end} is planned twice in this line"
     if before is None or before.line is None:
         return f"{end} is planned twice"
-    return f"{end} is planned already in line {before.line}"
+    return f"{end} is already planned in line {before.line}"

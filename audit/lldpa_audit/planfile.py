@@ -1,24 +1,23 @@
-"""Reads plans: links in DOT, CSV or NetBox's JSON, through patch panels."""
+"""Reads plans: links in DOT, CSV or NetBox's JSON, followed through patch panels."""
 from collections import Counter
+from itertools import starmap
 from sys import intern
 from typing import Iterable, Iterator, Mapping, Optional, Sequence, Union
 
 from .columns import Columns
 from .dot import edges_of, is_dot
-from .names import LONGEST, End, Names
-from .netbox import DETAILS, Cable, cables_of, is_json
+from .names import LONGEST, MOST_NAMED, End, Names
+from .netbox import DETAILS, Cable, cables_of
 from .panels import Panels, fewest_links
 from .plan import NO_DETAIL, Detail, Faults, Link, Plan
 from .progress import Progress
 from .rows import rows_of, text_of
 
-MOST_NAMED = 3
-
 
 class PlanFile:
-    """Reads the links of a file. `left_out` counts the cables that are left out, by the reason.
-    `at_panels` has the ends that the file calls ports of panels, each with the cable's other end,
-    and `breakouts` the ends of several links."""
+    """Reads the links of a file. `left_out` counts the cables that are left out, by reason.
+    `at_panels` maps each end that the file calls a panel's port to the cable's other end, and
+    `breakouts` has the ends with several links."""
 
     def __init__(self, file: str, columns: Optional[Mapping[str, str]] = None,
                  has_panels: bool = True) -> None:
@@ -32,7 +31,7 @@ class PlanFile:
         self._has_panels = has_panels
 
     def links(self) -> Iterator[Link]:
-        """Yields the links, without panels only those that do not end at one."""
+        """Yields the links. Without a list of panels, links that end at a panel are omitted."""
         for cable in self._cables():
             if isinstance(cable, str):
                 self.left_out[cable] += 1
@@ -42,8 +41,8 @@ class PlanFile:
                     yield link
 
     def _cables(self) -> Iterator[Union[Cable, str]]:
-        """Returns the cables, and why others are left out."""
-        if is_json(self.text):
+        """Returns each cable, or why it is left out."""
+        if self.text.lstrip()[:1] in ("{", "["):  # CSV and DOT do not begin so
             self.others = DETAILS
             return cables_of(self.text, self.faults)
         if is_dot(self.text):
@@ -51,26 +50,24 @@ class PlanFile:
         return self._cables_of_rows()
 
     def _cables_of_rows(self) -> Iterator[Union[Cable, str]]:
-        """Yields the cables of rows, the first of which names the columns."""
+        """Yields each cable of a CSV file, or why it is left out."""
         rows = rows_of(self.text, self.faults)
         line, header = next(rows, (1, []))
         columns = Columns(header, line, self.faults, self._given)
         self.others = columns.others
-        for line, fields in rows if columns.can_read else ():
-            cable = columns.cable(line, fields)
-            if cable is not None:
-                yield cable
+        if columns.can_read:
+            yield from (cable for cable in starmap(columns.cable, rows) if cable)
 
     def _links_of(self, cable: Cable) -> Sequence[Link]:
-        """Returns the links of a cable, and remembers ends at panels and those of several links."""
+        """Returns the links of a cable. Notes ends at panels and ends with several links."""
         rows, line, texts, at_panels, position = cable
         detail = Detail(texts) if texts else NO_DETAIL
         links = []
         for row in rows:
             longest = max(map(len, row))
             if longest > LONGEST:
-                self.faults.add(line, f"a name in it has {longest} characters; the longest name "
-                                      f"that LLDP can send has {LONGEST}")
+                self.faults.add(line, f"a name in it has {longest} characters, but LLDP can send "
+                                      f"only {LONGEST}")
             host, port, peer, peer_port = map(intern, row)  # names are in many rows
             links.append(Link(End(host, port), End(peer, peer_port), line, None, detail, None,
                               position))
@@ -87,7 +84,7 @@ class PlanFile:
 
 def read_plan(file: str, names: Names, columns: Optional[Mapping[str, str]] = None,
               panels: Optional[str] = None, progress: Optional[Progress] = None) -> Plan:
-    """Reads the plan of a file through the panels of another. Raises PlanFault and OSError."""
+    """Reads a plan, with links followed through the file `panels`. Raises PlanFault, OSError."""
     read = PlanFile(file, columns, panels is not None)
     links: Iterable[Link] = read.links()
     if progress is not None:
@@ -109,7 +106,7 @@ def read_plan(file: str, names: Names, columns: Optional[Mapping[str, str]] = No
 
 
 def notes_of(file: str, read: PlanFile) -> list[str]:
-    """Returns which cables of a plan are left out, and why."""
+    """Returns a note on the cables of a plan that are left out, if there are any."""
     count = sum(read.left_out.values())
     if not count:
         return []
@@ -118,7 +115,7 @@ def notes_of(file: str, read: PlanFile) -> list[str]:
 
 
 def notes_of_panels(file: str, read: PlanFile, followed: Optional[Panels]) -> list[str]:
-    """Returns which cables cannot be followed through panels, and why."""
+    """Returns notes on the cables that cannot be followed through panels."""
     if followed is None:
         count = sum(end not in read.at_panels for end in read.at_panels.values())
         cables = "cable ends" if count == 1 else "cables end"
@@ -127,5 +124,5 @@ def notes_of_panels(file: str, read: PlanFile, followed: Optional[Panels]) -> li
     dead_ends = followed.dead_ends
     notes = [f"{begin} cannot be judged: {why}" for begin, why in dead_ends[:MOST_NAMED]]
     if len(dead_ends) > MOST_NAMED:
-        notes.append(f"{len(dead_ends) - MOST_NAMED} more ends behind panels cannot be judged")
+        notes.append(f"{len(dead_ends) - MOST_NAMED} more cannot be judged")
     return notes

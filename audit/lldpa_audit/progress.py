@@ -1,4 +1,4 @@
-"""Shows on a terminal how far a program is, if it takes longer than people wait gladly."""
+"""Shows a program's progress on a terminal if it takes more than two seconds."""
 import os
 import sys
 import time
@@ -13,7 +13,7 @@ Item = TypeVar("Item")
 
 
 class Progress:
-    """One line on standard error, which is written again and again, and removed at the end."""
+    """A line on standard error that is rewritten again and again, and removed at the end."""
 
     def __init__(self, name: str, is_on: Optional[bool] = None) -> None:
         self._name = name
@@ -22,21 +22,21 @@ class Progress:
         self._is_shown = False
 
     def over(self, items: Iterable[Item], total: int, what: str) -> Iterator[Item]:
-        """Returns the items, and reports how many of them there were."""
+        """Yields the items, and shows how many have passed."""
         for number, item in enumerate(items, 1):
             if self._is_on and time.monotonic() >= self._next:
                 self.show(f"{number} of {total} {what}")
             yield item
 
     def show(self, text: str) -> None:
-        """Shows what is done now, if it took long so far."""
+        """Shows a text, but not in the first PATIENCE seconds, nor twice in BETWEEN seconds."""
         if self._is_on and time.monotonic() >= self._next:
             self._next = time.monotonic() + BETWEEN
             self._is_shown = True
             self._write(f"{CLEARED}{self._name}: {text}")
 
     def clear(self) -> None:
-        """Takes the line away, so that another can be written."""
+        """Removes the line, so that another can be written."""
         if self._is_shown:
             self._is_shown = False
             self._write(CLEARED)

@@ -7,7 +7,7 @@ from typing import Iterator, Sequence
 from .plan import Faults, PlanFault
 
 
-LINE = re.compile(r"[^\n]*\n|[^\n]+")  # all lines at once may take much memory
+LINE = re.compile(r"[^\n]*\n|[^\n]+")  # not all lines at once, which may take much memory
 COMMENT = "#"
 
 
@@ -23,23 +23,23 @@ def text_of(file: str) -> str:
 
 def table_of(faults: Faults, columns: Sequence[str], further: Sequence[str] = ()
              ) -> Iterator[tuple[int, list[str]]]:
-    """Yields the fields of each row of the faults' file, with its line. The header must have just
-    these columns, and may have further ones after them. Raises PlanFault and OSError."""
+    """Yields the line and the fields of each row of the file. Its header must have these columns,
+    perhaps followed by the further ones. Raises PlanFault and OSError."""
     rows = rows_of(text_of(faults.file), faults)
     line, header = next(rows, (1, []))
     names = [name.strip().lower() for name in header]
     if names not in (columns, [*columns, *further]):
-        faults.add(line, f"the first line is not {','.join(columns)}")
+        faults.add(line, f"the header must be {','.join(columns)}")
         return
     for line, row in rows:
         yield line, [field.strip() for field in row]
 
 
 def rows_of(text: str, faults: Faults) -> Iterator[tuple[int, list[str]]]:
-    """Yields each row that is not blank and not a comment, with its line; the first is the header.
-    Rows that are shorter than that end in empty fields. A comment begins with `#`, and is before
-    the header or has fewer fields than it. A field in quotes may have line feeds, and lines in it
-    that look like comments. Nothing follows a field that never ends."""
+    """Yields each row with its line, first the header, without blank lines and comments. Shorter
+    rows are filled with empty fields. A comment begins with `#`, and is before the header or has
+    fewer fields than it. A quoted field may have line feeds, even lines that look like comments.
+    Reading stops at a field without an end."""
     lines = Lines(text)
     reader = csv.reader(lines, delimiter=separator_of(text), strict=True, skipinitialspace=True)
     width = 0
@@ -59,25 +59,25 @@ def rows_of(text: str, faults: Faults) -> Iterator[tuple[int, list[str]]]:
             lines.is_after_header = True
             yield lines.begin, row if len(row) >= width else row + [""] * (width - len(row))
         elif lines.number > lines.begin:
-            faults.add(lines.begin, "a comment with a quote in it that ends in a further line")
+            faults.add(lines.begin, "the comment has a quote that ends in a later line")
 
 
 def worded(fault: str) -> str:
-    """Returns what is wrong with a row by csv's words. If they change, no row can follow."""
+    """Rewords a fault of csv. After a fault that is reworded, no further row can be read."""
     if "field larger" in fault:
-        return f"a field of over {csv.field_size_limit()} characters"
+        return f"a field has over {csv.field_size_limit()} characters"
     return "a field in quotes has no end" if "end of data" in fault else fault
 
 
 def separator_of(text: str) -> str:
-    """Returns the separator that the header has most often."""
+    """Returns the separator that occurs most often in the header."""
     header = next((line[0] for line in LINE.finditer(text) if begins_header(line[0])), "")
     return max(",;\t", key=header.count)
 
 
 class Lines:
-    """Yields lines, without those between rows that are blank, or comments before the header.
-    `number` is that of the last line, and `begin` that of a row's first line."""
+    """Yields the lines of a text, without blank lines between rows and comments before the header.
+    `number` is the number of the last line, `begin` that of the first line of its row."""
 
     def __init__(self, text: str) -> None:
         self._text = text

@@ -2,18 +2,18 @@
 import ipaddress
 import re
 import unicodedata
+from contextlib import suppress
 
 MAC = re.compile(r"[0-9a-f]{2}(?P<mark>[:-])(?:[0-9a-f]{2}(?P=mark)){4}[0-9a-f]{2}"
                  r"|[0-9a-f]{4}[.][0-9a-f]{4}[.][0-9a-f]{4}|[0-9a-f]{12}", re.I)
 IP_ADDRESS = re.compile(r"[0-9a-f.:]+", re.I)
 LONGEST_ADDRESS = 45
 
-# a port: letters, which Huawei begins with the speed, and a number of one or more parts, of which
-# IOS-XR names some
+# a port: the speed (Huawei), letters, and a number in parts, which may have names (IOS-XR)
 PORT = re.compile(r"((?:25|40|50|100|200|400)?[A-Za-z-]*[A-Za-z]) ?"
                   r"([0-9]+(?:[/:.](?:RP|RSP|CPU)?[0-9]+)*)", re.I)
 
-# a port of SR Linux, in short
+# the short form of a port of SR Linux
 SR_LINUX = re.compile(r"e([0-9]+)-([0-9]+)(?:-([0-9]+))?")
 
 # the logical interface of a port, which Junos' agents name in place of the port
@@ -46,7 +46,7 @@ KINDS = {
 }
 KIND_OF = {form: kind for kind, forms in KINDS.items() for form in [kind, *forms.split()]}
 
-# an aggregate of links: of Cisco, Arista, Junos, HPE, Huawei, Linux and BSD
+# names of aggregates: of Cisco, Arista, Junos, HPE, Huawei, Linux and BSD
 AGGREGATE = re.compile(r"(?:port-?channel|po|bundle-ether|be|ae|trk|bridge-aggregation|bagg|"
                        r"eth-trunk|lag|lagg|bond|team)[-_ ]?[0-9]+(?:[.][0-9]+)?", re.I)
 
@@ -59,16 +59,14 @@ def plain(name: str) -> str:
         digits = re.sub("[:.-]", "", name).lower()
         return ":".join(digits[at:at + 2] for at in range(0, 12, 2))
     if len(name) <= LONGEST_ADDRESS and IP_ADDRESS.fullmatch(name):
-        try:
+        with suppress(ValueError):
             return ipaddress.ip_address(name).compressed
-        except ValueError:
-            pass
     return name
 
 
 def plain_port(name: str) -> str:
-    """Returns a port's name in one spelling for all vendors. A Linux' `eth0` is unchanged, since a
-    switch may have that and an Ethernet0."""
+    """Returns a port's name in one spelling for all vendors. Linux' `eth0` remains as it is, since
+    a switch may have both eth0 and Ethernet0."""
     unit = UNIT.fullmatch(name)
     if unit:
         return unit[1]
@@ -83,5 +81,4 @@ def plain_port(name: str) -> str:
 
 
 def is_aggregate(port: str) -> bool:
-    """Returns whether a port's name is that of an aggregate of links."""
     return AGGREGATE.fullmatch(port) is not None

@@ -1,17 +1,18 @@
-"""What an audit is given: files of hosts and of ports, as words name them."""
+"""Reads the arguments WHAT of the command line: files of hosts and of ports."""
 import os
 from typing import Iterable, Iterator, NamedTuple
 
 from .names import End, Names
 from .plan import Plan
 
-# what ends the name of a file, and is not part of a host's name or a port's
+# endings of files' names that are not part of the name of a host or port
 ENDINGS = (".gz", ".json", ".json0", ".xml", ".walk", ".txt", ".show", ".out", ".pcap", ".pcapng",
            ".cap")
 
+
 class What(NamedTuple):
-    """A file of a host, and the port if it is a capture of one. Without a host the file's name may
-    be one. One that `is_found` in a folder is skipped if it cannot be opened."""
+    """A file of a host, and the port if it is a capture of one. If the host is empty, the file may
+    be named after it. If a file that `is_found` in a folder cannot be opened, the audit goes on."""
 
     host: str
     port: str
@@ -20,7 +21,7 @@ class What(NamedTuple):
 
 
 def read_what(word: str, ours: str) -> What:
-    """Reads a word as FILE, PORT=FILE or HOST:FILE: the first of these whose file exists."""
+    """Reads an argument as FILE, PORT=FILE or HOST:FILE: the first of these whose file exists."""
     forms = [What("", "", word)]
     forms += [What(ours, port, file) for port, file in splits_at(word, "=")]
     forms += [What(host, "", file) for host, file in splits_at(word, ":")]
@@ -29,9 +30,8 @@ def read_what(word: str, ours: str) -> What:
 
 
 def placed(what: What, plan: Plan, names: Names, ours: str) -> What:
-    """Returns the same as the plan takes it: a file without a host, and HOST:PORT=FILE. That is a
-    port with a colon in its name if the plan has it, or if a number follows the colon and the plan
-    has no such host, as in `et-0/0/0:1`."""
+    """Finds the host of a file without one, and splits HOST:PORT. But the colon belongs to the port
+    if the plan has such a port, or if a number follows and no planned host precedes it."""
     if not what.host:
         return what._replace(host=host_of_file(what.file, plan, names, ours))
     if ":" not in what.port or names.end(End(what.host, what.port)) in plan.ends:
@@ -45,7 +45,7 @@ def placed(what: What, plan: Plan, names: Names, ours: str) -> What:
 
 
 def host_of_file(file: str, plan: Plan, names: Names, ours: str) -> str:
-    """Returns the planned host after which a file is named, or this host."""
+    """Returns the host that a file is named after, or this host if the plan has only this one."""
     named = without_ending(os.path.basename(file))
     is_named = names.host(named) in plan.hosts
     return named if is_named or names.host(ours) not in plan.hosts else ours
@@ -58,12 +58,12 @@ def without_ending(name: str) -> str:
 
 
 def of_hosts(whats: Iterable[What]) -> list[What]:
-    """Returns those that are not captures of one port."""
+    """Returns the files that are not captures of one port."""
     return [what for what in whats if not what.port]
 
 
 def splits_at(word: str, mark: str) -> Iterator[tuple[str, str]]:
-    """Returns what precedes and follows each mark in a word, if neither is empty."""
+    """Yields what precedes and follows each mark in a word, unless either is empty."""
     for at, letter in enumerate(word):
         if letter == mark and 0 < at < len(word) - 1:
             yield word[:at], word[at + 1:]

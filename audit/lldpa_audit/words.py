@@ -1,4 +1,4 @@
-"""The words of lldpa-audit."""
+"""The command line of lldpa-audit."""
 import argparse
 import socket
 from math import inf
@@ -18,7 +18,7 @@ PLAN is CSV, NetBox's export or API answer of cables, or a topology in DOT. Each
                   ntc-templates; the output of snmpwalk; or a capture that names its interfaces
   HOST:FOLDER     several files of a host
   FILE            a list or capture of the host that the file is named after, or of this host
-  PORT=FILE       a capture taken at a port of this host; HOST:PORT=FILE at one of another host
+  PORT=FILE       a capture taken at a port of this host; HOST:PORT=FILE for another host
 
 The exit status is 0 if everything that was looked at is right, 1 for a fault, a damaged file or,
 with --all, a cable that nobody looked at, and 2 for a wrong argument or plan, or a file that cannot
@@ -33,7 +33,7 @@ The manual page lldpa-audit(1) describes the verdicts.
 
 
 def read_words(words: Optional[Sequence[str]]) -> argparse.Namespace:
-    """Reads the words of the program. Ends it with status 2 if they are wrong."""
+    """Reads the command line. Ends the program with status 2 if it is wrong."""
     parser = argparse.ArgumentParser(
         prog="lldpa-audit", allow_abbrev=False, epilog=WORDS,
         usage="lldpa-audit [OPTION ..] PLAN WHAT ..",
@@ -42,8 +42,7 @@ def read_words(words: Optional[Sequence[str]]) -> argparse.Namespace:
         formatter_class=argparse.RawDescriptionHelpFormatter)
     parser.add_argument("plan", metavar="PLAN", help="the planned cables, see below")
     parser.add_argument("what", metavar="WHAT", nargs="*", help="what was seen, see below")
-    add_words_of_sources(parser)
-    add_words_of_names(parser)
+    add_words_of_input(parser)
     add_words_of_report(parser)
     add_version(parser)
     given = parser.parse_intermixed_args(words)
@@ -52,30 +51,26 @@ def read_words(words: Optional[Sequence[str]]) -> argparse.Namespace:
     return given
 
 
-def add_words_of_sources(parser: argparse.ArgumentParser) -> None:
-    """Adds the words for how the plan is read, and for what is seen besides files."""
+def add_words_of_input(parser: argparse.ArgumentParser) -> None:
+    """Adds the options for the plan, for what is seen, and for comparing names."""
     add = parser.add_argument
     add("--columns", metavar="NAMES", type=columns,
         help="how the plan names its columns, such as "
              "host=device,port=interface,peer=to,peer_port=to_port")
     add("--panels", metavar="FILE",
-        help="which ports of patch panels belong together, such as NetBox's export of front ports")
+        help="the pairs of ports that panels join, such as NetBox's export of front ports")
     add("--live", action="store_true", help="ask the lldpa-live of this host")
     add("--control", metavar="PATH", default=DEFAULT_PATH,
         help=f"the control socket of lldpa-live (default: {DEFAULT_PATH})")
-    add("--wait", metavar="SECONDS", type=seconds, default=0.0,
-        help="with --live, wait up to SECONDS until each planned port has a neighbor")
+    add("--wait", metavar="TIME", type=seconds_of, default=0.0,
+        help="with --live, wait up to TIME until each planned port has a neighbor")
     add("--stale-after", metavar="TIME", type=seconds_of, default=inf,
         help="ignore sources older than TIME: 90 (seconds), 15m, 12h, 1d")
     add("--host", metavar="NAME", default=socket.gethostname(),
         help="this host's name in the plan (default: the system's name)")
     add("--settings", action="store_true",
-        help="compare what both ends of correct links announce: frame size, VLAN, speed, duplex")
+        help="compare what both ends of right links announce: frame size, VLAN, speed, duplex")
 
-
-def add_words_of_names(parser: argparse.ArgumentParser) -> None:
-    """Adds the words for which names are the same."""
-    add = parser.add_argument
     add("--ignore-case", action="store_true", help="ignore case when comparing names")
     add("--short-names", action="store_true",
         help="compare hosts' domains only if both names have one")
@@ -86,7 +81,6 @@ def add_words_of_names(parser: argparse.ArgumentParser) -> None:
 
 
 def add_words_of_report(parser: argparse.ArgumentParser) -> None:
-    """Adds the words for what is reported, and how."""
     add = parser.add_argument
     add("--all", action="store_true",
         help="count cables that were not looked at, or cannot be judged, as faults")
@@ -98,19 +92,11 @@ def add_words_of_report(parser: argparse.ArgumentParser) -> None:
     add("--json", action="store_true", help="print repairs and verdicts as JSON")
     add("--junit", metavar="FILE", help="write a JUnit report with a test case for each end")
     add("--metrics", metavar="FILE", help="write metrics for node_exporter's textfile collector")
-    add("--html", metavar="FILE", help="write a page with the repairs and a picture of each host")
-
-
-def seconds(text: str) -> float:
-    """Returns a number of seconds of an option."""
-    number = float(text)
-    if not 0 <= number <= 86400:
-        raise ValueError
-    return number
+    add("--html", metavar="FILE", help="write a page with the repairs and pictures of faulty hosts")
 
 
 def columns(text: str) -> "dict[str, str]":
-    """Returns the columns of an option, such as `host=device,port=interface`."""
+    """Reads the columns of an option, such as `host=device,port=interface`."""
     pairs = [part.partition("=") for part in text.split(",")]
     given = {name.strip(): column.strip() for name, _, column in pairs}
     if len(given) == len(pairs) and set(given) <= set(COLUMNS) and all(given.values()):

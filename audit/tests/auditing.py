@@ -1,4 +1,4 @@
-"""For tests of lldpa-audit: it is run in a folder, and the six ports of a rack are served."""
+"""For tests of lldpa-audit: runs it in a folder, with the plan of a rack's six ports."""
 import json
 import os
 import re
@@ -12,14 +12,15 @@ from typing import Any, List, Mapping, NamedTuple, Optional, Sequence, Tuple
 import rack
 from served import PROGRAM, REPOSITORY
 
+HEAD = "host,port,peer,peer_port\n"
 AUDIT = os.environ.get("LLDPA_AUDIT") or str(REPOSITORY / "bin" / "lldpa-audit")
 # the agent that reads captures is found on the search path
 WITH_AGENT = {**os.environ, "PATH": f"{os.path.dirname(PROGRAM)}:{os.environ['PATH']}"}
 
 
 class Row(NamedTuple):
-    """An audit in a folder: files, words, the status, and the lines that it prints, first those of
-    standard error. They are without ages, and without further columns of the plan."""
+    """An audit in a folder: its files, arguments and status, and the lines that it prints, first
+    those of standard error. The lines lack ages and the plan's further columns."""
 
     name: str
     files: Mapping[str, Any]
@@ -39,7 +40,7 @@ def audited(row: Row) -> Tuple[int, List[str]]:
 
 
 def write(path: Path, content: Any) -> None:
-    """Writes a file of octets, text or JSON, or lets a call make it."""
+    """Writes a file from octets, text or JSON, or lets a function make it."""
     path.parent.mkdir(parents=True, exist_ok=True)
     if callable(content):
         content(path)
@@ -50,7 +51,7 @@ def write(path: Path, content: Any) -> None:
 
 
 def run(*words: str, folder: Optional[str] = None) -> "subprocess.CompletedProcess[str]":
-    """Runs the program with these words. Its count says nothing of ages here: they change."""
+    """Runs the program with these arguments, and removes the ages from its output."""
     ran = run_whole(*words, folder=folder)
     ran.stdout = without_ages(ran.stdout)
     return ran

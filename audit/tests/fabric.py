@@ -1,9 +1,8 @@
-"""For tests: a fabric of 2,000 links, with panels, trunks, LAGs and breakouts, and 100 faults in
-it.
+"""For tests: a fabric of 2,000 links with panels, trunks, LAGs and breakouts, and 100 faults.
 
-What is plugged where is kept as pairs of ends, and what each end hears follows from that alone. A
-fault changes what is plugged, a host's name, or what a host says and hears. It has ends of its own,
-so that each end in the audit's answer is of one fault, or of none.
+The plugged cables are kept as pairs of ends, and what each end hears follows from them alone. A
+fault changes what is plugged, a host's name, or what a host sends or hears. No end is of two
+faults, so each end in the audit's answer is of one fault or of none.
 """
 import random
 from collections import defaultdict
@@ -15,7 +14,7 @@ CASSETTE = 12  # front ports of a panel before the servers, with one rear port
 
 
 class Fault(NamedTuple):
-    """A fault, the ends at which it may be reported, and the kinds and number of its repairs."""
+    """A fault: the ends where it may be reported, and the kinds and greatest number of repairs."""
 
     kind: str
     ends: Set[End]
@@ -34,10 +33,8 @@ class Fabric:
             self.join(one, other)
         self.planned = dict(self.peer)
         self.names: Dict[str, str] = {}
-        self.deaf: Set[End] = set()
-        self.mute: Set[End] = set()
         self.beside: Dict[End, List[End]] = defaultdict(list)
-        self.hidden: Set[End] = set()
+        self.deaf, self.mute, self.hidden = set[End](), set[End](), set[End]()
         self.frames: Dict[str, int] = {}
         self.lags = dict(lags())
         self.faults: List[Fault] = []
@@ -55,7 +52,7 @@ class Fabric:
         self.peer[one], self.peer[other] = other, one
 
     def cut(self, *ends: End) -> List[End]:
-        """Takes the cables of these ends out. Returns their other ends."""
+        """Unplugs the cables of these ends. Returns their other ends."""
         others = [self.peer.pop(end) for end in ends]
         for other in others:
             del self.peer[other]
@@ -152,14 +149,14 @@ class Fabric:
         self.told("small frames", ends, "mismatch")
 
     def heard(self, end: End) -> List[End]:
-        """Returns which neighbors an end hears: the name and the port of each."""
+        """Returns the neighbors that an end hears: the name and the port of each."""
         found = [] if end in self.deaf else [
             peer for peer in [self.peer.get(end)] if peer is not None and peer not in self.mute]
         return [(self.names.get(end[0], end[0]), self.said(end))
                 for end in [*found, *self.beside[end]]]
 
     def said(self, end: End) -> str:
-        """Returns what an end says in place of its port's name: some servers name the LAG."""
+        """Returns the port that an end announces. Some servers announce the name of their LAG."""
         is_named = end in self.lags and end[0].startswith("srv") and end[0].endswith("0")
         return self.lags[end][0] if is_named else end[1]
 
@@ -203,7 +200,7 @@ def lanes_of(number: int) -> Iterator[End]:
 
 
 def is_paneled(one: End) -> bool:
-    """Returns whether a link of a leaf goes through panels: its first twelve servers."""
+    """Returns whether a link of a leaf goes through panels: those to its first twelve servers."""
     return one[0].startswith("leaf") and one[1][3:].isdecimal() and int(one[1][3:]) <= CASSETTE
 
 

@@ -1,4 +1,4 @@
-"""For tests: lists that were once refused as a whole, or right for the wrong reason."""
+"""For tests: numbered points on lists that were once refused, or right for the wrong reason."""
 import gzip
 import json
 import os
@@ -6,13 +6,9 @@ from typing import Any, Sequence, Tuple
 
 import rack
 import vendors
-from auditing import Row, neighbor
+from auditing import HEAD, Row, neighbor
 
-PLAN = """host,port,peer,peer_port
-leaf1,swp1,host01,eth0
-leaf1,swp2,host02,eth0
-leaf2.lab,swp1,host04,eth0
-"""
+PLAN = f"{HEAD}leaf1,swp1,host01,eth0\nleaf1,swp2,host02,eth0\nleaf2.lab,swp1,host04,eth0\n"
 RIGHT = {"swp1": [("host01", "eth0")], "swp2": [("host02", "eth0")]}
 OF_LEAF2 = {"swp1": [("host04", "eth0")]}
 LEAF1, LEAF2 = vendors.napalm(RIGHT), vendors.napalm(OF_LEAF2)
@@ -21,12 +17,7 @@ HEARS_HOST01, HEARS_HOST02 = (rack.pcap([rack.lldp_frame(host, "eth0")])
 ALL_RIGHT = ["3 cables: 3 right, 0 wrong"]
 NOT_LOOKED_AT = "3 cables: 0 right, 0 wrong, 3 not looked at (host01, host02, host04, 1 more)"
 USE_JSON = "use `lldpcli -f json show neighbors details`"
-IOS = """
-Local Intf: Gi1/0/1
-Chassis id: 0200.5e00.5301
-Port id: eth0
-System Name: host01
-"""
+IOS = "Local Intf: Gi1/0/1\nChassis id: 0200.5e00.5301\nPort id: eth0\nSystem Name: host01\n"
 TRACEBACK = "Traceback (most recent call last):\n  File \"x.py\"\nTimeoutError: timed\x1b[2J out\n"
 NO_ROUTE = {"comment": "no route to leaf2", "result": False, "out": {}}
 TWICE = """{"swp1": [{"hostname": "x", "port": "y"}],
@@ -34,6 +25,7 @@ TWICE = """{"swp1": [{"hostname": "x", "port": "y"}],
 "swp1": [{"hostname": "host01", "port": "eth0"}]}"""
 # lists of leaf1 that are refused, and the cause
 REFUSED: Sequence[Tuple[str, Any, str]] = (
+    ("7: a command that failed", NO_ROUTE, "the command failed: no route to leaf2"),
     ("5: a port twice", TWICE, "the name 'swp1' is in it twice: lines 1 and 3"),
     ("5: a host twice in a file of many", TWICE.replace("swp", "leaf"),
      "the name 'leaf1' is in it twice: lines 1 and 3"),
@@ -47,22 +39,22 @@ REFUSED: Sequence[Tuple[str, Any, str]] = (
     ("16: text", IOS, "it looks like text of a switch: give its JSON, or rows of ntc-templates"),
     ("16: keyvalue", "lldp.swp1.via=LLDP\n", f"it is lldpcli's keyvalue: {USE_JSON}"),
     ("16: XML", '<?xml version="1.0"?>\n<lldp/>', f"it is lldpcli's XML: {USE_JSON}"),
-    ("16: a page", "<!DOCTYPE html><p>Log in", "it is a web page, such as that of a login"),
+    ("16: a page", "<!DOCTYPE html><p>Log in", "it is a web page, such as a login page"),
     ("16: a shell", "sh: lldpcli: command not found\n",
      "the command that wrote it failed: sh: lldpcli: command not found"),
     ("16: NX-OS' short list", {"TABLE_nbor": {"ROW_nbor": []}},
      "it is NX-OS' short list, without chassis IDs: use `show lldp neighbors detail | json`"),
-    ("16: nothing", [], "it is an empty list: ntc-templates returns one if nobody is heard, and if "
-     "it does not know the text"),
+    ("16: nothing", [], "it is an empty list: ntc-templates returns one if nobody is heard, or if "
+     "it cannot parse the text"),
     ("16: a chassis", {"local-chassis": {}},
      f"it is what lldpcli says of its own host: {USE_JSON}"))
 # what a file of many hosts has in place of leaf2's list, and what is said of it
 FAILED: Sequence[Tuple[str, Any, str]] = (
     ("7: salt's host that failed", NO_ROUTE, "the command failed: no route to leaf2"),
-    ("10: a traceback", TRACEBACK, "it has no list, but TimeoutError: timed\\x1b[2J out"),
-    ("10: null", None, "it has no list, but nothing"),
+    ("10: a traceback", TRACEBACK, "in place of a list it has TimeoutError: timed\\x1b[2J out"),
+    ("10: null", None, "in place of a list it has nothing"),
     ("10: an error", {"error": "x"},
-     "it is an error message, and no list of neighbors: see lldpa-audit(1)"))
+     "it is an error message, not a list of neighbors"))
 PARTS = (
     *(Row(point, {"l": tree}, "leaf1:l", 1, [
         f"l: {cause}", f"leaf1  no data at 2 of 2 ports (l: {cause})", NOT_LOOKED_AT])
@@ -75,10 +67,6 @@ PARTS = (
         "swp2  extra: host03 eth0 besides host02 eth0",
         "3 cables: 1 right, 1 wrong, 1 not looked at (host04, leaf2.lab)"])
       for point, tree in vendors.LISTS.items()),
-    Row("7: a list of a command that failed", {"l": NO_ROUTE}, "leaf2.lab:l", 1, [
-        "l: the command failed: no route to leaf2",
-        "swp1  no data: wants host04 eth0 (l: the command failed: no route to leaf2)",
-        "3 cables: 0 right, 0 wrong, 3 not looked at (leaf1, host01, host02, 1 more)"]),
     Row("10: two lists of a host", {"a": LEAF1, "b": {}, "c": LEAF2},
         "leaf1:a leaf1:b leaf2.lab:c", 2,
         ["leaf1 has two lists: a and b",

@@ -44,7 +44,7 @@ def pcap(packets: Sequence[bytes], start: int = START) -> bytes:
 
 
 def pcapng(packets_of: Dict[str, Sequence[bytes]]) -> bytes:
-    """Returns a pcapng file of named interfaces, which take turns."""
+    """Returns a pcapng file of named interfaces, whose packets take turns."""
     file = section() + b"".join(interface(name=name) for name in packets_of)
     for turn in range(max(map(len, packets_of.values()))):
         for place, packets in enumerate(packets_of.values()):

@@ -1,4 +1,4 @@
-"""For tests: files that once took more than 30 seconds or 500 MB, and a run that is measured."""
+"""For tests: files that once took more than 30 seconds or 500 MB, and a way to measure an audit."""
 import gzip
 import json
 import os
@@ -8,17 +8,17 @@ from pathlib import Path
 from typing import Any, Callable, Iterator, List, Mapping, NamedTuple, Sequence
 
 import rack
-from auditing import AUDIT, WITH_AGENT
+from auditing import AUDIT, HEAD, WITH_AGENT
+from situations import napalm
 
 SECONDS, MEGABYTES = 30, 500
-HEADER = "host,port,peer,peer_port"
-PLAN = f"{HEADER}\nleaf1,swp1,host01,eth0\n"
+PLAN = f"{HEAD}leaf1,swp1,host01,eth0\n"
 SECTION = rack.pcapng({"": []})[:28]
 INTERFACE = rack.block(1, b"\1\0\0\0\0\0\0\0")
 
 
 class Ran(NamedTuple):
-    """What became of an audit: what was wrong with it, its output, its seconds and megabytes."""
+    """The result of an audit: its faults, its output, its processor time and its memory."""
 
     faults: Sequence[str]
     output: str
@@ -27,7 +27,7 @@ class Ran(NamedTuple):
 
 
 def measured(words: Sequence[str]) -> Ran:
-    """Returns what an audit took, which must end by itself with what it says of a bad file."""
+    """Measures an audit, which must end by itself, with a status and without a traceback."""
     child = subprocess.Popen(
         ["prlimit", f"--cpu={2 * SECONDS}", sys.executable, AUDIT, *words],
         stdin=subprocess.DEVNULL, stdout=subprocess.PIPE, stderr=subprocess.STDOUT, env=WITH_AGENT)
@@ -44,11 +44,6 @@ def measured(words: Sequence[str]) -> Ran:
     return Ran(faults, output, used, megabytes)
 
 
-def napalm(*neighbors: Sequence[str]) -> str:
-    """Returns NAPALM's list of neighbors: the port, the host and its port."""
-    return json.dumps({port: [{"hostname": host, "port": at}] for port, host, at in neighbors})
-
-
 def cable_between(number: int, one: Sequence[Any], other: Sequence[Any], kind: str = "interface",
                   status: str = "connected") -> Any:
     """Returns a cable between some ends as NetBox's API lists it."""
@@ -60,40 +55,40 @@ def cable_between(number: int, one: Sequence[Any], other: Sequence[Any], kind: s
 
 
 def cable(number: int) -> str:
-    """Returns a cable of a switch and a server, as text."""
+    """Returns a cable between a switch and a server, as JSON text."""
     return json.dumps(cable_between(number, [(f"leaf{number // 48}", f"swp{number % 48}")],
                                     [(f"srv{number}", "eth0")]))
 
 
 def audit(folder: Path, plan: str, seen: str, *words: str) -> List[str]:
-    """Writes a plan and a list of leaf1, and returns the words of their audit."""
+    """Writes a plan and a list of leaf1, and returns the arguments of their audit."""
     (folder / "plan").write_text(plan)
     (folder / "leaf1").write_text(seen)
     return ["--host", "leaf1", *words, str(folder / "plan"), str(folder / "leaf1")]
 
 
 def with_aliases(folder: Path, rows: Iterator[str]) -> List[str]:
-    """Returns the words of an audit with aliases."""
+    """Returns the arguments of an audit with aliases."""
     with (folder / "aliases").open("w") as file:
         file.write("host,port,alias\n")
         file.writelines(rows)
-    return audit(folder, PLAN, napalm(("swp1", "x", "eth0")), "--aliases", str(folder / "aliases"))
+    return audit(folder, PLAN, napalm("swp1 x eth0"), "--aliases", str(folder / "aliases"))
 
 
 def with_blocks(folder: Path) -> List[str]:
-    """Returns the words of an audit of a capture with very many interfaces."""
+    """Returns the arguments of an audit of a capture with very many interfaces."""
     (folder / "blocks.pcapng").write_bytes(gzip.compress(SECTION + INTERFACE * 6_000_000, 1))
     return [*audit(folder, PLAN, "{}")[:-1], f"leaf1:{folder / 'blocks.pcapng'}"]
 
 
-# each shape writes its files into a folder, and returns the words of the audit
+# each shape writes its files into a folder, and returns the arguments of the audit
 SMALL: Mapping[str, Callable[[Path], List[str]]] = {
     "a label of 32,000 letters": lambda folder: audit(
-        folder, f"{HEADER},label\nleaf1,swp1,host01,eth0,{'a' * 32_000}\n",
-        napalm(("swp1", "x", "eth0")), "--html", f"{folder}/page"),
+        folder, f"{HEAD[:-1]},label\nleaf1,swp1,host01,eth0,{'a' * 32_000}\n",
+        napalm("swp1 x eth0"), "--html", f"{folder}/page"),
     "names of 500 colons": lambda folder: audit(
-        folder, PLAN, napalm(*((f"swp{at}", ":" * 500 + f"x{at}", "1" + ":" * 500 + f"x{at}")
-                               for at in range(15_000))), "--vendor-names"),
+        folder, PLAN, napalm("".join(f"swp{at} {':' * 500}x{at} 1{':' * 500}x{at}\n"
+                                     for at in range(15_000))), "--vendor-names"),
     "1,000 aliases of one name": lambda folder: with_aliases(
         folder, (f"host01,eth{at},bond0\n" for at in range(1000))),
     "NetBox of 30 MB": lambda folder: audit(
@@ -104,6 +99,6 @@ LARGE: Mapping[str, Callable[[Path], List[str]]] = {
         folder, (f"h{at},e,a{at}\n" for at in range(1_000_000))),
     "6,000,000 interface blocks": with_blocks,
     "370,000 unplanned ports": lambda folder: audit(
-        folder, PLAN, napalm(*((f"p{at}", f"h{at}", f"e{at}") for at in range(370_000))),
+        folder, PLAN, napalm("".join(f"p{at} h{at} e{at}\n" for at in range(370_000))),
         "--html", f"{folder}/page"),
 }

@@ -1,13 +1,12 @@
 """For tests: situations that were once judged wrongly, each with what an audit of it prints.
 
-A list is `PORT HOST PORT`, one neighbor a line, and `PORT` alone for a port that hears nobody.
+A list has a line `PORT HOST PORT` for each neighbor, and `PORT` for a port that hears nobody.
 """
 import json
 from typing import Any, List, Mapping, Sequence
 
-from auditing import Row, neighbor
+from auditing import HEAD, Row, neighbor
 
-HEAD = "host,port,peer,peer_port\n"
 CABLES = "device_a,termination_a,device_b,termination_b,type,status\n"
 TYPED = "side_a_device,side_a_type,side_a_name,side_b_device,side_b_type,side_b_name\n"
 KNOWN, KNOWN_VERDICT = "host,port,reason,until\n", "host,port,reason,until,verdict\n"
@@ -17,7 +16,7 @@ FIELDS = ("remote_system_name", "remote_port", "remote_chassis_id", "remote_port
 
 def situation(name: str, plan: str, lists: Mapping[str, str], status: int, lines: Sequence[str],
               words: str = "", files: Mapping[str, str] = {}) -> Row:
-    """Returns an audit of a plan and of lists by host, with further words and files."""
+    """Returns an audit of a plan and of lists by host, with further arguments and files."""
     seen = {f"lists/{host}": napalm(text) for host, text in lists.items()}
     return Row(name, {"plan": plan, **seen, **files}, f"plan lists {words}", status, lines)
 
@@ -75,8 +74,8 @@ KNOWN_FAULTS = [
          ["known: line 2: nas9 is not planned", "known: line 3: leaf1 swp9 is not planned",
           "2 cables: 2 right, 0 wrong"]),
         ("a bad verdict", "swp1 nas1 e0", KNOWN_VERDICT + "nas1,,x,,quiet\n", 2,
-         ["known: line 2: 'quiet' is not a verdict: wrong, swapped, silent, extra, doubled, "
-          "one-sided, disagrees, unplanned, no data"]))]
+         ["known: line 2: 'quiet' is not one of the verdicts wrong, swapped, silent, extra, "
+          "doubled, one-sided, disagrees, unplanned, no data"]))]
 PANELED = HEAD + "".join(f"leaf1,swp{at},pp1,F{at}\npp1,R{at},pp2,R{at}\npp2,F{at},srv{at},e0\n"
                          for at in range(1, 5))
 TRUNK = HEAD + "pp1,R1,pp2,R1\nleaf1,swp5,pp1,F5\npp2,F1,srv1,e0\nleaf1,swp6,srv6,e0\n"
@@ -86,7 +85,7 @@ PANELS = (
         "leaf1 swp3 cannot be judged: panels has no row for pp1 F3",
         "srv3 e0 cannot be judged: panels has no row for pp2 F3",
         "leaf1 swp4 cannot be judged: panels has no row for pp1 F4",
-        "1 more ends behind panels cannot be judged",
+        "1 more cannot be judged",
         "4 cables: 2 right, 0 wrong, 2 not judged"], "--panels panels",
         {"panels": PAIRS + "".join(PAIR_ROWS[:2] + PAIR_ROWS[4:6])}),
     situation("and all are needed", PANELED,
@@ -201,8 +200,8 @@ NETBOX = (
         "a,2,,,cat6,connected\n,,b,2,cat6,connected\na,PSU1,pdu1,Outlet 3,,connected\n"
         "a,con 0,cs1,1,cat5,connected\na,5,b,5,cat6,Planned\na,6,b,6,cat6,decommissioning\n"
         'a,7,b,"7,8,9",cat6,connected\n').replace("a,7,b", 'a,"7,8",b'), {"a": "1 b 1"}, 0, [
-            "plan: 7 cables are left out: 2 without a port of a device at both ends, 2 of power or "
-            "consoles, 2 planned or decommissioning, 1 with ends that cannot be paired",
+            "plan: 7 cables are left out: 2 with an end that is not a port of a device, 2 for "
+            "power or consoles, 2 planned or decommissioning, 1 with ends that cannot be paired",
             "1 cable: 1 right, 0 wrong"]),
     situation("several ends at both sides", CABLES + 'a,"1,2",b,"1, 2",dac,connected\n',
               {"a": "1 b 2\n2 b 1"}, 1, ["1  swapped with 2: wants b 1, has b 2",
@@ -242,8 +241,8 @@ RUN = HEAD + "".join(f"s,p{at},x{at},e0\n" for at in range(6))
 MORE = (
     situation("two chassis IDs of one name", SW1 + "a,3,sw1,p3\n",
               {"a": "1 sw1 p1 c1 -\n2 sw1 p2 c2 -\n3 sw1 p3 c2 -"}, 0, [
-                  "sw1 answers with 2 chassis IDs (c1 at a 1, c2 at a 3): two devices may have one "
-                  "name", "3 cables: 3 right, 0 wrong"]),
+                  "sw1 answers with 2 chassis IDs (c1 at a 1, c2 at a 3): two devices may have the "
+                  "same name", "3 cables: 3 right, 0 wrong"]),
     situation("a label like a comment", "label," + HEAD + "#17,leaf1,swp1,host01,eth0\n"
               "# of rack 2\n#18,leaf1,swp2,host01,eth1\n",
               {"leaf1": neighbor("swp1", "host09", "eth9")}, 1, [
@@ -252,7 +251,7 @@ MORE = (
                   "2 cables: 0 right, 1 wrong, 1 not looked at (host01)"]),
     situation("a comment that takes rows with it", HEAD + '# old,"5\nleaf1,swp1,host01,eth0\n"\n',
               {"leaf1": "swp1 x y"}, 2,
-              ["plan: line 2: a comment with a quote in it that ends in a further line"]),
+              ["plan: line 2: the comment has a quote that ends in a later line"]),
     *[situation(f"a description beside {kind}", TWO_PORTS, {"leaf1": neighbor(
         "swp1", "host01", "eth1", "eth0", kind) + EMPTY.format("swp2", "no")}, 1, [
             TO_SWP2, "swp2  silent: wants host01 eth1 (seen at swp1)",
@@ -273,7 +272,7 @@ MORE = (
         "4 cables: 2 right, 2 wrong"], "--vendor-names"),
     *[situation(f"{name} is not a number", f"{HEAD[:-1]},{name}\na,1,b,1,{text}\n",
                 {"a": "1 b 1"}, 2, [
-                    f"plan: a 1: {name} '{text}' is not a number to compare with"], "--settings")
+                    f"plan: a 1: {name} '{text}' is not a valid number"], "--settings")
       for name, text in (("speed", "25G"), ("mtu", "9k"), ("pvid", "70000"))],
     situation("a full table that is empty", HEAD + "a,1,b,1\n", {"a": EMPTY.format(1, "yes")}, 1, [
         "1  wrong: wants b 1, has somebody for whom the table had no room",

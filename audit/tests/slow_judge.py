@@ -1,7 +1,6 @@
-"""A slow judge of cabling, written from the definitions of audit/README.md one after the other.
+"""A slow judge of cabling, which applies the definitions of audit/README.md one after the other.
 
-It shares no code with the package, only its ends and neighbors, and each question goes over whole
-lists.
+It shares only the types End and Seen with the package, and searches whole lists each time.
 """
 import re
 from typing import Dict, List, Optional, Sequence, Tuple
@@ -53,11 +52,11 @@ class SlowJudge:
         return next((some for port, some in self.known.items() if self.same_end(port, end)), None)
 
     def answering(self, end: End, other: End) -> int:
-        """Returns how many neighbors of an end answer to another one."""
+        """Returns how many neighbors of an end answer to another end."""
         return sum(self.answers(one, other) for one in self.neighbors(end) or [])
 
     def has_one(self, end: End, answering: int) -> bool:
-        """Returns whether an end has one neighbor, which answers to the wanted one, or does not."""
+        """Returns whether an end has one neighbor, and `answering` says if it is the wanted one."""
         return (len(self.neighbors(end) or []) == 1
                 and self.answering(end, self.wants[end]) == answering)
 
@@ -74,8 +73,7 @@ class SlowJudge:
                                          or self.answering(wanted, end) > 0)
 
     def is_of_several_domains(self, end: End) -> bool:
-        """Returns whether an end is right, and hosts of several domains answer at right ends by the
-        name of the host that it wants, which has no domain."""
+        """Returns whether a right end wants a name that hosts of several domains answer to."""
         if not self.short_names or not self.is_right(end):
             return False
         heard = [name for one in self.wants if self.is_right(one)
@@ -85,7 +83,7 @@ class SlowJudge:
         return len(domains - {""}) > 1
 
     def verdicts(self, end: End) -> List[str]:
-        """Returns each verdict whose definition fits; audit/README.md promises one."""
+        """Returns each verdict whose definition fits; audit/README.md promises exactly one."""
         wanted, neighbors = self.wants[end], self.neighbors(end)
         others, is_seen = self.neighbors(wanted), self.answering(wanted, end) > 0
         if neighbors is None:
@@ -111,6 +109,6 @@ class SlowJudge:
 
 
 def parts(host: str) -> Tuple[str, str]:
-    """Returns a host's name to its first dot, and the rest. An IPv4 address and `.x` are whole."""
+    """Splits a host's name at its first dot. An IPv4 address and `.x` are whole."""
     found = re.fullmatch(r"(?![0-9]+([.][0-9]+){3}$)([^.]+)([.].*)?", host)
     return (found[2], found[3] or "") if found else (host, "")

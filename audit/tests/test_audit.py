@@ -1,4 +1,4 @@
-"""The verdicts of an audit, as audit/README.md defines them; random ones beside a slow judge."""
+"""Compares the verdicts on random plans with those of a slow judge."""
 import os
 import random
 import sys
@@ -13,7 +13,7 @@ from lldpa_audit.seen.tables import Tables
 
 from slow_judge import SlowJudge
 
-# how many random plans are judged; a longer run is asked for by LLDPA_RANDOM_PLANS=10000
+# how many random plans are judged; set LLDPA_RANDOM_PLANS=10000 for a longer run
 RANDOM_PLANS = int(os.environ.get("LLDPA_RANDOM_PLANS", "3000"))
 
 HOSTS = ["a", "A", "b", "a.x", "a.y", "b.x", "B.X", "10.0.0.1", "10.0.0.2", "10"]
@@ -25,7 +25,8 @@ class Case:
 
     def __init__(self, seed: int) -> None:
         self.rng = rng = random.Random(seed)
-        self.names = Names(*(rng.random() < 0.3 for _ in range(3)))
+        self.rules = [rng.random() < 0.3 for _ in range(3)]
+        self.names = Names(*self.rules)
         hosts = rng.sample(HOSTS, rng.randint(2, len(HOSTS)))
         self.hosts = list({self.names.host(host): host for host in hosts}.values())
         ports = rng.sample(PORTS, rng.randint(2, 4))
@@ -50,7 +51,7 @@ class Case:
         return neighbors
 
     def somebody(self, end: End) -> Seen:
-        """Returns a neighbor that answers to an end, or nearly does, or to another end too."""
+        """Returns a neighbor that answers to an end, or nearly does, or also to another end."""
         if self.rng.random() < 0.2:
             return Seen((self.like(end.host, HOSTS),), (self.like(end.port, PORTS),))
         if self.rng.random() < 0.2:
@@ -74,7 +75,7 @@ class Case:
                                       aggregated=self.rng.random() < 0.5))
 
     def with_port_id(self, seen: Seen) -> Seen:
-        """Returns a neighbor whose Port ID is its first port, if it is named, or its last."""
+        """Returns a neighbor with a Port ID: its first port if it is named, otherwise its last."""
         is_named = self.rng.random() < 0.5
         return seen._replace(port_id=seen.ports[0 if is_named else -1], is_named=is_named)
 
@@ -86,14 +87,9 @@ class Case:
                                     if end.host == host})
         return audit(plan, tables)
 
-    def slow_judge(self) -> SlowJudge:
-        names = self.names
-        return SlowJudge(self.pairs, self.audited, self.known,
-                         (names.ignore_case, names.short_names, names.vendor_names))
-
 
 class RandomPlans(unittest.TestCase):
-    """Random plans and tables are judged as the slow judge does."""
+    """The audit and the slow judge agree on random plans and tables."""
 
     def test_random_plans(self) -> None:
         verdicts = dict.fromkeys(set(Verdict) - {Verdict.KNOWN}, 0)
@@ -107,7 +103,7 @@ class RandomPlans(unittest.TestCase):
                 continue
             judged += 1
             with self.subTest(seed=seed):
-                self.compare(case.slow_judge(), findings)
+                self.compare(SlowJudge(case.pairs, case.audited, case.known, case.rules), findings)
             for finding in findings:
                 verdicts[finding.verdict] += 1
         for verdict, times in verdicts.items():
@@ -130,10 +126,10 @@ class RandomPlans(unittest.TestCase):
 
 
 class Aggregates(unittest.TestCase):
-    """Hosts of very many ports that name their aggregates: twice the links cost twice as much."""
+    """Hosts with very many ports that name their aggregates: twice the links cost twice as much."""
 
     def steps(self, links: int, peer: str, numbers: int) -> int:
-        """Returns how many lines are run to judge a host's links to a peer, on any machine."""
+        """Returns how many lines of code run to judge the links of a host to a peer."""
         names, count = Names(vendor_names=True), 0
         plan = Plan("p", [Link(End(one, f"eth{at}"), End(other, f"eth{at}"), None)
                           for one, other in (("a", "b"), ("c", "d")) for at in range(links)], names)

@@ -1,4 +1,4 @@
-"""lldpa-audit as people call it: words, statuses, captures, shows, pipes and a running agent."""
+"""lldpa-audit as people call it: arguments, statuses, captures, shows, pipes, a running agent."""
 import gzip
 import json
 import os
@@ -9,36 +9,36 @@ import time
 from pathlib import Path
 
 import rack
-from auditing import AUDIT, WITH_AGENT, InAFolder, neighbor, run, run_whole, without_ages
+from auditing import (AUDIT, HEAD, WITH_AGENT, InAFolder, neighbor, run, run_whole,
+                      without_ages)
 from lldpa_audit.names import End, Names
 from lldpa_audit.plan import Link, Plan
 from lldpa_audit.what import What, placed
 from served import REPOSITORY, Served
 
-HEAD = "host,port,peer,peer_port\n"
 RIGHT = "1 cable: 1 right, 0 wrong\n"
 
 
 class Audits(InAFolder):
-    """Audits of leaf1, whose swp1 is to have host01 eth0."""
+    """Audits of leaf1, whose port swp1 is planned to have host01 eth0."""
 
     def setUp(self) -> None:
         super().setUp()
         self.plan = self.file("plan", f"{HEAD}leaf1,swp1,host01,eth0\n")
 
     def audit(self, *words: str) -> tuple[int, str, str]:
-        """Returns the status of an audit of leaf1, its output, and what it said."""
+        """Returns the status of an audit of leaf1, its output, and its errors."""
         ran = run(self.plan, "--host", "leaf1", *words)
         return ran.returncode, ran.stdout, ran.stderr
 
     def capture(self, name: str, *frames: bytes, start: int = rack.START) -> str:
-        """Writes a capture and returns the word for it, as that of swp1."""
+        """Writes a capture of swp1, and returns the argument for it."""
         frames = frames or (rack.lldp_frame("host01", "eth0"),)
         return f"swp1={self.file(name, rack.pcap(frames, start))}"
 
 
 class Forms(Audits):
-    """Six ports, given in each form: the lines are those of the faults."""
+    """The same six ports give the same lines in each form."""
 
     def test_forms(self) -> None:
         self.plan = self.file("rack.csv", rack.csv_plan())
@@ -99,14 +99,14 @@ class Words(Audits):
                 ("", "nothing to audit: give captures, lists of neighbors, or --live"),
                 ("swp1=none", "none: No such file or directory"),
                 (f"swp1={self.folder}", "Is a directory"),
-                ("--wait x swp1=a", "invalid seconds value: 'x'"),
+                ("--wait x swp1=a", "'x' is not a time such as 90, 15m, 12h or 1d"),
                 ("--columns from swp1=a", "'from' is not like host=NAME,port=NAME"),
                 (f"--live --control {none}", "none: No such file or directory"),
                 ("--liv", "unrecognized arguments: --liv"),
                 (capture[5:], "it does not name the port of its frames: write PORT="),
                 (f"--by row {capture}", "has no column row"),
                 (f"--host LEAF1.lab {capture}",
-                 "has no cable of the host LEAF1.lab, but of leaf1: see --host")):
+                 "has no cable of the host LEAF1.lab, but some of leaf1: see --host")):
             status, out, err = self.audit(*words.split())
             self.assertEqual((status, out), (2, ""), words)
             self.assertIn(said, err)

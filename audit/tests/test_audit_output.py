@@ -1,4 +1,4 @@
-"""Standard output of lldpa-audit that is closed, full or read no more: the status says so."""
+"""The status of lldpa-audit if its output is closed, full, or not read to the end."""
 import os
 import unittest
 from pathlib import Path
@@ -22,13 +22,10 @@ class Output(InAFolder):
                 self.assertEqual((status, said), (2, front + told), (words, output))
 
     def test_audit_whose_files_cannot_be_written(self) -> None:
-        page = str(self.folder / "none" / "page.html")
-        status, said = run_with(">/dev/null", [*self.audit, "--html", page])
-        self.assertEqual((status, said.splitlines()[-1]),
-                         (2, f"lldpa-audit: {page}: No such file or directory"))
-        status, said = run_with(">/dev/null", [*self.audit, "--html", "/dev/full"])
-        self.assertEqual((status, said.splitlines()[-1]),
-                         (2, "lldpa-audit: /dev/full: No space left on device"))
+        for page, why in ((f"{self.folder}/none/page.html", "No such file or directory"),
+                          ("/dev/full", "No space left on device")):
+            status, said = run_with(">/dev/null", [*self.audit, "--html", page])
+            self.assertEqual((status, said.splitlines()[-1]), (2, f"lldpa-audit: {page}: {why}"))
 
     def test_a_link_that_another_user_left(self) -> None:
         page, other = self.folder / "page.html", self.file("other", "theirs")

@@ -10,14 +10,14 @@ from typing import Callable, Iterator, Tuple
 
 import rack
 import shapes
-from auditing import InAFolder, run
+from auditing import HEAD, InAFolder, run
 from lldpa.capture.packets import interfaces_of, packets_of
 from lldpa_audit.seen.forms import read_list
-from shapes import HEADER, INTERFACE, SECTION
+from shapes import INTERFACE, SECTION
 from support import run_capture
 
 PCAP = rack.pcap([])
-# far more than what is read in linear time takes on a slow machine, far less than a square
+# far more than linear time takes on a slow machine, far less than quadratic time
 SECONDS = 40
 
 
@@ -34,7 +34,7 @@ def captures() -> Iterator[Tuple[bytes, int, int]]:
 
 class Hostile(InAFolder):
     def within(self, body: Callable[[], object], result: object) -> None:
-        """Checks what a body returns, in fewer seconds of the processor than a square needs."""
+        """Checks what a function returns, and that it does not take quadratic time."""
         begin = sum(os.times()[:4])
         self.assertEqual(body(), result)
         self.assertLess(sum(os.times()[:4]) - begin, SECONDS)
@@ -56,7 +56,7 @@ class Captures(Hostile):
         self.assertEqual(ran.returncode, 1)
 
     def test_more_ports_than_an_agent_has(self) -> None:
-        """Checks that a note on a capture is said once, although several agents hear it."""
+        """Checks that a note on a capture is printed once, although several agents read it."""
         frame = rack.lldp_frame("host01", "eth0")
         tagged = frame[:12] + bytes.fromhex("81000005") + frame[12:]
         ports = {f"swp{at}": [frame] for at in range(1, 70)}
@@ -94,14 +94,14 @@ class Lists(Hostile):
 
     def test_many_unplanned_hosts(self) -> None:
         rows = "".join(f"sw{at},1,sw{at},2\n" for at in range(3000))
-        plan = self.file("many", f"{HEADER}\n{rows}")
+        plan = self.file("many", f"{HEAD}{rows}")
         for at in range(400):
             self.file(f"seen/x{at}.show", "")
         self.within(lambda: run(plan, f"{self.folder}/seen").returncode, 2)
 
 
 class Shapes(InAFolder):
-    """Files that took too much; audit/tools/try-damage.py tries the large ones."""
+    """Files that once took too much; audit/tools/try-damage.py tries the large ones."""
 
     def test_small_ones(self) -> None:
         for name, write in shapes.SMALL.items():
@@ -109,9 +109,9 @@ class Shapes(InAFolder):
                 self.assertEqual(shapes.measured(write(self.folder)).faults, [])
 
     def test_limits_name_the_file(self) -> None:
-        """Checks that a list whose values need too much memory is one line."""
+        """Checks that a list that needs too much memory is reported in one line."""
         leaf1 = self.file("leaf1", "[" + "[]," * 10_000_000 + "[]]")
-        leaf2 = self.file("leaf2", shapes.napalm(("swp1", "host02", "eth0")))
+        leaf2 = self.file("leaf2", shapes.napalm("swp1 host02 eth0"))
         plan = self.file("plan", shapes.PLAN + "leaf2,swp1,host02,eth0\n")
         ran = shapes.measured([plan, leaf1, leaf2])
         self.assertEqual(ran.faults, [])
@@ -120,7 +120,7 @@ class Shapes(InAFolder):
 
 
 class Texts(Hostile):
-    """Names that act on a terminal, a page or a picture."""
+    """Names that would act on a terminal, a page or a picture."""
 
     NAMES = ("a\x1b[2J", "\u3164\u3164", "e" + "\u0301" * 9, "\u202eabc", "\u05d0\u05d1", "<b>")
 
@@ -128,7 +128,7 @@ class Texts(Hostile):
         rows = "".join(f"leaf1,{at},{name},1\n" for at, name in enumerate(self.NAMES))
         seen = {at: [] for at, _ in enumerate(self.NAMES)}  # type: ignore[var-annotated]
         page = str(self.folder / "page")
-        ran = run(self.file("p", f"{HEADER}\n{rows}"), f"leaf1:{self.file('l', json.dumps(seen))}",
+        ran = run(self.file("p", f"{HEAD}{rows}"), f"leaf1:{self.file('l', json.dumps(seen))}",
                   "--html", page)
         self.assertEqual((ran.returncode, ran.stderr), (1, ""))
         texts = [ran.stdout, Path(page).read_text(encoding="utf-8")]

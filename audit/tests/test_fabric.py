@@ -15,7 +15,7 @@ import cabling  # noqa: E402
 
 SEED = int(os.environ.get("LLDPA_SEED") or random.SystemRandom().randrange(10**6))
 MOST_LINES = 160
-# ours and lldpcli's, of which each has frame sizes, and those of vendors
+# the forms of lldpa and lldpcli, all of which have frame sizes, and those of vendors
 FORMS: Dict[str, Any] = {**cabling.FORMS, **vendors.FORMS}
 
 
@@ -33,8 +33,8 @@ class Faults(InAFolder):
         self.write_lists()
 
     def write_lists(self) -> None:
-        """Writes what each host sees, in the forms in turn: shows if a port is hidden, and forms
-        that say everything if frame sizes are compared, or somebody names a LAG."""
+        """Writes what each host sees, in all forms in turn. A host with a hidden port gets a show.
+        A host whose frame sizes or LAGs matter gets a form that has these."""
         self.assertGreater(len(FORMS), 6)
         fabric = self.fabric
         of_shows = {host for host, _ in fabric.hidden}
@@ -68,7 +68,7 @@ class Faults(InAFolder):
         self.need_true_neighbors(told)
 
     def need_each_fault(self, told: Any) -> None:
-        """Checks that each repair is of one fault, and that each fault has as few as it may."""
+        """Checks that each repair is of one fault, and that no fault has none or too many."""
         of_ends = {end: fault for fault in self.fabric.faults for end in fault.ends}
         kinds: Dict[int, List[str]] = {}
         for repair in told["repairs"]:
@@ -84,7 +84,7 @@ class Faults(InAFolder):
             self.assertTrue(0 < count <= fault.most, (fault, kinds.get(id(fault))))
 
     def need_true_neighbors(self, told: Any) -> None:
-        """Checks the neighbors that each end is reported to have, and that no fault is right."""
+        """Checks the neighbors that are reported at each end, and that no fault seems right."""
         wrong: Set[Tuple[str, str]] = set()
         for one in told["ends"]:
             end = one["host"], one["port"]

@@ -1,4 +1,4 @@
-"""What both ends of right links say of them: the mismatches are reported, and no other link."""
+"""Settings that both ends of right links announce: each mismatch is reported, and nothing else."""
 import unittest
 from typing import List, Sequence
 
@@ -42,8 +42,7 @@ class Mismatches(unittest.TestCase):
                 (tlvs(aggregate=AGGREGATES[0]), tlvs(aggregate=AGGREGATES[1]),
                  "aggregation yes, host1 p0 says no"),
                 (tlvs("2400", "000a"), tlvs("05dc", "0014"),
-                 "MTU 9216 and PVID 10, host1 p0 says 1500 and 20"),
-                (tlvs("2400", "000a"), tlvs("05dc"), "MTU 9216, host1 p0 says 1500")):
+                 "MTU 9216 and PVID 10, host1 p0 says 1500 and 20")):
             self.assertEqual(found(said, its), [f"mismatch: host0 p0 says {text}"])
 
     def test_what_one_end_does_not_say(self) -> None:
@@ -55,7 +54,7 @@ class Mismatches(unittest.TestCase):
 
 
 class Texts(unittest.TestCase):
-    """Settings as lldpcli writes them."""
+    """Settings, as lldpcli prints them."""
 
     def test_types(self) -> None:
         for text, speed, duplex in (

@@ -1,7 +1,7 @@
 """Names as vendors spell them, aliases, members of aggregates, and how names are shown."""
 import unittest
 
-from auditing import InAFolder, neighbor, run
+from auditing import HEAD, InAFolder, neighbor, run
 from lldpa_audit import differs
 from lldpa_audit.aliases import read_aliases
 from lldpa_audit.names import Aliases, End, Names, Seen, shown, text_of, without_domain
@@ -9,7 +9,7 @@ from lldpa_audit.plan import PlanFault
 from lldpa_audit.report.order import natural
 from lldpa_audit.spelling import is_aggregate, plain, plain_port
 
-# ports of which each line is spelled in all ways that vendors have for it
+# each line has one port in all spellings that vendors have for it
 PORTS = [
     ["Gi1/0/1", "GigabitEthernet1/0/1", "gi1/0/1", "Gig1/0/1", "GigabitEthernet 1/0/1", "GE1/0/1"],
     ["XGE1/0/2", "XGigabitEthernet1/0/2", "Ten-GigabitEthernet1/0/2", "Te1/0/2"],
@@ -46,7 +46,7 @@ ADDRESSES = [
 
 
 class Spelling(unittest.TestCase):
-    """One spelling for all that vendors have, and no more than that."""
+    """All spellings of a name are the same, and other names are not."""
 
     def test_ports_and_addresses(self) -> None:
         for groups, rule in ((PORTS, plain_port), (ADDRESSES, plain), (ADDRESSES, plain_port)):
@@ -63,7 +63,7 @@ class Spelling(unittest.TestCase):
 
 
 class Differences(unittest.TestCase):
-    """What alone keeps a neighbor from answering."""
+    """The only difference that keeps a neighbor from answering."""
 
     def test_ports_and_addresses(self) -> None:
         for groups, is_port in ((PORTS, True), (ADDRESSES, True), (ADDRESSES, False)):
@@ -132,26 +132,24 @@ class FurtherNames(InAFolder):
                          [End("host02", "eth0"), End("host02", "eth1")])
 
     def test_faults(self) -> None:
-        for text, said in (("host,port\n", "line 1: the first line is not host,port,alias"),
-                           ("host,port,alias\n,,x\n", "line 2: it has no alias, or neither a host"),
-                           ("host,port,alias\na,1,\n", "line 2: it has no alias"),
+        for text, said in (("host,port\n", "line 1: the header must be host,port,alias"),
+                           ("host,port,alias\n,,x\n", "line 2: it needs an alias, and a host"),
+                           ("host,port,alias\na,1,\n", "line 2: it needs an alias"),
                            ("host,port,alias\na,,x\nb,,x\n", "line 3: x is an alias of two hosts"),
-                           ("host,port,alias\na,,b\nb,,c\n", "b has the alias c, and is an alias")):
+                           ("host,port,alias\na,,b\nb,,c\n", "b is an alias itself, so it cannot")):
             with self.assertRaisesRegex(PlanFault, said):
                 self.aliases(text)
 
     def test_program(self) -> None:
-        head = "host,port,peer,peer_port\n"
         for port, port_id, aliases, words, said in (
                 ("Gi0/1", "GigabitEthernet0/1", "host01,,srv-17", "--vendor-names", "1 right"),
-                ("Gi0/1", "GigabitEthernet0/1", "host01,,srv-17", "", "only the spelling differs"),
                 ("ETH0", "eth0", "host01,,srv-17", "--ignore-case", "1 right"),
                 ("ETH0", "eth0", "host01,,srv-17", "--ignore-case --vendor-names", "1 right"),
                 ("ETH0", "Ethernet0", "host01,,srv-17", "--ignore-case --vendor-names", " wrong: "),
                 ("p1", "Ethernet0", "host01,,srv-17\nsrv-17,p1,Ethernet0", "", "1 right"),
                 ("Gi0/1", "UPLINK", "HOST01.lab,,srv-17.x\nHOST01.lab,GI0/1,Uplink",
                  "--ignore-case --vendor-names --short-names", "1 right")):
-            plan = self.file("p", f"{head}leaf1,p,host01,{port}\n")
+            plan = self.file("p", f"{HEAD}leaf1,p,host01,{port}\n")
             show = self.file("leaf1", neighbor("p", "srv-17", port_id))
             file = self.file("aliases", f"host,port,alias\n{aliases}\n")
             self.assertIn(said, run(plan, show, "--aliases", file, *words.split()).stdout)
@@ -176,5 +174,5 @@ class Shown(unittest.TestCase):
     def test_order_of_numbers_of_any_length(self) -> None:
         names = ["swp2", "swp10", "swp9" + "0" * 5000, "swp1" + "0" * 5001, "swq"]
         for order in (names, names[::-1]):
-            self.assertEqual(sorted(order, key=lambda name: natural(name, {})), names)
-        self.assertEqual(natural("007", {}), natural("7", {}))
+            self.assertEqual(sorted(order, key=natural), names)
+        self.assertEqual(natural("007"), natural("7"))

@@ -1,4 +1,4 @@
-"""What pipelines and people take from an audit: JSON, JUnit, metrics, known faults, groups."""
+"""The outputs of an audit for pipelines and people: JSON, JUnit, metrics, known faults, groups."""
 import json
 import shutil
 import subprocess
@@ -91,7 +91,7 @@ class Outputs(InAFolder):
         ran = run(*self.words, "--known", known)
         self.assertEqual(ran.stdout.splitlines()[-1],
                          "4 cables: 2 right, 0 wrong, 2 known; 1 with a mismatch")
-        self.assertIn("line 4: leaf1 swp4 was known until 2020-01-01, and is judged", ran.stderr)
+        self.assertIn("line 4: leaf1 swp4 was excused until 2020-01-01, and is judged", ran.stderr)
         told: Any = json.loads(run(*self.words, "--known", known, "--json").stdout)
         self.assertEqual([(one["verdict"], one["text"]) for one in told["ends"]][1:3],
                          [("known", 'known: "new card"'), ("known", 'known: "sends no LLDP"')])

@@ -3,14 +3,13 @@ import json
 from argparse import ArgumentTypeError
 from typing import List, Mapping, Optional
 
-from auditing import InAFolder
+from auditing import HEAD, InAFolder
 from lldpa_audit.names import Names
 from lldpa_audit.plan import Plan, PlanFault
 from lldpa_audit.planfile import read_plan
 from lldpa_audit.words import columns
 from shapes import cable_between
 
-HEAD = "host,port,peer,peer_port\n"
 # the forms that ptmd's documentation of topology files shows
 TOPOLOGY = """\
 // the fabric
@@ -72,7 +71,7 @@ READ = (
      ["l s1 - h e1", "l s2 - h e2"]),
 )
 NO_EDGE = 'is not an edge such as "leaf1":"swp1" -- "spine1":"swp2"'
-NAMED = "the first line names the columns host,port,peer,peer_port"
+NAMED = "the header must name the columns host,port,peer,peer_port"
 # plans that are refused, and why
 REFUSED = (
     ("#\nhost,port,peer\na,1,b\n", f"line 2: the column peer_port is missing: {NAMED}"),
@@ -80,25 +79,25 @@ REFUSED = (
     ("host,port,port,peer,peer_port\n", "line 1: the column port occurs twice"),
     (HEAD + "a,1,b\n", "line 2: its peer_port is missing"),
     (HEAD + "# x\na,1, ,2\n", "line 3: its peer is missing"),
-    (HEAD + "a,1,b,2,3\n", "line 2: it has 5 fields under 4 columns"),
-    (HEAD + "a,1,b,2\n\nc,3,a,1\n", "line 4: a 1 is planned already in line 2"),
+    (HEAD + "a,1,b,2,3\n", "line 2: it has 5 fields for 4 columns"),
+    (HEAD + "a,1,b,2\n\nc,3,a,1\n", "line 4: a 1 is already planned in line 2"),
     (HEAD + "a,1,a,1\n", "line 2: a 1 is planned twice"),
-    (HEAD, "it plans no link"), ("strict graph {}\n", "it plans no link"),
+    (HEAD, "it has no links"), ("strict graph {}\n", "it has no links"),
     (HEAD + 'a,1,b,"2\nc,3,d,4\n', "line 2: a field in quotes has no end"),
     (HEAD + 'a,1,b,"2"3\nc,3,d,4\n', "line 2: ',' expected after '\"'"),
-    (HEAD + f"a,1,b,{'x' * 131_073}\n", "line 2: a field of over 131072 characters"),
-    (HEAD + f"a,1,b,{'x' * 256}\n", "line 2: a name in it has 256 characters; the longest name"),
-    ("graph G {\na:1 -- b:2\n/*\n--*/ c:3 -- a:1\n}\n", "line 4: a 1 is planned already in line 2"),
+    (HEAD + f"a,1,b,{'x' * 131_073}\n", "line 2: a field has over 131072 characters"),
+    (HEAD + f"a,1,b,{'x' * 256}\n", "line 2: a name in it has 256 characters, but LLDP can send"),
+    ("graph G {\na:1 -- b:2\n/*\n--*/ c:3 -- a:1\n}\n", "line 4: a 1 is already planned in line 2"),
     ('graph G {\na:1 -- b:2 -- c:3\n}\n', f"line 2: '-- c:3' {NO_EDGE}"),
     ('graph {\n"x--y":1 -- z:1\n\n"leaf1" -- "s":"1"\n}', f"line 4: '\"leaf1\" -- \"s\":\"1\"' "),
     ("graph {\nsubgraph x { a:1 -- b:2 }\n}", f"line 2: 'subgraph x {{ a:1 -- b:2 }}' {NO_EDGE}"),
     ("graph {\na:1:ne -- b:2 }", f"line 2: 'a:1:ne -- b:2 }}' {NO_EDGE}"),
     ("graph {\nleaf-1:3 -- c:4 }", "line 2: 'leaf-1:3 -- c:4 }'"),
     ("graph {\n10.0.0.1:3 -- c:4 }", "line 2: '10.0.0.1:3 -- c:4 }'"),
-    ("graph {\na:1 -- b:2\n", f"line 3: its end {NO_EDGE}"),
+    ("graph {\na:1 -- b:2\n", "line 3: it ends without }"),
     ("graph {\na:1 -- b:2\n}}", f"line 3: '}}' {NO_EDGE}"), ("graph {\n/* }", "line 2: '/* }'"),
     ('graph {\nlabel="\n\n}', "line 2: 'label=\"' is not"),
-    ("{", "it is not JSON"), ("[1]", "not of NetBox's"), ('{"results": [{"id": 7}]}', "no link"),
+    ("{", "it is not JSON"), ("[1]", "answer of NetBox's"), ('{"results": [{"id": 7}]}', "no link"),
     ('{"next": "x", "results": []}', "it is one page of several"),
 )
 
@@ -124,7 +123,7 @@ class Plans(InAFolder):
         return [note.replace(f"{self.folder}/", "") for note in plan.notes]
 
     def fault(self, text: str, panels: Optional[str] = None, encoding: str = "utf-8") -> str:
-        """Returns what is said of a plan, without the names of files."""
+        """Returns the fault of a plan, without the names of files."""
         with self.assertRaises(PlanFault) as raised:
             self.read(text, None, panels, encoding)
         return str(raised.exception).replace(f"{self.folder}/plan: ", "")
@@ -146,17 +145,17 @@ class Texts(Plans):
         rows = [f"a,{row},b,{row}" for row in range(30)]
         told = self.fault("\n".join([HEAD[:-1], *rows, *["a,0,c,1", "a,1,b"] * 11, ""])).split("\n")
         self.assertEqual(len(told), 21)
-        self.assertEqual(told[0], "line 32: a 0 is planned already in line 2")
+        self.assertEqual(told[0], "line 32: a 0 is already planned in line 2")
         self.assertEqual(told[19:], ["line 51: its peer_port is missing", "2 more faults"])
 
     def test_names_that_are_the_same(self) -> None:
         text = HEAD + "a.x,p,b,1\nA.x,P,c,1\n"
         self.assertEqual(len(self.links(self.read(text))), 2)
         self.names = Names(True, True)
-        self.assertEqual(self.fault(text), "line 3: A.x P is planned already in line 2")
+        self.assertEqual(self.fault(text), "line 3: A.x P is already planned in line 2")
         self.names = Names(True, True)
         self.assertEqual(self.fault(HEAD + "a.x,p,b,1\na,q,c,1\n"), "line 3: a and a.x are "
-                         "planned, and would be one host by --short-names")
+                         "planned, and would be one host with --short-names")
 
     def test_named_columns(self) -> None:
         text = "From;Interface;To Device;To Interface;host\nleaf1;swp1;host01;eth0;x\n"
@@ -169,13 +168,13 @@ class Texts(Plans):
 
 
 class NetBox(Plans):
-    """NetBox's cables: what cannot be judged is left out, counted and told once."""
+    """NetBox's cables: what cannot be judged is left out, counted and reported once."""
 
     def test_what_is_left_out(self) -> None:
         plan = self.read(NETBOX)
         self.assertEqual(self.notes(plan), [
-            "plan: 5 cables are left out: 2 of power or consoles, 2 without a port of a device at "
-            "both ends, 1 planned or decommissioning",
+            "plan: 5 cables are left out: 2 for power or consoles, 2 with an end that is not a "
+            "port of a device, 1 planned or decommissioning",
             "plan: 1 cable ends at patch panels and cannot be judged: give --panels with NetBox's "
             "export of front ports"])
         self.assertEqual(([wish.line for wish in plan.ends.values()], plan.not_judged), ([2, 2], 1))
@@ -187,7 +186,7 @@ class NetBox(Plans):
         plan = self.read("Termination A,Device A,Device B,Termination B\nswp1,leaf1,host01,eth0\n"
                          f"{rows}pwr-sw1,a,b,contrail0\n")
         self.assertEqual(self.links(plan), ["leaf1 swp1 - host01 eth0", "a pwr-sw1 - b contrail0"])
-        self.assertEqual(self.notes(plan), ["plan: 6 cables are left out: 6 of power or consoles"])
+        self.assertEqual(self.notes(plan), ["plan: 6 cables are left out: 6 for power or consoles"])
 
     def test_the_answer_of_the_api(self) -> None:
         cables = [cable_between(1, [("a", "1")], [("b", "1")]),
@@ -202,7 +201,7 @@ class NetBox(Plans):
             plan = self.read(text)
             self.assertEqual(self.links(plan), ["a 1 - b 1", "a 2 - b 2", "a 3 - b 3"])
             self.assertEqual(self.notes(plan), [
-                "plan: 6 cables are left out: 3 without a port of a device at both ends, 1 of "
+                "plan: 6 cables are left out: 3 with an end that is not a port of a device, 1 for "
                 "power or consoles, 1 planned or decommissioning, 1 with ends that cannot be "
                 "paired"])
         nameless = cable_between(1, [("a", "1")], [("b", "1")])
@@ -232,10 +231,10 @@ class Panels(Plans):
     def test_faults(self) -> None:
         ring = HEAD + "pp1,R1,pp2,R1\npp2,F1,pp1,F1\n"
         for plan, panels, said in (
-                (self.PLAN + "leaf1,swp7,pp1,F1\n", self.PAIRS, "line 9: pp1 F1 is planned"),
-                (self.PLAN, self.PAIRS + "pp1,F1,pp1,R7\n", "line 6: pp1 F1 is planned already"),
-                (ring, self.PAIRS, "it plans no link"),
-                (ring + "leaf1,1,pp1,F1\na,1,b,1\n", self.PAIRS, "pp1 F1 is planned already")):
+                (self.PLAN + "leaf1,swp7,pp1,F1\n", self.PAIRS, "line 9: pp1 F1 is already"),
+                (self.PLAN, self.PAIRS + "pp1,F1,pp1,R7\n", "line 6: pp1 F1 is already planned"),
+                (ring, self.PAIRS, "it has no links"),
+                (ring + "leaf1,1,pp1,F1\na,1,b,1\n", self.PAIRS, "pp1 F1 is already planned")):
             self.assertIn(said, self.fault(plan, panels))
 
     def test_random_chains(self) -> None:

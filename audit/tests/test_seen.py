@@ -63,9 +63,9 @@ class Neighbors(unittest.TestCase):
         self.assertEqual(read_ports(SHOW + COUNTERS), ports)
 
     def test_faults(self) -> None:
-        """Checks that the line is named, with what was expected in its place."""
+        """Checks that a fault names the line, and what was expected in its place."""
         for text, said in (
-                (SHOW[:-1], "its last line has no end: it was cut short"),
+                (SHOW[:-1], "its last line is incomplete: it was cut short"),
                 (LAST_PORT * 2, "line 9: the port c is in it twice, first in line 1"),
                 (SHOW + LAST_PORT, "line 31: the port c is in it twice, first in line 23"),
                 (SHOW[:SHOW.index("lldp.c.too-many")],

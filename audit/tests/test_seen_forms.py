@@ -1,4 +1,4 @@
-"""Lists of neighbors that are damaged or of something else: what is wrong with them is said."""
+"""Damaged lists, and files that are not lists: each has a fault that says what is wrong."""
 import gzip
 import random
 import re
@@ -9,9 +9,9 @@ from typing import Any, Iterator, Optional
 import lldpd_heard
 import vendors
 from lldpa.agent.show import ShowFault
-from lldpa_audit.seen.files import MOST_OCTETS, SeenFile, read_file
+from lldpa_audit.seen.files import MOST_OCTETS, read_file
 from lldpa_audit.seen.forms import read_list
-from lldpa_audit.seen.listing import SeenFault
+from lldpa_audit.seen.listing import Listing, SeenFault
 from lldpa_audit.what import What
 from test_vendors import read
 from vendors import PORTS
@@ -29,7 +29,7 @@ NEEDED_LINES = re.compile(r"<lldp-(?:local-port-id|remote-chassis-id|remote-port
 
 
 def fault_of(octets: bytes) -> Optional[str]:
-    """Returns what is wrong with octets, or None; no other exception comes."""
+    """Returns the fault of octets, or None. Any other exception fails the test."""
     try:
         read_list(octets)
     except (SeenFault, ShowFault) as fault:
@@ -37,8 +37,8 @@ def fault_of(octets: bytes) -> Optional[str]:
     return None
 
 
-def in_a_file(octets: bytes) -> SeenFile:
-    """Returns what a file of these octets is read as."""
+def in_a_file(octets: bytes) -> Optional[Listing]:
+    """Reads a file of these octets."""
     with tempfile.NamedTemporaryFile() as file:
         file.write(octets)
         file.flush()
@@ -60,18 +60,18 @@ def without_one(tree: Any) -> Iterator[Any]:
 
 
 class Faults(unittest.TestCase):
-    """What is damaged is a fault that is reported, and nothing else."""
+    """Damage is reported as a fault, and never as another exception."""
 
     def test_of_something_else(self) -> None:
         interface = b'{"lldp":{"interface":{"a":{"status":"RX","chassis":{},"port":{}}}}}'
         for octets, said in (
-                (interface, "a has no protocol: it is not of show neighbors"),
+                (interface, "a has no protocol: use `lldpcli -f json show neighbors"),
                 (b'{"lldp":[{"interface":[{"name":"a","via":"LLDP"}]}]}', "without chassis id"),
                 (b"lldp.a.status=RX\n", "a show other than `show neighbors`"),
-                (b'{"lldp": ' + b"9" * 5000 + b"}", "it is JSON, but no list of neighbors"),
-                (b'{"swp1": []}\n{"swp2": []}', "it has more than JSON and a prompt: give one"),
-                (b"<rpc-reply>\xff</rpc-reply>", "it is no XML: "),
-                (b"<?xml version='1.0' encoding='x'?><rpc-reply/>", "no list of neighbors"),
+                (b'{"lldp": ' + b"9" * 5000 + b"}", "it is JSON, but not a known list"),
+                (b'{"swp1": []}\n{"swp2": []}', "it has more after its JSON than a prompt"),
+                (b"<rpc-reply>\xff</rpc-reply>", "it is not valid XML: "),
+                (b"<?xml version='1.0' encoding='x'?><rpc-reply/>", "not a known list"),
                 (b"<?xml version='1.0' encoding='utf-16'?><rpc-reply>&a;", "undefined entity")):
             self.assertIn(said, fault_of(octets) or "", octets)
 
@@ -123,13 +123,10 @@ class Faults(unittest.TestCase):
         for inner in (ten, '<!ENTITY x SYSTEM "file:///etc/passwd">', ""):
             entities = f'<!DOCTYPE rpc-reply [<!ENTITY e0 "ten">{inner}]>'
             text = f'<?xml version="1.0"?>{entities}<rpc-reply>&e20;'
-            self.assertIn("it is XML, but no list", fault_of(text.encode()) or "")
+            self.assertIn("it is XML, but not a known", fault_of(text.encode()) or "")
 
     def test_compressed(self) -> None:
         packed = gzip.compress(WHOLE["json0"])
-        whole = in_a_file(packed)
-        assert whole is not None
-        self.assertEqual(whole.ports, read(WHOLE["json0"]).ports)
         for octets, fault in ((packed[:-9], "cut short"), (packed[:2] + WHOLE["json0"], "damaged"),
                               (gzip.compress(b"x"), "it looks like text of a switch")):
             found = in_a_file(octets)
@@ -137,4 +134,4 @@ class Faults(unittest.TestCase):
 
     def test_too_much(self) -> None:
         found = in_a_file(b'{"lldp": {}}' + b" " * (MOST_OCTETS + 1024))
-        self.assertIn("no list has so much", found.faults[0] if found else "")
+        self.assertIn("the most that a list may have", found.faults[0] if found else "")

@@ -1,4 +1,4 @@
-"""What once was said to be right and was not, or took many lines, or was refused."""
+"""Situations that were once judged wrongly, took too many lines, or were refused."""
 import unittest
 from concurrent.futures import ThreadPoolExecutor
 

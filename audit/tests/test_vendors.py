@@ -15,7 +15,7 @@ from lldpa_audit.seen.shows import read_ports
 from served import PROGRAM
 from vendors import PORTS
 
-# what each form says of a link
+# the settings that each form has
 SETTINGS = {"eos": Settings(9216, 10), "nxos": Settings(None, 10), "networkctl": Settings(None, 10),
             "textfsm": Settings(None, 10)}
 ROW = {"local_interface": "Gi1/0/1", "neighbor_name": "host01", "neighbor_interface": "eth0"}
@@ -25,8 +25,7 @@ JUNOS_BY_NAME = {"lldp-neighbors-information": [{"lldp-neighbor-information": [{
     "lldp-remote-port-id-subtype": [{"data": "Interface name"}],
     "lldp-remote-port-id": [{"data": "eth0"}]}]}]}
 
-# hosts and ports of each neighbor that a real lldpd heard at swp1, worked out by hand from the
-# frames, and what they say of their links
+# the names of each neighbor that a real lldpd heard at swp1, worked out by hand from frames
 HEARD = [
     (("ho\\01 st\xe9", "02:00:00:00:00:01"), ("eth1", 'to "x" \\ y')),
     (("c", "02:00:00:00:00:03"), ("eth3",)),
@@ -48,7 +47,7 @@ JSON0 = lldpd_heard.sample("clean", "json0").decode()
 
 
 def read(tree: Any) -> Listing:
-    """Returns what a file says, of octets, text or JSON."""
+    """Reads a file of octets, text or JSON."""
     text = tree if isinstance(tree, (bytes, str)) else json.dumps(tree)
     return read_list(text if isinstance(text, bytes) else text.encode())
 
@@ -74,7 +73,7 @@ class Forms(unittest.TestCase):
                 self.assertEqual(len(read(write({"swp1": [("a", "b")]})).ports), 1)
 
     def test_names_of_neighbors(self) -> None:
-        """Checks each list, and the names of host and port of the neighbors at its first port."""
+        """Checks the names of the first neighbor in each list."""
         for tree, hosts, ports in (
                 ({"a": [{"remote_chassis_id": "8c60.4f69.e96c", "remote_system_name": "switch",
                          "remote_port": "Eth2/2/1", "remote_port_description": "Ethernet2/2/1"}]},
@@ -118,7 +117,7 @@ class Forms(unittest.TestCase):
 
 
 class Lldpcli(unittest.TestCase):
-    """What lldpcli of a real lldpd writes, and our agent of the same frames."""
+    """The output of lldpcli of a real lldpd, and our agent's for the same frames."""
 
     def check(self, seen: Sequence[Seen], settings: Dict[int, Settings]) -> None:
         self.assertEqual([(set(one.hosts), set(one.ports)) for one in seen],
@@ -184,7 +183,7 @@ def neighbor(instance: str, port: str, host: str, **labels: str) -> Any:
 
 
 def answer(*result: Any) -> Listing:
-    """Returns what an answer of Prometheus' API says."""
+    """Reads an answer of Prometheus' API with these series."""
     return read({"status": "success", "data": {"resultType": "vector", "result": list(result)}})
 
 

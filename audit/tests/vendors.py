@@ -1,5 +1,5 @@
-"""For tests: lists of neighbors in each form. Those of vendors are made from their documents; no
-real switch printed them. The walk has the lines that snmpwalk printed of a real lldpd (samples).
+"""For tests: lists of neighbors in each form. Those of vendors are made from their documents, not
+printed by switches. The walk has the lines that snmpwalk printed of a real lldpd (samples).
 
 Each writer takes a host's ports with their neighbors, as pairs of host and port.
 """
@@ -15,13 +15,13 @@ TO = "to the fabric"
 
 
 def chassis_of(host: str) -> str:
-    """Returns a chassis ID, another one for each host."""
+    """Returns a chassis ID, different for each host."""
     digits = f"{sum(ord(letter) * 7 ** at for at, letter in enumerate(host)) % 16 ** 6:06x}"
     return f"02:00:5e:{digits[:2]}:{digits[2:4]}:{digits[4:]}"
 
 
 def each(ports: Ports, write: Callable[[str, str, str], Any]) -> list[Any]:
-    """Returns what is written of each neighbor, by the local port, the host and its port."""
+    """Returns what `write` makes of each neighbor's local port, host and port."""
     return [write(port, *one) for port, neighbors in ports.items() for one in neighbors]
 
 
@@ -38,7 +38,7 @@ def eos(ports: Ports) -> Any:
 
 
 def nxos(ports: Ports) -> Any:
-    """Writes NX-OS; one neighbor alone is not a list."""
+    """Writes NX-OS' form, in which a single neighbor is not in a list."""
     rows = each(ports, lambda port, host, at: {
         "chassis_type": "4", "chassis_id": chassis_of(host), "port_type": "5", "port_id": at,
         "l_port_id": port, "port_desc": TO, "sys_name": host, "sys_desc": "Cisco NX-OS(tm)",
@@ -49,7 +49,6 @@ def nxos(ports: Ports) -> Any:
 
 
 def junos_rows(ports: Ports) -> Sequence[Mapping[str, str]]:
-    """Returns the fields of each neighbor of a Junos."""
     return each(ports, lambda port, host, at: {
         "lldp-local-port-id": port, "lldp-remote-chassis-id-subtype": "Mac address",
         "lldp-remote-chassis-id": chassis_of(host), "lldp-remote-port-id-subtype": "Interface name",
@@ -74,7 +73,7 @@ def junos_xml(ports: Ports) -> str:
 
 
 def nvue(ports: Ports) -> Any:
-    """Writes NVUE, in which a neighbor has a name of its own."""
+    """Writes NVUE's form, in which each neighbor has a name."""
     return {port: {"lldp": {"neighbor": {f"{host}-{number}": {
         "age": "3600", "chassis": {
             "chassis-id": chassis_of(host), "management-address-ipv4": "10.0.0.1",
@@ -84,7 +83,6 @@ def nvue(ports: Ports) -> Any:
 
 
 def networkctl(ports: Ports) -> Any:
-    """Writes systemd's form."""
     return {"Neighbors": [{"InterfaceIndex": number, "InterfaceName": port, "Neighbors": [{
         "ChassisID": chassis_of(host), "RawChassisID": [4, 2], "PortID": at,
         "RawPortID": [5, *at.encode()], "PortDescription": TO, "SystemName": host,
@@ -152,7 +150,7 @@ ENGINE = """<multi-routing-engine-results xmlns='http://xml.juniper.net/'>
 """
 ENGINE_END = "</multi-routing-engine-item>\n</multi-routing-engine-results>\n"
 PROMPT = "Last login: Mon Nov 23\n{master:0}\nadmin@leaf1> show lldp neighbors detail | json\n"
-# the same neighbors in what programs put around a list, and as other octets
+# the same neighbors inside what programs put around a list, and in other encodings
 LISTS: Mapping[str, Any] = {
     "5, 10: salt": {"comment": "", "result": True, "out": NAPALM},
     "13: rows of TextFSM itself": [{name.upper(): text for name, text in row.items()}

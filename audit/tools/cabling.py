@@ -18,12 +18,12 @@ from lldpa import read_show  # noqa: E402
 from lldpa.lldpcli_forms.shows import Depth, Told, neighbors  # noqa: E402
 from lldpa.lldpcli_forms.writing import FORMS as OF_LLDPCLI  # noqa: E402
 
-# a VLAN, a frame size, and what a link of copper advertises and is
+# TLVs: a VLAN, a frame size, and the autonegotiation of a copper link
 SETTINGS = (("0080c2.1", "000a"), ("0080c2.3", "000a0374656e"), ("00120f.4", "2400"), ("00120f.1", "030001001e"))
 
 
 def write(folder, pods, form="show"):
-    """Writes the plan of so many pods, and what their switches see. Returns the words for an audit."""
+    """Writes the plan of some pods and what their switches see. Returns an audit's arguments."""
     (folder / "seen").mkdir(exist_ok=True)
     with open(folder / "plan.csv", "w") as plan:
         plan.write("host,port,peer,peer_port\n")
@@ -44,7 +44,7 @@ def show_of(ports, tlvs=lambda neighbor: ()):
 
 
 def tree_of(ports, tlvs=lambda neighbor: SETTINGS):
-    """Returns what lldpcli shows in detail of neighbors that came 12 minutes ago."""
+    """Returns what lldpcli shows in detail of neighbors that it heard 12 minutes ago."""
     show = read_show(show_of(ports, tlvs).splitlines())
     since = {(one.port, one.id): "1970-01-01T00:00:00Z" for one in show.neighbors}
     return neighbors(Told(show, since, {}, 725), None, Depth.DETAILS)
@@ -67,7 +67,6 @@ def show_of_port(neighbors, tlvs):
 
 
 def main():
-    """Writes a network and measures its audit."""
     parser = argparse.ArgumentParser(description=__doc__.splitlines()[0])
     parser.add_argument("folder", type=pathlib.Path)
     parser.add_argument("--pods", type=int, default=50)

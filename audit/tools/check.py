@@ -1,6 +1,6 @@
 #!/usr/bin/env python3
-"""Runs the worked audit of audit/worked: its lines are those of expected.txt, from plan.csv and from plan.dot, and
-audit.svg is the picture of its page; --write writes that picture. The last line is `N passed, M failed`."""
+"""Runs the example of audit/worked: plan.csv and plan.dot give the lines of expected.txt, and
+audit.svg is its page's picture; --write writes that. The last line is `N passed, M failed`."""
 import argparse
 import os
 import pathlib
@@ -19,7 +19,7 @@ CAPTURES = [f"swp{number}=swp{number}.pcap" for number in range(1, 9)]
 
 
 def audit(program, plan, *words):
-    """Status and lines of the worked audit."""
+    """Returns the status and the lines of the example."""
     path = f"{pathlib.Path(program).resolve().parent}:{os.environ['PATH']}"
     ran = subprocess.run([sys.executable, TOP / "bin" / "lldpa-audit", "--host", "leaf1", plan, *CAPTURES, *words],
                          cwd=FOLDER, env={**os.environ, "PATH": path}, capture_output=True, text=True)
@@ -27,7 +27,7 @@ def audit(program, plan, *words):
 
 
 def picture(program):
-    """Returns the picture of the page of the worked audit, which has its style in it."""
+    """Returns the picture of the example's page, which contains its style."""
     with tempfile.TemporaryDirectory() as room:
         audit(program, "plan.csv", "--html", f"{room}/page.html")
         page = pathlib.Path(room, "page.html").read_text()
@@ -37,7 +37,6 @@ def picture(program):
 
 
 def main():
-    """Checks the worked audit, or writes its picture."""
     parser = argparse.ArgumentParser(description=__doc__)
     parser.add_argument("--program", default="bin/lldpa", help="the agent; others are found on the search path")
     parser.add_argument("--write", action="store_true", help="write audit.svg")

@@ -4,7 +4,7 @@ shapes of audit/tests/shapes.py.
 
     audit/tools/try-damage.py [--minutes 10] [--seed N]
 
-Each run must end by itself within 30 seconds of the processor and 500 MB, and write nothing through a link in the place
+Each run must end by itself within 30 seconds of processor time and 500 MB, and write nothing through a link in place
 of its page. LLDPA names the agent. Prints the seed first; the last line is `N passed, M failed`.
 """
 import argparse
@@ -27,11 +27,10 @@ import vendors  # noqa: E402
 from counts import Counts  # noqa: E402
 
 LARGE = 32 << 20
-PORTS = {"swp1": [("host01", "eth0")], "swp2": [("host02", "eth0"), ("host03", "eth0")]}
 
 
 def samples():
-    """Yields what is damaged, and its place among the words of an audit."""
+    """Yields files to damage, each with its place among the arguments of an audit."""
     links = list(fabric.links())[:300]
     yield "plan", fabric.csv_plan(links).encode()
     yield "plan", (b"side_a_device,side_a_type,side_a_name,side_b_device,side_b_type,side_b_name,type,label\n"
@@ -41,7 +40,7 @@ def samples():
     yield "panels", fabric.panels().encode()
     yield "aliases", b"host,port,alias\nhost01,eth0,bond0\nhost01,eth1,bond0\nhost02,,web-00\n"
     for write in (*vendors.FORMS.values(), *cabling.FORMS.values()):
-        yield "leaf01", write(PORTS).encode()
+        yield "leaf01", write(vendors.PORTS).encode()
     yield "leaf01", (TOP / "audit" / "tests" / "samples" / "lldpd.walk").read_bytes()
     frames = rack.pcapng({port: rack.frames(port) for port in rack.PORTS[:5]})
     yield from (("leaf01", frames), ("swp1", rack.pcap(rack.frames("swp1"))), ("leaf01", gzip.compress(frames)))
@@ -71,7 +70,7 @@ def enlarged(octets, dice):
 
 
 def words_of(room, place, dice):
-    """Returns the words of an audit in which a file has a place."""
+    """Returns the arguments of an audit in which a file has this place."""
     names = {"plan": room / "plan", "leaf01": room / "list", "panels": room / "panels", "aliases": room / "aliases"}
     names[place] = room / "file"
     words = ["--host", "leaf01", str(names["plan"]), f"swp1={names['swp1']}" if place == "swp1" else str(names["leaf01"])]
@@ -82,12 +81,12 @@ def words_of(room, place, dice):
 
 
 class Trial:
-    """What was tried in a folder, and what it took at most."""
+    """Runs audits in a folder, counts them, and keeps the most that one took."""
 
     def __init__(self, room):
         self.room, self.counts, self.most = pathlib.Path(room), Counts(), [0.0, 0]
         for name, octets in (("plan", fabric.csv_plan(list(fabric.links())[:300])), ("victim", "victim"),
-                             ("leaf01", vendors.FORMS["napalm"](PORTS)), ("panels", fabric.panels()),
+                             ("leaf01", vendors.FORMS["napalm"](vendors.PORTS)), ("panels", fabric.panels()),
                              ("aliases", "host,port,alias\nhost01,eth0,bond0\n")):
             (self.room / name).write_text(octets)
 

@@ -1,12 +1,12 @@
 #!/usr/bin/env python3
-"""Audits two links by what a real lldpd says of them: as lldpcli prints it, and as snmpwalk gets it of lldpd's agent. The
-verdicts of all forms must be the same.
+"""Audits two links by the data of a real lldpd: from lldpcli, and from snmpwalk by lldpd's SNMP agent.
+All forms must give the same verdicts.
 
     audit/tools/try-lldpd.py
 
-An lldpd at each end of two links between two namespaces, leaf1 with an snmpd, hear one another; then a second sender
-comes. It needs Linux, root, and Debian's packages lldpd, snmp, snmpd and iproute2. The last line is `N passed, M failed`;
-if something is missing it says so, and the status is 77.
+Each end of two links between two namespaces has an lldpd, and leaf1 also an snmpd; then a second
+sender joins. It needs Linux, root, and Debian's packages lldpd, snmp, snmpd and iproute2. The last
+line is `N passed, M failed`. If something is missing, it says so, and its status is 77.
 """
 import contextlib
 import json
@@ -59,7 +59,7 @@ class Trial:
         return ran.returncode, [(one["host"], one["port"], one["verdict"]) for one in told["ends"]]
 
     def compare(self, state, *names):
-        """Waits until both forms have some names, and audits what is heard then by each plan, in each form."""
+        """Waits until both forms have some names, and audits them by each plan in each form."""
         if not eventually(lambda: all(name in text for name in names for text in (self.lldpcli("json"), self.walk()))):
             sys.exit(f"{names}: they do not come")
         for name, plan in PLANS.items():

@@ -1,1 +1,1 @@
-"""What an audit has found, as people and programs read it: lines, JSON, pictures, a page."""
+"""Reports what an audit has found: as lines, JSON, JUnit, metrics, and a page with pictures."""

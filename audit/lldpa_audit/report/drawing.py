@@ -1,13 +1,12 @@
-"""Pictures of a host for a page, so narrow that a telephone's screen has room for them."""
+"""Draws pictures of a host for a page, narrow enough for a telephone's screen."""
 import html
 from typing import Iterator, Sequence
 
 from ..judging import Finding, Verdict
-from ..names import Names, shown
+from ..names import MOST_NAMED, Names, shown
 
 WIDTH = 360
 ENDS_OF_A_PICTURE = 24
-MOST_NEIGHBORS = 3
 ROW, GAP, MARGIN = 22, 8, 6
 BOX = 18
 PORT_LEFT, PORT_RIGHT = MARGIN, 106
@@ -18,7 +17,7 @@ Line = tuple[str, str]
 
 
 def pictures_of(host: str, faults: Sequence[Finding], names: Names) -> Iterator[str]:
-    """Yields the pictures of a host's faults in SVG, each of some ends."""
+    """Yields pictures of a host's faults in SVG, each with up to ENDS_OF_A_PICTURE ends."""
     for begin in range(0, len(faults), ENDS_OF_A_PICTURE):
         some = faults[begin:begin + ENDS_OF_A_PICTURE]
         parts, top = [], MARGIN
@@ -38,9 +37,9 @@ def lines_of(fault: Finding, names: Names) -> list[Line]:
     key = names.end(wants) if wants is not None else None
     are_it = [key is not None and names.answers(one, key) for one in fault.has]
     lines = [("right" if is_it else "has", str(wants if is_it else neighbor))
-             for is_it, neighbor in zip(are_it[:MOST_NEIGHBORS], fault.has)]
-    if len(fault.has) > MOST_NEIGHBORS:
-        lines.append(("has", f"{len(fault.has) - MOST_NEIGHBORS} more"))
+             for is_it, neighbor in zip(are_it[:MOST_NAMED], fault.has)]
+    if len(fault.has) > MOST_NAMED:
+        lines.append(("has", f"{len(fault.has) - MOST_NAMED} more"))
     if wants is not None and not any(are_it):
         unknown = fault.verdict is Verdict.NO_DATA
         lines.append(("unknown" if unknown else "wants", str(wants)))
@@ -48,7 +47,7 @@ def lines_of(fault: Finding, names: Names) -> list[Line]:
 
 
 def group(fault: Finding, lines: Sequence[Line], top: int) -> str:
-    """Returns the port of an end, its lines, and their peers."""
+    """Draws the port of an end, its lines and their peers."""
     middle = top + (len(lines) - 1) * ROW // 2
     kind = "unknown" if fault.verdict is Verdict.NO_DATA else "fault"
     parts = [box(PORT_LEFT, PORT_RIGHT, middle, f"port {kind}", shown(fault.end.port))]
@@ -61,7 +60,7 @@ def group(fault: Finding, lines: Sequence[Line], top: int) -> str:
 
 
 def box(left: int, right: int, top: int, style: str, text: str) -> str:
-    """Returns a box with as much of a text as fits; the pointer shows the whole."""
+    """Draws a box with as much of a text as fits; a tooltip shows all of it."""
     room = int((right - left - 8) / LETTER)
     seen = text if len(text) <= room else text[:room - 1] + "\N{HORIZONTAL ELLIPSIS}"
     return (f'<g class="{style}"><title>{html.escape(text)}</title>'

@@ -1,4 +1,4 @@
-"""Two cables that are exchanged are seen from both their sides, and mended once: one line."""
+"""Finds exchanged cables: they show at both of their sides, but one line reports them."""
 from typing import NamedTuple, Optional
 
 from ..judging import Verdict
@@ -9,8 +9,8 @@ Pair = tuple[End, End]
 
 
 class Exchanges(NamedTuple):
-    """The ends of exchanges: each with the end in whose line it is reported, and with the two ends
-    at the other side of the exchange, if these could be exchanged instead."""
+    """The ends of exchanges. `told_at` maps each to the end in whose line it is reported, `others`
+    to the two ends at the other side, if these could be exchanged instead."""
 
     told_at: dict[End, End]
     others: dict[End, Pair]
@@ -18,8 +18,7 @@ class Exchanges(NamedTuple):
 
 def exchanges_of(faults: Faults) -> Exchanges:
     """Returns the exchanges among faults. Two ends that are swapped with each other are a pair. The
-    other ends of their two links may be a pair as well, or one of them has what the exchange makes
-    it have."""
+    other ends of their links may be a pair, too, or one alone hears an end of the first pair."""
     found = Exchanges({}, {})
     ranks = {key: rank for rank, key in enumerate(faults.all)}
     for key in faults.all:
@@ -30,7 +29,7 @@ def exchanges_of(faults: Faults) -> Exchanges:
 
 
 def add(found: Exchanges, faults: Faults, near: Pair, ranks: dict[End, int]) -> None:
-    """Adds an exchange by its first pair. It is reported at the pair of one host, if one is."""
+    """Adds an exchange by its first pair. It is reported at a pair of one host if there is one."""
     one, other = far_of(faults, *near), far_of(faults, *near[::-1])
     pairs = [near]
     if one is not None and other is not None and twin_of(faults, one) == other:
@@ -43,7 +42,7 @@ def add(found: Exchanges, faults: Faults, near: Pair, ranks: dict[End, int]) -> 
 
 
 def twin_of(faults: Faults, key: End) -> Optional[End]:
-    """Returns the end that is swapped with an end, if that one is swapped with it, too."""
+    """Returns the end that an end is swapped with, if that is swapped with it in turn."""
     fault = faults.all[key]
     twin = faults.names.end(fault.partner) if fault.partner is not None else None
     is_mutual = twin in faults.all and faults.all[twin].partner == fault.end
@@ -51,7 +50,7 @@ def twin_of(faults: Faults, key: End) -> Optional[End]:
 
 
 def far_of(faults: Faults, key: End, twin: End) -> Optional[End]:
-    """Returns the end that a swapped one wants, if that has just what the twin is."""
+    """Returns the end that a swapped end wants, if that has the swapped end's twin as neighbor."""
     wants = faults.all[key].wants
     far = faults.names.end(wants) if wants is not None else None
     fault = faults.all.get(far) if far is not None else None

@@ -1,10 +1,10 @@
-"""Writes what is made of a report into files."""
+"""Writes the files of a report."""
 import os
 from pathlib import Path
 
 
 def write(file: str, octets: bytes) -> None:
-    """Writes a file, at once if it is a plain one. Raises OSError."""
+    """Writes a file; a plain one is replaced as a whole. Raises OSError."""
     path = Path(file)
     try:
         if is_written_in_place(path):
@@ -17,6 +17,6 @@ def write(file: str, octets: bytes) -> None:
 
 
 def is_written_in_place(path: Path) -> bool:
-    """Returns whether a file is not a plain one, such as a pipe or a device. One that is another
-    user's is replaced, and so is a link of another user to a device."""
+    """Returns whether a file is a pipe or a device, and so must not be replaced. A file or link of
+    another user is replaced in any case."""
     return path.exists() and not path.is_file() and path.lstat().st_uid in (0, os.geteuid())

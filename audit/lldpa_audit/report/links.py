@@ -6,7 +6,7 @@ from ..names import End
 from .repairs import Faults, Repair
 from .texts import FaultTexts
 
-# which end of a link is reported first: the one that is wrong
+# the end of a link whose verdict comes first here is reported first
 RANKS = (Verdict.WRONG, Verdict.SWAPPED, Verdict.DOUBLED, Verdict.EXTRA, Verdict.NO_DATA,
          Verdict.ONE_SIDED, Verdict.SILENT, Verdict.DISAGREES)
 
@@ -32,7 +32,7 @@ def of_links(faults: Faults, texts: FaultTexts) -> Iterator[Repair]:
             continue
         far = faults.far(key)
         ends = [key] if far is None or far not in faults.left else [key, far]
-        # a wrong end comes first, and of two the one that hears the other
+        # the worse verdict comes first, and of two equal ones the end that hears somebody
         ends.sort(key=lambda end: (RANKS.index(faults.left[end].verdict), not faults.left[end].has))
         moved = ports_beside(faults, ends)
         mends = faults.take(ends)
@@ -41,7 +41,7 @@ def of_links(faults: Faults, texts: FaultTexts) -> Iterator[Repair]:
 
 
 def ports_beside(faults: Faults, ends: Sequence[End]) -> list[End]:
-    """Returns the unplanned ports at which an end of a link is, or that an end hears."""
+    """Returns the unplanned ports where an end of a link is seen, and those that an end hears."""
     found: dict[End, None] = {}
     for end in ends:
         place, neighbor = faults.seen.get(end), faults.only(faults.left[end])
@@ -53,7 +53,7 @@ def ports_beside(faults: Faults, ends: Sequence[End]) -> list[End]:
 
 
 def of_ports(faults: Faults, texts: FaultTexts) -> Iterator[Repair]:
-    """Yields a repair for each port that is not planned, and for the port that it is joined to."""
+    """Yields a repair for each unplanned port, together with the port that it is joined to."""
     for key, fault in faults:
         if key in faults.left:
             there = [end for one in fault.has for end in faults.names.ends(one)

@@ -1,11 +1,11 @@
-"""An audit as objects for JSON. Texts are Unicode: octets that are not UTF-8 are escaped."""
+"""Turns a report into objects for JSON, and escapes octets of texts that are not UTF-8."""
 from typing import Dict, Optional, Sequence, Union
 
 from ..judging import Finding, Verdict
+from ..mismatches import MISMATCH
 from ..names import End, Seen, text_of
 from .repairs import TO_DO, Repair
 from .report import Report
-from .whole_hosts import MISMATCH
 
 Json = Union[None, str, int, float, Sequence["Json"], Dict[str, "Json"]]
 
@@ -61,7 +61,7 @@ def json_of_finding(report: Report, finding: Finding) -> Json:
 
 
 def json_of_plan(report: Report, end: End) -> Dict[str, Json]:
-    """Returns the line of an end in the plan, its other columns, and its way through panels."""
+    """Returns an end's line in the plan, its further columns, and its path through panels."""
     wish = report.planned(end)
     return {"line": wish.line,
             "details": {text_of(name): text_of(text) for name, text in report.plan.details(wish)},
@@ -69,7 +69,6 @@ def json_of_plan(report: Report, end: End) -> Dict[str, Json]:
 
 
 def json_of_end(end: Optional[End]) -> Json:
-    """Returns the two names of an end."""
     return None if end is None else {"host": text_of(end.host), "port": text_of(end.port)}
 
 

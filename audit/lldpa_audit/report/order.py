@@ -1,37 +1,35 @@
-"""Findings in the order in which a person walks along them."""
+"""Sorts by host and port, in the order in which a person walks along them."""
 import re
+from functools import lru_cache
 from typing import Iterable, TypeVar, Union
 
 from ..judging import Finding
 from ..names import End
+from ..seen.neighbor import MOST_KEPT
 from .repairs import Repair
 
 Item = TypeVar("Item", Finding, Repair)
-# texts and numbers in turn; a number is compared by how many digits it has, and then by these
+# texts and numbers in turn; a number is compared by its count of digits, then by its digits
 Key = list[Union[str, tuple[int, str]]]
 
 
 def in_order(items: Iterable[Item]) -> list[Item]:
-    """Returns findings or repairs by host and port: swp2 before swp10."""
-    keys: dict[str, Key] = {}
-    return sorted(items, key=lambda item: [natural(name, keys) for name in item.end])
+    """Sorts findings or repairs by host and port: swp2 before swp10."""
+    return sorted(items, key=lambda item: [natural(name) for name in item.end])
 
 
-def natural(name: str, keys: dict[str, Key]) -> Key:
-    """Returns the key by which a name is sorted, which is made once for each name."""
-    key = keys.get(name)
-    if key is None:
-        key = keys[name] = [number(part) if at % 2 else part
-                            for at, part in enumerate(re.split("([0-9]+)", name))]
-    return key
+@lru_cache(MOST_KEPT)
+def natural(name: str) -> Key:
+    """Returns the sort key of a name."""
+    return [number(part) if at % 2 else part
+            for at, part in enumerate(re.split("([0-9]+)", name))]
 
 
 def number(digits: str) -> tuple[int, str]:
-    """Returns a number of any length, as it is sorted."""
+    """Returns the sort key of a number of any length."""
     digits = digits.lstrip("0")
     return len(digits), digits
 
 
 def by_port(end: End) -> Key:
-    """Returns the key by which the ports of one host are sorted."""
-    return natural(end.port, {})
+    return natural(end.port)

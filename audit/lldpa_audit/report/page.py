@@ -1,4 +1,4 @@
-"""A report as one page in HTML, which needs no other file and runs no script."""
+"""Writes a report as one HTML page, which needs no other file and runs no script."""
 import html
 import re
 from collections import Counter
@@ -7,14 +7,14 @@ from typing import Iterator, Sequence
 from lldpa.texts import printable
 
 from ..judging import Finding, Verdict
+from ..mismatches import MISMATCH
 from ..names import End, shown, text_of
 from .drawing import pictures_of
 from .repairs import TO_DO
 from .report import Report
-from .whole_hosts import MISMATCH
 from .style import STYLE
 
-# no browser shows more rows in good time
+# browsers become slow with more rows
 MOST_ROWS = 10_000
 WORD = re.compile(r"[^\s<>&;]+")
 
@@ -24,7 +24,7 @@ def page_of(report: Report) -> bytes:
 
 
 def parts(report: Report) -> Iterator[str]:
-    """Yields the page: the count, the repairs, faults by kind and host, and each such host."""
+    """Yields the page: the count, the repairs, faults by kind and host, and hosts with faults."""
     hosts: dict[str, list[Finding]] = {}
     for fault in report.told[:MOST_ROWS]:
         hosts.setdefault(report.names.host(fault.end.host), []).append(fault)
@@ -89,7 +89,7 @@ def not_looked_at(hosts: Sequence[str]) -> Iterator[str]:
 
 
 def host(report: Report, number: int, faults: Sequence[Finding]) -> Iterator[str]:
-    """Yields a host: its pictures, and its ends with a fault."""
+    """Yields the section of a host: its pictures, and its ends with a fault."""
     name = faults[0].end.host
     yield f'<section id="h{number}">\n<h2>{text(shown(name))}</h2>\n<div class="pictures">\n'
     for picture in pictures_of(name, faults, report.names):
@@ -104,7 +104,7 @@ def host(report: Report, number: int, faults: Sequence[Finding]) -> Iterator[str
 
 
 def planned(report: Report, end: End) -> str:
-    """Returns the line of the plan that has an end, and what else it says there."""
+    """Returns what the plan says of an end: its line, its further columns and its path."""
     wish = report.planned(end)
     says = [] if wish.line is None else [f"line {wish.line}"]
     says += [f"{text(name)} <b>{text(value)}</b>" for name, value in report.plan.details(wish)]
@@ -114,12 +114,12 @@ def planned(report: Report, end: End) -> str:
 
 
 def kind_of(fault: Finding) -> str:
-    """Returns the kind of a fault; a right link whose ends disagree has a mismatch."""
+    """Returns the kind of a fault. A right link among the faults has a mismatch."""
     return MISMATCH if fault.verdict is Verdict.RIGHT else str(fault.verdict.value)
 
 
 def text(name: str) -> str:
-    """Returns a text as HTML. Each word whose letters may run from the right is set apart."""
+    """Escapes a text for HTML. Words that may run from right to left are isolated by <bdi>."""
     escaped = html.escape(printable(text_of(name)))
     if escaped.isascii():
         return escaped

@@ -1,4 +1,4 @@
-"""An audit for pipelines: a report of JUnit's form, and metrics for node_exporter."""
+"""Writes an audit for pipelines: a JUnit report, and metrics for node_exporter."""
 import time
 from collections import Counter
 from typing import Mapping
@@ -7,17 +7,17 @@ from xml.sax.saxutils import quoteattr
 from lldpa.texts import printable
 
 from ..judging import Finding, Verdict
+from ..mismatches import MISMATCH
 from ..names import End, text_of
 from .count import NOT_JUDGED
 from .repairs import TO_DO
 from .report import Report
-from .whole_hosts import MISMATCH
 
 NAME = "lldpa-audit"
 
 
 def junit_of(report: Report, needs_all: bool = False) -> bytes:
-    """Returns the report in XML. What was not looked at is skipped, or fails if all is needed."""
+    """Returns a JUnit report. Ends that nobody looked at are skipped, or fail with `needs_all`."""
     unseen = "failure" if needs_all else "skipped"
     cases = [(one.end, *case_of(report, one, unseen)) for one in report.in_order()]
     not_judged = report.count.cables[NOT_JUDGED]
@@ -37,7 +37,7 @@ def junit_of(report: Report, needs_all: bool = False) -> bytes:
 
 
 def case_of(report: Report, one: Finding, unseen: str) -> tuple[str, str]:
-    """Returns the element that says what became of an end, empty if it is right, and its text."""
+    """Returns the element for an end, empty if it is right, and the text in it."""
     if one.verdict is Verdict.NOT_LOOKED_AT:
         return unseen, "not looked at: no source covers either end of its cable"
     if one.verdict is Verdict.KNOWN:
@@ -55,7 +55,6 @@ def quoted(text: str) -> str:
 
 
 def metrics_of(report: Report) -> bytes:
-    """Returns the metrics, each with its help."""
     count, now = report.count, time.time()
     verdicts = Counter(one.verdict.value for one in report.findings)
     verdicts[MISMATCH] = count.mismatches
@@ -73,7 +72,7 @@ def metrics_of(report: Report) -> bytes:
 
 
 def gauge(name: str, told: str, label: str, values: Mapping[str, float]) -> str:
-    """Returns a metric with its value for each value of a label, or nothing without values."""
+    """Returns a metric with a value for each value of its label, or nothing without values."""
     name = f"lldpa_audit_{name}"
     lines = [f"# HELP {name} {told}\n# TYPE {name} gauge\n"] if values else []
     for text, value in values.items():

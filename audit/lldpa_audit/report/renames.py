@@ -1,4 +1,4 @@
-"""Hosts that answer by another name at their links: one line each, and none for their links."""
+"""Finds hosts that answer by another name at their links: one line for each such host."""
 from typing import Iterator, Mapping, Sequence
 
 from ..judging import Verdict
@@ -23,7 +23,7 @@ def exchanged(faults: Faults) -> Iterator[Repair]:
 
 
 def exchange(faults: Faults, host: str, other: str, some: Sequence[End]) -> Repair:
-    """Returns the repair of two hosts that are exchanged; the ends are those of both."""
+    """Returns the repair of two exchanged hosts, from the ends of both."""
     names = [shown(faults.plan.hosts[one]) for one in (host, other)]
     counts = [sum(end.host == one for end in some) for one in (host, other)]
     ends = [far for end in some for far in (faults.far(end), end) if far is not None]
@@ -33,7 +33,7 @@ def exchange(faults: Faults, host: str, other: str, some: Sequence[End]) -> Repa
 
 
 def renamed(faults: Faults) -> Iterator[Repair]:
-    """Yields a repair for each planned host that is heard by another name at all its links."""
+    """Yields a repair for each planned host that is heard by another name, and never by its own."""
     for host, by_name in other_names(faults).items():
         some = max(by_name.values(), key=len)
         own = [faults.left[end] for end, _ in some if end in faults.left]
@@ -43,8 +43,8 @@ def renamed(faults: Faults) -> Iterator[Repair]:
 
 
 def other_names(faults: Faults) -> Mapping[str, Mapping[str, Sequence[tuple[End, Seen]]]]:
-    """Returns the other names that are heard in place of planned hosts, at the planned ports: by
-    host and name the ends at which it is heard, each with the neighbor."""
+    """Returns the other names that are heard in place of planned hosts, at the planned ports: for
+    each host and name, the host's ends that were wanted there, each with the neighbor."""
     heard: dict[str, dict[str, list[tuple[End, Seen]]]] = {}
     for key, fault in faults:
         neighbor, wanted = faults.only(fault), faults.far(key)
@@ -56,7 +56,7 @@ def other_names(faults: Faults) -> Mapping[str, Mapping[str, Sequence[tuple[End,
 
 
 def has_port(faults: Faults, neighbor: Seen, wanted: End) -> bool:
-    """Returns whether a neighbor is of another host and may have the port that is wanted."""
+    """Returns whether a neighbor is of another host, but may have the wanted port."""
     names = faults.names
     hosts = names.hosts_of(neighbor)
     return bool(hosts) and wanted.host not in hosts and (
@@ -74,7 +74,7 @@ def is_heard_rightly(faults: Faults, host: str) -> bool:
 
 
 def repair(faults: Faults, host: str, some: Sequence[tuple[End, Seen]]) -> Repair:
-    """Returns the repair of a host that is heard at these ends by another name."""
+    """Returns the repair of a host that is heard by another name in place of these ends."""
     name, neighbor = faults.plan.hosts[host], some[0][1]
     differs = faults.differences.of_neighbor(neighbor, some[0][0])
     fars = [faults.tables.ends.get(faults.plan.ends[key].wanted)
@@ -86,4 +86,3 @@ def repair(faults: Faults, host: str, some: Sequence[tuple[End, Seen]]) -> Repai
     ends = faults.with_far([faults.plan.ends[end].wanted for end, _ in some], [Verdict.DISAGREES])
     return Repair("renamed", End(name, some[0][0].port), f"{text} ({differs})" if differs else text,
                   faults.take(ends), shown(name))
-

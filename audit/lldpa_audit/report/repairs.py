@@ -1,4 +1,4 @@
-"""What is to be done: each fault is of one repair, and one repair may mend many of them."""
+"""Repairs: each fault belongs to one repair, and one repair may mend many faults."""
 from typing import Iterable, Iterator, NamedTuple, Optional, Sequence
 
 from ..differs import Differences
@@ -13,27 +13,27 @@ HAVE_NOBODY = (Verdict.SILENT, Verdict.ONE_SIDED, Verdict.NO_DATA)
 TO_DO = {
     "renamed": "correct the name, at the host or in the plan",
     "exchanged": "exchange the two hosts, or their names",
-    "turned": "turn the lanes of the breakout cable",
-    "loop": "take the cable out",
-    "not broken out": "break the port out",
-    "broken out": "join the lanes to one port",
+    "turned": "put the lanes of the breakout cable in order",
+    "loop": "remove the cable",
+    "not broken out": "break out the port",
+    "broken out": "undo the breakout of the port",
     "shifted": "move each cable by one port",
     "swapped": "exchange the two cables",
-    "wrong": "put the right cable there",
-    "silent": "plug the cable in, or have the host send LLDP",
-    "extra": "take the second device away",
-    "doubled": "look for a hub, or two devices of one name",
-    "one-sided": "look for a fiber that is broken, or a side that does not send",
+    "wrong": "plug in the right cable",
+    "silent": "plug in the cable, or enable LLDP at the host",
+    "extra": "remove the second device",
+    "doubled": "look for a hub, or two devices with the same name",
+    "one-sided": "look for a broken fiber, or a side that does not send",
     "disagrees": "get new data from both ends",
-    "no data": "give what is seen there",
-    "unplanned": "take the cable out, or plan it",
-    "mismatch": "give both ends the same setting, that of the plan if it has one",
+    "no data": "give a list or a capture of the port",
+    "unplanned": "remove the cable, or add it to the plan",
+    "mismatch": "configure both ends alike, as in the plan if it has the setting",
 }
 
 
 class Repair(NamedTuple):
-    """One line: its kind, where to go, what is wrong there, and each end that it mends. `place`
-    names a whole host or several ports to go to."""
+    """One line: its kind, where to go, what is wrong there, and the faults that it mends. `place`
+    names a whole host or several ports, if these are where to go."""
 
     kind: str
     end: End
@@ -43,8 +43,8 @@ class Repair(NamedTuple):
 
 
 class Faults:
-    """The faults in order, by their ends as they are compared. `left` has those that no repair
-    mends so far, and `seen` where each wanted end is seen."""
+    """The faults by their normalized ends, in order. `left` has those that no repair mends yet, and
+    `seen` the place where each wanted end is seen."""
 
     def __init__(self, plan: Plan, tables: Tables, faults: Iterable[Finding]) -> None:
         self.plan = plan
@@ -71,7 +71,7 @@ class Faults:
         return iter(list(self.left.items()))
 
     def take(self, keys: Iterable[End]) -> list[Finding]:
-        """Takes those of the faults at these ends that are left."""
+        """Removes the faults at these ends from `left`, and returns them."""
         return [self.left.pop(key) for key in keys if key in self.left]
 
     def written(self, key: End) -> End:
@@ -85,7 +85,7 @@ class Faults:
         return wish.wanted if wish else None
 
     def with_far(self, keys: Iterable[End], verdicts: Sequence[Verdict]) -> list[End]:
-        """Returns these ends, and those other ends of their links that have such a verdict."""
+        """Returns these ends, and the other ends of their links that have one of these verdicts."""
         ends = list(keys)
         for key in list(ends):
             far = self.far(key)
@@ -94,17 +94,17 @@ class Faults:
         return ends
 
     def only(self, fault: Finding) -> Optional[Seen]:
-        """Returns the neighbor of an end that has only another one than it wants."""
+        """Returns the only neighbor of an end, if that is not the wanted one."""
         return fault.has[0] if fault.verdict in HAVE_ANOTHER and len(fault.has) == 1 else None
 
     def meant(self, fault: Finding) -> Optional[End]:
-        """Returns the end that ought to have what an end has."""
+        """Returns the end that should have the neighbor that an end has."""
         neighbor = self.only(fault)
         wish = self.planned(neighbor) if neighbor is not None else None
         return self.names.end(wish.wants) if wish else None
 
     def planned(self, neighbor: Seen) -> Optional[Wish]:
-        """Returns the planned end that a neighbor answers to, or None if it is not just one."""
+        """Returns the planned end that a neighbor answers to, or None if it is not exactly one."""
         ends = {key for key in self.names.ends(neighbor) if key in self.plan.ends}
         return self.plan.ends[ends.pop()] if len(ends) == 1 else None
 
@@ -118,7 +118,7 @@ class Faults:
         return self.tables.reason(self.names.end(end)) or self.like(end)
 
     def like(self, end: End) -> str:
-        """Returns an unplanned port that has nearly the name of an end, in words."""
+        """Returns a note on an unplanned port that has nearly the name of an end."""
         like = self._beside.get(self.differences.loosest(end))
         differs = self.differences.of_ends(like, end) if like else None
         return f"{self.place(like)} is known: {differs}" if like and differs else ""

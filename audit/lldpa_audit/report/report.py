@@ -1,4 +1,4 @@
-"""The report of an audit: its lines, and what its JSON, its page and other files are made of."""
+"""The report of an audit: its lines, and the data for its JSON, its page and other files."""
 from typing import Iterator, Mapping, Optional, Sequence
 
 from lldpa.texts import printable
@@ -18,16 +18,16 @@ from .runs import broken_out, looped, shifted, turned
 from .texts import FaultTexts
 from .whole_hosts import of_one_name, silent, together, without_data
 
-# places that are longer are not padded
+# longer places are not padded
 WIDEST = 48
-# how much else the plan says of a cable in its line
+# how many further columns a line shows, and how long their texts may be
 MOST_DETAILS, LONGEST_DETAIL = 4, 40
 NO_FAULTS = (Verdict.RIGHT, Verdict.KNOWN, Verdict.NOT_LOOKED_AT)
 
 
 class Report:
     """What an audit has found: `told` has the findings that are reported, by host and port,
-    `repairs` what mends them, and `mismatches` the right links whose ends disagree."""
+    `repairs` their repairs, and `mismatches` the right links with a mismatch."""
 
     def __init__(self, plan: Plan, tables: Tables, findings: Sequence[Finding],
                  mismatches: Optional[Mapping[End, Mismatch]] = None) -> None:
@@ -35,12 +35,10 @@ class Report:
         self.names = tables.names
         self.findings = findings
         self.mismatches = mismatches or {}
-        right = Verdict.RIGHT
-        told = [one for one in findings if one.verdict not in NO_FAULTS]
-        if self.mismatches:
-            told += [one for one in findings if one.verdict is right and one.end in self.mismatches]
-        self.told = in_order(told)
-        self.faults = Faults(plan, tables, [one for one in self.told if one.verdict is not right])
+        self.told = in_order(one for one in findings if one.verdict not in NO_FAULTS
+                             or one.end in self.mismatches)
+        self.faults = Faults(plan, tables, [one for one in self.told
+                                            if one.verdict is not Verdict.RIGHT])
         self.texts = FaultTexts(self.faults, self.mismatches)
         self.repairs = in_order(self._repairs())
         self.repair_of = {self.names.end(fault.end): number
@@ -59,13 +57,13 @@ class Report:
         yield from together(unlike, self.mismatches, self.names, self.plan)
 
     def lines(self, by: str = "") -> list[str]:
-        """Returns a line for each repair, and the count. The lines of each text of a column of the
-        plan are together below a line with it, if the column is named."""
+        """Returns a line for each repair, and the count. If a column of the plan is named, the
+        lines are grouped by its texts, each group below a line with the text."""
         told = [(self._column(one, by), self.place(one), f"{one.text}{self._details(one)}")
                 for one in self.repairs]
         width = max((len(place) for _, place, _ in told if len(place) <= WIDEST), default=0)
         lines = []
-        for value in sorted({value for value, _, _ in told}, key=lambda text: natural(text, {})):
+        for value in sorted({value for value, _, _ in told}, key=natural):
             some = [f"{place:{width}}  {text}" for one, place, text in told if one == value]
             if by:
                 head = f"{printable(by)} {shown(value)}" if value else f"no {printable(by)}"
@@ -74,16 +72,16 @@ class Report:
         return [*lines, str(self.count)]
 
     def _column(self, repair: Repair, by: str) -> str:
-        """Returns what a column of the plan says of the cable at which a repair begins."""
+        """Returns the text in a column of the plan for the cable where a repair begins."""
         details = self.plan.details(self.planned(repair.end)) if by else ()
         return next((text for name, text in details if key_of(name) == key_of(by)), "")
 
     def place(self, repair: Repair) -> str:
-        """Returns where a repair begins, as its line says it."""
+        """Returns where a repair begins, as its line shows it."""
         return repair.place or self.faults.place(repair.end)
 
     def _details(self, repair: Repair) -> str:
-        """Returns what else the plan says of the cable of a repair, in brackets."""
+        """Returns the further columns and the path of a repair's cable, in brackets."""
         wish = NOT_PLANNED if repair.place else self.planned(repair.end)
         texts = [f"{name} {value}" for name, value in self.plan.details(wish)
                  if len(value) <= LONGEST_DETAIL][:MOST_DETAILS]
@@ -101,5 +99,4 @@ class Report:
         return len({frozenset(wish[:2]) for wish in wishes if wish is not NOT_PLANNED})
 
     def in_order(self) -> list[Finding]:
-        """Returns all findings by hosts and ports."""
         return in_order(self.findings)

@@ -1,4 +1,4 @@
-"""Faults of several ports of one host that have one cause: shifted cables, lanes, and loops."""
+"""Finds faults with one cause at several ports of a host: shifted cables, lanes and loops."""
 import re
 from collections import Counter
 from typing import Iterator, Optional, Sequence
@@ -15,7 +15,7 @@ LANE = re.compile(r"(.*[0-9])[s:][0-9]|((?:Et|Eth|Ethernet)[0-9]+/[0-9]+)/[0-9]"
 
 
 def shifted(faults: Faults) -> Iterator[Repair]:
-    """Yields a repair for each run of ports that have what the next or the last one wants."""
+    """Yields a repair for each run of ports that have what the next or the previous one wants."""
     counts = Counter(key.host for key, fault in faults if faults.only(fault))
     for host in (host for host, count in counts.items() if count >= SHORTEST):
         ports = sorted(faults.plan.ends_of_hosts.get(host, ()), key=by_port)
@@ -32,14 +32,14 @@ def shifted(faults: Faults) -> Iterator[Repair]:
 
 
 def step_of(faults: Faults, key: End, places: dict[End, int]) -> int:
-    """Returns how many ports further the end is that wants what an end has, or 0."""
+    """Returns the distance in ports from an end to the one that wants its neighbor, or 0."""
     fault = faults.left.get(key)
     meant = faults.meant(fault) if fault is not None else None
     return places[meant] - places[key] if meant in places else 0
 
 
 def repair_of_run(faults: Faults, ports: Sequence[End], begin: int, end: int, step: int) -> Repair:
-    """Returns the repair of shifted ports. The one after the last may have no neighbor."""
+    """Returns the repair of shifted ports, with the next port if the shift explains its fault."""
     run = list(ports[begin:end])
     behind = end if step > 0 else begin - 1
     if 0 <= behind < len(ports):
@@ -63,7 +63,7 @@ def turned(faults: Faults) -> Iterator[Repair]:
 
 
 def broken_out(faults: Faults) -> Iterator[Repair]:
-    """Yields a repair for each port that is broken out and was not to be, or the reverse."""
+    """Yields a repair for each port that is broken out and should not be, or the reverse."""
     for whole, group in lanes(faults).items():
         one = faults.left.get(whole)
         if one is None:
@@ -91,7 +91,7 @@ def looped(faults: Faults) -> Iterator[Repair]:
 
 
 def own_end(faults: Faults, key: End, fault: Finding) -> Optional[End]:
-    """Returns the end of the same host that is heard at an end that has one neighbor."""
+    """Returns the end of the same host that an end hears as its only neighbor."""
     if len(fault.has) != 1 or fault.verdict not in (*HAVE_ANOTHER, Verdict.UNPLANNED):
         return None
     ends = [end for end in faults.names.ends(fault.has[0]) if end.host == key.host]
@@ -109,13 +109,13 @@ def repair(faults: Faults, kind: str, keys: Sequence[End], text: str, places: Se
 
 
 def of_ports(faults: Faults, keys: Sequence[End]) -> str:
-    """Returns the first and the last of some ports."""
+    """Returns the names of the first and the last of some ports."""
     names = [shown(faults.written(key).port) for key in (keys[0], keys[-1])]
     return names[0] if len(keys) == 1 else f"{names[0]} to {names[1]}"
 
 
 def lanes(faults: Faults) -> dict[End, list[End]]:
-    """Returns the lanes with a fault of each port that is broken out."""
+    """Returns the faulty lanes of each port that is broken out."""
     found: dict[End, list[End]] = {}
     for key, _ in faults:
         whole = port_of(key)
@@ -125,6 +125,6 @@ def lanes(faults: Faults) -> dict[End, list[End]]:
 
 
 def port_of(lane: Optional[End]) -> Optional[End]:
-    """Returns the port that an end is a lane of; None if its name is not that of a lane."""
+    """Returns the port that a lane belongs to, or None if the name is not that of a lane."""
     found = LANE.fullmatch(lane.port) if lane is not None else None
     return None if lane is None or found is None else End(lane.host, found[1] or found[2])

@@ -1,6 +1,6 @@
-"""How a page looks: on a wide screen and on a telephone, by day and by night."""
+"""The style of a page: for wide screens and telephones, in light and in dark."""
 
-# the colors, and the pictures
+# colors and pictures
 PICTURES = """
 :root { --ink: #1d2329; --dim: #5c6670; --rule: #d5dade; --paper: #fff; --red: #c00a24;
   --orange: #a86200; --box: #f4f6f7; color-scheme: light dark; }
@@ -28,14 +28,12 @@ h2 { font-size: 18px; margin: 28px 0 8px; border-top: 1px solid var(--rule); pad
 .tables { display: flex; flex-wrap: wrap; gap: 24px 40px; align-items: flex-start; }
 table { border-collapse: collapse; max-width: 100%; }
 caption { text-align: left; font-weight: 600; padding: 0 0 4px; }
-th { text-align: left; font-weight: 600; color: var(--dim); font-size: 13px; }
+th { text-align: left; font-weight: 600; color: var(--dim); font-size: 13px; white-space: nowrap; }
 td, th { padding: 3px 14px 3px 0; border-bottom: 1px solid var(--rule); vertical-align: top; }
-th { white-space: nowrap; }
 .tables td:first-child { min-width: 6em; }
 .number { text-align: right; font-variant-numeric: tabular-nums; }
 a { color: inherit; }
 small { color: var(--dim); font-size: 12px; }
-code { font: 12px/1.4 ui-monospace, monospace; }
 details { margin: 16px 0 0; color: var(--dim); }
 .faults, .repairs { width: 100%; }
 .repairs { margin: 0 0 24px; }

@@ -3,12 +3,9 @@ from typing import Mapping, Optional, Sequence
 
 from ..judging import Finding, Verdict
 from ..mismatches import Mismatch
-from ..names import End, Seen, shown
+from ..names import MOST_NAMED, End, Seen, shown
 from .exchanges import exchanges_of
 from .repairs import Faults
-
-# how many neighbors of an end are named in its line
-MOST_NAMED = 3
 
 
 class FaultTexts:
@@ -21,7 +18,7 @@ class FaultTexts:
         self.mismatches = mismatches
 
     def text(self, fault: Finding) -> str:
-        """Returns what is wrong at an end, or nothing if it is right."""
+        """Returns what is wrong at an end, or an empty text if it is right."""
         if fault.verdict is Verdict.KNOWN:
             return f"known: {shown(fault.reason)}"
         if fault.verdict is Verdict.NOT_LOOKED_AT:
@@ -61,7 +58,7 @@ class FaultTexts:
             f"{text}; {at} hears nobody")
 
     def swapped(self, fault: Finding, partner: End) -> str:
-        """Returns with which end an end is swapped, and which exchange would mend it as well."""
+        """Returns which end an end is swapped with, and which other exchange would mend it, too."""
         has = self.faults.plan.ends[self.names.end(partner)].wants
         text = f"{self.faults.place(partner)}: wants {fault.wants}, has {has}"
         other = self.exchanges.others.get(self.names.end(fault.end))
@@ -78,7 +75,7 @@ class FaultTexts:
         return f"{wants} (seen at {self.faults.place(place)})"
 
     def reason(self, fault: Finding) -> str:
-        """Returns why nothing is known of an end, or heard at it."""
+        """Returns why an end has no data, or no neighbor."""
         if fault.verdict is Verdict.NO_DATA:
             return self.faults.reason(fault.end)
         if fault.verdict is not Verdict.SILENT:
@@ -88,7 +85,7 @@ class FaultTexts:
         return self.faults.like(fault.end) or ("which is silent, too" if is_twin else "")
 
     def neighbors(self, fault: Finding) -> str:
-        """Returns the neighbors of an end, or only the extra ones if the wanted one is there."""
+        """Returns the neighbors of an end, but only the extra ones for the verdict `extra`."""
         has = fault.has
         if fault.verdict is Verdict.EXTRA and fault.wants is not None:
             wanted = self.names.end(fault.wants)
@@ -113,7 +110,6 @@ class FaultTexts:
 
 
 def listed(texts: Sequence[str], more: int) -> str:
-    """Returns texts in a row, and how many more there are."""
+    """Joins texts by commas and `and`, and adds how many more there are."""
     texts = [*texts, f"{more} more"] if more else texts
     return " and ".join(filter(None, [", ".join(texts[:-1]), texts[-1]]))
-

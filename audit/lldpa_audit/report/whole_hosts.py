@@ -1,20 +1,18 @@
-"""Faults of whole hosts: without data, silent, two of one name, or of another setting."""
+"""Finds faults of whole hosts: no data, silence, two hosts of one name, another setting."""
 from collections import Counter
 from typing import Iterator, Mapping, Sequence
 
 from ..judging import Finding, Verdict
-from ..mismatches import Mismatch
-from ..names import End, Names, shown
+from ..mismatches import MISMATCH, Mismatch
+from ..names import MOST_NAMED, End, Names, shown
 from ..plan import Plan
 from .repairs import Faults, Repair
 
 FEWEST, FEWEST_UNLIKE = 2, 3
-MOST_NAMED = 3
-MISMATCH = "mismatch"
 
 
 def without_data(faults: Faults) -> Iterator[Repair]:
-    """Yields a repair for each host without data: of all its ports, or of many for one reason."""
+    """Yields a repair for each host with no data at all its ports, or at many for one reason."""
     ports: dict[str, list[End]] = {}
     for key, fault in faults:
         reason = faults.tables.reason(End(key.host, ""))
@@ -29,8 +27,8 @@ def without_data(faults: Faults) -> Iterator[Repair]:
 
 
 def silent(faults: Faults) -> Iterator[Repair]:
-    """Yields a repair for each host with several links, all silent. The hosts with most links come
-    first: if a switch is down, its servers are not."""
+    """Yields a repair for each host with several links that are all silent. Hosts with most links
+    come first: if a switch is down, its servers need no line."""
     hosts = {end.host for key, fault in faults if fault.verdict is Verdict.SILENT
              for end in (key, faults.far(key)) if end is not None}
     links = {host: silent_links(faults, host) for host in hosts}
@@ -43,8 +41,8 @@ def silent(faults: Faults) -> Iterator[Repair]:
 
 
 def silent_links(faults: Faults, host: str) -> Sequence[Sequence[End]]:
-    """Returns the ends that were looked at of each link of a host, or none if one of them is not
-    silent, the host's end is seen at another place, or only some of its ports were looked at."""
+    """Returns for each link of a host its ends that were looked at. Returns () if one of them is
+    not silent, if the host is seen elsewhere, or if only some of its ports were looked at."""
     found: list[Sequence[End]] = []
     tables = faults.tables
     for key in faults.plan.ends_of_hosts.get(host, ()):
@@ -59,7 +57,7 @@ def silent_links(faults: Faults, host: str) -> Sequence[Sequence[End]]:
 
 
 def of_one_name(faults: Faults) -> Iterator[Repair]:
-    """Yields a repair for each planned name by which hosts of several domains answer."""
+    """Yields a repair for each planned name that hosts of several domains answer to."""
     ends: dict[str, list[End]] = {}
     for key, fault in faults:
         far = faults.far(key)
@@ -76,11 +74,10 @@ def of_one_name(faults: Faults) -> Iterator[Repair]:
 
 
 def several_chassis(findings: Sequence[Finding]) -> Iterator[str]:
-    """Yields which hosts answer with several chassis IDs at right links: two devices may have one
-    name, or each card of a server sends its own."""
-    right = Verdict.RIGHT
+    """Yields a note on hosts that answer with several chassis IDs at right links: two devices may
+    have the same name, or each card of a server may send its own ID."""
     heard = {(one.wants.host, one.has[0].chassis): one.end for one in findings
-             if one.verdict is right and one.wants is not None}
+             if one.verdict is Verdict.RIGHT and one.wants is not None}
     counts = Counter(host for host, _ in heard)
     several = [host for host, count in counts.items() if count > 1]
     for host in several[:1]:
@@ -89,14 +86,14 @@ def several_chassis(findings: Sequence[Finding]) -> Iterator[str]:
                         for chassis, end in list(some.items())[:MOST_NAMED])
         more = f"; so do {len(several) - 1} more hosts" if len(several) > 1 else ""
         yield (f"{shown(host)} answers with {len(some)} chassis IDs ({ids}){more}: two devices may "
-               "have one name")
+               "have the same name")
 
 
 def together(faults: Sequence[Finding], found: Mapping[End, Mismatch], names: Names, plan: Plan
              ) -> Iterator[Repair]:
-    """Yields a repair for each host and difference of three links or more, and for each other link
-    with a mismatch. Of two hosts at which a link could be reported, it is one most of whose links
-    differ so, and of two such hosts that with more."""
+    """Yields a repair for each host at which three or more links differ in the same way, and for
+    each other link with a mismatch. If both hosts of a link qualify, a host at which half of the
+    links or more differ so is preferred, and then the one with more such links."""
     groups: dict[tuple[str, str], list[Finding]] = {}
     for fault in faults:
         for key in keys_of(found[fault.end], names):
@@ -116,7 +113,7 @@ def together(faults: Sequence[Finding], found: Mapping[End, Mismatch], names: Na
 
 
 def keys_of(one: Mismatch, names: Names) -> Iterator[tuple[str, str]]:
-    """Yields each host of a link with how it differs, if that is the same at several links."""
+    """Yields each host of a link with how it differs, unless an end also differs from the plan."""
     if one.by_how_much:
         yield names.host(one.ends[0].host), one.by_how_much
         yield names.host(one.ends[1].host), one.opposite
@@ -124,7 +121,7 @@ def keys_of(one: Mismatch, names: Names) -> Iterator[tuple[str, str]]:
 
 def of_host(host: str, by: str, some: Sequence[Finding], found: Mapping[End, Mismatch],
             names: Names) -> Repair:
-    """Returns the repair of a host that differs from its neighbors alike at several links."""
+    """Returns the repair of a host that differs from its neighbors in one way at several links."""
     first = found[some[0].end]
     end = next(end for end in first.ends if names.host(end.host) == host)
     example = first.text.partition(": ")[2]

@@ -1,1 +1,1 @@
-"""What is seen at the ports of hosts, in whatever form it is at hand."""
+"""Reads what is seen at the ports of hosts, in many forms."""

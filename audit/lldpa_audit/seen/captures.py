@@ -1,4 +1,4 @@
-"""The neighbors of ports at the end of captures: those of an agent that hears what was taken."""
+"""Finds the neighbors at the end of captures: an agent receives the captured frames."""
 import os
 from contextlib import suppress
 from itertools import islice
@@ -16,14 +16,14 @@ from .listing import Listing, Ports
 from .shows import read_ports
 
 LINES_AT_ONCE = 1000
-# what gzip makes small may be endless
+# a small gzip file may unpack to very much
 MOST_UNPACKED = 1 << 27
 
 
 def read_captures(files: Sequence[str], port: str, program: str) -> Listing:
-    """Returns the neighbors of a port by its captures or, if no port is named, of the interfaces
-    that the only capture names. Those without time stamps are as old as the first file, and large
-    ones take long. Raises ValueError, OSError, and Ended if the agent ends."""
+    """Returns the neighbors of a port from its captures or, without a port, of the interfaces that
+    the one capture names. Captures without time stamps are as old as the first file, and large
+    ones may take longer. Raises ValueError, OSError, and Ended if the agent ends."""
     stats = [stat_of(file) for file in files]
     seconds = max(SECONDS, sum(one.st_size for one in stats) >> 21)
     try:
@@ -41,12 +41,12 @@ def stat_of(file: str) -> os.stat_result:
 
 
 def recorded(files: Sequence[str], port: str, program: str) -> Listing:
-    """Returns what agents hold at the end of captures. Their ports are p0 .."""
+    """Returns the neighbors at the end of captures. The agents call the ports p0, p1 and so on."""
     names = [port] if port else interface_names(files[0])
     ports = {name: f"p{number}" for number, name in enumerate(names)}
     sources = [Source(file, "p0" if port else None, ports, MOST_UNPACKED) for file in files]
-    heard = list(ports.values()) or ["p0"]  # an agent has a port
-    if len(heard) > MOST_PORTS:  # those without LLDP frames have no neighbor
+    heard = list(ports.values()) or ["p0"]  # an agent needs a port
+    if len(heard) > MOST_PORTS:  # ports without LLDP frames need no agent
         lines = frames_of(sources, SILENT, False)
         heard = list(dict.fromkeys(line.split(" ", 2)[1] for line in lines)) or ["p0"]
     faults: list[str] = []
@@ -57,7 +57,7 @@ def recorded(files: Sequence[str], port: str, program: str) -> Listing:
     for first in range(0, len(heard), MOST_PORTS):
         some = heard[first:first + MOST_PORTS]
         seen.update(at_the_end(frames_of(sources, told, True), some, program))
-        told = SILENT  # the next ports are of the same captures
+        told = SILENT  # faults and notes are reported once
     return Listing({name: seen.get(at, ()) for name, at in ports.items()}, False,
                    faults=faults, notes=notes, time=max(times, default=0.0))
 
@@ -81,7 +81,7 @@ def is_of_one_port(path: str) -> bool:
 
 
 def at_the_end(lines: Iterator[str], ports: Sequence[str], program: str) -> Ports:
-    """Returns the neighbors of some ports after a trace. The agent refuses those of others."""
+    """Returns the neighbors of some ports at the end of a trace, which may have more ports."""
     with Agent.start(ports, program, receive_only=True, max_neighbors=MOST_NEIGHBORS) as agent:
         while some := list(islice(lines, LINES_AT_ONCE)):
             agent.tell(some)

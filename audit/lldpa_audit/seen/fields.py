@@ -1,8 +1,8 @@
 """The forms of JSON that list neighbors: where each has ports, neighbors, and their fields.
 
-A way is names that lead from object to object; a list on the way is each of its elements, and `*`
-is each name of an object. `?NAME` passes only an object in which NAME is true, and `@` leads to the
-name that the last `*` stands for. Of ways between commas the first that leads to a text counts.
+A way is a path of names from object to object, and goes on in each element of a list. `*` stands
+for each name of an object, and `@` for the name that the last `*` stood for. `?NAME` goes on only
+if NAME is true in the object. If commas separate ways, the first that leads to a text counts.
 """
 import re
 from itertools import product
@@ -17,11 +17,11 @@ from .shows import SETTING, settings_of_tlvs
 
 class Form(NamedTuple):
     """The ways to ports, from a port to its neighbors, and from a neighbor to its fields. `sign`
-    leads somewhere in this form alone. Without `port` the name that `*` stands for is the port.
-    After `?` come neighbors that a port may lack. Without `kind` the look of a port ID tells
-    whether it is an interface's name. `settings` are the ways to the frame size, PVID, MAU type and
-    aggregate, and `protocol` that to the protocol. A neighbor has a chassis ID and a port ID; one
-    `of_names` has some name of its host and of its port."""
+    leads somewhere in this form alone. Without `port`, the port is the name that `*` stands for.
+    `?` precedes the way to neighbors that a port may lack. Without `kind`, a Port ID is an
+    interface's name if it looks like one. `settings` are the ways to frame size, PVID, MAU type
+    and aggregate, and `protocol` is that to the protocol. A neighbor has a chassis ID and a Port
+    ID; `of_names`, any name of its host and of its port is enough."""
 
     sign: str
     ports: str
@@ -41,7 +41,7 @@ class Form(NamedTuple):
 INFO = "neighborInterfaceInfo"
 NAPALM = Form("", "*", "", "", "remote_chassis_id", "", "remote_port, port",
               "remote_system_name, hostname", "remote_port_description", of_names=True)
-# lldpcli's `json`, in which a name leads to an interface, and to a chassis with a System Name
+# lldpcli's `json`, in which names lead to interfaces, and to chassis with a System Name
 LLDPCLI = Form("lldp interface * via, lldp interface * chassis", "lldp interface *", "", "",
                "chassis id, chassis * id", "port id type", "port id",
                "chassis name, chassis * id @", "port descr", "chassis mgmt-ip, chassis * mgmt-ip",
@@ -53,7 +53,7 @@ OURS = Form("ports neighbors_held", "ports", "name", "neighbors", "chassis text"
 FORMS = (
     OURS,
     LLDPCLI,
-    # `json0`, in which each name leads to a list
+    # lldpcli's `json0`, in which each name leads to a list
     LLDPCLI._replace(sign="lldp interface via, lldp interface chassis", ports="lldp interface",
                      port="name"),
     # Arista's EOS, which once put a port ID in quotes
@@ -82,7 +82,7 @@ FORMS = (
          "name", "?neighbors neighbor", "state chassis-id", "state port-id-type", "state port-id",
          "state system-name", "state port-description",
          "state management-address"),
-    # rows of ntc-templates, whose columns have names in capital letters in TextFSM itself
+    # rows of ntc-templates; TextFSM itself writes the columns' names in capital letters
     Form("local_interface, local_port", "", "local_interface, local_port", "",
          "chassis_id, remote_chassis_id", "",
          "neighbor_port_id, neighbor_interface, remote_port, remote_port_id, port_id, port_info",
@@ -92,17 +92,17 @@ FORMS = (
 )
 
 LLDP = "LLDP"
-# what stands for a field that a neighbor does not send
+# what vendors print for a field that a neighbor does not send
 ABSENT = ("", "N/A", "null", "not advertised", "- not advertised")
-# the kinds of a port ID that are an interface's name or alias, as vendors word them
+# vendors' words for the types of Port ID that are an interface's name or alias
 OF_INTERFACES = {"5": "ifname", "1": "ifalias", "interfacename": "ifname", "ifname": "ifname",
                  "interfacealias": "ifalias", "ifalias": "ifalias"}
-# letters and a number, as the names of interfaces are; not a MAC address, and not a number alone
+# what interfaces' names look like: letters and a number, but not a MAC address or a mere number
 INTERFACE = re.compile(r"[A-Za-z][A-Za-z-]*[ /]?[0-9][0-9/:.]*(?:[A-Za-z][A-Za-z0-9]*)?")
 
 
 def walk(node: Any, way: str, name: str = "") -> Iterator[tuple[str, Any]]:
-    """Yields where a way leads to, each with the name that the last `*` stands for."""
+    """Yields what a way leads to, each time with the name that the last `*` stood for."""
     step, _, rest = way.partition(" ")
     if not way:
         yield name, node
@@ -122,18 +122,18 @@ def walk(node: Any, way: str, name: str = "") -> Iterator[tuple[str, Any]]:
 
 
 def ways_of(node: Any, ways: str) -> Iterator[tuple[str, Any]]:
-    """Yields where some ways lead."""
+    """Yields what each of several ways leads to."""
     for way in ways.split(", "):
         yield from walk(node, way)
 
 
 def leads(node: Any, ways: str) -> bool:
-    """Returns whether one of some ways leads somewhere."""
+    """Returns whether one of several ways leads somewhere."""
     return any(True for _ in ways_of(node, ways))
 
 
 def texts(node: Any, ways: str) -> Iterator[str]:
-    """Yields the texts to which ways lead: themselves, or in what Junos and lldpcli put around."""
+    """Yields the texts to which ways lead, also inside the objects that Junos and lldpcli use."""
     for _, found in ways_of(node, ways) if ways else ():
         for leaf in found if isinstance(found, list) else [found]:
             if isinstance(leaf, dict):
@@ -148,21 +148,26 @@ def text(node: Any, ways: str) -> str:
 
 
 def listed(node: Any, of: str) -> list[Any]:
-    """Returns a list of objects; some vendors omit it around one object. Raises SeenFault."""
+    """Returns a list of objects. Some vendors omit it around one object. Raises SeenFault."""
     some = [node] if isinstance(node, dict) else node
     if not isinstance(some, list) or not all(isinstance(one, dict) for one in some):
-        raise SeenFault(f"{of!r} has something other than a list of objects")
+        raise SeenFault(f"{of!r} is not a list of objects")
     return some
 
 
 def read_form(tree: Any, form: Form) -> Listing:
-    """Returns the neighbors in JSON of a form. Raises SeenFault."""
+    """Returns the neighbors in JSON of this form. A neighbor that is heard by two protocols counts
+    once: the entries share a name of the host and of the port. Raises SeenFault."""
     ports: dict[str, list[Seen]] = {}
     others: dict[str, list[Seen]] = {}  # those heard by other protocols
     for port, node in ports_of(tree, form):
         ports.setdefault(port, [])
         for one in neighbors_of(node, form, port):
-            heard = ports if is_by_lldp(one, form, port) else others
+            protocol = text(one, form.protocol) if form.protocol else LLDP
+            if not protocol:
+                raise SeenFault(f"{port} has no protocol: use `lldpcli -f json show neighbors "
+                                "details`")
+            heard = ports if protocol == LLDP else others
             heard.setdefault(port, []).append(seen(one, form, port))
         if form is OURS and node.get("too_many") is True:
             ports[port].append(NAMELESS)
@@ -173,30 +178,21 @@ def read_form(tree: Any, form: Form) -> Listing:
 
 
 def ports_of(tree: Any, form: Form) -> Iterator[tuple[str, Any]]:
-    """Yields the name of each port, and what has its neighbors. Raises SeenFault."""
+    """Yields each port's name, and the JSON that has its neighbors. Raises SeenFault."""
     places: dict[str, int] = {}
     for name, found in ways_of(tree, form.ports):
         for place, node in enumerate(listed(found, form.ports) if form.port else [found], 1):
             port = text(node, form.port) if form.port else name
             if not port:
-                raise SeenFault(f"a neighbor without {form.port}: is the list of `detail`?")
+                raise SeenFault(f"a neighbor has no {form.port}: was it shown without `detail`?")
             if form.neighbors and places.setdefault(port, place) != place:
                 raise SeenFault(f"the port {port!r} is in it twice: in places {places[port]} and "
                                 f"{place}")
             yield port, node
 
 
-def is_by_lldp(node: Any, form: Form, port: str) -> bool:
-    """Returns whether a neighbor was heard by LLDP. One that is heard by another protocol as well
-    counts once: a name of its host and a name of its port are the same."""
-    protocol = text(node, form.protocol) if form.protocol else LLDP
-    if not protocol:
-        raise SeenFault(f"{port} has no protocol: it is not of show neighbors")
-    return protocol == LLDP
-
-
 def neighbors_of(node: Any, form: Form, port: str) -> Iterator[Any]:
-    """Yields the neighbors of a port. Raises SeenFault if there is no place for them."""
+    """Yields the neighbors of a port. Raises SeenFault if the field for them is missing."""
     way = form.neighbors.removeprefix("?")
     found = list(walk(node, way))
     if not found and way == form.neighbors:
@@ -206,7 +202,7 @@ def neighbors_of(node: Any, form: Form, port: str) -> Iterator[Any]:
 
 
 def seen(node: Any, form: Form, port: str) -> Seen:
-    """Returns a neighbor. Raises SeenFault if it lacks what it needs."""
+    """Returns a neighbor. Raises SeenFault if it lacks a name that the form requires."""
     chassis, port_id = text(node, form.chassis), text(node, form.port_id)
     name, descr = text(node, form.name), text(node, form.descr)
     if form.of_names:
@@ -214,7 +210,7 @@ def seen(node: Any, form: Form, port: str) -> Seen:
             raise SeenFault(f"{port!r} has a neighbor without a name of its host or of its port")
     elif not chassis or not port_id:
         lacks = (form.port_id if chassis else form.chassis).partition(",")[0]
-        raise SeenFault(f"{port!r} has a neighbor without {lacks}: is the list of `detail`?")
+        raise SeenFault(f"{port!r} has a neighbor without {lacks}: was it shown without `detail`?")
     by_its_look = "ifname" if INTERFACE.fullmatch(port_id) else "local"
     kind = kind_of(text(node, form.kind)) if form.kind else by_its_look
     if form.chassis == "chassisId":
@@ -224,7 +220,7 @@ def seen(node: Any, form: Form, port: str) -> Seen:
 
 
 def settings(node: Any, form: Form) -> Optional[Settings]:
-    """Returns what a neighbor says of its link."""
+    """Returns the settings that a neighbor announces."""
     if form is OURS:
         tlvs = [(f"org.{text(one, 'kind')}", text(one, "octets")) for _, org in walk(node, "org")
                 for one in listed(org, "org")]

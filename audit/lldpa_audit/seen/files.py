@@ -14,19 +14,16 @@ from ..what import What
 from .forms import is_text, read_list
 from .listing import Listing, SeenFault
 
-# one process reads fewer files sooner than several have begun
+# one process reads fewer files before several have started
 MANY = 100
-# a process hands on the names in so many files once
+# a process returns this many files at a time, and each name in them only once
 FILES_AT_A_TIME = 100
 FRONT = 512
 MOST_OCTETS = 32 << 20
 
-# None if the file is not text, and may be a capture
-SeenFile = Optional[Listing]
 
-
-def read_file(what: What) -> SeenFile:
-    """Returns what is in a file. Raises OSError for one that a word names."""
+def read_file(what: What) -> Optional[Listing]:
+    """Returns what is in a file, None if it is not text. Raises OSError if it is an argument."""
     try:
         with limited(what.file), opened(what.file) as file:
             octets = octets_of(file)
@@ -44,7 +41,7 @@ def read_file(what: What) -> SeenFile:
 
 
 def octets_of(file: BinaryIO) -> Optional[bytes]:
-    """Returns the unpacked octets of a text, else None. Raises BadCapture and SeenFault."""
+    """Returns the unpacked octets of a text file, else None. Raises BadCapture and SeenFault."""
     front = file.read(FRONT)
     source: Readable = file
     if front.startswith(MAGIC):
@@ -54,12 +51,12 @@ def octets_of(file: BinaryIO) -> Optional[bytes]:
         return None
     octets = front + taken(source, MOST_OCTETS + 1 - len(front))
     if len(octets) > MOST_OCTETS:
-        raise SeenFault(f"it has over {MOST_OCTETS >> 20} MB: no list has so much")
+        raise SeenFault(f"it has over {MOST_OCTETS >> 20} MB, the most that a list may have")
     return octets
 
 
 def taken(source: Readable, size: int) -> bytes:
-    """Returns so many octets, or all that there are."""
+    """Returns this many octets, or all if there are fewer."""
     parts: list[bytes] = []
     while size > 0 and (part := source.read(size)):
         parts.append(part)
@@ -68,15 +65,15 @@ def taken(source: Readable, size: int) -> bytes:
 
 
 def placed(listing: Listing, file: str, written: float) -> Listing:
-    """Returns a list of this file. It is as old as the file if nothing else says its time."""
+    """Returns a listing with this file's name in its hosts' faults, and its time if it has none."""
     hosts = {host: one._replace(time=one.time or written, faults=[
         f"{file}: {shown(host)}: {fault}" for fault in one.faults])
         for host, one in listing.hosts.items()}
     return listing._replace(hosts=hosts, time=listing.time or written)
 
 
-def read_files(whats: Sequence[What]) -> Iterator[SeenFile]:
-    """Returns what is in each file; many are read from the call on. Raises OSError."""
+def read_files(whats: Sequence[What]) -> Iterator[Optional[Listing]]:
+    """Returns what is in each file. Many are read in parallel, from the call on. Raises OSError."""
     processors = len(os.sched_getaffinity(0))
     if len(whats) < MANY or processors < 2:
         return map(read_file, whats)

@@ -1,4 +1,4 @@
-"""The files of a folder, as a collector leaves them: HOST.json, or files below HOST/."""
+"""Finds the files in a folder: HOST.json, or the files below a folder HOST."""
 import os
 from typing import Callable, Iterator, Sequence
 
@@ -9,8 +9,8 @@ Say = Callable[[str], None]
 
 
 def read_whats(words: Sequence[str], ours: str, say: Say) -> Iterator[What]:
-    """Yields what words name, each file of a folder by itself, and says what is skipped. Raises
-    OSError, and ValueError if a folder is empty."""
+    """Yields what the arguments name, with each file of a folder by itself, and notes what is
+    skipped. Raises OSError, and ValueError if a folder has no files."""
     for word in words:
         what = read_what(word, ours)
         if what.port or not os.path.isdir(what.file):
@@ -24,7 +24,7 @@ def read_whats(words: Sequence[str], ours: str, say: Say) -> Iterator[What]:
 
 
 def of_hosts(folder: str, say: Say) -> Iterator[What]:
-    """Yields the files of a folder, each of the host that its name or its folder's name has."""
+    """Yields the files of a folder. A file's name, or that of its subfolder, is the host's."""
     for entry in entries(folder, say):
         if entry.is_dir():
             yield from of_host(entry.name, entry.path, say)
@@ -33,7 +33,7 @@ def of_hosts(folder: str, say: Say) -> Iterator[What]:
 
 
 def of_host(host: str, folder: str, say: Say) -> Iterator[What]:
-    """Yields the files of a host. A capture of one port is named after that."""
+    """Yields the files of a host. A capture of one port is named after the port."""
     for entry in entries(folder, say):
         if entry.is_dir(follow_symlinks=False):
             yield from of_host(host, entry.path, say)
@@ -45,7 +45,7 @@ def of_host(host: str, folder: str, say: Say) -> Iterator[What]:
 
 
 def entries(folder: str, say: Say) -> Iterator["os.DirEntry[str]"]:
-    """Yields the files and folders in a folder that are not hidden, by their names."""
+    """Yields the entries of a folder that are not hidden, sorted by name."""
     with os.scandir(folder) as found:
         there = sorted((one for one in found if not one.name.startswith(".")),
                        key=lambda one: one.name)

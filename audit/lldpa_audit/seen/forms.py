@@ -1,4 +1,4 @@
-"""The forms in which neighbors are listed, and the likely cause if a file has none of them."""
+"""Recognizes the forms of lists, and the likely cause if a file has none of them."""
 import codecs
 import re
 from typing import Any, Callable
@@ -12,25 +12,25 @@ from .trees import last_line, listing_of
 
 TEXT = bytes([*b"\t\r\n\x1b\a\b", *range(0x20, 0x100)])
 UTF_16 = (codecs.BOM_UTF16_LE, codecs.BOM_UTF16_BE)
-# Junos' answer has no document type: no entity can be declared, and none expands
+# a document type is refused, so no entity can be declared, and none expands
 XML = re.compile(r"\s*(?:<\?xml[^>]*>\s*)?<(?:rpc-reply|multi-routing|lldp-neighbors)")
 FORMS: tuple[tuple[re.Pattern[str], Callable[[str], Listing]], ...] = (
-    # a show has each port of its agent, or one
+    # a show may have only one port of an agent, so nothing is known of ports that it lacks
     (re.compile(r"lldp\.[^=\n]+\.neighbors="), lambda text: Listing(read_ports(text), False)),
     (IS_WALK, read_walk),
     (XML, lambda text: listing_of(tree_of_xml(text))),
 )
 FAILED = "the command that wrote it failed"
 USE_JSON = "use `lldpcli -f json show neighbors details`"
-# what a text is if it is not a list, by how it begins, or by a line of it
+# what a text is if it is not a list: how it begins, or what one of its lines has, and the message
 CAUSES = (
     (r"lldp\.[^\n=]+\.via=", f"it is lldpcli's keyvalue: {USE_JSON}"),
-    (r"-{70,}\nLLDP neighbors:", f"it is what lldpcli prints for people: {USE_JSON}"),
+    (r"-{70,}\nLLDP neighbors:", f"it is lldpcli's plain text: {USE_JSON}"),
     (r"(?:<\?xml[^>]*>)?\s*<lldp\b", f"it is lldpcli's XML: {USE_JSON}"),
     (r"lldp\.", "it has lines of a show other than `show neighbors`: use `lldpa-ctl show "
                  "neighbors`"),
-    (r"\s*<(?:!DOCTYPE html|html)", "it is a web page, such as that of a login"),
-    (r"\s*<", "it is XML, but no list of neighbors that is known"),
+    (r"\s*<(?:!DOCTYPE html|html)", "it is a web page, such as a login page"),
+    (r"\s*<", "it is XML, but not a known list of neighbors"),
     (r"\s*[{\[]", "it begins like JSON, but is not valid JSON"),
     (r"(?is:.{0,4000}?(?:traceback \(most|invalid (?:input|command)|command not found|"
      r"permission denied|connection (?:refused|timed)|unknown command|syntax error))",
@@ -54,26 +54,26 @@ def read_list(octets: bytes) -> Listing:
 
 
 def tree_of_xml(text: str) -> Any:
-    """Returns what XML says, as the tree that Junos' JSON has. Raises SeenFault."""
+    """Returns XML as the tree that Junos' JSON would be. Raises SeenFault."""
     root = ElementTree.Element("root")
     try:
         root.append(ElementTree.fromstring(text))
         return node_of(root)
     except (ElementTree.ParseError, RecursionError, ValueError) as fault:
-        raise SeenFault(f"it is no XML: {fault}") from None
+        raise SeenFault(f"it is not valid XML: {fault}") from None
 
 
 def node_of(element: ElementTree.Element) -> dict[str, Any]:
-    """Returns what is in an element, by the names of its parts."""
+    """Returns an element as an object: its text, and its parts by their names."""
     node: dict[str, Any] = {"data": (element.text or "").strip()}
     for part in element:
-        name = part.tag.rpartition("}")[2]  # behind a namespace
+        name = part.tag.rpartition("}")[2]  # without its namespace
         node.setdefault(name, []).append(node_of(part))
     return node
 
 
 def text_of(octets: bytes) -> str:
-    """Returns the text of octets, in which a line ends with a line feed."""
+    """Decodes octets. Lines of the text end with a line feed alone."""
     if octets.startswith(UTF_16):
         text = octets.decode("utf-16", "replace")
     else:
@@ -82,5 +82,5 @@ def text_of(octets: bytes) -> str:
 
 
 def is_text(front: bytes) -> bool:
-    """Returns whether octets begin like text: no capture has so few control characters."""
+    """Returns whether octets begin like text. A capture has other control characters."""
     return front.startswith(UTF_16) or not front.translate(None, TEXT)

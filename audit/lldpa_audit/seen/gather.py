@@ -1,7 +1,7 @@
-"""What an audit is given, as tables: files of any form, captures, and lldpa-live that runs."""
+"""Gathers what is seen into tables: from lists, from captures, and from a running lldpa-live."""
 import time
 from math import inf
-from typing import Callable, Iterator, Sequence
+from typing import Callable, Iterator, Optional, Sequence
 
 from lldpa.capture.source import opened
 from lldpa.client.connection import Client
@@ -11,7 +11,6 @@ from ..names import End
 from ..plan import Plan
 from ..what import What, of_hosts
 from .captures import read_captures
-from .files import SeenFile
 from .listing import Listing
 from .shows import read_ports
 from .tables import Tables
@@ -20,9 +19,9 @@ SECONDS_BETWEEN_LOOKS = 0.5
 
 
 class Gathering:
-    """Puts what is given into tables, and says what is damaged. `status` is 1 for damage, and 2 if
-    two sources have the same of a host. Its calls raise OSError for what cannot be read, ValueError
-    for what names no port, and Ended if the agent that reads captures ends."""
+    """Puts sources into tables, and reports damaged ones. `status` becomes 1 if a source is
+    damaged, and 2 if two sources of a host overlap. Methods raise OSError if a file cannot be
+    read, ValueError if a capture names no port, and Ended if the agent that reads captures ends."""
 
     def __init__(self, tables: Tables, program: str, say: Callable[[str], None],
                  stale_after: float = inf) -> None:
@@ -33,8 +32,8 @@ class Gathering:
         self.now = time.time()
         self.status = 0
 
-    def add_files(self, whats: Sequence[What], files: Iterator[SeenFile]) -> None:
-        """Adds files, those of hosts as they were read. Several captures of one port are one."""
+    def add_files(self, whats: Sequence[What], files: Iterator[Optional[Listing]]) -> None:
+        """Adds files; `files` has the content of lists. Several captures of a port count as one."""
         for what, listing in zip(of_hosts(whats), files):
             if listing is None:
                 self.add_captures(what.host, "", [what.file])
@@ -53,9 +52,8 @@ class Gathering:
             self.add_captures(end.host, end.port, captures)
 
     def add_captures(self, host: str, port: str, files: Sequence[str]) -> None:
-        """Adds the ports of captures, all of a host if no port is named. What a port sent itself,
-        which a capture has too, is left out. A port without neighbors is not known if LLDP frames
-        were skipped."""
+        """Adds the port of captures, or all ports of one capture if none is named. Frames that a
+        port sent itself are left out. If LLDP frames were skipped, a silent port has no data."""
         found = read_captures(files, port, self.program)
         for note in found.notes:
             self.say(note)
@@ -74,8 +72,8 @@ class Gathering:
                 self.tables.add_reason(host, name, skipped)
 
     def is_usable(self, host: str, port: str, listing: Listing, file: str) -> bool:
-        """Returns whether ports are known by a source. If it is damaged or too old, the port, or
-        further ports of the host if none is named, are not known by it."""
+        """Returns whether a source can be used. If it is damaged or too old, its port has no data
+        or, if no port is named, those ports of the host that no other source has."""
         for fault in listing.faults:
             self.say(fault)
             self.status = max(self.status, 1)
@@ -89,14 +87,14 @@ class Gathering:
         return age <= self.stale_after
 
     def need_one(self, host: str, why: str) -> None:
-        """Gives up a host if there is a reason why it cannot be judged."""
+        """Gives up on a host if there is a reason why it cannot be judged."""
         if why:
             self.say(why)
             self.status = 2
             self.tables.forget(host, why)
 
     def add_live(self, host: str, path: str, plan: Plan, seconds: float) -> None:
-        """Adds the ports of lldpa-live, when each planned one has a neighbor or time is up."""
+        """Adds the ports of lldpa-live, once each planned one has a neighbor or the time is up."""
         end = time.monotonic() + seconds
         with Client(path) as client:
             while True:

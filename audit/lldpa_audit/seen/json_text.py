@@ -1,25 +1,25 @@
-"""JSON as devices and tools print it: behind a prompt or a banner, and with odd names."""
+"""Reads JSON as devices and tools print it: after a prompt or a banner, and with odd names."""
 import json
 import re
 from typing import Any
 
 from .listing import SeenFault
 
-# where JSON begins, which `{master:0}` of Junos' prompt is not
+# where JSON begins; `{master:0}` in Junos' prompt does not match
 BEGIN = re.compile(r'^[ \t]*(?=\{\s*["}]|\[\s*["{\[\]])', re.M)
 LONGEST_BANNER = 4096
-# a line of lldpcli's with a name, such as the System Name, in which it escapes nothing
+# a line in which lldpcli writes a name, such as the System Name, without escapes
 NAME_LINE = re.compile(r'^( *)"(.*)": ([{\[])$', re.M)
 TOKEN = re.compile(r'("[^"\\]*(?:\\.[^"\\]*)*")(\s*:)?|[{}\[\]]', re.S)
 
 
 class Twice(ValueError):
-    """A name is twice in an object."""
+    """An object has a name twice."""
 
 
 def tree_of(text: str, begin: int) -> Any:
-    """Returns what the JSON says that begins here. Names may have octets that are not UTF-8, or
-    control characters, as those of lldpcli have. Raises SeenFault."""
+    """Returns the tree of the JSON that begins here. Names may have octets that are not UTF-8, or
+    control characters, as lldpcli writes them. Raises SeenFault."""
     try:
         return decoded(text, begin)
     except json.JSONDecodeError as fault:
@@ -27,11 +27,11 @@ def tree_of(text: str, begin: int) -> Any:
         try:
             return decoded(escaped, begin)
         except json.JSONDecodeError:
-            raise SeenFault(f"it is no JSON: line {fault.lineno}: {fault.msg}") from None
+            raise SeenFault(f"it is not valid JSON: line {fault.lineno}: {fault.msg}") from None
 
 
 def decoded(text: str, begin: int) -> Any:
-    """Returns what JSON says, numbers as texts. Raises SeenFault and JSONDecodeError."""
+    """Returns the tree of JSON, with numbers as texts. Raises SeenFault and JSONDecodeError."""
     decoder = json.JSONDecoder(strict=False, parse_int=str, parse_float=str, parse_constant=str,
                                object_pairs_hook=each_once)
     try:
@@ -41,12 +41,12 @@ def decoded(text: str, begin: int) -> Any:
     except RecursionError:
         raise SeenFault("its JSON is nested too deeply") from None
     if BEGIN.search(text, end) or len(text[end:].strip()) > LONGEST_BANNER:
-        raise SeenFault("it has more than JSON and a prompt: give one answer")
+        raise SeenFault("it has more after its JSON than a prompt: give one answer")
     return tree
 
 
 def each_once(pairs: list[tuple[str, Any]]) -> dict[str, Any]:
-    """Returns an object. Raises Twice."""
+    """Returns an object from its names and values. Raises Twice."""
     found = dict(pairs)
     if len(found) < len(pairs):
         raise Twice
@@ -54,7 +54,7 @@ def each_once(pairs: list[tuple[str, Any]]) -> dict[str, Any]:
 
 
 def fault_of_twice(text: str, begin: int) -> SeenFault:
-    """Returns the fault that a name is twice in an object, with its lines."""
+    """Returns the fault of an object that has a name twice, with both lines."""
     objects: list[dict[str, int]] = [{}]
     for found in TOKEN.finditer(text, begin):
         if found[0] in "{[":

@@ -1,4 +1,4 @@
-"""What each reader of a form returns: the ports of a host, and who is seen at them."""
+"""What each reader returns: the ports of a host, and the neighbors seen at them."""
 from __future__ import annotations
 
 from typing import Mapping, NamedTuple, Sequence
@@ -10,14 +10,14 @@ Ports = dict[str, Sequence[Seen]]
 
 
 class SeenFault(LldpaFault, ValueError):
-    """What is wrong with octets of a form."""
+    """Says what is wrong with a list."""
 
 
 class Listing(NamedTuple):
-    """The neighbors of ports. If it `has_all_heard`, further ports of the host have no neighbor.
-    `hosts` has the neighbors of each host in a file of many. If there are `faults`, the ports are
-    not known. `notes` say what was skipped. `time` is when this was seen, in seconds since 1970; 0
-    if nothing says it."""
+    """The neighbors of ports. If it `has_all_heard`, other ports of the host have no neighbor.
+    `hosts` has a listing for each host in a file of several. With `faults`, nothing is known of
+    the ports. `notes` says what was skipped. `time` is when this was seen, in seconds since
+    1970; 0 if unknown."""
 
     ports: Ports
     has_all_heard: bool

@@ -1,4 +1,4 @@
-"""A neighbor as an audit looks at it, from what a form says of it."""
+"""Makes a neighbor from the fields of a list."""
 import ipaddress
 from contextlib import suppress
 from functools import lru_cache
@@ -13,9 +13,9 @@ MOST_KEPT = 32768
 
 def neighbor(chassis: str, kind: str, port_id: str, name: str = "", descr: str = "",
              addresses: Iterable[str] = (), settings: Optional[Settings] = None) -> Seen:
-    """Returns a neighbor by what it says, under each name that it has. What it does not say is
-    empty; `kind` is that of the Port ID, by lldpcli's word. The System Name reads best, and so does
-    the Port Description, unless the Port ID is an interface's name or alias."""
+    """Returns a neighbor with all names of its host and port. A field that it does not announce is
+    empty, and `kind` is lldpcli's word for the type of its Port ID. The System Name comes first,
+    and so does the Port Description, unless the Port ID is an interface's name or alias."""
     chassis, port_id = clean(chassis), clean(port_id)
     is_named = kind in ("ifname", "ifalias") and port_id != ""
     ports = texts(port_id, descr) if is_named else texts(descr, port_id)
@@ -24,10 +24,10 @@ def neighbor(chassis: str, kind: str, port_id: str, name: str = "", descr: str =
                 aggregated, settings, is_named)
 
 
-# many neighbors have the same texts: each is kept, and handed on by a process, once
+# many neighbors have the same texts: each is kept only once, and sent once between processes
 @lru_cache(MOST_KEPT)
 def names_of_host(name: str, chassis: str, *addresses: str) -> tuple[str, ...]:
-    """Returns the names of a host. In a show, a comma ends an address."""
+    """Returns the names of a host. In lldpa's shows, a comma ends an address."""
     addresses = (chassis, *[clean(address.partition(",")[0]) for address in addresses])
     return texts(name, *[form for address in addresses for form in names_of_address(address)])
 
@@ -40,9 +40,8 @@ def texts(*names: str) -> tuple[str, ...]:
 
 @lru_cache(MOST_KEPT)
 def clean(text: str) -> str:
-    """Returns a text whose surrogates all stand for octets that are not UTF-8. Of one that is
-    longer than any that a neighbor can say only the begin is kept, which is no planned name
-    either."""
+    """Returns a text in which each surrogate stands for an octet that is not UTF-8. A text that is
+    too long for LLDP is cut, but remains longer than any planned name."""
     text = text[:LONGEST]
     try:
         text.encode(errors="surrogateescape")
@@ -52,7 +51,7 @@ def clean(text: str) -> str:
 
 
 def names_of_address(address: str) -> Sequence[str]:
-    """Returns an address unchanged, and one of IPv6 in full and as people shorten it."""
+    """Returns an address and, for IPv6, also its full and its short form."""
     is_mac = address.count(":") == 5 and len(address) == 17
     if ":" in address and not is_mac:
         with suppress(ValueError):

@@ -1,6 +1,6 @@
 """A saved answer of Prometheus' API (https://prometheus.io/docs/prometheus/latest/querying/api/)
-with what `lldpa-ctl metrics` of each host writes: neighbors by `lldpa_neighbor_info`, each port by
-`lldpa_too_many`, and their time by `node_textfile_mtime_seconds`."""
+with what `lldpa-ctl metrics` wrote at each host: `lldpa_neighbor_info` has the neighbors,
+`lldpa_too_many` each port, and `node_textfile_mtime_seconds` the time."""
 import re
 from collections import defaultdict
 from typing import Any, Iterator
@@ -14,7 +14,7 @@ from .shows import plain
 PORTS, TIMES = "lldpa_too_many", "node_textfile_mtime_seconds"
 # a host in an instance such as leaf1:9100 or [2001:db8::1]:9100
 HOST = re.compile(r"\[(.+)\](?::[0-9]+)?|(.+?)(?::[0-9]+)?")
-EXPORTED = "exported_"  # precedes a label of lldpa's if a target has a label of this name
+EXPORTED = "exported_"  # precedes lldpa's label if the target has one of the same name
 
 
 def read_prometheus(tree: Any) -> Listing:
@@ -57,11 +57,11 @@ def samples(tree: Any) -> Iterator[tuple[str, dict[str, str], float]]:
                 yield (found[1] or found[2], defaultdict(str, {**labels, **ours}),
                        float(one["value"][1]))
     except (AttributeError, IndexError, KeyError, TypeError, ValueError):
-        raise SeenFault("it is an answer of Prometheus with something else than series that have "
-                        "the label instance") from None
+        raise SeenFault("it is an answer of Prometheus, but a series in it lacks the label "
+                        "instance or its value") from None
 
 
 def is_of_agent(file: str) -> bool:
-    """Returns whether a file of node_exporter's folder is of `lldpa-ctl metrics`."""
+    """Returns whether `lldpa-ctl metrics` wrote this file in node_exporter's folder."""
     name = file.rpartition("/")[2]
     return "lldpa" in name and "audit" not in name

@@ -1,5 +1,5 @@
-"""The ports of `show neighbors` and their neighbors. An audit of a large network spends most of its
-time here, so an expression takes a whole neighbor."""
+"""Reads the ports of `show neighbors` and their neighbors. An audit of a large network spends most
+of its time here, so one expression matches a whole neighbor."""
 import re
 from functools import lru_cache
 from sys import intern
@@ -18,7 +18,7 @@ from .neighbor import MOST_KEPT, neighbor
 TEXT = "[ -~]*"
 PORT = re.compile(rf"lldp\.({NAME})\.neighbors=({DIGITS})\nlldp\.\1\.octets={DIGITS}\n"
                   r"lldp\.\1\.too-many=(yes|no)\n")
-# a neighbor: its port and place, its chassis ID, the kind of its port ID, that ID, further lines
+# a neighbor: its port and place, its chassis ID, the kind of its Port ID, that ID, other lines
 NEIGHBOR = re.compile(
     rf"lldp\.({NAME})\.({DIGITS})\.chassis\.(?:{'|'.join(sorted(CHASSIS_KINDS))})=({TEXT})\n"
     rf"lldp\.\1\.\2\.port\.({'|'.join(sorted(PORT_KINDS))})=({TEXT})\n"
@@ -26,7 +26,7 @@ NEIGHBOR = re.compile(
     rf"((?:\nlldp\.\1\.\2\.{SAID_KEY}={TEXT})*)\n")
 # Port VLAN ID, MAC/PHY, Maximum Frame Size, and Link Aggregation by 802.1 and by 802.3
 SETTING = r"org\.(?:0080c2\.[17]|00120f\.[134])"
-# the further lines that name the neighbor, or say something of its link
+# the other lines that name the neighbor, or have a setting of its link
 SAID = re.compile(
     rf"\nlldp\.[^.]+\.[0-9]+\.(chassis\.name|chassis\.mgmt|port\.descr|{SETTING})=(.*)")
 OTHER_SHOW = re.compile(rf"lldp\.{NAME}\.sent=|local-chassis\.|configuration\.")
@@ -35,7 +35,7 @@ OTHER_SHOW = re.compile(rf"lldp\.{NAME}\.sent=|local-chassis\.|configuration\.")
 def read_ports(text: str) -> Ports:
     """Returns the neighbors of each port of a show. Raises ShowFault, which names the line."""
     if not text.endswith("\n"):
-        raise ShowFault("its last line has no end: it was cut short")
+        raise ShowFault("its last line is incomplete: it was cut short")
     ports: Ports = {}
     at = 0
     while found := PORT.match(text, at):
@@ -50,12 +50,12 @@ def read_ports(text: str) -> Ports:
         ports[name] = (*seen, NAMELESS) if found[3] == "yes" else tuple(seen)
         at = end
     if at < len(text) and (not OTHER_SHOW.match(text, at) or PORT.search(text, at)):
-        read_show(text[:-1].split("\n"))  # it raises ShowFault
+        read_show(text[:-1].split("\n"))  # raises ShowFault
     return ports
 
 
 def neighbors_at(text: str, at: int, port: str, most: int) -> tuple[list[Seen], int]:
-    """Returns the neighbors of a port whose lines begin here, and where these end."""
+    """Returns the neighbors of a port from the lines that begin here, and where these end."""
     seen: list[Seen] = []
     while len(seen) < most:
         found = NEIGHBOR.match(text, at)
@@ -67,7 +67,7 @@ def neighbors_at(text: str, at: int, port: str, most: int) -> tuple[list[Seen], 
 
 
 def seen_neighbor(chassis: str, kind: str, port_id: str, said: Sequence[tuple[str, str]]) -> Seen:
-    """Returns a neighbor by its identifiers, and by what else it says."""
+    """Returns a neighbor from its identifiers and its other lines."""
     last = dict(said)
     name, descr = plain(last.get("chassis.name", "")), plain(last.get("port.descr", ""))
     addresses = [plain(value) for key, value in said if key == "chassis.mgmt"]
@@ -78,7 +78,7 @@ def seen_neighbor(chassis: str, kind: str, port_id: str, said: Sequence[tuple[st
 
 @lru_cache(MOST_KEPT)  # a network has few settings, and many ports
 def settings_of_tlvs(tlvs: tuple[tuple[str, str], ...]) -> Optional[Settings]:
-    """Returns the settings that TLVs say, each with its key in a show and its hexadecimal."""
+    """Returns the settings in TLVs, each given by its key in a show and its octets as text."""
     said = said_by([(key[len("org."):], octets) for key, octets in tlvs])
     mac_phy, aggregation = said.one(MacPhy), said.one(LinkAggregation)
     mau = None if mac_phy is None else mac_phy.mau
@@ -96,7 +96,7 @@ def line_of(text: str, at: int) -> int:
 
 @lru_cache(MOST_KEPT)
 def plain(text: str) -> str:
-    """Returns a text of a show, which is ASCII, as people write it."""
+    """Returns a text of a show without its escapes."""
     if "\\" not in text or not text.isascii():
         return text
     return unescaped(text).decode(errors="surrogateescape")

@@ -1,4 +1,4 @@
-"""LLDP-MIB as `snmpwalk` prints it, with names or with numbers, which are below 1.0.8802.1.1.2."""
+"""Reads LLDP-MIB as `snmpwalk` prints it, with names or with numbers below 1.0.8802.1.1.2."""
 import re
 from ipaddress import ip_address
 
@@ -8,7 +8,7 @@ from .listing import Listing, SeenFault
 from .neighbor import neighbor
 
 IS_WALK = re.compile(r"LLDP-MIB::lldp|(?:iso|\.?1)\.0\.8802\.1\.1\.2\.")
-# a text in quotes may have line feeds, and hexadecimal continues in further lines
+# a quoted text may have line feeds, and hexadecimal may continue in further lines
 LINE = re.compile(
     r"^(?:LLDP-MIB::(lldp[A-Za-z]+)|(?:iso|\.?1)\.0\.8802\.1\.1\.2\.(1(?:\.[0-9]+){4}))\.([0-9.]+)"
     r' = (?:(Hex-STRING|STRING|INTEGER): )?("[^"\\]*(?:\\(?s:.)[^"\\]*)*"$'
@@ -20,17 +20,17 @@ NAMES = {**{f"1.3.7.1.{number}": name for number, name in enumerate(LOCAL, 2)},
          **{f"1.4.1.1.{number}": name for number, name in enumerate(REMOTE, 4)}}
 ORDER = {name: place for place, name in enumerate(NAMES.values())}
 COMMAND = "use `snmpwalk -v2c -c COMMUNITY HOST 1.0.8802.1.1.2.1`"
-# the subtypes of chassis IDs and of port IDs that are a MAC address, and a network address
+# the subtypes for a MAC address and for a network address, of chassis IDs and of Port IDs
 OF_CHASSIS, OF_PORT = ("4", "5"), ("3", "4")
 
-# the texts of the columns of a row
+# a row: the text of each of its columns
 Row = dict[str, str]
 
 
 def read_walk(text: str) -> Listing:
-    """Returns the neighbors of each port. Raises SeenFault."""
+    """Returns the neighbors of each port in a walk. Raises SeenFault."""
     if not text.endswith("\n"):
-        raise SeenFault("its last line has no end: it was cut short")
+        raise SeenFault("its last line is incomplete: it was cut short")
     local, remote = rows_of(text)
     names = {number: port_name(row) for number, row in local.items() if LOCAL[1] in row}
     ports: dict[str, list[Seen]] = {name: [] for name in names.values()}
@@ -48,8 +48,8 @@ def read_walk(text: str) -> Listing:
 
 
 def rows_of(text: str) -> tuple[dict[str, Row], dict[str, Row]]:
-    """Returns the rows of local ports and those of neighbors, by their indexes. Raises SeenFault if
-    they are out of a walk's order, as a line in a neighbor's text may be."""
+    """Returns the rows of local ports and those of neighbors, by index. Raises SeenFault if they
+    are not in the order of a walk, since a line in a neighbor's text could pretend to be a row."""
     tables: tuple[dict[str, Row], dict[str, Row]] = {}, {}
     last: tuple[int, ...] = ()
     for name, number, index, kind, value in LINE.findall(text):
@@ -61,14 +61,14 @@ def rows_of(text: str) -> tuple[dict[str, Row], dict[str, Row]]:
         except ValueError:  # it may have thousands of digits, or two dots
             raise SeenFault(f"{name}.{index[:40]} is not an index") from None
         if place <= last:
-            raise SeenFault(f"{name}.{index} is out of order: {COMMAND}, once")
+            raise SeenFault(f"{name}.{index} is out of order, as in two walks: {COMMAND}")
         last = place
         tables[name in REMOTE].setdefault(index, {})[name] = text_of(kind, value)
     return tables
 
 
 def text_of(kind: str, value: str) -> str:
-    """Returns the text of a value. That of an enumeration is its number."""
+    """Returns a value as text, and that of an enumeration as its number."""
     if kind == "INTEGER":
         return value.rpartition("(")[2].rstrip(")")
     if kind == "Hex-STRING":
@@ -98,7 +98,7 @@ def seen(row: Row, port: str) -> Seen:
 
 
 def identifier(text: str, subtype: str, of_mac: str, of_network: str) -> str:
-    """Returns a chassis ID or port ID as people write it."""
+    """Returns a chassis ID or Port ID as text, with addresses in their usual form."""
     octets = text.encode(errors="surrogateescape")
     if subtype == of_mac and len(octets) == 6:
         return octets.hex(":")

@@ -7,14 +7,14 @@ from ..plan import Plan
 
 
 class KnownPort(NamedTuple):
-    """A port that is known of, and its neighbors."""
+    """A port with data, and its neighbors."""
 
     end: End
     neighbors: Sequence[Seen]
 
 
 class Tables:
-    """The known ports of the audited hosts, by their names as they are compared."""
+    """The ports of the audited hosts that have data, by normalized end."""
 
     def __init__(self, names: Names) -> None:
         self.names = names
@@ -27,19 +27,19 @@ class Tables:
         self.times: list[float] = []  # of each source, in seconds since 1970
 
     def add_host(self, host: str) -> None:
-        """Adds an audited host. Raises ValueError if --short-names makes another one the same."""
+        """Adds an audited host. Raises ValueError if --short-names merges it with another."""
         before = self.hosts.setdefault(self.names.host(host), host)
         if before != host and self.names.short_names:
             whole = self.names.with_domains()
             if whole.host(before) != whole.host(host):
-                raise ValueError(f"{shown(before)} and {shown(host)} would be one host by "
+                raise ValueError(f"{shown(before)} and {shown(host)} would be one host with "
                                  "--short-names")
 
     def add_ports(self, host: str, ports: Mapping[str, Sequence[Seen]], file: str = "",
                   has_all_heard: bool = False) -> str:
-        """Adds the neighbors of each of a host's ports by a source. If it `has_all_heard`, other
-        ports of the host have no neighbor. Returns an empty text, or why the host cannot be judged:
-        two sources have the same port or all ports."""
+        """Adds a source: the neighbors of a host's ports. If it `has_all_heard`, all other ports of
+        the host have no neighbor. Returns an empty text, or why the host cannot be judged: two
+        sources have the same port, or both have all ports."""
         self.add_host(host)
         name = self.names.host(host)
         files = self._files.setdefault(name, [])
@@ -48,7 +48,7 @@ class Tables:
             end = End(host, port)
             key = self.names.end(end)
             if key in self.ends:
-                return f"{end} is in two of its files: {', '.join(files)}"
+                return f"{end} is in two of these files: {', '.join(files)}"
             self.ends[key] = KnownPort(end, neighbors)
         if has_all_heard:
             before = self._listed.get(name)
@@ -58,13 +58,13 @@ class Tables:
         return ""
 
     def forget(self, host: str, reason: str) -> None:
-        """Gives up all that is known of a host, for this reason."""
+        """Discards all data of a host, for this reason."""
         self.add_host(host)
         self._forgotten.setdefault(self.names.host(host), reason)
 
     def complete(self, plan: Plan) -> None:
-        """Adds the planned ports that lists do not have: they have no neighbor. If something of a
-        host or of a port is damaged, its neighbors are not known."""
+        """Adds the planned ports that complete lists lack: they have no neighbor. Ports for which a
+        reason was noted, such as a damaged file, remain without data."""
         for name, reason in self._forgotten.items():
             self._listed.pop(name, None)
             self._reasons[End(name, "")] = reason
@@ -76,14 +76,14 @@ class Tables:
                 self.ends[key] = KnownPort(wish.end, ())
 
     def beside(self, plan: Plan) -> list[End]:
-        """Returns the known ports that are not planned, in order."""
+        """Returns the ports with data that are not planned, sorted."""
         return sorted(filterfalse(plan.ends.__contains__, self.ends))
 
     def add_reason(self, host: str, port: str, reason: str) -> None:
-        """Adds why a port is not known, or further ports of a host if the port's name is empty."""
+        """Notes why a port has no data. An empty port means all ports that no list has."""
         self.add_host(host)
         self._reasons.setdefault(self.names.end(End(host, port)), reason)
 
     def reason(self, key: End) -> str:
-        """Returns why nothing is known of an end, or an empty text if nothing more was given."""
+        """Returns why an end has no data, or an empty text if no reason was noted."""
         return self._reasons.get(key) or self._reasons.get(End(key.host, "")) or ""

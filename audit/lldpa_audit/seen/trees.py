@@ -1,4 +1,4 @@
-"""Which form JSON has, and what programs put around it: answers of APIs, lists of many hosts."""
+"""Finds which form JSON has, also inside answers of APIs and files of many hosts."""
 from typing import Any, Optional
 
 from lldpa.texts import printable
@@ -8,15 +8,14 @@ from .listing import Listing, SeenFault
 from .neighbor import clean
 from .prometheus import read_prometheus
 
-# the names below which programs put a list: NAPALM's getters, salt, Ansible, eAPI, NX-API, Junos,
-# and the tools of gNMI
+# names under which programs put a list: NAPALM, salt, Ansible, eAPI, NX-API, Junos, tools of gNMI
 GETTERS = [f"{front}lldp_neighbors{detail}" for front in ("", "get_", "napalm_")
            for detail in ("_detail", "")]
 WRAPPERS = (*GETTERS, "out", "ansible_facts", "result", "ins_api", "outputs", "output", "body",
             "rpc-reply", "multi-routing-engine-results", "multi-routing-engine-item", "stdout",
             "parsed", "notification", "update", "updates", "values", "val",
             "openconfig-lldp:lldp", "lldp", "openconfig-lldp:interfaces", "interfaces")
-# why a tree is not a list of neighbors, by a way that leads to something in it
+# why a tree is not a list of neighbors, by a way that leads somewhere in it
 CAUSES = (
     ("lldpNeighbors neighborDevice", "EOS' short list, without chassis IDs: use `show lldp "
                                      "neighbors detail | json`"),
@@ -29,7 +28,7 @@ LONGEST_SHOWN = 200
 
 
 def listing_of(tree: Any) -> Listing:
-    """Returns the neighbors in JSON of any form, or of many hosts. Raises SeenFault."""
+    """Returns the neighbors in JSON of any form, of one host or many. Raises SeenFault."""
     found = listing_of_host(tree)
     if found is not None:
         return found
@@ -41,7 +40,7 @@ def listing_of(tree: Any) -> Listing:
 
 
 def listing_of_host(tree: Any) -> Optional[Listing]:
-    """Returns the neighbors in JSON of one host, None if it has no form. Raises SeenFault."""
+    """Returns the neighbors in JSON of one host, None if its form is unknown. Raises SeenFault."""
     if is_failed(tree):
         raise SeenFault(f"the command failed: {last_line(text(tree, 'comment, msg'))}")
     cause = next((cause for way, cause in CAUSES if leads(tree, way)), "")
@@ -80,7 +79,7 @@ def listing_of_one(answers: list[Any]) -> Optional[Listing]:
 
 
 def listing_or_fault(tree: Any) -> Listing:
-    """Returns the neighbors of one host of many, or why there are none."""
+    """Returns the neighbors of one host of many, or the fault that it has."""
     try:
         found = listing_of_host(tree)
         if found is not None and not found.hosts:
@@ -96,7 +95,7 @@ def is_failed(tree: Any) -> bool:
 
 
 def lowered(tree: Any) -> Any:
-    """Returns rows with the names of their columns in small letters, and anything else as it is."""
+    """Returns rows with the names of their columns in lower case, and anything else unchanged."""
     if isinstance(tree, list) and all(isinstance(row, dict) for row in tree):
         return [{name.lower(): value for name, value in row.items()}
                 if "LOCAL_INTERFACE" in row or "LOCAL_PORT" in row else row for row in tree]
@@ -104,15 +103,15 @@ def lowered(tree: Any) -> Any:
 
 
 def unknown(tree: Any) -> SeenFault:
-    """Returns the fault of JSON that is not a list of neighbors, by its likely cause."""
+    """Returns the fault of JSON that is not a list of neighbors, with its likely cause."""
     if tree is None or isinstance(tree, str):
-        return SeenFault(f"it has no list, but {last_line(tree)}")
+        return SeenFault(f"in place of a list it has {last_line(tree)}")
     if tree == []:
-        return SeenFault("it is an empty list: ntc-templates returns one if nobody is heard, and "
-                         "if it does not know the text")
+        return SeenFault("it is an empty list: ntc-templates returns one if nobody is heard, or "
+                         "if it cannot parse the text")
     if leads(tree, "message, msg, error, errors"):
-        return SeenFault("it is an error message, and no list of neighbors: see lldpa-audit(1)")
-    return SeenFault("it is JSON, but no list of neighbors that is known: see lldpa-audit(1)")
+        return SeenFault("it is an error message, not a list of neighbors")
+    return SeenFault("it is JSON, but not a known list of neighbors: see lldpa-audit(1)")
 
 
 def last_line(words: Optional[str]) -> str:
