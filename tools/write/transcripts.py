@@ -96,8 +96,8 @@ lines_with (sought ∷ more) written =
 abbrev AsksFor : List Text → Options → Type 0
 AsksFor words options = (roles : Bor (List (Bor Text))) → Asks (matches_of (program roles) words) options
 
--- The arguments ask for options without a fault. For each line of the input, an agent with these
--- options writes these lines. Only lines that contain one of the sought texts are compared.
+-- The arguments ask for options without a fault. lines has a text for each line of the input: what
+-- an agent with these options then writes, or of that the lines with a sought text, if any is sought.
 record Shows (sought : List Text) (words : List Text) (input : List ℕ) (lines : List (List ℕ)) : Type 0 where
   options : Options
   asked : AsksFor words options

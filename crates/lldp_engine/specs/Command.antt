@@ -11,7 +11,7 @@ pub data Command : Type 0 where
   show : Show → Command
   set : Setting → Command
 
--- Returns a command of the program as plain data.
+-- Returns a `Command` of the Rust code as plain data.
 abbrev pub command_of : CodeCommand → Command
 command_of (code.Show what) = show what
 command_of (code.Set setting) = set (setting_of setting)

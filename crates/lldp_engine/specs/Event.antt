@@ -1,4 +1,4 @@
--- The events of an agent as plain data, and how those of the program become plain data.
+-- The events of an agent as plain data, and how those of the Rust code become plain data.
 use Rattle.std.specs.Prelude.{◌≡◌, ℕ, ◌≤◌, Bool, true, List}
 use Rattle.lldp_text.specs.Text.{is_text}
 use Rattle.lldp_pdu.specs.Tlv.{AreOctets}
@@ -34,12 +34,12 @@ pub data Event : Type 0 where
   link : (port : ℕ) (up : Bool) → Event
   set : (setting : Setting) → Event
 
--- Holds if received octets are numbers below 256, as in every event of the program.
+-- Holds if received octets are numbers below 256, as in every event of the Rust code.
 abbrev pub HasOctets : Event → Type 0
 HasOctets (frame port octets) = AreOctets octets
 HasOctets event = Unit {0}
 
--- Returns a setting of the program as plain data.
+-- Returns a `Setting` of the Rust code as plain data.
 abbrev pub setting_of : CodeSetting → Setting
 setting_of (variant.Hostname text) = hostname text.now
 setting_of (variant.Description text) = description text.now
@@ -49,7 +49,7 @@ setting_of (variant.Limit neighbors) = limit neighbors
 setting_of (variant.Status port given) = status port given
 setting_of variant.Update = update
 
--- Returns an event of the program as plain data.
+-- Returns an `Event` of the Rust code as plain data.
 abbrev pub event_of : CodeEvent → Event
 event_of Tick = tick
 event_of (Frame port octets) = frame port octets.now

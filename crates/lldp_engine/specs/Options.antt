@@ -24,7 +24,7 @@ pub record Options : Type 0 where
   pub reinit : ℕ
   pub receive_only : Bool
 
--- Returns options of the program as plain data.
+-- Returns `Options` of the Rust code as plain data.
 abbrev pub options_of : CodeOptions → Options
 options_of o =
     record {

@@ -1,4 +1,4 @@
--- Definitions that only the laws use. They restate others by octets, positions and counts.
+-- Definitions that only the laws use: what others state, in terms of octets, positions and counts.
 pub mod FixedNumbers
 pub mod Sayings
 pub mod Lines
