@@ -249,8 +249,9 @@ impl<A: Allocator> Agent<A> {
         ensures marks_past { (past : Past) → Stands past self.old →
             result.items ≡ marks_of (with_event past (event_of event.entry)) }
         // Each table holds the last stored frames that have not expired. A port sends an ordinary
-        // frame exactly if one is due and its credit window is open, and no other choice of due
-        // events with open windows has had more frames up to any event.
+        // frame exactly if one is due and its credit window is open, and no other choice of events
+        // to send at, each with a frame due and the window open, has sent more frames up to any
+        // event.
         ensures headline { (past : Past) → Stands past self.old →
             PromisedStep past (event_of event.entry) result.items self.new }
     {

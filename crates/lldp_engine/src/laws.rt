@@ -39,7 +39,8 @@ pub fn steps_carry_standing()
 
 /// Each port's table holds exactly the last stored frames that have not expired. Each port has sent
 /// exactly what was due while its credit window was open and its status let it send. No other
-/// choice of due events with open windows has had more frames up to any event.
+/// choice of events to send at, each with a frame due and the window open, has sent more frames up
+/// to any event.
 #[tactic(auto, using(crate::proofs::Headline::Promise::promised))]
 pub fn standing_agents_are_promised()
     ensures { (past : Past) (agent : AgentState) → Stands past agent → Promised past agent }

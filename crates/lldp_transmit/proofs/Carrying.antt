@@ -10,7 +10,7 @@ use Rattle.lldp_transmit.specs.History.{is_tick, is_change, is_neighbor, is_down
 use Rattle.lldp_transmit.specs.Moments.{allowed_after, up_after}
 use Rattle.lldp_transmit.proofs.Windows.{one_if}
 
--- the labels of the next moment, computed from the counters
+-- the labels of the next moment, computed from the machine's fields and the cause
 abbrev pub start_of : Machine → Cause → Bool
 start_of t c = is_tick c && (allowed_after c t.allowed && (up_after c t.up && (not t.active && nat_lt t.wait 2)))
 
@@ -38,7 +38,7 @@ spends_of t c = signal_of t c && (is_neighbor c || (is_tick c && not (start_of t
 abbrev pub left_of : Machine → Cause → ℕ
 left_of t c = cond (start_of t c) 0 (cond (opening_of t c) t.fast_init t.left - one_if (spends_of t c))
 
--- the counters and the answer after a step, computed from the counters before it
+-- the fields and the answer after a step, computed from the fields before it
 pub record Makes (t : Machine) (c : Cause) (n : ℕ) (r : Machine × Mark) : Type 0 where
   pub credit : r.0.credit ≡ room_of t c - one_if (sent_of t c)
   pub wait : r.0.wait ≡ cond (stop_of t c) t.reinit (t.wait - one_if (is_tick c))

@@ -15,7 +15,8 @@ use Rattle.lldp_transmit.proofs.Carrying.{start_of, stop_of, signal_of, opening_
 use Rattle.lldp_transmit.proofs.Labels.{Counts, starts_is, stops_is, active_is, signals_is, opens_is, sent_is}
 use Rattle.std.proofs.lemmas.Grind.{common_steps}
 
--- the labels of the moment m are those computed from the counters
+-- the labels of the moment m are those computed from the machine's fields, the cause and the
+-- interval
 pub record Labelled (t : Machine) (c : Cause) (n : ℕ) (m : Moment) : Type 0 where
   pub cause : m.cause ≡ c
   pub interval : m.interval ≡ n

@@ -39,8 +39,8 @@ pub fn causeless_events_change_nothing()
 
 /// If a port's settings are in their ranges, these properties hold for each history: no run of
 /// events has more ordinary frames than txCreditMax plus the ticks after its first event, or more
-/// stops than one plus one for each reinitDelay ticks; and after each event, no other choice of
-/// events, each with a due frame and an open window, has had more frames.
+/// stops than one plus one for each reinitDelay ticks; and up to each event, no other choice of
+/// events to send at, each with a frame due and the window open, has sent more.
 pub fn windows_hold()
     ensures { (s : Settings) (h : History) → AreSettings s → WindowsHold s h }
 {}

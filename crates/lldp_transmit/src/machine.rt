@@ -88,8 +88,8 @@ impl Transmit {
     /// has more ordinary frames than txCreditMax plus the ticks after its first event. Shutdown
     /// exactly if the port was active and may no longer transmit. Quiet if neither is sent. With
     /// this answer no run that ends here has more ordinary frames than that bound, or more stops
-    /// than one plus one for each reinitDelay ticks in it; and no other choice of events, each
-    /// with a due frame and an open window, has had more frames up to here.
+    /// than one plus one for each reinitDelay ticks in it; and no other choice of events to
+    /// send at, each with a frame due and the window open, has sent more frames up to here.
     ///
     /// If the port is not active, only a tick can send a frame. `Allow`, `Down`, `Up` and `Nothing`
     /// never send one.
@@ -113,7 +113,8 @@ impl Transmit {
 
         // No run of events that ends with this one has more frames than txCreditMax plus the ticks
         // after its first event, or more stops than one plus one for each reinitDelay ticks. No
-        // other choice of events, each with a due frame and an open window, has had more frames.
+        // other choice of events to send at, each with a frame due and the window open, has sent
+        // more.
         ensures bounded { ForEachHistory self.old (λ s past.
             IsBoundedWith s past (event cause interval) result) }
         ensures few_stops { ForEachHistory self.old (λ s past.

@@ -49,7 +49,8 @@ pub record FollowsStatus (o : Options) (past : List Happened) : Type 0 where
 -- At each event so far the port sent exactly what `SendsExactly` says, and its right to transmit
 -- followed its status. No run of events contains more ordinary frames than txCreditMax plus the
 -- ticks after its first event, or more stops than one plus one for each reinitDelay ticks in it. No
--- other choice of due events with open windows has had more frames up to any event.
+-- other choice of events to send at, each with a frame due and the window open, has sent more
+-- frames up to any event.
 pub record HasSentExactly (o : Options) (past : List Happened) : Type 0 where
   pub exactly : (later earlier : List Happened) (now : Happened) → past ≡ later ++ now ∷ earlier →
       SendsExactly o now earlier

@@ -105,7 +105,7 @@ seam_take k xs ys e = ap (λ n. take n (xs ++ ys)) (sym e) ∙ take-append_seam 
 seam_drop : (k : ℕ) (xs ys : List Due) → length xs ≡ k → drop k (xs ++ ys) ≡ ys
 seam_drop k xs ys e = ap (λ n. drop n (xs ++ ys)) (sym e) ∙ drop-append_seam xs ys
 
--- in `times'`, the gap at place k is already reduced by `rest`
+-- inserting a slot at place k, if `times'` already has the gap at place k reduced by `rest`
 pub entered : (times times' slots : List ℕ) (k slot rest : ℕ) → k ≤ length slots → length times' ≡ 128 → slot < 128 → list_any (nat_eq slot) slots ≡ false
     → dues times' slots ≡ take k (dues times slots) ++ less_first rest (drop k (dues times slots))
     → dues (set times' slot rest) (insert slots k slot) ≡ take k (dues times slots) ++ put slot rest (drop k (dues times slots))
