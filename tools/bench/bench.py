@@ -1,10 +1,10 @@
 #!/usr/bin/env python3
 """Compares lldpa with plain C that does the same work (tools/bench/yardstick.c), in one run.
 
-Each row runs the programs in turn, several times. A program's least processor time counts, less
-that of the beginning of the trace. C with vector instructions checks no TLVs: it shows what is
-possible. If valgrind is installed, callgrind counts instructions on a shorter trace, in columns
-that begin with #. If tshark and tcpdump are installed, they are measured. Needs a C compiler.
+Each row runs the programs in turn, several times. It has each program's least processor time for
+the trace, minus the least for its beginning alone. C with vector instructions checks no TLVs: it
+shows what is possible. If valgrind is installed, callgrind counts instructions on a shorter trace,
+in columns that begin with #. Measures tshark and tcpdump if installed. Needs a C compiler.
 
 bench_rows.py has the rows, bench_counts.py counts instructions, bench_captures.py measures readers
 of captures, and bench_picture.py draws the picture.

@@ -39,13 +39,13 @@ def head(told: dict[str, Any], height: float) -> list[str]:
 
 
 def picture(told: dict[str, Any]) -> str:
-    """Returns the picture: bars for rows that C has too, then lines of text for the rest."""
+    """Returns the picture: bars for rows that C runs too, then lines of text for the rest."""
     rows_of_c = [row for row in told["rows"] if len(row["time"]) > 1]
     others = [row for row in told["rows"] if len(row["time"]) == 1]
     end = TOP + sum(high(row) for row in rows_of_c)
     foot = [f"{row['title']}: {row['time'][0]:.0f} ns" for row in others] + told["start"] + told["others"]
     foot += told.get("captures", [])
-    # the length of C's bar, equal in all rows, with which the longest bar of the picture just fits
+    # C's bar has the same length in all rows, chosen so that the longest bar just fits
     scale = WIDEST / max(max(row["time"]) / row["time"][1] for row in rows_of_c)
     out, y = head(told, end + 34 + 19 * len(foot)), TOP
     for row in rows_of_c:

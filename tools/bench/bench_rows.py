@@ -63,7 +63,7 @@ def greatest(names: int) -> list[bytes]:
     return [frame(*name(i), [*said, tlv(127, b"\0\x80\xc2\x63" + bytes(room[i] - 6))]) for i in range(names)]
 
 
-# Names that differ only in these segments have the same tag: seven in a row make 128 names.
+# Exchanging these segments in a name does not change its tag. Seven segments make 128 names.
 ONE_TAG = bytes([70, 40, 10, 107]), bytes([98, 119, 110, 100])
 
 
@@ -103,7 +103,7 @@ class Row:
     per: int = 1
 
     def traces(self, room: Path, lines: int) -> tuple[Path, Path, int]:
-        """Writes the trace and its beginning. Returns both paths, and the number of items."""
+        """Writes files of the trace and of its beginning. Returns both paths and the item count."""
         whole, begin = room / "trace", room / "begin"
         repeats = max(1, lines // self.line.count("\n"))
         begin.write_text(self.before)
@@ -116,7 +116,7 @@ class Row:
 
 
 def both(neighbors: int) -> list[list[str]]:
-    """Returns the arguments of C that reads frames, without and with vector instructions."""
+    """Returns the C program's arguments to read frames, without and with vector instructions."""
     return [["read", str(neighbors)], ["vectors", str(neighbors)]]
 
 

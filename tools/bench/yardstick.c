@@ -1,4 +1,4 @@
-/* The yardstick of bench.py, for amd64: the same work in plain C, without proofs and most checks.
+/* The yardstick of bench.py, for amd64: the same work in plain C, with few checks and no proofs.
  *
  *   yardstick read NEIGHBORS < TRACE      reads lines `rx PORT HEX`, decodes the digits by a table,
  *                                         walks the TLVs and refreshes one of NEIGHBORS; counts ticks

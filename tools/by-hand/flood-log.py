@@ -5,11 +5,11 @@
 
 One port receives --frames frames of the greatest length, from 200 neighbors, as fast as possible.
 Another port is quiet: its five neighbors come, change and age out. The log has at most 20
-megabytes, in files of 2. Ten times lldpa-live is asked for its tables. It must answer in a second,
+megabytes, in files of 2. lldpa-live is asked for its tables ten times. It must answer in a second,
 and a replay of the log file of that moment must give the same tables. The folder of the log must
 not exceed its limit, and no frame of the quiet port may be dropped.
 
-With --minutes, one port receives hostile frames for this long, and another the frames of five quiet
+With --minutes, one port receives hostile frames for that time, and another the frames of five quiet
 neighbors; the interface of a third port is removed and added. Settings are reloaded, questions
 asked, addresses changed, and lldpa-live is paused. No frame of the quiet port may be lost, no
 neighbor may be wrong, and memory and descriptors may not grow.

@@ -8,9 +8,9 @@ lldpds that this script configures. Others are made up, with a TLV of each kind 
 has a name. Each frame is sent to an lldpd, whose lldpcli shows it (-f json0), and read by tshark.
 Their values must equal those that lldpa reads, except those that python/tests/judges.py and
 by_tshark.py list with a reason. --save writes the frames with both answers, so that
-python/tests/test_judged.py needs no such programs. --octets also compares tshark on each beginning
-of a TLV of each kind, and with each octet changed to every other value. It needs Linux, root, and
-Debian's packages lldpd, iproute2 and tshark. The last line is `N passed, M failed`.
+python/tests/test_judged.py needs no such programs. --octets also compares with tshark, for a TLV
+of each kind, its first N octets for each N, and the TLV with one octet changed to each other value.
+Needs Linux, root, and Debian's lldpd, iproute2 and tshark. The last line is `N passed, M failed`.
 """
 import argparse
 import json
@@ -115,9 +115,9 @@ def shown_by_lldpcli(frames, wires):
 
 
 def compare_octets(room):
-    """Compares beginnings and changed versions of TLVs with tshark. Returns how many are equal, and
-    the differences. Skips TLVs that lldpa shows in hexadecimal, that have reserved bits, or
-    whose text is not UTF-8 or has a NUL, where tshark cuts it."""
+    """Compares how lldpa and tshark read beginnings and changed versions of TLVs. Returns how many
+    are equal, and the differences. Skips TLVs that lldpa shows in hexadecimal, that have reserved
+    bits, or whose text is not UTF-8 or has a NUL, where tshark cuts it."""
     equal, differences = 0, []
     for sample in SAMPLES:
         octets = bytes.fromhex(sample.octets)
@@ -129,7 +129,7 @@ def compare_octets(room):
             is_equal = [tuple(pair) for pair in compared(shown)] == wanted(sample.kind, tlv)
             equal += is_equal
             if not is_equal:
-                differences.append(f"{sample.kind} {some.hex()}: tshark shows {shown}, and read is {tlv}")
+                differences.append(f"{sample.kind} {some.hex()}: tshark shows {shown}, lldpa reads {tlv}")
     return equal, differences
 
 

@@ -7,9 +7,9 @@ docs/STANDARD.md must explain this.
         [--count N]
 
 --peers names the folder of the programs lldpd_decode and sd_decode, built from the sources of their
-projects. Each runs as `verdict FILE` and as `bench FILE N`; FILE has a frame in hexadecimal on each
-line. --library names a folder that tools/library/library.sh wrote; if it is missing, the script
-runs. --frames adds captures (pcap) and traces to those of docs and examples. The N frames (default
+projects. Each accepts `verdict FILE` and `bench FILE N`; FILE has a frame in hexadecimal on each
+line. --library names a folder that tools/library/library.sh wrote; without it that script is run.
+--frames adds captures (pcap) and traces to those of docs and examples. The N frames (default
 300,000) are all of these, altered copies of them, and frames made by tools/model/fuzz.py. The last
 line is `N passed, M failed`.
 """

@@ -101,7 +101,7 @@ def listed_keys(page):
 
 
 def escaped_alike(values):
-    """Returns the texts with the escapes of every form, so that they can be compared."""
+    """Returns the values as texts that are escaped in the same way for all forms."""
     return [printable(one_line(str(value))) for value in values]
 
 

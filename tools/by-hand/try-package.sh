@@ -67,7 +67,7 @@ reads() { lldpa-capture --show /usr/share/doc/lldpa/docs/lab.pcap | lldpa --rece
 
 notifies() { systemctl show -p Type -p StatusText lldpa | grep -c -x -e Type=notify -e 'StatusText=[0-9no]* neighbors\? on 1 port' | grep -x 2; }
 tells() { journalctl -u lldpa -g 'eth0 came: sender p1'; }
-# refuses UNIT ACTS [LINE ..]: succeeds if a service, with these lines, is refused every act.
+# refuses UNIT ACTS [LINE ..]: succeeds if UNIT, with these lines added, can do none of the acts.
 refuses() {
     local unit=$1 acts=$2 status
     shift 2

@@ -3,7 +3,7 @@
 
     tools/gate/check-links.py [--installed FOLDER]
 
-It checks links and their anchors, and names of files, calls and options. Blocks that say `rust` or
+It checks links and their anchors, and names of files, calls and options. Blocks marked `rust` or
 `antt` must be consecutive lines of one source. On pages about proofs, each clause, definition,
 lemma and large number must occur in the sources. In SECURITY.md, each row of a table with a column
 "Shown by" must name there a law or call of the crates, a test of python/tests or audit/tests, or a

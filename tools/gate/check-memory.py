@@ -8,9 +8,9 @@ no more than is needed. Only modules that read the arguments receive the runtime
 
 Accesses: `Times` counts each access to a stored time. Only its functions `get`, `set` and `look`
 reach the times, and it cannot be copied. `look` does not count; only `Table::entries` and `entry`
-use it. No tick calls these: only the show of neighbors calls `entries`, and only tests `entry`. The
-types of a table have no other fields, which could store times too. A proof by hand could claim any
-count, so `Count` has only two. The other proofs by hand move the pointer of a C handle.
+use it. No tick calls these: `entries` is called only to show neighbors, and `entry` only in tests.
+The types of a table have only known fields, since others could store times too. A proof by hand
+could claim any count. So only two functions of `Count`, and those of a C handle, have such proofs.
 
     tools/gate/check-memory.py
 
@@ -107,13 +107,13 @@ class Sources:
 
 
 def counts_of(pattern: str, texts: dict[str, str]) -> dict[str, int]:
-    """Returns how often each text has the pattern, without the texts that do not have it."""
+    """Returns how often the pattern occurs in each text that has it."""
     counts = {name: len(re.findall(rf"(?<!fn ){pattern}", text)) for name, text in texts.items()}
     return {name: count for name, count in counts.items() if count > 0}
 
 
 def functions_handed(code: str) -> str:
-    """Returns the functions with an allocator parameter, and its name if that is not `alloc`."""
+    """Returns the functions that have an allocator, with the parameter's name if not `alloc`."""
     heads = re.findall(r"\bfn (\w+)(?:<[^(]*>)?\(([^{;]*?)\)", code)
     taken = [(name, one) for name, all_taken in heads for one in re.findall(ALLOCATOR, all_taken)]
     return "\n".join(name if one == "alloc" else f"{name} ({one})" for name, one in taken)

@@ -81,7 +81,7 @@ def difference(written, wanted):
 
 
 def words_and_filter(args):
-    """Returns the arguments, and the filter's texts, or None for these if it is malformed."""
+    """Returns the arguments and the filter's texts. A malformed filter has None for its texts."""
     words = args.splitlines()
     if not words or not words[-1].startswith("|"):
         return words, []

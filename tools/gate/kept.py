@@ -3,7 +3,7 @@
 
     tools/gate/kept.py NAME COMMAND ..
 
-The count is repeated if the files of READ and the versions of the compilers are the same as then. A
+The count is repeated if the files of READ and the versions of the compilers have not changed. A
 count is not kept if something was skipped. Counts are kept in out/passed, which git ignores, so a
 clean clone runs everything. The last line is `N passed, M failed`.
 """

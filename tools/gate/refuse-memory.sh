@@ -5,7 +5,7 @@
 #  - with all later requests; the run must end as above;
 #  - alone; the run may also end with its usual output and status 0: the standard library asks for
 #    the room that an iterator hints at and, if this is refused, for less.
-# The runs are the one stored in crates/lldpa, and one that opens 64 ports of 128 neighbors. Then
+# One run has the arguments of crates/lldpa/args, the other 64 ports of 128 neighbors each. Then
 # each transcript of examples/ runs. It must request memory as often as a run with the same
 # arguments and empty input, and write the same if all requests after opening are refused. It needs
 # a C compiler for refuse.c, which is preloaded; without one the status is 3. The argument is the
@@ -54,7 +54,7 @@ refuse_each() {
         says_no_memory || survives
         judge_run $? "request $number refused"
     done
-    echo "$requests requests for memory were refused; refused alone, the program survived $survived"
+    echo "$requests requests for memory were refused; $survived changed nothing if refused alone"
     survived=0
 }
 

@@ -3,7 +3,7 @@
 
     python3 tools/library/check-arm64.py [FOLDER]
 
-The program runs all transcripts of examples/, and random traces beside the model. The library runs
+The program runs all transcripts of examples/, and random traces against the model. The library runs
 the transcripts, its rows, and its tests with NULL. Without FOLDER, tools/release/build.sh builds
 both. Without gcc for arm64 or qemu-user the status is 3. The last line is `N passed, M failed`.
 """

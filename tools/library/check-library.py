@@ -3,10 +3,10 @@
 
     python3 tools/library/check-library.py [FOLDER]
 
-Programs of tools/library/c run with the library and the compiler's sanitizers. vectors.c compares
-rows, and cut and altered LLDPDUs, with the model; transcript.c the transcripts of examples/ and
-whole shows. nulls.c passes NULL for each pointer, and values out of range. limits.c tries what rows
-do not reach. refused.c refuses memory, under valgrind.
+Programs of tools/library/c run with the library and the compiler's sanitizers. vectors.c runs the
+rows of examples/vectors.rows, and reads cut and altered LLDPDUs. transcript.c runs the transcripts
+of examples/ and whole shows. nulls.c passes NULL for each pointer, and values out of range.
+limits.c tries small buffers and random octets. refused.c refuses memory, under valgrind.
 
 FOLDER has liblldpa.a, liblldpa.so.1 and lldpa.h. Without it tools/library/library.sh makes them.
 Checks that need something missing, such as cargo or valgrind, are reported and not counted. Without

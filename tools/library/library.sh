@@ -6,7 +6,7 @@
 # library for amd64 runs on every amd64 processor.
 #
 # `rt lib` builds an archive, whose functions get the prefix `proved_`. Programs call the functions
-# of crates/lldpa_c/front, which check for NULL, and call malloc and the proved functions. Each
+# of crates/lldpa_c/front. These check for NULL, then call malloc and the proved functions. Each
 # group of calls below is one object of liblldpa.a, with all that it uses. The archive's only global
 # names are those of lldpa.h. `rt lib` runs if a source, a definition, a proof, crates.txt or the
 # toolchain has changed since it last ran for this architecture. Prints the name of the folder.

@@ -26,8 +26,8 @@ EXAMPLES = TOP / "examples"
 PAGE = TOP / "docs" / "LIBRARY.md"
 LINK = ("link add here type veth peer name there", "link set here up", "link set there up")
 
-# Frames of one neighbor, each with its report: new, changed, gone; new for a second, then aged out.
-# After a pause that is longer than its next time to live, it is new again, and changes.
+# The LLDPDUs of a neighbor, each with what the receive loop must print for it. With an empty LLDPDU
+# nothing is sent. PAUSE is a wait in seconds, longer than the time to live of the next LLDPDU.
 KEY = "02070400112233445504050565746830"
 PAUSE = "4.5"
 HEARD = ((KEY + "06020078", b"new"), (KEY + "060200780a03737731", b"changed"), (KEY + "06020000", b"gone"),

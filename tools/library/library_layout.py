@@ -14,7 +14,7 @@ CRATE = TOP / "crates" / "lldpa_c" / "src"
 FRONT = TOP / "crates" / "lldpa_c" / "front" / "lldpa.c"
 PARTS = TOP / "crates" / "lldp_transmit" / "src" / "parts.rt"
 
-# The common names of C's and Rattle's types. A struct's is its lower-case name without prefix.
+# The common name of a C or Rattle type. Others keep their name, in lower case without prefix.
 TYPES = {"uint8_t": "u8", "uint16_t": "u16", "uint32_t": "u32", "size_t": "usize", "bool": "bool", "void": "()",
          "ticks_taken": "ticks", "parts": "machine", "statistics_told": "statistics",
          "configuration_told": "configuration"}
@@ -108,12 +108,12 @@ def check_layout(library: Library, counts: Counts) -> None:
     """Checks that the header and the crate agree, and that the front asserts the sizes."""
     check_sizes(library, counts)
     text = re.sub(r"/\*.*?\*/", "", (library.folder / "lldpa.h").read_text(), flags=re.S)
-    # The front passes a copy of the handle to functions that only read it: no const is needed.
+    # The crate's functions that only read the handle receive a copy of it, so they have no const.
     wants = header_lists(text.replace("(const lldpa_agent *", "(lldpa_agent *"))
     found: Lists = {}
     for file in [*sorted(CRATE.rglob("*.rt")), PARTS]:
         found |= rust_lists(file.read_text())
-    # lldpa_version exists only in the front, where lldpa_frame calls one of two functions.
+    # The crate has no lldpa_version. Its lldpa_frame_news has the type of the front's lldpa_frame.
     found["lldpa_version"] = wants["lldpa_version"]
     found["lldpa_frame"] = found.pop("lldpa_frame_news")
     for name, wanted in wants.items():

@@ -26,7 +26,7 @@ def branched_before(code: str) -> list[str]:
 
 
 def check_machine(library: Library, counts: Counts) -> None:
-    """Checks that no function of the archive does so, and that a function that does is found."""
+    """Checks that no function branches before it touches the pages, and that the check works."""
     code = ran(["objdump", "-d", "--no-show-raw-insn", library.folder / "liblldpa.a"]).stdout
     found = branched_before(code)
     counts.judge(f"{found} branch before they probe" if found else None, "the machine code of the archive")

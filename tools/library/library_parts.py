@@ -14,7 +14,7 @@ from counts import Counts  # noqa: E402
 
 WARNINGS = ["-pedantic", "-Wall", "-Wextra", "-Werror"]
 
-# The most seconds of one command. The longest proves the library on a slow machine.
+# The most seconds that a command may take: the longest proves the library on a slow machine.
 SECONDS = 1800
 
 

@@ -17,7 +17,7 @@ from counts import Counts
 
 SHOWS = [b"show configuration", b"show chassis", b""]
 
-# options with too many numbers, each with a port name with which the program does not listen
+# options with too many numbers; with these port names the program does not listen
 MANY = {"--connections": ["eth0"], "--listen": ["a.b"]}
 
 # the numbers that `configure lldp` sets, with their greatest values

@@ -26,7 +26,7 @@ from examples import words_and_filter
 TOP = pathlib.Path(__file__).resolve().parents[2]
 
 
-# how many traces are given to the processors at once, and one in how many is also judged
+# how many traces the processors receive at once; one trace in JUDGED_ONE_IN is also judged
 AT_ONCE, JUDGED_ONE_IN = 200, 20
 
 # ------------------------------------------------------------------------------------------------ frames
@@ -370,7 +370,7 @@ def case(seed):
 
 # -------------------------------------------------------------------------------------- reducing a trace
 def without_runs(items, differs):
-    """Returns the items without the runs that a difference does not need, long runs first."""
+    """Removes runs of items, long runs first, while the fault remains."""
     size = len(items)
     while size:
         at = 0
@@ -385,7 +385,7 @@ def without_runs(items, differs):
 
 
 def shorter_line(line, differs):
-    """Removes words, then pairs of octets, then octets that a difference does not need."""
+    """Removes words, then pairs of octets, then octets, while the fault remains."""
     line = b" ".join(without_runs(line.split(b" "), lambda words: differs(b" ".join(words))))
     for size in (2, 1):
         parts = [line[at:at + size] for at in range(0, len(line), size)]
@@ -394,7 +394,7 @@ def shorter_line(line, differs):
 
 
 def made_small(find, program, words, lines):
-    """Removes lines and arguments that a difference does not need, for at most two minutes."""
+    """Removes lines and arguments while the fault remains, for at most two minutes."""
     end = time.monotonic() + 120
 
     def differs(words, lines):

@@ -195,7 +195,7 @@ class Port:
         return 1 if self.left(s) > 0 else int(self.last("tx-interval", s, 30))
 
     def is_due(self, k):
-        """Returns whether some signal since the start was not followed by a frame yet."""
+        """Returns whether a signal since the start has not been followed by a frame yet."""
         if not self.active(k):
             return False
         return any(self.signal(s) and self.sent_to[k] == self.sent_to[s] for s in range(self.last_start(k), k + 1))

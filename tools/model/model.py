@@ -252,11 +252,11 @@ DEFAULTS = {"mac": "02:00:00:00:00:01", "hostname": "localhost", "management": "
             "max_neighbors": 32, "tx_credit_max": 5, "tx_fast_init": 4, "reinit_delay": 2}
 
 class Range(NamedTuple):
-    """The greatest and the first value of a number that `configure lldp` sets; the least is 1."""
+    """The greatest and the initial value of a number that `configure lldp` sets; the least is 1."""
     greatest: int
     at_start: int
 
-# all these numbers except max-neighbors: its option sets its first and its greatest value
+# the numbers that `configure lldp` sets, except max-neighbors, whose range depends on its option
 SETTINGS = {"tx-interval": Range(3600, 30), "tx-hold": Range(100, 4)}
 
 def attribute(name):

@@ -67,7 +67,7 @@ def misspelled(word):
 
 
 def otherwise_written(word):
-    """Yields a word in upper case, quoted, and joined differently. Only ASCII letters change."""
+    """Yields a word in upper case (ASCII only), doubled, quoted, and with changed hyphens."""
     octets = word.encode("latin-1")
     yield from (octets.upper().decode("latin-1"), octets.capitalize().decode("latin-1"))
     yield from (word + word, word.replace("-", "_"), word.replace("-", ""))

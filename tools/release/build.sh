@@ -9,7 +9,7 @@
 #                    licence of the GNU C library in it (LGPL) requires lldpa.o, to link it again
 #     lldpa.o        the program before it is linked
 #     lib            what tools/library/library.sh makes
-# `lldpa` and `lldpa_c` are proved for that architecture, the crates below them for every one.
+# `lldpa` and `lldpa_c` are proved for that architecture, the crates below them for all.
 set -eu
 cd "$(dirname "$0")/../.."
 fail() {

@@ -1,6 +1,6 @@
 /*
- * The C functions, besides memory, that the program needs on a platform for which the toolchain
- * has no archive: its arguments, and the number of the last error.
+ * C functions that the program needs on a platform for which the toolchain has no archive: they
+ * return its arguments, and read and set the number of the last error.
  */
 #include <errno.h>
 #include <string.h>

@@ -4,14 +4,14 @@
     tools/write/numbers.py [--check | --parts [FOLDER]]
 
 Without options it prints the table. With --check it fails if a number of the page is off by more
-than a twentieth, or if people keep more lines by hand than tools/write/lines.txt says; the last
-line is then `N passed, M failed`. --parts prints how many lines people keep by hand in each part,
+than a twentieth, or if there are more lines that people keep by hand than tools/write/lines.txt
+says; the last line is then `N passed, M failed`. --parts prints how many such lines each part has,
 here or in another checkout. If you add lines, remove others in the same change. If there are fewer
 lines, save their numbers:
 
     tools/write/numbers.py --parts > tools/write/lines.txt
 
-Blank lines do not count. People keep by hand what git stores as text, except the imports of
+Blank lines do not count. All that git stores as text is kept by hand, except the imports of
 `.antt`, which `rt check --fix-imports` writes, and what a script or a program wrote: theorems of
 transcripts, vectors, declarations of the library for Rust, figures and pictures, expected outputs,
 recorded answers of other programs, and locks of other packages.

@@ -1,11 +1,11 @@
 #!/usr/bin/env python3
-"""Writes the transcripts of examples/ as theorems about the definitions, which rt check computes.
+"""Writes the transcripts of examples/ as theorems, which rt check proves by computation.
 
     python3 tools/write/transcripts.py [FILE]
 
-A theorem states the options that the program's arguments mean, and the output for the input, or the
-lines of it that pass the transcript's filter. Each row of receive-counters.rows is a theorem too.
-It states which of its counters `show statistics` writes after the transcript's input.
+One theorem states which options a transcript's arguments mean, another its output, or the lines of
+the output that pass its filter. Each row of receive-counters.rows becomes a theorem too: it states
+the values of the row's counters in `show statistics` after the transcript's input.
 
 FILE is crates/lldpa/proofs/Transcripts.antt by default. A transcript of more than MOST_TICKS ticks
 is left out: for each moment the definitions look at all earlier moments.
@@ -191,7 +191,7 @@ FIELDS = {
 
 
 def options(words):
-    """Returns the options as a term, a change of `usual`, and the address of --management."""
+    """Returns the options as a term, `usual` or a change of it, and the --management address."""
     given, names = model.read_words(words)
     fields = [FIELDS[name](value) if name in FIELDS
               else f"{name.removeprefix('tx_').removesuffix('_delay')} = {value}" for name, value in given.items()]
@@ -230,7 +230,7 @@ def list_of_words(words):
 
 
 def theorem(name, words, sought, trace, steps, asks):
-    """Returns a transcript's theorem with its proof; `asks` names that of its arguments."""
+    """Returns a transcript's theorem and its proof; `asks` names the theorem of its arguments."""
     if isinstance(steps, str):
         sys.exit(f"{name}: {steps}")
     lines = re.findall(rb"[^\n]*\n|[^\n]+", trace)

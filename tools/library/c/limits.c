@@ -1,6 +1,6 @@
 /*
- * Tries what rows and transcripts do not reach: texts of faults, TLVs and texts in buffers that are
- * just large enough, and octets that are not an LLDPDU, a frame or a command.
+ * Tries what the rows and transcripts of examples/ do not: the texts of faults, TLVs and texts in
+ * buffers that are just large enough, and octets that are not an LLDPDU, a frame or a command.
  *     limits
  * Failed checks are reported; the last line is `N passed, M failed`.
  */

@@ -331,7 +331,7 @@ static void use_badly(void)
     ANSWERS(lldpa_show_lines(&agent, LLDPA_SHOW_CHASSIS, 3, room, 29, &now.lines), LLDPA_NO_ROOM);
     holds(lldpa_frame_of(&agent, 0, LLDPA_ORDINARY, room, 57, &now.length) == LLDPA_OK, "a frame of 57 octets");
     holds(lldpa_show_lines(&agent, LLDPA_SHOW_CHASSIS, 9, room, 0, &now.lines) == LLDPA_OK && now.lines.done &&
-              now.lines.length == 0 && now.lines.next == 9, "lines behind the last");
+              now.lines.length == 0 && now.lines.next == 9, "lines after the last");
     holds(lldpa_show_lines(&agent, LLDPA_SHOW_CHASSIS, 1, room, 1514, &now.lines) == LLDPA_OK && now.lines.done &&
               now.lines.next == 4, "the end of a show");
 }
@@ -362,7 +362,7 @@ int main(void)
     show_nulls();
     use_closed();
     use_badly();
-    holds(shown(last, sizeof last) == length && memcmp(first, last, length) == 0, "the agent is what it was");
+    holds(shown(last, sizeof last) == length && memcmp(first, last, length) == 0, "the agent has changed");
     begin();
     holds(lldpa_frame(&agent, 0, NULL, 0, &now.marks, NULL) == LLDPA_OK, "no octets as a frame");
     holds(lldpa_version() == LLDPA_VERSION, "another version");

@@ -1,6 +1,6 @@
 /*
- * Writes each row of a file with the library's results: what it reads in octets, builds from TLVs,
- * or answers to causes or ports. If the library is right, these rows equal those of the file.
+ * Reads the input of each row of a file, calls the library with it, and writes the row with the
+ * library's results. If the library is right, the written rows equal those of the file.
  *     vectors FILE
  * The head of examples/vectors.rows describes the rows; check-library.py compares them.
  */
