@@ -105,5 +105,5 @@ def capture_rows(room: Path, times: int) -> list[str]:
 def audit_of_cabling(room: Path) -> list[str]:
     """Returns a line with the time and the memory of an audit of 100,000 links."""
     words = cabling.write(room, 50)
-    used, _, megabytes = min(cabling.measured(words) for _ in range(3))
-    return [f"{AUDIT}: {used:.1f} s, {megabytes:.0f} MB"]
+    ran = min((cabling.shapes.measured(words) for _ in range(3)), key=lambda ran: ran.seconds)
+    return [f"{AUDIT}: {ran.seconds:.1f} s, {ran.megabytes} MB"]
