@@ -154,7 +154,7 @@ class Names:
         return End(host, ports[0] if len(ports) == 1 else self.plain_port(end.port))
 
     def answers(self, neighbor: Seen, end: End) -> bool:
-        """Returns whether a neighbor answers to a normalized end."""
+        """Returns whether a neighbor may be a normalized end, by the names that it announces."""
         if self._is_strict:
             return end.host in neighbor.hosts and (end.port == neighbor.port_id
                                                    or end.port in self.heeded(neighbor))

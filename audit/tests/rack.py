@@ -1,4 +1,5 @@
-"""For tests: a switch `leaf1` of six ports with known faults, as captures and as a show."""
+"""For tests: a switch of six ports with known faults, as captures and as `show neighbors` prints
+it."""
 from functools import partial
 from typing import Dict, List, Sequence
 

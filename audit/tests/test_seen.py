@@ -1,4 +1,4 @@
-"""The neighbors of a show: their names, and what is wrong with it."""
+"""Tests how the output of `show neighbors` is read: the names, and the faults of damaged output."""
 import random
 import re
 import unittest

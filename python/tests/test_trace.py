@@ -1,4 +1,4 @@
-"""Tests captures as traces, by the package and by lldpa-capture."""
+"""Tests the traces that the package and lldpa-capture make from captures."""
 
 import gzip
 import os

@@ -1,8 +1,8 @@
 #!/usr/bin/env python3
 """Compares lldpa with plain C that does the same work (tools/bench/yardstick.c), in one run.
 
-Each row runs the programs in turn, several times. It has each program's least processor time for
-the trace, minus the least for its beginning alone. C with vector instructions checks no TLVs: it
+Each row runs the programs in turn, several times, on a trace and on the beginning of that trace. It
+shows each program's least processor time for the one minus that for the other. C with vector instructions checks no TLVs: it
 shows what is possible. If valgrind is installed, callgrind counts instructions on a shorter trace,
 in columns that begin with #. Measures tshark and tcpdump if installed. Needs a C compiler.
 

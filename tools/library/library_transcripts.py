@@ -39,8 +39,8 @@ def words_of(agent: model.Agent) -> list[str]:
 
 
 def event_of(agent: model.Agent, line: bytes, is_refused: bool) -> bytes | None:
-    """Returns a line as transcript.c reads it, or None if the program does not pass it to its
-    agent: a comment, or an event that it refuses."""
+    """Returns a line as transcript.c reads it, or None if lldpa does not pass it to its agent: a
+    comment, or an event that lldpa refuses."""
     text = line.decode("latin-1")
     if len(line) > 4096 or text.lstrip(" \t")[:1] in ("", "#"):
         return None

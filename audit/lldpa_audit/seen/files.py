@@ -1,4 +1,4 @@
-"""Reads files of neighbors in any form, with a process for each processor if there are many."""
+"""Reads files of neighbors in any form. Many files are read by several processes."""
 import os
 from concurrent.futures import ProcessPoolExecutor
 from typing import BinaryIO, Iterator, Optional, Sequence
@@ -73,7 +73,8 @@ def placed(listing: Listing, file: str, written: float) -> Listing:
 
 
 def read_files(whats: Sequence[What]) -> Iterator[Optional[Listing]]:
-    """Returns what is in each file. Many are read in parallel, from the call on. Raises OSError."""
+    """Begins to read the files, in parallel if there are many. Yields what is in each. Raises
+    OSError."""
     processors = len(os.sched_getaffinity(0))
     if len(whats) < MANY or processors < 2:
         return map(read_file, whats)

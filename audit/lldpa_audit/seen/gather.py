@@ -33,7 +33,8 @@ class Gathering:
         self.status = 0
 
     def add_files(self, whats: Sequence[What], files: Iterator[Optional[Listing]]) -> None:
-        """Adds files; `files` has the content of lists. Several captures of a port count as one."""
+        """Adds files. Several captures of a port count as one. `files` has a list for each other
+        file."""
         for what, listing in zip(of_hosts(whats), files):
             if listing is None:
                 self.add_captures(what.host, "", [what.file])

@@ -10,7 +10,7 @@ Ports = dict[str, Sequence[Seen]]
 
 
 class SeenFault(LldpaFault, ValueError):
-    """Says what is wrong with a list."""
+    """Says what is wrong with a list of neighbors."""
 
 
 class Listing(NamedTuple):
