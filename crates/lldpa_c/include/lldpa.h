@@ -54,7 +54,7 @@ uint32_t lldpa_version(void);
  */
 
 #define LLDPA_OK 0
-#define LLDPA_OUT_OF_RANGE 100 /* a number, or the length of an identifier, is out of its range */
+#define LLDPA_OUT_OF_RANGE 100 /* a number or a length is out of its range, or octets are not well formed */
 #define LLDPA_NO_ROOM 101      /* the caller's buffer is too small for the result */
 #define LLDPA_NOT_OPEN 102     /* the agent is not open */
 #define LLDPA_NO_PORT 103      /* the agent has no port with that number */
@@ -363,7 +363,7 @@ typedef struct lldpa_ticks_taken {
  *   count  the seconds that passed; do not pass LLDPA_NEVER, which could take minutes
  *   marks  the frames to send at the last second counted, on success
  *   told   written on success. Send the frames of marks; then, if told->taken is less than count, call lldpa_ticks
- *          again for the remaining seconds. The neighbors that age out are those that had 1 second left.
+ *          again for the remaining seconds. The neighbors that aged out had told->taken seconds left.
  */
 uint8_t lldpa_ticks(lldpa_agent *agent, uint32_t count, lldpa_marks *marks, lldpa_ticks_taken *told);
 

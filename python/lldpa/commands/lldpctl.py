@@ -34,7 +34,7 @@ Asks a running lldpa-live, and prints the answer as lldpd's lldpcli does.
 
 Without a command, lldpctl prints the details of all neighbors, or of those on
 the given ports. If you call it as lldpcli without a command, it reads commands
-from standard input until the command exit. The commands are:
+from standard input until a line says exit. The commands are:
   show neighbors [details | summary] [ports PORT,..]
   show interfaces [details | summary] [ports PORT,..]
   show chassis [details | summary]
