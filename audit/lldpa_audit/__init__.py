@@ -1,1 +1,1 @@
-"""lldpa-audit: compares a plan of the cabling with what is seen at the ports."""
+"""Compares a plan of the cabling with the neighbors that are seen at the ports."""

@@ -1,4 +1,4 @@
-"""The ages of sources, in seconds and in words."""
+"""Computes the ages of sources, and converts spans of time to and from text."""
 import re
 from argparse import ArgumentTypeError
 from typing import NamedTuple, Sequence

@@ -8,9 +8,9 @@ MOST_PORTS = 64  # no aggregate has so many members
 
 
 def read_aliases(file: str, names: Names) -> Aliases:
-    """Returns the aliases in a file, normalized. A row without a port is for a host; a row without
-    a host is for a port of any host. Several ports may share an alias: a neighbor of that name
-    answers to each of them. Raises PlanFault and OSError."""
+    """Returns the aliases in a file, normalized. A row without a port names a host; a row without a
+    host applies to a port of any host. Several ports may share an alias: a neighbor of that name
+    may be any of them. Raises PlanFault and OSError."""
     faults, aliases = Faults(file), Aliases({}, {})
     for line, fields in table_of(faults, COLUMNS):
         if len(fields) != len(COLUMNS) or not fields[2] or not any(fields[:2]):
@@ -31,7 +31,7 @@ def read_aliases(file: str, names: Names) -> Aliases:
 
 
 def added(aliases: Aliases, names: Names, host: str, port: str, alias: str) -> str:
-    """Adds an alias. Returns why it cannot be one, or an empty text."""
+    """Adds an alias. Returns why it cannot be added, or an empty text."""
     host = names.plain_host(host)
     if not port:
         key = names.plain_host(alias)

@@ -1,4 +1,4 @@
-"""Breakout cables of NetBox: one port at one side, one end for each lane at the other."""
+"""Plans NetBox's breakout cables: one port at one side, one end for each lane at the other."""
 import re
 from typing import Iterator, Optional, Sequence
 
@@ -10,8 +10,8 @@ LANE = re.compile(r"[s:/.][0-9]")
 
 
 def join_lanes(plan: Plan, tables: Tables) -> None:
-    """Plans a link for each lane of a breakout cable: with the end that the lane hears if it is one
-    of the cable's, otherwise with one that is left over. No end is used twice."""
+    """Plans a link from each lane of a breakout cable to an end of the cable: to the end that the
+    lane hears or, if that is not on the cable, to one that is left. No end is used twice."""
     of_hosts: dict[str, list[End]] = {whole.host: [] for whole in plan.breakouts}
     for key in tables.ends if plan.breakouts else ():
         if key.host in of_hosts:
@@ -75,7 +75,7 @@ def joined(lanes: Sequence[End], links: Sequence[Link], whole: End, tables: Tabl
 
 
 def hears(tables: Tables, lane: End, end: End) -> bool:
-    """Returns whether a neighbor of a lane answers to an end."""
+    """Returns whether a lane has a neighbor that may be this end."""
     key = tables.names.end(end)
     return any(tables.names.answers(one, key) for one in tables.ends[lane].neighbors)
 

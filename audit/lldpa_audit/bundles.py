@@ -6,14 +6,14 @@ from .names import End
 from .plan import Plan
 from .seen.tables import Tables
 
-# an aggregate: the two hosts that it joins, whether the first one has it, and its number
+# an aggregate between two hosts: the hosts, whether it is at the first one, and its number
 Side = tuple[str, str, bool, int]
 
 
 class Bundles:
-    """Counts for each two hosts how many planned links announce each pair of aggregates. An
+    """Counts, for each pair of hosts, the planned links that announce each pair of aggregates. An
     aggregate of one host leads to one aggregate of the other. So if an aggregate is in several
-    pairs, only the pair with most links belongs together; in a tie none does."""
+    pairs, only the pair with the most links belongs together; in a tie, none does."""
 
     def __init__(self, plan: Plan, tables: Tables) -> None:
         self._tables = tables
@@ -37,7 +37,7 @@ class Bundles:
             (end.host, other.host, True, ours), (end.host, other.host, False, theirs))
 
     def _heard(self, end: End, host: str) -> Optional[int]:
-        """Returns the aggregate number of an end's only neighbor, if that is of this host."""
+        """Returns the aggregate that an end's only neighbor announces, if it is of this host."""
         told = self._tables.ends.get(end)
         if told is None or len(told.neighbors) != 1:
             return None

@@ -136,7 +136,7 @@ class Audit:
 
 
 def unplanned_hosts(tables: Tables, plan: Plan, files: Mapping[str, str]) -> Sequence[str]:
-    """Returns notes on listed hosts without planned cables. Raises ValueError if all lack them."""
+    """Returns notes on audited hosts without planned cables. Raises ValueError if all lack them."""
     if not tables.hosts:
         raise ValueError(f"no file lists the neighbors of a host in {plan.file}")
     unplanned = {key: host for key, host in tables.hosts.items() if key not in plan.hosts}

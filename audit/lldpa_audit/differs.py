@@ -1,4 +1,4 @@
-"""Finds what alone keeps two names from matching: case, domain or the vendor's spelling."""
+"""Finds the only difference that keeps two names from matching: case, domain or spelling."""
 from typing import Optional
 
 from .names import End, Names, Seen
@@ -15,7 +15,7 @@ class Differences:
         self._looser = [(differences, names.looser(*differences)) for differences in DIFFERENCES]
 
     def of_neighbor(self, neighbor: Seen, end: End) -> Optional[str]:
-        """Returns the only difference that keeps a neighbor from answering to an end, if any."""
+        """Returns the only difference that keeps a neighbor from matching an end, if any."""
         if self._names.answers(neighbor, self._names.end(end)):
             return None
         for differences, rule in self._looser:

@@ -27,7 +27,7 @@ def is_dot(text: str) -> bool:
 
 
 def edges_of(text: str, faults: Faults) -> Iterator[Cable]:
-    """Yields the edges of a graph in order. Stops with a fault at what it refuses."""
+    """Yields the edges of a graph in order. Stops with a fault at text that is not allowed."""
     found = HEAD.match(text, after_skipped(text, 0))
     before, line = 0, 1
     at = after_skipped(text, found.end() if found else 0)

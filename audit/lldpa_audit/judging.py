@@ -1,4 +1,4 @@
-"""Judges by a plan what is seen at the ports of hosts. audit/README.md defines each verdict."""
+"""Compares what is seen at the ports of hosts with a plan. audit/README.md defines each verdict."""
 from collections import defaultdict
 from enum import Enum
 from functools import cached_property
@@ -10,7 +10,7 @@ from .plan import Plan, Wish
 from .seen.tables import Tables, KnownPort
 
 
-# three are enough: only the end itself and the end that it wants cannot be its partner
+# three candidates are enough: at most the end itself and the one it wants are not its partner
 MOST_TRIED = 3
 
 
@@ -31,7 +31,7 @@ class Verdict(Enum):
 
 class Finding(NamedTuple):
     """The verdict on an end. `wants` is the end that it should see, None if it is unplanned; `has`
-    has its neighbors, `partner` is the end it is swapped with, and `reason` excuses its fault."""
+    lists its neighbors, `partner` is the end it is swapped with, and `reason` excuses its fault."""
 
     end: End
     verdict: Verdict
@@ -96,7 +96,7 @@ class Judge:
                 yield Finding(told.end, Verdict.UNPLANNED, None, told.neighbors)
 
     def finding(self, end: End, wish: Wish, told: Optional[KnownPort], is_right: bool) -> Finding:
-        """Judges a planned end. `is_right` means that the ends with data hear only each other."""
+        """Judges a planned end. If `is_right`, its link's ends with data hear only each other."""
         if told is None:
             return Finding(wish.end, Verdict.NO_DATA, wish.wants)
         if self._bundles is not None and self.is_of_another_bundle(end, wish.wanted, told):
@@ -117,7 +117,7 @@ class Judge:
                 and self._bundles.part(end, wanted))
 
     def has_only(self, told: KnownPort, end: End) -> bool:
-        """Returns whether a port has exactly one neighbor, and that answers to an end."""
+        """Returns whether a port has exactly one neighbor, which may be this end."""
         return len(told.neighbors) == 1 and self.names.answers(told.neighbors[0], end)
 
     def verdict(self, end: End, wanted: End, neighbors: Sequence[Seen]) -> Verdict:
@@ -135,13 +135,13 @@ class Judge:
         return Verdict.DISAGREES if other.neighbors else Verdict.ONE_SIDED
 
     def sees(self, end: End, other: End) -> bool:
-        """Returns whether one of an end's neighbors answers to the other end."""
+        """Returns whether one of an end's neighbors may be the other end."""
         told = self.tables.ends.get(end)
         return told is not None and any(self.names.answers(one, other) for one in told.neighbors)
 
     def partner(self, end: End, wanted: End, neighbor: Seen) -> Optional[End]:
-        """Returns the first end of another link that an end with only this neighbor is swapped
-        with: each of the two has what the other wants, and not what it wants itself."""
+        """Returns the first end, of another link, that an end with only this neighbor is swapped
+        with: each hears the end that the other wants, not the one that it wants."""
         ends = (key for key in self.names.ends(neighbor) if key in self.plan.ends)
         others = {self.plan.ends[key].wanted for key in ends}
         for host in self.hosts_of_aggregate(neighbor):
@@ -166,8 +166,8 @@ class Judge:
 
     @cached_property
     def _with_another(self) -> Mapping[tuple[str, Union[End, str]], Sequence[End]]:
-        """Returns the first planned ends that have only a wrong neighbor, by the host that they
-        want and by what they have: an end, or a host if it may be any of that host's ports."""
+        """Returns the first planned ends whose only neighbor is wrong, keyed by the host that they
+        want and by what they hear: an end, or a host if it may be any of that host's ports."""
         found: dict[tuple[str, Union[End, str]], list[End]] = defaultdict(list)
         for end, wish in self.plan.ends.items():
             told = self.tables.ends.get(end)

@@ -1,4 +1,4 @@
-"""Known faults: verdicts that are excused at an end or a host, for a reason, until a day."""
+"""Reads known faults: verdicts that are excused at an end or a host, for a reason, until a day."""
 import datetime
 from typing import NamedTuple, Optional, Sequence
 

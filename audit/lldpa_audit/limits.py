@@ -25,7 +25,7 @@ def limit_memory() -> None:
     hard = resource.getrlimit(resource.RLIMIT_DATA)[1]
     with suppress(OSError, ValueError):  # a lower limit stays
         resource.setrlimit(resource.RLIMIT_DATA, (most, hard))
-    # closing a generator without memory would print a traceback
+    # if memory is exhausted, closing a generator would print a traceback
     sys.unraisablehook = lambda _: None
 
 

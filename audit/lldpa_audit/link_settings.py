@@ -1,4 +1,4 @@
-"""The settings that a port announces for its link: frame size, PVID, speed, duplex, aggregation."""
+"""Reads the link settings that a port announces: frame size, PVID, speed, duplex, aggregation."""
 import re
 from functools import lru_cache
 from typing import NamedTuple, Optional
@@ -14,8 +14,8 @@ MOST_KEPT = 4096
 
 
 class Settings(NamedTuple):
-    """What a port announces for its link; None for what it does not announce. The frame size is in
-    octets, the speed in Mb/s, and duplex is `full` or `half`. A PVID of 0 means that there is
+    """What a port announces for its link. A field is None if it is not announced. The frame size is
+    in octets, the speed in Mb/s, and duplex is `full` or `half`. A PVID of 0 means that there is
     none, and `aggregation` is the number of the aggregate at that host."""
 
     max_frame_size: Optional[int] = None

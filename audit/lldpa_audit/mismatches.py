@@ -35,7 +35,7 @@ class Said(NamedTuple):
 
 
 def said_of_links(findings: Iterable[Finding], tables: Tables, plan: Plan) -> Iterator[Said]:
-    """Yields the settings of each right link, once from each end, as the other end heard them."""
+    """Yields for each end of a right link both ends' settings, as heard by the other end."""
     names = tables.names
     right = {names.end(one.end): one for one in findings if one.verdict is Verdict.RIGHT}
     wanted = expected(plan)
@@ -80,7 +80,7 @@ def mismatch(said: Said) -> Optional[Mismatch]:
 
 
 def differing(one: Settings, other: Settings) -> Iterator[tuple[str, str, str, str]]:
-    """Yields each difference of two ends: what each announces, and how each differs."""
+    """Yields each difference of two ends: what each announces, and how it differs."""
     for (name, unit), value, its in zip(NAMES, one, other):
         if value is not None and its is not None and value != its:
             texts = f"{name} {worded(value)}{unit}", f"{worded(its)}{unit}"

@@ -27,8 +27,8 @@ class End(NamedTuple):
 
 class Seen(NamedTuple):
     """A neighbor: the names of its host and of its port, the best first. It announces whether its
-    port is `aggregated`, and the `settings` of its link. If its Port ID is the name or alias of
-    an interface, it `is_named`, and the Port ID is the first of its ports."""
+    port is `aggregated`, and the `settings` of its link. `is_named` is true if its Port ID is
+    the name or alias of an interface; then the Port ID is the first of its port's names."""
 
     hosts: tuple[str, ...]
     ports: tuple[str, ...]
@@ -154,7 +154,7 @@ class Names:
         return End(host, ports[0] if len(ports) == 1 else self.plain_port(end.port))
 
     def answers(self, neighbor: Seen, end: End) -> bool:
-        """Returns whether a neighbor may be a normalized end, by the names that it announces."""
+        """Returns whether a neighbor may be this normalized end, by the names that it announces."""
         if self._is_strict:
             return end.host in neighbor.hosts and (end.port == neighbor.port_id
                                                    or end.port in self.heeded(neighbor))
@@ -173,7 +173,7 @@ class Names:
         return (port_id,) if self._rules.is_planned(neighbor, port_id) else ports
 
     def is_planned(self, neighbor: Seen, port_id: str) -> bool:
-        """Returns whether a Port ID is planned at its host or, if an interface's, anywhere."""
+        """True if a Port ID is planned at its host or, if it names an interface, at any host."""
         return any(End(host, port) in self.planned
                    or neighbor.is_named and port in self.planned_ports
                    for host in self.hosts_of(neighbor) for port in self.ports(host, port_id))
@@ -191,7 +191,7 @@ class Names:
         return End(host, port) in aliases or End("", port) in aliases
 
     def ends(self, neighbor: Seen) -> Iterable[End]:
-        """Yields each normalized end that a neighbor answers to by the names of its port."""
+        """Yields each normalized end that a neighbor may be, by the names of its port."""
         ports = self.heeded(neighbor)
         for host in self.hosts_of(neighbor):
             yield from (End(host, key) for port in ports for key in self.ports(host, port))
@@ -228,7 +228,7 @@ def shown(name: str) -> str:
 
 
 def escaped(letter: str) -> str:
-    """Returns the octets of a letter in hexadecimal, escaped as in lldpa's shows."""
+    """Returns the octets of a letter in hexadecimal, escaped as `show neighbors` escapes them."""
     is_octet = "\udc80" <= letter <= "\udcff"
     octets = letter.encode(errors="surrogateescape" if is_octet else "surrogatepass")
     return "".join(f"\\x{octet:02x}" for octet in octets)

@@ -14,7 +14,7 @@ DETAILS = ("id", "label", "type", "color", "length", "length_unit", "status", "d
 OF_PANELS = ("frontport", "rearport")
 PORTS = ("interface", *OF_PANELS)
 CIRCUIT = "circuittermination"
-# names of power and console ports, since exports with the headings of tables have no types
+# names of power and console ports: exports with NetBox's table headings do not say the types
 OTHER_PORT = re.compile(r"(?:(?:rj45|(?:mini-?)?usb)[ _-]?)?"
                         r"(?:psu?|pem|pwr|power|outlet|inlet|con|console|serial|tty[a-z]?|aux)"
                         r"(?:[ _-]?(?:supply|feed|port))?[ _:/.-]?[a-z]?[0-9]{0,3}", re.I)

@@ -1,4 +1,4 @@
-"""Follows links through patch panels: a cable that ends at a panel continues at its other side."""
+"""Follows links through patch panels: a cable into a panel continues at the panel's other side."""
 from collections import Counter
 from typing import Iterable, Iterator, NamedTuple, Optional, Sequence, Union
 
@@ -54,7 +54,7 @@ class Panels:
         self._hosts.update((front.host, rear.host))
 
     def through(self, links: Iterable[Link]) -> Iterator[Link]:
-        """Yields the links between devices; a link through panels comes once from each end."""
+        """Yields the links between devices, and those through panels twice: once from each end."""
         links = list(links)
         for link in links:
             if self.has(link.one) or self.has(link.other):
@@ -120,6 +120,6 @@ class Panels:
 
 
 def fewest_links(begins: Sequence[End]) -> int:
-    """Returns the least number of links with these ends: each link has two, at two hosts."""
+    """Returns the least number of links that can have these ends; a link joins two hosts."""
     of_hosts = Counter(end.host for end in begins)
     return max((len(begins) + 1) // 2, *of_hosts.values()) if begins else 0

@@ -1,4 +1,4 @@
-"""A plan of the cabling: which ends are to be joined, and what is wrong with its file."""
+"""Holds a plan of the cabling: which ends are to be joined, and what is wrong with its file."""
 from collections import defaultdict
 from functools import cached_property
 from typing import Iterable, Mapping, NamedTuple, Optional, Sequence, Set
@@ -154,7 +154,7 @@ class Plan:
         some.append(link)
 
     def add_lane(self, lane: End, link: Link, names: Names, wanted: Optional[End]) -> None:
-        """Plans a breakout cable's link at this lane. Its other end wants `wanted`, or the lane."""
+        """Plans a breakout cable's link at a lane. The far end wants `wanted`, or else the lane."""
         self._add(link._replace(one=lane), names, Faults(self.file))
         other = names.end(link.other)
         self.ends[other] = self.ends[other]._replace(wanted=wanted or names.end(lane))
@@ -168,7 +168,7 @@ class Plan:
         return ends
 
     def details(self, wish: Wish) -> Sequence[tuple[str, str]]:
-        """Returns the name and the text of each further column of an end that is not empty."""
+        """Returns the name and the text of each further column that is not empty for an end."""
         return [(name, text) for name, text in zip(self.columns, wish.detail.texts) if text]
 
 

@@ -84,7 +84,7 @@ class PlanFile:
 
 def read_plan(file: str, names: Names, columns: Optional[Mapping[str, str]] = None,
               panels: Optional[str] = None, progress: Optional[Progress] = None) -> Plan:
-    """Reads a plan, with links followed through the file `panels`. Raises PlanFault, OSError."""
+    """Reads a plan, and follows its links through a file of panels. Raises PlanFault, OSError."""
     read = PlanFile(file, columns, panels is not None)
     links: Iterable[Link] = read.links()
     if progress is not None:

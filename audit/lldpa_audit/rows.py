@@ -1,4 +1,4 @@
-"""The rows of a CSV file, each with the number of the line in which it begins."""
+"""Reads the rows of a CSV file, each with the number of the line in which it begins."""
 import csv
 import re
 from pathlib import Path
@@ -63,7 +63,7 @@ def rows_of(text: str, faults: Faults) -> Iterator[tuple[int, list[str]]]:
 
 
 def worded(fault: str) -> str:
-    """Rewords a fault of csv. After a fault that is reworded, no further row can be read."""
+    """Rewords an error of csv's reader. After an error that is reworded, no row can be read."""
     if "field larger" in fault:
         return f"a field has over {csv.field_size_limit()} characters"
     return "a field in quotes has no end" if "end of data" in fault else fault

@@ -1,4 +1,4 @@
-"""One spelling for names that vendors spell in several ways: ports, MAC addresses, IP addresses."""
+"""Unifies names that vendors spell in several ways: ports, MAC addresses, IP addresses."""
 import ipaddress
 import re
 import unicodedata
@@ -9,7 +9,7 @@ MAC = re.compile(r"[0-9a-f]{2}(?P<mark>[:-])(?:[0-9a-f]{2}(?P=mark)){4}[0-9a-f]{
 IP_ADDRESS = re.compile(r"[0-9a-f.:]+", re.I)
 LONGEST_ADDRESS = 45
 
-# a port: the speed (Huawei), letters, and a number in parts, which may have names (IOS-XR)
+# a port: the speed (Huawei), letters, and a number in parts, some with RP or CPU (IOS-XR)
 PORT = re.compile(r"((?:25|40|50|100|200|400)?[A-Za-z-]*[A-Za-z]) ?"
                   r"([0-9]+(?:[/:.](?:RP|RSP|CPU)?[0-9]+)*)", re.I)
 

@@ -11,8 +11,8 @@ ENDINGS = (".gz", ".json", ".json0", ".xml", ".walk", ".txt", ".show", ".out", "
 
 
 class What(NamedTuple):
-    """A file of a host, and the port if it is a capture of one. If the host is empty, the file may
-    be named after it. If a file that `is_found` in a folder cannot be opened, the audit goes on."""
+    """A file of a host, with the port if it is a capture of one. An empty host may be found from
+    the file's name. If a file from a folder (`is_found`) cannot be opened, the audit goes on."""
 
     host: str
     port: str
@@ -45,14 +45,14 @@ def placed(what: What, plan: Plan, names: Names, ours: str) -> What:
 
 
 def host_of_file(file: str, plan: Plan, names: Names, ours: str) -> str:
-    """Returns the host that a file is named after, or this host if the plan has only this one."""
+    """Returns the host that a file is named after, or `ours` if only that one is planned."""
     named = without_ending(os.path.basename(file))
     is_named = names.host(named) in plan.hosts
     return named if is_named or names.host(ours) not in plan.hosts else ours
 
 
 def without_ending(name: str) -> str:
-    """Returns a file's name without the ending that gives its form."""
+    """Returns a file's name without endings that say its form, such as `.json.gz`."""
     front, ending = os.path.splitext(name)
     return without_ending(front) if front and ending.lower() in ENDINGS else name
 

@@ -1,4 +1,4 @@
-"""The command line of lldpa-audit."""
+"""Defines the command line of lldpa-audit."""
 import argparse
 import socket
 from math import inf

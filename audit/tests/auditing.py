@@ -69,7 +69,7 @@ def run_whole(*words: str, folder: Optional[str] = None) -> "subprocess.Complete
 
 def neighbor(port: str, host: str, port_id: str, descr: str = "", kind: str = "ifname",
              aggregate: int = 0, size: int = 0, tlvs: Sequence[str] = ()) -> str:
-    """Returns the lines of a show on a port with one neighbor, which sent these TLVs."""
+    """Returns what `show neighbors` prints for a port with one neighbor that sent these TLVs."""
     lines = ["neighbors=1", "octets=99", "too-many=no", f"1.chassis.local={host}",
              f"1.port.{kind}={port_id}", "1.ttl=120", "1.expires=99"]
     lines += [f"1.port.descr={descr}"] if descr else []

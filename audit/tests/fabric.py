@@ -1,8 +1,8 @@
 """For tests: a fabric of 2,000 links with panels, trunks, LAGs and breakouts, and 100 faults.
 
 The plugged cables are kept as pairs of ends, and what each end hears follows from them alone. A
-fault changes what is plugged, a host's name, or what a host sends or hears. No end is of two
-faults, so each end in the audit's answer is of one fault or of none.
+fault changes what is plugged, a host's name, or what a host sends or hears. No end belongs to two
+faults, so each end in the audit's answer belongs to one fault or to none.
 """
 import random
 from collections import defaultdict
@@ -184,8 +184,8 @@ def links() -> Iterator[Tuple[End, End]]:
 
 
 def lags() -> Iterator[Tuple[End, Tuple[str, int]]]:
-    """Yields the ends of LAGs, each with the name and the number that the LAG has at its host. Each
-    fifth server has two, of two links to one leaf."""
+    """Yields the ends of LAGs, each with the name and the number that the LAG has at its host.
+    Every fifth server has two LAGs, each of two links to one leaf."""
     for one, other in links():
         if other[0].startswith("srv") and other[0][-1] in "05":
             number, side = int(other[0][3:]), int(other[1][3:]) % 2
@@ -200,7 +200,7 @@ def lanes_of(number: int) -> Iterator[End]:
 
 
 def is_paneled(one: End) -> bool:
-    """Returns whether a link of a leaf goes through panels: those to its first twelve servers."""
+    """Returns whether a leaf's link is paneled, as those to its first twelve servers are."""
     return one[0].startswith("leaf") and one[1][3:].isdecimal() and int(one[1][3:]) <= CASSETTE
 
 

@@ -1,4 +1,4 @@
-"""For tests: numbered points on lists that were once refused, or right for the wrong reason."""
+"""For tests: numbered cases of lists of neighbors that were once handled wrongly."""
 import gzip
 import json
 import os
@@ -23,7 +23,7 @@ NO_ROUTE = {"comment": "no route to leaf2", "result": False, "out": {}}
 TWICE = """{"swp1": [{"hostname": "x", "port": "y"}],
 "swp2": [{"hostname": "host02", "port": "eth0"}],
 "swp1": [{"hostname": "host01", "port": "eth0"}]}"""
-# lists of leaf1 that are refused, and the cause
+# refused lists of leaf1's neighbors, and the cause
 REFUSED: Sequence[Tuple[str, Any, str]] = (
     ("7: a command that failed", NO_ROUTE, "the command failed: no route to leaf2"),
     ("5: a port twice", TWICE, "the name 'swp1' is in it twice: lines 1 and 3"),
@@ -48,7 +48,7 @@ REFUSED: Sequence[Tuple[str, Any, str]] = (
      "it cannot parse the text"),
     ("16: a chassis", {"local-chassis": {}},
      f"it is what lldpcli says of its own host: {USE_JSON}"))
-# what a file of many hosts has in place of leaf2's list, and what is said of it
+# what a file of many hosts has in place of leaf2's neighbors, and the message about it
 FAILED: Sequence[Tuple[str, Any, str]] = (
     ("7: salt's host that failed", NO_ROUTE, "the command failed: no route to leaf2"),
     ("10: a traceback", TRACEBACK, "in place of a list it has TimeoutError: timed\\x1b[2J out"),

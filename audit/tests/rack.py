@@ -55,7 +55,7 @@ def pcapng(packets_of: Dict[str, Sequence[bytes]]) -> bytes:
 
 
 def text_of_show(ports: Sequence[str] = PORTS) -> str:
-    """Returns the `show neighbors` of a real agent that heard what was captured."""
+    """Returns what `show neighbors` prints at a real agent that received the captured frames."""
     with Agent.start(ports, PROGRAM, receive_only=True) as agent:
         for port in ports:
             for octets in frames(port):

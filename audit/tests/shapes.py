@@ -61,7 +61,7 @@ def cable(number: int) -> str:
 
 
 def audit(folder: Path, plan: str, seen: str, *words: str) -> List[str]:
-    """Writes a plan and a list of leaf1, and returns the arguments of their audit."""
+    """Writes a plan and leaf1's list of neighbors, and returns the arguments of their audit."""
     (folder / "plan").write_text(plan)
     (folder / "leaf1").write_text(seen)
     return ["--host", "leaf1", *words, str(folder / "plan"), str(folder / "leaf1")]

@@ -52,11 +52,11 @@ class SlowJudge:
         return next((some for port, some in self.known.items() if self.same_end(port, end)), None)
 
     def answering(self, end: End, other: End) -> int:
-        """Returns how many neighbors of an end answer to another end."""
+        """Returns how many neighbors of an end may be another end."""
         return sum(self.answers(one, other) for one in self.neighbors(end) or [])
 
     def has_one(self, end: End, answering: int) -> bool:
-        """Returns whether an end has one neighbor, and `answering` says if it is the wanted one."""
+        """Returns whether an end has one neighbor: the wanted one if `answering`, else another."""
         return (len(self.neighbors(end) or []) == 1
                 and self.answering(end, self.wants[end]) == answering)
 
@@ -73,7 +73,7 @@ class SlowJudge:
                                          or self.answering(wanted, end) > 0)
 
     def is_of_several_domains(self, end: End) -> bool:
-        """Returns whether a right end wants a name that hosts of several domains answer to."""
+        """Returns whether a right end wants a name that hosts of several domains have."""
         if not self.short_names or not self.is_right(end):
             return False
         heard = [name for one in self.wants if self.is_right(one)
@@ -109,6 +109,6 @@ class SlowJudge:
 
 
 def parts(host: str) -> Tuple[str, str]:
-    """Splits a host's name at its first dot. An IPv4 address and `.x` are whole."""
+    """Splits a host's name at its first dot. An IPv4 address and `.x` are not split."""
     found = re.fullmatch(r"(?![0-9]+([.][0-9]+){3}$)([^.]+)([.].*)?", host)
     return (found[2], found[3] or "") if found else (host, "")

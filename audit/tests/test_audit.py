@@ -51,7 +51,7 @@ class Case:
         return neighbors
 
     def somebody(self, end: End) -> Seen:
-        """Returns a neighbor that answers to an end, or nearly does, or also to another end."""
+        """Returns a neighbor that matches an end, or nearly does, or also matches another end."""
         if self.rng.random() < 0.2:
             return Seen((self.like(end.host, HOSTS),), (self.like(end.port, PORTS),))
         if self.rng.random() < 0.2:
@@ -75,7 +75,7 @@ class Case:
                                       aggregated=self.rng.random() < 0.5))
 
     def with_port_id(self, seen: Seen) -> Seen:
-        """Returns a neighbor with a Port ID: its first port if it is named, otherwise its last."""
+        """Returns a neighbor whose Port ID is its first port (if `is_named`) or its last one."""
         is_named = self.rng.random() < 0.5
         return seen._replace(port_id=seen.ports[0 if is_named else -1], is_named=is_named)
 

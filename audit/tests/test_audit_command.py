@@ -1,4 +1,4 @@
-"""lldpa-audit as people call it: arguments, statuses, captures, shows, pipes, a running agent."""
+"""Tests lldpa-audit as people run it: arguments, statuses, captures, pipes, a running agent."""
 import gzip
 import json
 import os

@@ -1,4 +1,4 @@
-"""The status of lldpa-audit if its output is closed, full, or not read to the end."""
+"""Tests the status of lldpa-audit if its output is closed, full, or not read to the end."""
 import os
 import unittest
 from pathlib import Path

@@ -1,4 +1,4 @@
-"""Files that once hung the audit, ended it with a traceback, or took all memory."""
+"""Tests files that once hung the audit, ended it with a traceback, or took all memory."""
 import gzip
 import io
 import json
@@ -109,7 +109,7 @@ class Shapes(InAFolder):
                 self.assertEqual(shapes.measured(write(self.folder)).faults, [])
 
     def test_limits_name_the_file(self) -> None:
-        """Checks that a list that needs too much memory is reported in one line."""
+        """Checks that a file that needs too much memory is reported in one line."""
         leaf1 = self.file("leaf1", "[" + "[]," * 10_000_000 + "[]]")
         leaf2 = self.file("leaf2", shapes.napalm("swp1 host02 eth0"))
         plan = self.file("plan", shapes.PLAN + "leaf2,swp1,host02,eth0\n")
@@ -120,7 +120,7 @@ class Shapes(InAFolder):
 
 
 class Texts(Hostile):
-    """Names that would act on a terminal, a page or a picture."""
+    """Names that could change how a terminal, a page or a picture shows other text."""
 
     NAMES = ("a\x1b[2J", "\u3164\u3164", "e" + "\u0301" * 9, "\u202eabc", "\u05d0\u05d1", "<b>")
 

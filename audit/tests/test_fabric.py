@@ -1,4 +1,4 @@
-"""A fabric of 2,000 links with 100 faults in many forms: each is reported, and nothing else."""
+"""Audits a fabric of 2,000 links in many forms: its 100 faults are reported, and nothing else."""
 import json
 import os
 import random
@@ -33,8 +33,8 @@ class Faults(InAFolder):
         self.write_lists()
 
     def write_lists(self) -> None:
-        """Writes what each host sees, in all forms in turn. A host with a hidden port gets a show.
-        A host whose frame sizes or LAGs matter gets a form that has these."""
+        """Writes what each host sees, in all forms in turn, but as `show neighbors` if it has a
+        hidden port, and in a form that has frame sizes and LAGs if these matter."""
         self.assertGreater(len(FORMS), 6)
         fabric = self.fabric
         of_shows = {host for host, _ in fabric.hidden}
@@ -68,7 +68,7 @@ class Faults(InAFolder):
         self.need_true_neighbors(told)
 
     def need_each_fault(self, told: Any) -> None:
-        """Checks that each repair is of one fault, and that no fault has none or too many."""
+        """Checks that each repair is of one fault, and each fault has repairs, but not too many."""
         of_ends = {end: fault for fault in self.fabric.faults for end in fault.ends}
         kinds: Dict[int, List[str]] = {}
         for repair in told["repairs"]:

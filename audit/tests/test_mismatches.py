@@ -1,4 +1,4 @@
-"""Settings that both ends of right links announce: each mismatch is reported, and nothing else."""
+"""Tests settings of both ends of right links: each mismatch is reported, and nothing else."""
 import unittest
 from typing import List, Sequence
 
@@ -17,7 +17,7 @@ AGGREGATES = ("0300000007", "0100000000", "")
 
 
 def tlvs(size: str = "", vlan: str = "", kind: str = "", aggregate: str = "") -> List[str]:
-    """Returns the TLVs of these contents, as a show has them, and none for an empty one."""
+    """Returns TLVs of these contents as `show neighbors` prints them; none for an empty content."""
     pairs = (("00120f.4", size), ("0080c2.1", vlan), ("00120f.1", kind), ("00120f.3", aggregate))
     return [f"{key}={content}" for key, content in pairs if content]
 
@@ -54,7 +54,7 @@ class Mismatches(unittest.TestCase):
 
 
 class Texts(unittest.TestCase):
-    """Settings, as lldpcli prints them."""
+    """Tests how settings are read from what lldpcli prints."""
 
     def test_types(self) -> None:
         for text, speed, duplex in (

@@ -1,4 +1,4 @@
-"""Names as vendors spell them, aliases, members of aggregates, and how names are shown."""
+"""Tests names as vendors spell them, aliases, members of aggregates, and how names are shown."""
 import unittest
 
 from auditing import HEAD, InAFolder, neighbor, run
@@ -63,7 +63,7 @@ class Spelling(unittest.TestCase):
 
 
 class Differences(unittest.TestCase):
-    """The only difference that keeps a neighbor from answering."""
+    """Tests which difference alone keeps a neighbor from matching an end."""
 
     def test_ports_and_addresses(self) -> None:
         for groups, is_port in ((PORTS, True), (ADDRESSES, True), (ADDRESSES, False)):
@@ -156,7 +156,7 @@ class FurtherNames(InAFolder):
 
 
 class Shown(unittest.TestCase):
-    """How names are shown and ordered."""
+    """Tests how names are shown and ordered."""
 
     def test_names(self) -> None:
         for name, short in (("a.b.c", "a"), ("a", "a"), (".a", ".a"), ("10.0.0.1", "10.0.0.1"),

@@ -1,4 +1,4 @@
-"""The page of a report: what is on it, and how wide it is in a browser, if there is one."""
+"""Tests the page of a report: its content, and its width in a browser if one is installed."""
 import html
 import json
 import os
@@ -22,7 +22,7 @@ from test_report import report_of
 BROWSER = shutil.which("chromium") or shutil.which("chromium-browser")
 LONG = "a-long-name-of-a-host-as-some-have-them.rack17.row3.dc1.example.net"
 
-# what a browser tells: how wide the page is, how wide its window, and the widest picture
+# what a browser reports: how wide the page is, how wide its window, and the widest picture
 ASKED = """<script>
 const widths = [...document.querySelectorAll('svg')].map(one => one.getBoundingClientRect().right);
 parent.document.documentElement.setAttribute('data-widths', JSON.stringify([

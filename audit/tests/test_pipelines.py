@@ -1,4 +1,4 @@
-"""The outputs of an audit for pipelines and people: JSON, JUnit, metrics, known faults, groups."""
+"""Tests an audit's outputs for pipelines and people: JSON, JUnit, metrics, known faults, groups."""
 import json
 import shutil
 import subprocess

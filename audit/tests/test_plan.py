@@ -1,4 +1,4 @@
-"""Plans in CSV, DOT and NetBox's forms: what is read of them, and what each fault says."""
+"""Tests plans in CSV, DOT and NetBox's forms: what is read from them, and what each fault says."""
 import json
 from argparse import ArgumentTypeError
 from typing import List, Mapping, Optional
@@ -109,17 +109,17 @@ class Plans(InAFolder):
 
     def read(self, text: str, columns: Optional[Mapping[str, str]] = None,
              panels: Optional[str] = None, encoding: str = "utf-8") -> Plan:
-        """Returns the plan of a text, through the panels of another."""
+        """Returns the plan in a text, with links followed through the panels in another."""
         plan = self.file("plan", text.encode(encoding))
         of_panels = None if panels is None else self.file("panels", panels)
         return read_plan(plan, self.names, columns, of_panels)
 
     def links(self, plan: Plan) -> List[str]:
-        """Returns its links, each once, as `a 1 - b 2`."""
+        """Returns a plan's links, each once, as `a 1 - b 2`."""
         return [f"{wish.end} - {wish.wants}" for wish in list(plan.ends.values())[::2]]
 
     def notes(self, plan: Plan) -> List[str]:
-        """Returns its notes, without the folder."""
+        """Returns a plan's notes, without the folder."""
         return [note.replace(f"{self.folder}/", "") for note in plan.notes]
 
     def fault(self, text: str, panels: Optional[str] = None, encoding: str = "utf-8") -> str:
@@ -238,7 +238,7 @@ class Panels(Plans):
             self.assertIn(said, self.fault(plan, panels))
 
     def test_random_chains(self) -> None:
-        """Links that are cut into chains by panels are found again."""
+        """Checks that links are found again after panels have cut them into chains."""
         for panels in range(6):
             rows, pairs, wanted = [], [HEAD[:-1]], []
             for link in range(20):

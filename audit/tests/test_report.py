@@ -1,4 +1,4 @@
-"""The line of each fault, with what helps to find the cable."""
+"""Tests the line of each fault, with what helps to find the cable."""
 import unittest
 from typing import Sequence, Tuple
 
@@ -83,7 +83,7 @@ def seen(text: str) -> Seen:
 
 
 def report_of(links: str, known: str) -> Report:
-    """Returns the report of links, and of the neighbors of ends."""
+    """Returns the report of an audit of these links with these known neighbors."""
     names = Names()
     pairs = [text.split(" - ") for text in links.split("; ")]
     plan = Plan("plan", [Link(end(one), end(other), None) for one, other in pairs], names)

@@ -42,7 +42,7 @@ lldp.c.1.port.descr=uplink = 7
 LAST_PORT = SHOW[SHOW.index("lldp.c."):]
 COUNTERS = "".join(f"lldp.b.{name.replace('_', '-')}=0\n" for name in Counters._fields)
 
-# what damages a show: lines of other places, digits and marks that are gone or twice
+# pieces that replace a part of the output: marks, digits, and beginnings of lines
 PIECES = ["=", ".", "\n", "1", "0", "lldp.", "b", "\\", "\x7f", "neighbors", "ttl", "lldp.c."]
 DAMAGED_SHOWS = 4000
 
@@ -86,7 +86,7 @@ class Neighbors(unittest.TestCase):
             self.assertRaises(ShowFault, read_ports, text)
 
     def test_damaged_shows(self) -> None:
-        """Checks that a damaged show is refused, or has what the package's reader finds in it."""
+        """Checks that damaged output is refused or read just as by the package's reader."""
         rng, right = random.Random(30), 0
         for number in range(DAMAGED_SHOWS):
             text = damaged(SHOW.replace("a.neighbors=1", "a"), rng)
@@ -111,7 +111,7 @@ def neighbor(one: Neighbor) -> Seen:
 
 
 def damaged(text: str, rng: random.Random) -> str:
-    """Returns whole lines with a piece that is gone, changed, or twice."""
+    """Returns a text of whole lines in which a piece is removed, changed or doubled."""
     at = rng.randrange(len(text))
     end = min(len(text), at + rng.choice([0, 1, 2, 5, 30, 200]))
     line = rng.choice(text.splitlines(keepends=True))

@@ -1,4 +1,4 @@
-"""Damaged lists, and files that are not lists: each has a fault that says what is wrong."""
+"""Tests damaged lists of neighbors and other files: each has a fault that says what is wrong."""
 import gzip
 import random
 import re
@@ -19,7 +19,7 @@ from vendors import PORTS
 WHOLE = {**{form: write(PORTS).rstrip().encode() for form, write in vendors.FORMS.items()},
          **{form: lldpd_heard.sample("clean", form).rstrip() for form in ("json", "json0")}}
 DAMAGED = 3000
-# what a neighbor cannot be without: names of JSON, and lines of other forms
+# what each neighbor must have: names in JSON, and lines in other forms
 NEEDED = {"chassisId", "chassis_id", "port_id", "l_port_id", "lldp-local-port-id",
           "lldp-remote-chassis-id", "lldp-remote-port-id", "chassis-id", "ChassisID", "PortID",
           "InterfaceName", "neighborInterfaceInfo", "chassis", "port", "lldpNeighborInfo",

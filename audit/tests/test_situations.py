@@ -1,4 +1,4 @@
-"""Situations that were once judged wrongly, took too many lines, or were refused."""
+"""Audits situations that were once judged wrongly, took too many lines, or were refused."""
 import unittest
 from concurrent.futures import ThreadPoolExecutor
 

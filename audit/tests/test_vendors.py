@@ -1,4 +1,4 @@
-"""Lists of neighbors in each form, and what is read in them."""
+"""Tests lists of neighbors in each form, and what is read from them."""
 import json
 import unittest
 from typing import Any, Dict, List, Sequence, Tuple
@@ -117,7 +117,7 @@ class Forms(unittest.TestCase):
 
 
 class Lldpcli(unittest.TestCase):
-    """The output of lldpcli of a real lldpd, and our agent's for the same frames."""
+    """Checks the output of lldpcli of a real lldpd, and our agent's for the same frames."""
 
     def check(self, seen: Sequence[Seen], settings: Dict[int, Settings]) -> None:
         self.assertEqual([(set(one.hosts), set(one.ports)) for one in seen],

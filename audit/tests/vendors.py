@@ -150,7 +150,7 @@ ENGINE = """<multi-routing-engine-results xmlns='http://xml.juniper.net/'>
 """
 ENGINE_END = "</multi-routing-engine-item>\n</multi-routing-engine-results>\n"
 PROMPT = "Last login: Mon Nov 23\n{master:0}\nadmin@leaf1> show lldp neighbors detail | json\n"
-# the same neighbors inside what programs put around a list, and in other encodings
+# the same neighbors as programs wrap them, and in other encodings
 LISTS: Mapping[str, Any] = {
     "5, 10: salt": {"comment": "", "result": True, "out": NAPALM},
     "13: rows of TextFSM itself": [{name.upper(): text for name, text in row.items()}

@@ -1,5 +1,5 @@
 #!/usr/bin/env python3
-"""Writes a large network with known faults: a plan, and what each switch sees, in a form.
+"""Writes a large network with known faults, as a plan and a file of each switch, and audits it.
 
     python3 audit/tools/cabling.py FOLDER [--pods 50] [--form show]
 
@@ -38,7 +38,7 @@ def write(folder, pods, form="show"):
 
 
 def show_of(ports, tlvs=lambda neighbor: ()):
-    """Returns a show, in which each neighbor has the TLVs that `tlvs` returns for it."""
+    """Returns the output of `show neighbors`, with the TLVs that `tlvs` returns for a neighbor."""
     return "".join(f"lldp.{port}.{line}\n" for port, neighbors in ports.items()
                    for line in show_of_port(neighbors, tlvs))
 

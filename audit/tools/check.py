@@ -1,6 +1,6 @@
 #!/usr/bin/env python3
-"""Runs the example of audit/worked: plan.csv and plan.dot give the lines of expected.txt, and
-audit.svg is its page's picture; --write writes that. The last line is `N passed, M failed`."""
+"""Checks the example of audit/worked: audits by plan.csv and plan.dot print expected.txt, and
+audit.svg is the page's picture (--write makes it). The last line is `N passed, M failed`."""
 import argparse
 import os
 import pathlib

@@ -70,7 +70,7 @@ def enlarged(octets, dice):
 
 
 def words_of(room, place, dice):
-    """Returns the arguments of an audit in which a file has this place."""
+    """Returns the arguments of an audit that reads the damaged file in this place."""
     names = {"plan": room / "plan", "leaf01": room / "list", "panels": room / "panels", "aliases": room / "aliases"}
     names[place] = room / "file"
     words = ["--host", "leaf01", str(names["plan"]), f"swp1={names['swp1']}" if place == "swp1" else str(names["leaf01"])]
@@ -81,7 +81,7 @@ def words_of(room, place, dice):
 
 
 class Trial:
-    """Runs audits in a folder, counts them, and keeps the most that one took."""
+    """Runs audits in a folder, counts them, and keeps the most time and memory that one took."""
 
     def __init__(self, room):
         self.room, self.counts, self.most = pathlib.Path(room), Counts(), [0.0, 0]
@@ -91,7 +91,7 @@ class Trial:
             (self.room / name).write_text(octets)
 
     def run(self, name, words):
-        """Runs the audit once, with links where it writes, and checks it."""
+        """Runs the audit once, with symbolic links in place of its output files, and checks it."""
         for output in ("page", "junit"):
             (self.room / output).unlink(missing_ok=True)
             (self.room / output).symlink_to(self.room / "victim")

@@ -1,5 +1,5 @@
 #!/usr/bin/env python3
-"""Audits two links by the data of a real lldpd: from lldpcli, and from snmpwalk by lldpd's SNMP agent.
+"""Audits two links as a real lldpd sees them, by lldpcli and by snmpwalk of its SNMP agent.
 All forms must give the same verdicts.
 
     audit/tools/try-lldpd.py
@@ -37,7 +37,7 @@ PLANS = {"right": "leaf1,eth0,host01,peer0\nleaf1,eth1,host01,peer1", "a port wi
 
 
 class Trial:
-    """The links, the lldpd at leaf1, and what was counted."""
+    """The links, the lldpd at leaf1, and the counts of the checks."""
 
     def __init__(self, wires, leaf1):
         self.wires, self.leaf1, self.room, self.counts = wires, leaf1, pathlib.Path(wires.folder), Counts()
@@ -59,7 +59,7 @@ class Trial:
         return ran.returncode, [(one["host"], one["port"], one["verdict"]) for one in told["ends"]]
 
     def compare(self, state, *names):
-        """Waits until both forms have some names, and audits them by each plan in each form."""
+        """Waits until lldpcli and snmpwalk show these names, and audits each plan by each form."""
         if not eventually(lambda: all(name in text for name in names for text in (self.lldpcli("json"), self.walk()))):
             sys.exit(f"{names}: they do not come")
         for name, plan in PLANS.items():

@@ -79,7 +79,7 @@ def count(findings: Sequence[Finding], plan: Plan, tables: Tables, mismatches: i
 
 
 def state_of(one: Finding, far: Optional[Finding]) -> str:
-    """Returns the state of a cable by its findings that are not right, at one end or at both."""
+    """Returns the state of a cable from its one or two findings that are not right."""
     verdicts = [one.verdict, far.verdict if far is not None else one.verdict]
     if any(verdict not in NO_FAULTS for verdict in verdicts):
         return WRONG

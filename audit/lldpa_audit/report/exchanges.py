@@ -1,4 +1,4 @@
-"""Finds exchanged cables: they show at both of their sides, but one line reports them."""
+"""Finds exchanged cables: an exchange is seen at both sides, but is reported in one line."""
 from typing import NamedTuple, Optional
 
 from ..judging import Verdict
@@ -10,15 +10,15 @@ Pair = tuple[End, End]
 
 class Exchanges(NamedTuple):
     """The ends of exchanges. `told_at` maps each to the end in whose line it is reported, `others`
-    to the two ends at the other side, if these could be exchanged instead."""
+    to the pair at the other side, if exchanging that pair would also mend it."""
 
     told_at: dict[End, End]
     others: dict[End, Pair]
 
 
 def exchanges_of(faults: Faults) -> Exchanges:
-    """Returns the exchanges among faults. Two ends that are swapped with each other are a pair. The
-    other ends of their links may be a pair, too, or one alone hears an end of the first pair."""
+    """Returns the exchanges among faults: pairs of ends that are swapped with each other. An
+    exchange also has each far end of the pair's links that hears the wrong end of the pair."""
     found = Exchanges({}, {})
     ranks = {key: rank for rank, key in enumerate(faults.all)}
     for key in faults.all:
@@ -42,7 +42,7 @@ def add(found: Exchanges, faults: Faults, near: Pair, ranks: dict[End, int]) -> 
 
 
 def twin_of(faults: Faults, key: End) -> Optional[End]:
-    """Returns the end that an end is swapped with, if that is swapped with it in turn."""
+    """Returns the end that an end is swapped with, if the two are swapped with each other."""
     fault = faults.all[key]
     twin = faults.names.end(fault.partner) if fault.partner is not None else None
     is_mutual = twin in faults.all and faults.all[twin].partner == fault.end
@@ -50,7 +50,7 @@ def twin_of(faults: Faults, key: End) -> Optional[End]:
 
 
 def far_of(faults: Faults, key: End, twin: End) -> Optional[End]:
-    """Returns the end that a swapped end wants, if that has the swapped end's twin as neighbor."""
+    """Returns the end that a swapped end wants, if its neighbor is the swapped end's twin."""
     wants = faults.all[key].wants
     far = faults.names.end(wants) if wants is not None else None
     fault = faults.all.get(far) if far is not None else None

@@ -1,4 +1,4 @@
-"""Repairs of one link, or of two that are exchanged."""
+"""Makes the repairs of one link, or of two that are exchanged."""
 from typing import Iterator, Sequence
 
 from ..judging import Verdict
@@ -6,13 +6,13 @@ from ..names import End
 from .repairs import Faults, Repair
 from .texts import FaultTexts
 
-# the end of a link whose verdict comes first here is reported first
+# of the two ends of a link, the one whose verdict comes first here is reported first
 RANKS = (Verdict.WRONG, Verdict.SWAPPED, Verdict.DOUBLED, Verdict.EXTRA, Verdict.NO_DATA,
          Verdict.ONE_SIDED, Verdict.SILENT, Verdict.DISAGREES)
 
 
 def of_exchanges(faults: Faults, texts: FaultTexts) -> Iterator[Repair]:
-    """Yields a repair for each two cables that are exchanged."""
+    """Yields a repair for each pair of exchanged cables."""
     members: dict[End, list[End]] = {}
     for key, _ in faults:
         told_at = texts.exchanges.told_at.get(key)

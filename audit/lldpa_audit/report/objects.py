@@ -73,7 +73,7 @@ def json_of_end(end: Optional[End]) -> Json:
 
 
 def json_of_neighbor(neighbor: Seen) -> Json:
-    """Returns each name that a neighbor answers to, and its identifiers as they were heard."""
+    """Returns all names of a neighbor's host and port, and its identifiers as they were heard."""
     return {"host_names": [text_of(name) for name in neighbor.hosts],
             "port_names": [text_of(name) for name in neighbor.ports],
             "chassis": text_of(neighbor.chassis), "port_id": text_of(neighbor.port_id)}

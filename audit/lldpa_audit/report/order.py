@@ -1,4 +1,4 @@
-"""Sorts by host and port, in the order in which a person walks along them."""
+"""Sorts by host and port, with the numbers in names compared as numbers."""
 import re
 from functools import lru_cache
 from typing import Iterable, TypeVar, Union

@@ -72,7 +72,7 @@ def metrics_of(report: Report) -> bytes:
 
 
 def gauge(name: str, told: str, label: str, values: Mapping[str, float]) -> str:
-    """Returns a metric with a value for each value of its label, or nothing without values."""
+    """Returns a metric with a value for each value of its label, or nothing if there are none."""
     name = f"lldpa_audit_{name}"
     lines = [f"# HELP {name} {told}\n# TYPE {name} gauge\n"] if values else []
     for text, value in values.items():

@@ -1,4 +1,4 @@
-"""Finds hosts that answer by another name at their links: one line for each such host."""
+"""Finds hosts that announce another name than planned at their links: one line for each host."""
 from typing import Iterator, Mapping, Sequence
 
 from ..judging import Verdict
@@ -9,7 +9,7 @@ FEWEST = 2
 
 
 def exchanged(faults: Faults) -> Iterator[Repair]:
-    """Yields a repair for each two hosts that have each other's names at all their links."""
+    """Yields a repair for each pair of hosts that have each other's names at all their links."""
     heard = other_names(faults)
     for host, by_name in heard.items():
         other = next(iter(by_name))
@@ -43,8 +43,8 @@ def renamed(faults: Faults) -> Iterator[Repair]:
 
 
 def other_names(faults: Faults) -> Mapping[str, Mapping[str, Sequence[tuple[End, Seen]]]]:
-    """Returns the other names that are heard in place of planned hosts, at the planned ports: for
-    each host and name, the host's ends that were wanted there, each with the neighbor."""
+    """Returns the other names that are heard in place of planned hosts. Each host and name maps to
+    the wanted ends of that host, each with the neighbor that has this name and the wanted port."""
     heard: dict[str, dict[str, list[tuple[End, Seen]]]] = {}
     for key, fault in faults:
         neighbor, wanted = faults.only(fault), faults.far(key)
@@ -74,7 +74,7 @@ def is_heard_rightly(faults: Faults, host: str) -> bool:
 
 
 def repair(faults: Faults, host: str, some: Sequence[tuple[End, Seen]]) -> Repair:
-    """Returns the repair of a host that is heard by another name in place of these ends."""
+    """Returns the repair of a host that is heard by another name where these ends are wanted."""
     name, neighbor = faults.plan.hosts[host], some[0][1]
     differs = faults.differences.of_neighbor(neighbor, some[0][0])
     fars = [faults.tables.ends.get(faults.plan.ends[key].wanted)

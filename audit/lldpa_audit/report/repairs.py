@@ -1,4 +1,4 @@
-"""Repairs: each fault belongs to one repair, and one repair may mend many faults."""
+"""Defines repairs: each fault belongs to one repair, and one repair may mend many faults."""
 from typing import Iterable, Iterator, NamedTuple, Optional, Sequence
 
 from ..differs import Differences
@@ -98,13 +98,13 @@ class Faults:
         return fault.has[0] if fault.verdict in HAVE_ANOTHER and len(fault.has) == 1 else None
 
     def meant(self, fault: Finding) -> Optional[End]:
-        """Returns the end that should have the neighbor that an end has."""
+        """Returns the planned end that wants the only neighbor of a faulty end."""
         neighbor = self.only(fault)
         wish = self.planned(neighbor) if neighbor is not None else None
         return self.names.end(wish.wants) if wish else None
 
     def planned(self, neighbor: Seen) -> Optional[Wish]:
-        """Returns the planned end that a neighbor answers to, or None if it is not exactly one."""
+        """Returns the planned end that a neighbor may be, or None if there is not exactly one."""
         ends = {key for key in self.names.ends(neighbor) if key in self.plan.ends}
         return self.plan.ends[ends.pop()] if len(ends) == 1 else None
 

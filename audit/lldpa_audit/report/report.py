@@ -1,4 +1,4 @@
-"""The report of an audit: its lines, and the data for its JSON, its page and other files."""
+"""Makes the report of an audit: its lines, and the data for its JSON, its page and other files."""
 from typing import Iterator, Mapping, Optional, Sequence
 
 from lldpa.texts import printable

@@ -15,7 +15,7 @@ LANE = re.compile(r"(.*[0-9])[s:][0-9]|((?:Et|Eth|Ethernet)[0-9]+/[0-9]+)/[0-9]"
 
 
 def shifted(faults: Faults) -> Iterator[Repair]:
-    """Yields a repair for each run of ports that have what the next or the previous one wants."""
+    """Yields a repair for each run of ports, each with what the next (or previous) one wants."""
     counts = Counter(key.host for key, fault in faults if faults.only(fault))
     for host in (host for host, count in counts.items() if count >= SHORTEST):
         ports = sorted(faults.plan.ends_of_hosts.get(host, ()), key=by_port)
@@ -52,7 +52,7 @@ def repair_of_run(faults: Faults, ports: Sequence[End], begin: int, end: int, st
 
 
 def turned(faults: Faults) -> Iterator[Repair]:
-    """Yields a repair for each port whose lanes have one another's links."""
+    """Yields a repair for each port whose lanes are exchanged with one another."""
     for whole, group in lanes(faults).items():
         wrong = [key for key in group if key in faults.left
                  and port_of(faults.meant(faults.left[key])) == whole]

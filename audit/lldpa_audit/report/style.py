@@ -1,4 +1,4 @@
-"""The style of a page: for wide screens and telephones, in light and in dark."""
+"""Defines the style of a page: for wide screens and telephones, in light and in dark."""
 
 # colors and pictures
 PICTURES = """

@@ -1,4 +1,4 @@
-"""What is wrong at an end, in words."""
+"""Says in words what is wrong at an end."""
 from typing import Mapping, Optional, Sequence
 
 from ..judging import Finding, Verdict

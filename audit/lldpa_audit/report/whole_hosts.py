@@ -12,7 +12,7 @@ FEWEST, FEWEST_UNLIKE = 2, 3
 
 
 def without_data(faults: Faults) -> Iterator[Repair]:
-    """Yields a repair for each host with no data at all its ports, or at many for one reason."""
+    """Yields a repair for each host if all or many of its ports lack data for the same reason."""
     ports: dict[str, list[End]] = {}
     for key, fault in faults:
         reason = faults.tables.reason(End(key.host, ""))
@@ -57,7 +57,7 @@ def silent_links(faults: Faults, host: str) -> Sequence[Sequence[End]]:
 
 
 def of_one_name(faults: Faults) -> Iterator[Repair]:
-    """Yields a repair for each planned name that hosts of several domains answer to."""
+    """Yields a repair for each planned name that hosts of several domains have."""
     ends: dict[str, list[End]] = {}
     for key, fault in faults:
         far = faults.far(key)
@@ -74,8 +74,8 @@ def of_one_name(faults: Faults) -> Iterator[Repair]:
 
 
 def several_chassis(findings: Sequence[Finding]) -> Iterator[str]:
-    """Yields a note on hosts that answer with several chassis IDs at right links: two devices may
-    have the same name, or each card of a server may send its own ID."""
+    """Yields a note on hosts that have several chassis IDs at right links: two devices may have the
+    same name, or each card of a server may send its own ID."""
     heard = {(one.wants.host, one.has[0].chassis): one.end for one in findings
              if one.verdict is Verdict.RIGHT and one.wants is not None}
     counts = Counter(host for host, _ in heard)
@@ -92,8 +92,8 @@ def several_chassis(findings: Sequence[Finding]) -> Iterator[str]:
 def together(faults: Sequence[Finding], found: Mapping[End, Mismatch], names: Names, plan: Plan
              ) -> Iterator[Repair]:
     """Yields a repair for each host at which three or more links differ in the same way, and for
-    each other link with a mismatch. If both hosts of a link qualify, a host at which half of the
-    links or more differ so is preferred, and then the one with more such links."""
+    each other link with a mismatch. A link is reported at one host only: preferably where at
+    least half of the links differ so, and then where more of them do."""
     groups: dict[tuple[str, str], list[Finding]] = {}
     for fault in faults:
         for key in keys_of(found[fault.end], names):

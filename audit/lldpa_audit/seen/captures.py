@@ -22,8 +22,8 @@ MOST_UNPACKED = 1 << 27
 
 def read_captures(files: Sequence[str], port: str, program: str) -> Listing:
     """Returns the neighbors of a port from its captures or, without a port, of the interfaces that
-    the one capture names. Captures without time stamps are as old as the first file, and large
-    ones may take longer. Raises ValueError, OSError, and Ended if the agent ends."""
+    the only capture names. Captures without time stamps have the time of the first file, and
+    large ones a longer time limit. Raises ValueError, OSError, and Ended if the agent ends."""
     stats = [stat_of(file) for file in files]
     seconds = max(SECONDS, sum(one.st_size for one in stats) >> 21)
     try:

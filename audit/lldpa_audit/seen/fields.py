@@ -1,8 +1,8 @@
-"""The forms of JSON that list neighbors: where each has ports, neighbors, and their fields.
+"""Describes the forms of JSON that list neighbors: where each has ports, neighbors, and fields.
 
-A way is a path of names from object to object, and goes on in each element of a list. `*` stands
-for each name of an object, and `@` for the name that the last `*` stood for. `?NAME` goes on only
-if NAME is true in the object. If commas separate ways, the first that leads to a text counts.
+A way is a path of names from object to object; it enters each element of a list. `*` matches each
+name of an object, and `@` yields the name that the last `*` matched. `?NAME` goes on only if NAME
+is true in the object. If commas separate ways, the first that leads to a text counts.
 """
 import re
 from itertools import product
@@ -17,11 +17,11 @@ from .shows import SETTING, settings_of_tlvs
 
 class Form(NamedTuple):
     """The ways to ports, from a port to its neighbors, and from a neighbor to its fields. `sign`
-    leads somewhere in this form alone. Without `port`, the port is the name that `*` stands for.
-    `?` precedes the way to neighbors that a port may lack. Without `kind`, a Port ID is an
-    interface's name if it looks like one. `settings` are the ways to frame size, PVID, MAU type
-    and aggregate, and `protocol` is that to the protocol. A neighbor has a chassis ID and a Port
-    ID; `of_names`, any name of its host and of its port is enough."""
+    leads somewhere in this form alone. Without `port`, the port is the name that `*` matched.
+    `neighbors` begins with `?` if a port may lack it. Without `kind`, a Port ID that looks like
+    an interface's name is one. `settings` leads to frame size, PVID, MAU type and aggregate,
+    `protocol` to the protocol. A neighbor must have a chassis ID and a Port ID or, with
+    `of_names`, any name of its host and any of its port."""
 
     sign: str
     ports: str
@@ -41,7 +41,7 @@ class Form(NamedTuple):
 INFO = "neighborInterfaceInfo"
 NAPALM = Form("", "*", "", "", "remote_chassis_id", "", "remote_port, port",
               "remote_system_name, hostname", "remote_port_description", of_names=True)
-# lldpcli's `json`, in which names lead to interfaces, and to chassis with a System Name
+# lldpcli's `json`, in which names of interfaces, and System Names, are keys of objects
 LLDPCLI = Form("lldp interface * via, lldp interface * chassis", "lldp interface *", "", "",
                "chassis id, chassis * id", "port id type", "port id",
                "chassis name, chassis * id @", "port descr", "chassis mgmt-ip, chassis * mgmt-ip",
@@ -53,10 +53,10 @@ OURS = Form("ports neighbors_held", "ports", "name", "neighbors", "chassis text"
 FORMS = (
     OURS,
     LLDPCLI,
-    # lldpcli's `json0`, in which each name leads to a list
+    # lldpcli's `json0`, in which the value of each name is a list
     LLDPCLI._replace(sign="lldp interface via, lldp interface chassis", ports="lldp interface",
                      port="name"),
-    # Arista's EOS, which once put a port ID in quotes
+    # Arista's EOS, which formerly put Port IDs in quotes
     Form("lldpNeighbors", "lldpNeighbors *", "", "lldpNeighborInfo", "chassisId",
          f"{INFO} interfaceIdType", f"{INFO} interfaceId_v2, {INFO} interfaceId", "systemName",
          f"{INFO} interfaceDescription", "managementAddresses address",
@@ -102,7 +102,7 @@ INTERFACE = re.compile(r"[A-Za-z][A-Za-z-]*[ /]?[0-9][0-9/:.]*(?:[A-Za-z][A-Za-z
 
 
 def walk(node: Any, way: str, name: str = "") -> Iterator[tuple[str, Any]]:
-    """Yields what a way leads to, each time with the name that the last `*` stood for."""
+    """Yields what a way leads to, each time with the name that the last `*` matched."""
     step, _, rest = way.partition(" ")
     if not way:
         yield name, node
@@ -148,7 +148,7 @@ def text(node: Any, ways: str) -> str:
 
 
 def listed(node: Any, of: str) -> list[Any]:
-    """Returns a list of objects. Some vendors omit it around one object. Raises SeenFault."""
+    """Returns a list of objects. Some vendors omit the list around one object. Raises SeenFault."""
     some = [node] if isinstance(node, dict) else node
     if not isinstance(some, list) or not all(isinstance(one, dict) for one in some):
         raise SeenFault(f"{of!r} is not a list of objects")

@@ -14,7 +14,7 @@ from ..what import What
 from .forms import is_text, read_list
 from .listing import Listing, SeenFault
 
-# one process reads fewer files before several have started
+# fewer files than this are read by one process, since several need time to start
 MANY = 100
 # a process returns this many files at a time, and each name in them only once
 FILES_AT_A_TIME = 100
@@ -23,7 +23,7 @@ MOST_OCTETS = 32 << 20
 
 
 def read_file(what: What) -> Optional[Listing]:
-    """Returns what is in a file, None if it is not text. Raises OSError if it is an argument."""
+    """Returns what is in a file, None if it is not text. Raises OSError unless `what.is_found`."""
     try:
         with limited(what.file), opened(what.file) as file:
             octets = octets_of(file)
@@ -65,7 +65,7 @@ def taken(source: Readable, size: int) -> bytes:
 
 
 def placed(listing: Listing, file: str, written: float) -> Listing:
-    """Returns a listing with this file's name in its hosts' faults, and its time if it has none."""
+    """Adds the file's name to the faults of hosts, and its time to a listing without a time."""
     hosts = {host: one._replace(time=one.time or written, faults=[
         f"{file}: {shown(host)}: {fault}" for fault in one.faults])
         for host, one in listing.hosts.items()}

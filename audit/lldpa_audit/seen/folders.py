@@ -9,8 +9,8 @@ Say = Callable[[str], None]
 
 
 def read_whats(words: Sequence[str], ours: str, say: Say) -> Iterator[What]:
-    """Yields what the arguments name, with each file of a folder by itself, and notes what is
-    skipped. Raises OSError, and ValueError if a folder has no files."""
+    """Yields the files that the arguments name, and each file in the folders that they name. Notes
+    what is skipped. Raises OSError, and ValueError if a folder has no files."""
     for word in words:
         what = read_what(word, ours)
         if what.port or not os.path.isdir(what.file):
@@ -58,7 +58,7 @@ def entries(folder: str, say: Say) -> Iterator["os.DirEntry[str]"]:
 
 
 def why_passed_over(entry: "os.DirEntry[str]") -> str:
-    """Returns why an entry cannot be a list or a capture, or an empty text if it can."""
+    """Returns why an entry can be neither a list of neighbors nor a capture, or an empty text."""
     if entry.name.endswith(("~", ".bak", ".orig", ".swp", ".tmp")):
         return "it is a copy that an editor left"
     if entry.is_dir() or entry.is_file():

@@ -1,4 +1,4 @@
-"""Recognizes the forms of lists, and the likely cause if a file has none of them."""
+"""Recognizes the form of a list of neighbors, or says what a file in no known form may be."""
 import codecs
 import re
 from typing import Any, Callable
@@ -15,14 +15,14 @@ UTF_16 = (codecs.BOM_UTF16_LE, codecs.BOM_UTF16_BE)
 # a document type is refused, so no entity can be declared, and none expands
 XML = re.compile(r"\s*(?:<\?xml[^>]*>\s*)?<(?:rpc-reply|multi-routing|lldp-neighbors)")
 FORMS: tuple[tuple[re.Pattern[str], Callable[[str], Listing]], ...] = (
-    # a show may have only one port of an agent, so nothing is known of ports that it lacks
+    # `show neighbors` may be of one port only, so nothing is known of ports that it lacks
     (re.compile(r"lldp\.[^=\n]+\.neighbors="), lambda text: Listing(read_ports(text), False)),
     (IS_WALK, read_walk),
     (XML, lambda text: listing_of(tree_of_xml(text))),
 )
 FAILED = "the command that wrote it failed"
 USE_JSON = "use `lldpcli -f json show neighbors details`"
-# what a text is if it is not a list: how it begins, or what one of its lines has, and the message
+# what a text is if it is not a list of neighbors: a pattern for its beginning, and the message
 CAUSES = (
     (r"lldp\.[^\n=]+\.via=", f"it is lldpcli's keyvalue: {USE_JSON}"),
     (r"-{70,}\nLLDP neighbors:", f"it is lldpcli's plain text: {USE_JSON}"),

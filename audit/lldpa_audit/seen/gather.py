@@ -1,4 +1,4 @@
-"""Gathers what is seen into tables: from lists, from captures, and from a running lldpa-live."""
+"""Gathers what is seen into tables: lists of neighbors, captures, and a running lldpa-live."""
 import time
 from math import inf
 from typing import Callable, Iterator, Optional, Sequence
@@ -33,8 +33,8 @@ class Gathering:
         self.status = 0
 
     def add_files(self, whats: Sequence[What], files: Iterator[Optional[Listing]]) -> None:
-        """Adds files. Several captures of a port count as one. `files` has a list for each other
-        file."""
+        """Adds the files `whats`. Several captures of a port count as one. `files` yields what was
+        read from each of the other files."""
         for what, listing in zip(of_hosts(whats), files):
             if listing is None:
                 self.add_captures(what.host, "", [what.file])
@@ -53,8 +53,8 @@ class Gathering:
             self.add_captures(end.host, end.port, captures)
 
     def add_captures(self, host: str, port: str, files: Sequence[str]) -> None:
-        """Adds the port of captures, or all ports of one capture if none is named. Frames that a
-        port sent itself are left out. If LLDP frames were skipped, a silent port has no data."""
+        """Adds the port of captures or, if no port is named, all ports of one capture. Leaves out
+        frames that a port sent itself. If LLDP frames were skipped, a silent port has no data."""
         found = read_captures(files, port, self.program)
         for note in found.notes:
             self.say(note)
@@ -73,8 +73,8 @@ class Gathering:
                 self.tables.add_reason(host, name, skipped)
 
     def is_usable(self, host: str, port: str, listing: Listing, file: str) -> bool:
-        """Returns whether a source can be used. If it is damaged or too old, its port has no data
-        or, if no port is named, those ports of the host that no other source has."""
+        """Returns whether a source can be used. A damaged or old source leaves its port without
+        data or, if no port is named, each port of the host that has no other source."""
         for fault in listing.faults:
             self.say(fault)
             self.status = max(self.status, 1)

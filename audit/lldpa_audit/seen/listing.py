@@ -1,4 +1,4 @@
-"""What each reader returns: the ports of a host, and the neighbors seen at them."""
+"""Defines what each reader returns: the ports of a host, and the neighbors seen at them."""
 from __future__ import annotations
 
 from typing import Mapping, NamedTuple, Sequence
@@ -14,10 +14,10 @@ class SeenFault(LldpaFault, ValueError):
 
 
 class Listing(NamedTuple):
-    """The neighbors of ports. If it `has_all_heard`, other ports of the host have no neighbor.
-    `hosts` has a listing for each host in a file of several. With `faults`, nothing is known of
-    the ports. `notes` says what was skipped. `time` is when this was seen, in seconds since
-    1970; 0 if unknown."""
+    """The neighbors of ports. If it `has_all_heard`, other ports of the host have no neighbor. If a
+    file is of several hosts, `hosts` has a listing for each. If there are `faults`, nothing is
+    known of the ports. `notes` says what was skipped. `time` is when this was seen, in seconds
+    since 1970; 0 if unknown."""
 
     ports: Ports
     has_all_heard: bool

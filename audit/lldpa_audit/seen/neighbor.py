@@ -1,4 +1,4 @@
-"""Makes a neighbor from the fields of a list."""
+"""Makes a neighbor from its fields in a list of neighbors."""
 import ipaddress
 from contextlib import suppress
 from functools import lru_cache
@@ -27,7 +27,7 @@ def neighbor(chassis: str, kind: str, port_id: str, name: str = "", descr: str =
 # many neighbors have the same texts: each is kept only once, and sent once between processes
 @lru_cache(MOST_KEPT)
 def names_of_host(name: str, chassis: str, *addresses: str) -> tuple[str, ...]:
-    """Returns the names of a host. In lldpa's shows, a comma ends an address."""
+    """Returns the names of a host. In `show neighbors`, an address ends at the first comma."""
     addresses = (chassis, *[clean(address.partition(",")[0]) for address in addresses])
     return texts(name, *[form for address in addresses for form in names_of_address(address)])
 
@@ -40,7 +40,7 @@ def texts(*names: str) -> tuple[str, ...]:
 
 @lru_cache(MOST_KEPT)
 def clean(text: str) -> str:
-    """Returns a text in which each surrogate stands for an octet that is not UTF-8. A text that is
+    """Returns a text whose only surrogates are those of octets that are not UTF-8. A text that is
     too long for LLDP is cut, but remains longer than any planned name."""
     text = text[:LONGEST]
     try:

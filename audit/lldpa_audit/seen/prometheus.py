@@ -1,4 +1,4 @@
-"""A saved answer of Prometheus' API (https://prometheus.io/docs/prometheus/latest/querying/api/)
+"""Reads an answer of Prometheus' API (https://prometheus.io/docs/prometheus/latest/querying/api/)
 with what `lldpa-ctl metrics` wrote at each host: `lldpa_neighbor_info` has the neighbors,
 `lldpa_too_many` each port, and `node_textfile_mtime_seconds` the time."""
 import re

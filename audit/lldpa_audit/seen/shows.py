@@ -33,7 +33,7 @@ OTHER_SHOW = re.compile(rf"lldp\.{NAME}\.sent=|local-chassis\.|configuration\.")
 
 
 def read_ports(text: str) -> Ports:
-    """Returns the neighbors of each port of a show. Raises ShowFault, which names the line."""
+    """Returns the neighbors of each port of `show neighbors`. Raises ShowFault with the line."""
     if not text.endswith("\n"):
         raise ShowFault("its last line is incomplete: it was cut short")
     ports: Ports = {}
@@ -78,7 +78,7 @@ def seen_neighbor(chassis: str, kind: str, port_id: str, said: Sequence[tuple[st
 
 @lru_cache(MOST_KEPT)  # a network has few settings, and many ports
 def settings_of_tlvs(tlvs: tuple[tuple[str, str], ...]) -> Optional[Settings]:
-    """Returns the settings in TLVs, each given by its key in a show and its octets as text."""
+    """Returns the settings in TLVs, each given by its key in `show neighbors` and its octets."""
     said = said_by([(key[len("org."):], octets) for key, octets in tlvs])
     mac_phy, aggregation = said.one(MacPhy), said.one(LinkAggregation)
     mau = None if mac_phy is None else mac_phy.mau
@@ -96,7 +96,7 @@ def line_of(text: str, at: int) -> int:
 
 @lru_cache(MOST_KEPT)
 def plain(text: str) -> str:
-    """Returns a text of a show without its escapes."""
+    """Returns a text of `show neighbors` without its escapes."""
     if "\\" not in text or not text.isascii():
         return text
     return unescaped(text).decode(errors="surrogateescape")

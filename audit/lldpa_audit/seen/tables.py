@@ -1,4 +1,4 @@
-"""What is known of the audited hosts: the neighbors of their ports."""
+"""Collects what is known of the audited hosts: the neighbors of their ports."""
 from itertools import filterfalse
 from typing import Mapping, NamedTuple, Sequence
 
@@ -63,8 +63,8 @@ class Tables:
         self._forgotten.setdefault(self.names.host(host), reason)
 
     def complete(self, plan: Plan) -> None:
-        """Adds the planned ports that complete lists lack: they have no neighbor. Ports for which a
-        reason was noted, such as a damaged file, remain without data."""
+        """Adds planned ports that a complete list of neighbors lacks: they have no neighbor. Ports
+        for which a reason was noted, such as a damaged file, remain without data."""
         for name, reason in self._forgotten.items():
             self._listed.pop(name, None)
             self._reasons[End(name, "")] = reason
@@ -80,7 +80,7 @@ class Tables:
         return sorted(filterfalse(plan.ends.__contains__, self.ends))
 
     def add_reason(self, host: str, port: str, reason: str) -> None:
-        """Notes why a port has no data. An empty port means all ports that no list has."""
+        """Notes why a port has no data. An empty port means all ports that no source has."""
         self.add_host(host)
         self._reasons.setdefault(self.names.end(End(host, port)), reason)
 

@@ -8,14 +8,14 @@ from .listing import Listing, SeenFault
 from .neighbor import clean
 from .prometheus import read_prometheus
 
-# names under which programs put a list: NAPALM, salt, Ansible, eAPI, NX-API, Junos, tools of gNMI
+# names under which these put neighbors: NAPALM, salt, Ansible, eAPI, NX-API, Junos, gNMI tools
 GETTERS = [f"{front}lldp_neighbors{detail}" for front in ("", "get_", "napalm_")
            for detail in ("_detail", "")]
 WRAPPERS = (*GETTERS, "out", "ansible_facts", "result", "ins_api", "outputs", "output", "body",
             "rpc-reply", "multi-routing-engine-results", "multi-routing-engine-item", "stdout",
             "parsed", "notification", "update", "updates", "values", "val",
             "openconfig-lldp:lldp", "lldp", "openconfig-lldp:interfaces", "interfaces")
-# why a tree is not a list of neighbors, by a way that leads somewhere in it
+# JSON that is not a full list of neighbors: a way that leads somewhere in it, and what it is
 CAUSES = (
     ("lldpNeighbors neighborDevice", "EOS' short list, without chassis IDs: use `show lldp "
                                      "neighbors detail | json`"),
