@@ -14,7 +14,7 @@ def read_aliases(file: str, names: Names) -> Aliases:
     faults, aliases = Faults(file), Aliases({}, {})
     for line, fields in table_of(faults, COLUMNS):
         if len(fields) != len(COLUMNS) or not fields[2] or not any(fields[:2]):
-            faults.add(line, "it needs an alias, and a host or a port or both")
+            faults.add(line, "it needs an alias, a host or a port (or both), and no more fields")
             continue
         why = added(aliases, names, *fields)
         if why:
@@ -36,7 +36,7 @@ def added(aliases: Aliases, names: Names, host: str, port: str, alias: str) -> s
     if not port:
         key = names.plain_host(alias)
         is_new = aliases.hosts.setdefault(key, host) == host != key
-        return "" if is_new else f"{alias} is an alias of two hosts, or of itself"
+        return "" if is_new else f"{alias} cannot be an alias of two hosts, or of itself"
     ports = aliases.ports.setdefault(End(host, names.plain_port(alias)), [])
     ports.append(names.plain_port(port))
     return "" if len(ports) <= MOST_PORTS else f"{alias} is an alias of over {MOST_PORTS} ports"

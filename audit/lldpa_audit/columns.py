@@ -54,7 +54,7 @@ class Columns:
         for name in self._columns:
             times = self._names.count(name)
             if times != 1:
-                found = "occurs twice" if times else "is missing"
+                found = "occurs more than once" if times else "is missing"
                 self._faults.add(line, f"the column {name} {found}: the header must name the "
                                        f"columns {','.join(self._columns)}")
         return self._faults.count == count

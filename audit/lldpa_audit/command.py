@@ -56,7 +56,8 @@ class Audit:
             findings = [known.applied(one, names) for one in findings]
         differing = mismatches(findings, tables, plan) if given.settings else {}
         if given.settings and not compared(findings, tables, plan):
-            self.say("--settings compared nothing: no right link has settings from both ends")
+            self.say("--settings compared nothing: no link judged right has a setting from both "
+                     "ends, or from one end and the plan")
         self.say_all((*known.unplanned(plan), *several_chassis(findings)))
         report = Report(plan, tables, findings, differing)
         self.show(report)
@@ -138,7 +139,7 @@ class Audit:
 def unplanned_hosts(tables: Tables, plan: Plan, files: Mapping[str, str]) -> Sequence[str]:
     """Returns notes on audited hosts without planned cables. Raises ValueError if all lack them."""
     if not tables.hosts:
-        raise ValueError(f"no file lists the neighbors of a host in {plan.file}")
+        raise ValueError(f"no file has the neighbors of a host that {plan.file} names")
     unplanned = {key: host for key, host in tables.hosts.items() if key not in plan.hosts}
     loose = Names(ignore_case=True, short_names=True)
     like = {loose.host(one): one for one in plan.hosts.values()} if unplanned else {}
@@ -153,7 +154,7 @@ def unplanned_hosts(tables: Tables, plan: Plan, files: Mapping[str, str]) -> Seq
 def advice(like: Optional[str], file: str, plan: Plan) -> str:
     """Returns advice for a host that has no planned cable."""
     if like:
-        return f", but some of {shown(like)}: see --host, --ignore-case, --short-names"
+        return f", but has the host {shown(like)}: see --host, --ignore-case, --short-names"
     first = next(iter(plan.hosts.values()))
     return (f": if the file is of another host, write HOST:FILE, such as {first}:{file}" if file
             else "")

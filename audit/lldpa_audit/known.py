@@ -64,9 +64,10 @@ def read_known(file: str, names: Names, today: datetime.date) -> Known:
         host, port, reason, last, verdict, *rest = [*fields, ""]
         until, verdicts = date_of(last), VERDICTS.get(verdict) if verdict else SILENCE
         if rest[1:] or not host or not reason or until is None:
-            faults.add(line, "it needs a host and a reason, and a date looks like 2026-12-31")
+            faults.add(line, "it needs a host, a reason, a date such as 2026-12-31 or none, and "
+                             "at most 5 fields")
         elif verdicts is None:
-            faults.add(line, f"{verdict!r} is not one of the verdicts {', '.join(VERDICTS)}")
+            faults.add(line, f"{verdict!r} cannot be excused, only {', '.join(VERDICTS)}")
         elif until < today:
             known.notes.append(f"{file}: line {line}: {place_of(End(host, port))} was excused "
                                f"until {until}, and is judged again")

@@ -83,12 +83,12 @@ def differing(one: Settings, other: Settings) -> Iterator[tuple[str, str, str, s
     """Yields each difference of two ends: what each announces, and how it differs."""
     for (name, unit), value, its in zip(NAMES, one, other):
         if value is not None and its is not None and value != its:
-            texts = f"{name} {worded(value)}{unit}", f"{worded(its)}{unit}"
+            own, far = f"{worded(value)}{unit}", f"{worded(its)}{unit}"
             if name == "MTU" and isinstance(value, int) and isinstance(its, int):
-                yield (*texts, f"MTU by {value - its:+}", f"MTU by {its - value:+}")
+                ways = f"MTU by {value - its:+}", f"MTU by {its - value:+}"
             else:
-                yield (*texts, f"{texts[0]}, not {texts[1]}",
-                       f"{name} {texts[1]}, not {worded(value)}{unit}")
+                ways = f"{name} ({own}, not {far})", f"{name} ({far}, not {own})"
+            yield (f"{name} {own}", far, *ways)
 
 
 def expected(plan: Plan) -> Mapping[End, Settings]:

@@ -40,7 +40,7 @@ class Seen(NamedTuple):
 
     def __str__(self) -> str:
         if self == NAMELESS:
-            return "somebody for whom the table had no room"
+            return "a neighbor that did not fit in the table"
         return f"{shown(self.hosts[0])} {shown(self.ports[0])}"
 
 

@@ -20,9 +20,9 @@ OTHER_PORT = re.compile(r"(?:(?:rj45|(?:mini-?)?usb)[ _-]?)?"
                         r"(?:[ _-]?(?:supply|feed|port))?[ _:/.-]?[a-z]?[0-9]{0,3}", re.I)
 
 # reasons to leave out a cable of NetBox
-POWER, ABSENT, FREE, UNPAIRED = ("for power or consoles", "planned or decommissioning",
-                                 "with an end that is not a port of a device",
-                                 "with ends that cannot be paired")
+POWER, ABSENT, FREE, UNPAIRED = (
+    "for power or consoles", "with the status planned or decommissioning",
+    "with an end that is not a port of a device", "with ends that cannot be paired")
 
 # the host and the port of an end
 Pair = tuple[str, str]

@@ -3,12 +3,12 @@ from collections import Counter
 from typing import Iterable, Iterator, NamedTuple, Optional, Sequence, Union
 
 from .names import End, Names
-from .plan import Detail, Faults, Link
+from .plan import Detail, Faults, Link, planned_twice
 
 
 # a link is followed through at most this many panels, since a ring of panels has no end
 MOST_PANELS = 100
-ENDLESS = f"it passes more than {MOST_PANELS} panels"
+ENDLESS = f"its link passes more than {MOST_PANELS} panels"
 
 
 class Cable(NamedTuple):
@@ -48,7 +48,7 @@ class Panels:
         taken = self._fronts_of.setdefault(rear, {}).setdefault(pair.position, pair.one)
         is_other = before[:2] != pair[:2] or before.position != pair.position
         if is_other or front in self._fronts_of:
-            faults.add(pair.line, f"{pair.one} is already planned in line {before.line}")
+            faults.add(pair.line, f"{pair.one} is already joined to another port or position")
         elif taken != pair.one or back is not None:
             faults.add(pair.line, f"{pair.other} is already joined to {taken}")
         self._hosts.update((front.host, rear.host))
@@ -80,7 +80,7 @@ class Panels:
         for near, far in ((one, other), (other, one)):
             before = self._cables.get(near.key)
             if before is not None and before.key != far.key and self.has(near.end):
-                self._faults.add(link.line, f"{near.end} is already planned in line {before.line}")
+                self._faults.add(link.line, planned_twice(near.end, before.line, link.line))
                 return
         self._cables[one.key], self._cables[other.key] = other, one
 

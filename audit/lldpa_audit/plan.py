@@ -140,8 +140,8 @@ class Plan:
             self.ends[other_key] = Wish(other, one, one_key, other_line or line,
                                         other_detail or detail)
         elif before is None or before.wanted != other_key:
-            twice = one if before else other
-            faults.add(line, planned_twice(twice, before or other_before, line))
+            first = (before or other_before or NOT_PLANNED).line
+            faults.add(line, planned_twice(one if before else other, first, line))
 
     def _add_lane(self, link: Link, whole: Set[End], names: Names, faults: Faults) -> None:
         """Adds a link of a breakout cable: its end in `whole` has several links."""
@@ -172,10 +172,8 @@ class Plan:
         return [(name, text) for name, text in zip(self.columns, wish.detail.texts) if text]
 
 
-def planned_twice(end: End, before: Optional[Wish], line: Optional[int]) -> str:
-    """Returns the fault of an end that is joined twice, or to itself."""
-    if before is not None and before.line == line is not None:
+def planned_twice(end: End, before: Optional[int], line: Optional[int]) -> str:
+    """Returns the fault of an end that was joined in the line `before`, or is joined to itself."""
+    if before == line is not None:
         return f"{end} is planned twice in this line"
-    if before is None or before.line is None:
-        return f"{end} is planned twice"
-    return f"{end} is already planned in line {before.line}"
+    return f"{end} is already planned in line {before}" if before else f"{end} is planned twice"

@@ -66,7 +66,7 @@ def worded(fault: str) -> str:
     """Rewords an error of csv's reader. After an error that is reworded, no row can be read."""
     if "field larger" in fault:
         return f"a field has over {csv.field_size_limit()} characters"
-    return "a field in quotes has no end" if "end of data" in fault else fault
+    return "a quoted field has no closing quote" if "end of data" in fault else fault
 
 
 def separator_of(text: str) -> str:

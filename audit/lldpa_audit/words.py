@@ -11,7 +11,7 @@ from .ages import seconds_of
 from .columns import COLUMNS
 
 WORDS = """\
-PLAN is CSV, NetBox's export or API answer of cables, or a topology in DOT. Each WHAT is:
+PLAN is CSV, an export or API answer of NetBox's cables, or a topology in DOT. Each WHAT is:
   FOLDER          files of many hosts, each named after its host: leaf1.json, or files in leaf1/
   HOST:FILE       a host's list of neighbors: the JSON of a switch (EOS, NX-OS, Junos, Cumulus),
                   NAPALM, lldpcli, networkctl, OpenConfig, Prometheus or lldpa; rows of
@@ -69,7 +69,7 @@ def add_words_of_input(parser: argparse.ArgumentParser) -> None:
     add("--host", metavar="NAME", default=socket.gethostname(),
         help="this host's name in the plan (default: the system's name)")
     add("--settings", action="store_true",
-        help="compare what both ends of right links announce: frame size, VLAN, speed, duplex")
+        help="compare frame size, VLAN, speed and duplex of both ends of each link judged right")
 
     add("--ignore-case", action="store_true", help="ignore case when comparing names")
     add("--short-names", action="store_true",

@@ -32,11 +32,11 @@ REFUSED: Sequence[Tuple[str, Any, str]] = (
     ("5: a port twice in OpenConfig", {"openconfig-lldp:interface": [
         one for ports in (RIGHT, {"swp1": [("x", "y")]})
         for one in vendors.openconfig(ports)["openconfig-lldp:interface"]]},
-     "the port 'swp1' is in it twice: in places 1 and 3"),
+     "the port 'swp1' is in it twice: as entries 1 and 3"),
     ("14: EOS' short list", {"lldpNeighbors": [
         {"port": "swp1", "neighborDevice": "host01", "neighborPort": "eth0", "ttl": 120}]},
      "it is EOS' short list, without chassis IDs: use `show lldp neighbors detail | json`"),
-    ("16: text", IOS, "it looks like text of a switch: give its JSON, or rows of ntc-templates"),
+    ("16: IOS", IOS, "it looks like a switch's plain text: use its JSON, or rows of ntc-templates"),
     ("16: keyvalue", "lldp.swp1.via=LLDP\n", f"it is lldpcli's keyvalue: {USE_JSON}"),
     ("16: XML", '<?xml version="1.0"?>\n<lldp/>', f"it is lldpcli's XML: {USE_JSON}"),
     ("16: a page", "<!DOCTYPE html><p>Log in", "it is a web page, such as a login page"),
@@ -84,7 +84,7 @@ PARTS = (
               f"leaf1  no data at 2 of 2 ports (l: {why})",
               "3 cables: 1 right, 0 wrong, 2 not looked at (host01, host02)"])
       for text, unplanned, why in (
-          (rack.section(), (), "it names no Ethernet interface"),
+          (rack.section(), (), "it has no Ethernet interface"),
           ({"leafX": {"swp1": []}}, ("leafX",), "it has lists of other hosts only"),
           ({"swp1": {}, "swp2": {}}, ("swp1", "swp2"), "it has lists of other hosts only"))),
     Row("13: rows as nornir has them", {
@@ -121,7 +121,7 @@ PARTS = (
     Row("a saved answer of Prometheus", {"l": vendors.PROMETHEUS.read_bytes()}, "l", 1, [
         "swp3  unplanned: has host01 eth1", "swp5  unplanned: has host99 eth0",
         "swp6  unplanned: has host03 eth1 and rogue p1",
-        "3 cables: 2 right, 0 wrong, 1 not looked at (host04, leaf2.lab); 3 unplanned"]),
+        "3 cables: 2 right, 0 wrong, 1 not looked at (host04, leaf2.lab); 3 unplanned ports"]),
 )
 ROWS = [row._replace(files={"plan.csv": PLAN, **row.files}, words=f"plan.csv {row.words}")
         for row in PARTS]

@@ -74,7 +74,7 @@ KNOWN_FAULTS = [
          ["known: line 2: nas9 is not planned", "known: line 3: leaf1 swp9 is not planned",
           "2 cables: 2 right, 0 wrong"]),
         ("a bad verdict", "swp1 nas1 e0", KNOWN_VERDICT + "nas1,,x,,quiet\n", 2,
-         ["known: line 2: 'quiet' is not one of the verdicts wrong, swapped, silent, extra, "
+         ["known: line 2: 'quiet' cannot be excused, only wrong, swapped, silent, extra, "
           "doubled, one-sided, disagrees, unplanned, no data"]))]
 PANELED = HEAD + "".join(f"leaf1,swp{at},pp1,F{at}\npp1,R{at},pp2,R{at}\npp2,F{at},srv{at},e0\n"
                          for at in range(1, 5))
@@ -133,7 +133,7 @@ NAMES = [
     situation(name, plan, {"a": seen}, status, lines, "--short-names")
     for name, plan, seen, status, lines in (
         ("two domains answer by one planned name", SW1, "1 sw1.dc1 p1\n2 sw1.dc2 p2", 1,
-         ["sw1  doubled: it is sw1.dc1 at a 1, sw1.dc2 at a 2", "2 cables: 0 right, 2 wrong"]),
+         ["sw1  doubled: seen as sw1.dc1 at a 1, sw1.dc2 at a 2", "2 cables: 0 right, 2 wrong"]),
         ("one domain does", SW1, "1 sw1.dc1 p1\n2 sw1 p2", 0, ["2 cables: 2 right, 0 wrong"]),
         ("domains are compared if both have one", DC, "1 sw1.dc2 p1\n2 sw1.dc1 p1", 1,
          ["1  swapped with 2: wants sw1.dc1 p1, has sw1.dc2 p1", "2 cables: 0 right, 2 wrong"]),
@@ -150,8 +150,8 @@ ONE_UNLIKE = "1 cable: 1 right, 0 wrong; 1 with a mismatch"
 SERVERS = range(1, 21)
 SETTINGS = (
     situation("settings of nobody", HEAD + "a,1,b,1\n", {"a": "1 b 1"}, 0, [
-        "--settings compared nothing: no right link has settings from both ends",
-        "1 cable: 1 right, 0 wrong"], "--settings"),
+        "--settings compared nothing: no link judged right has a setting from both ends, or from "
+        "one end and the plan", "1 cable: 1 right, 0 wrong"], "--settings"),
     situation("settings that nobody asks for", PAIR, SHOWS, 0, ["1 cable: 1 right, 0 wrong"]),
     situation("settings of both ends", PAIR, SHOWS, 1, [UNLIKE, ONE_UNLIKE], "--settings"),
     situation("settings of the plan", "host,port,peer,peer_port,mtu,pvid\n"
@@ -163,8 +163,8 @@ SETTINGS = (
               {"leaf1": "".join(neighbor(f"swp{at}", f"srv{at}", "eth0",
                                          size=1500 if at == 7 else 9194) for at in SERVERS),
                **{f"srv{at}": neighbor("eth0", "leaf1", f"swp{at}", size=9216) for at in SERVERS}},
-              1, ["leaf1       mismatch at 19 links: differs in MTU by +22, as leaf1 swp1 says MTU "
-                  "9216, srv1 eth0 says 9194",
+              1, ["leaf1       mismatch at 19 links: differs in MTU by +22; for example, leaf1 "
+                  "swp1 says MTU 9216, srv1 eth0 says 9194",
                   "leaf1 swp7  mismatch: leaf1 swp7 says MTU 9216, srv7 eth0 says 1500",
                   "20 cables: 20 right, 0 wrong; 20 with a mismatch"], "--settings"),
 )
@@ -175,7 +175,7 @@ RUNNERS = (
         "::set-output": "1 ##vso[task.x]y 1\n2 ##vso[task.x]z 1", "c": "1 d 1"}, 1, [
             "\\x3a:set-output 1  wrong: wants b 1, has #\\x23vso[task.x]y 1",
             "\\x3a:set-output 2  unplanned: has #\\x23vso[task.x]z 1",
-            "2 cables: 1 right, 1 wrong; 1 unplanned"]),
+            "2 cables: 1 right, 1 wrong; 1 unplanned port"]),
 )
 SIDES = "a,1,b,1,cat6,connected\n"
 FOUR = f'a,1,b,"1, 2,3 , 4",aoc,connected\n'
@@ -201,8 +201,8 @@ NETBOX = (
         "a,con 0,cs1,1,cat5,connected\na,5,b,5,cat6,Planned\na,6,b,6,cat6,decommissioning\n"
         'a,7,b,"7,8,9",cat6,connected\n').replace("a,7,b", 'a,"7,8",b'), {"a": "1 b 1"}, 0, [
             "plan: 7 cables are left out: 2 with an end that is not a port of a device, 2 for "
-            "power or consoles, 2 planned or decommissioning, 1 with ends that cannot be paired",
-            "1 cable: 1 right, 0 wrong"]),
+            "power or consoles, 2 with the status planned or decommissioning, 1 with ends that "
+            "cannot be paired", "1 cable: 1 right, 0 wrong"]),
     situation("several ends at both sides", CABLES + 'a,"1,2",b,"1, 2",dac,connected\n',
               {"a": "1 b 2\n2 b 1"}, 1, ["1  swapped with 2: wants b 1, has b 2",
                                          "2 cables: 0 right, 2 wrong"]),
@@ -215,8 +215,8 @@ OWN = {host: "".join(f"e{at} leaf{1 + at % 2} swp{at // 2 + first}\n" for at in 
        for host, first in (("s1", 3), ("s2", 1))}
 RIGHT = {"s1": OWN["s2"], "s2": OWN["s1"]}
 NO_JSON = "it begins like JSON, but is not valid JSON"
-EXCHANGED = ["s1  exchanged with s2: each is seen at all links planned for the other (4 and 4)",
-             "8 cables: 0 right, 8 wrong"]
+EXCHANGED = ["s1  exchanged with s2: each is seen at links planned for the other (4 for s1, 4 "
+             "for s2)", "8 cables: 0 right, 8 wrong"]
 HOSTS = (
     situation("two servers in each other's place", FOUR_EACH, SEEN, 1, EXCHANGED),
     situation("seen by themselves too", FOUR_EACH, {**SEEN, **OWN}, 1, EXCHANGED),
@@ -225,7 +225,7 @@ HOSTS = (
         "8 cables: 8 right, 0 wrong"]),
     situation("a host that is down", FOUR_EACH, {"leaf1": "swp1 s1 e0\nswp2 s1 e2",
                                                  "leaf2": "swp1 s1 e1\nswp2 s1 e3"}, 1, [
-        "s2  silent at all 4 of its links", "8 cables: 4 right, 4 wrong"]),
+        "s2  silent at all 4 links that were looked at", "8 cables: 4 right, 4 wrong"]),
 )
 EMPTY = "lldp.{0}.neighbors=0\nlldp.{0}.octets=0\nlldp.{0}.too-many={1}\n"
 TWO_PORTS = HEAD + "leaf1,swp1,host01,eth0\nleaf1,swp2,host01,eth1\n"
@@ -275,17 +275,17 @@ MORE = (
                     f"plan: a 1: {name} '{text}' is not a valid number"], "--settings")
       for name, text in (("speed", "25G"), ("mtu", "9k"), ("pvid", "70000"))],
     situation("a full table that is empty", HEAD + "a,1,b,1\n", {"a": EMPTY.format(1, "yes")}, 1, [
-        "1  wrong: wants b 1, has somebody for whom the table had no room",
+        "1  wrong: wants b 1, has a neighbor that did not fit in the table",
         "1 cable: 0 right, 1 wrong"]),
     situation("neither side is broken out", LANES, {
         "leaf1": neighbor("swp1", "leaf2", "swp1"),
         "leaf2": neighbor("swp1", "leaf1", "swp1")}, 1, [
-        "leaf1 swp1  not broken out: swp1s0 to swp1s3 are planned",
-        "leaf2 swp1  not broken out: swp1s0 to swp1s3 are planned",
-        "4 cables: 0 right, 0 wrong, 4 not looked at; 2 unplanned"]),
+        "leaf1 swp1  not broken out: the plan has swp1s0 to swp1s3",
+        "leaf2 swp1  not broken out: the plan has swp1s0 to swp1s3",
+        "4 cables: 0 right, 0 wrong, 4 not looked at; 2 unplanned ports"]),
     situation("two runs that meet", RUN, {"s": "".join(
         f"p{at} x{has} e0\n" for at, has in enumerate([1, 2, 3, 2, 3, 4]))}, 1, [
-            "p0 to p2  shifted by one: each has what the next wants",
+            "p0 to p2  shifted by one: each has the neighbor that the next port wants",
             "p4        wrong: wants x4 e0 (seen at p5), has x3 e0 (planned at p3)",
             "p5        wrong: wants x5 e0, has x4 e0 (planned at p4)",
             "6 cables: 0 right, 6 wrong"]),

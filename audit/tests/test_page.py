@@ -60,7 +60,7 @@ class Content(InAFolder):
         self.assertEqual(ran.returncode, 1)
         elements = Elements(page.read_text())
         for text in ("line 5", "2 swapped, 1 silent, 1 wrong, 1 extra",
-                     "2 hosts were not looked at", *"  ".join(rack.LINES[:4]).split("  ")):
+                     "Hosts that were not looked at: 2", *"  ".join(rack.LINES[:4]).split("  ")):
             self.assertIn(text, elements.texts)
         self.assertEqual((elements.tags["svg"], elements.tags["script"]), (1, 0))
         repairs = [f"#r{number}" for number in (1, 1, 2, 3, 4)]

@@ -76,14 +76,14 @@ NAMED = "the header must name the columns host,port,peer,peer_port"
 REFUSED = (
     ("#\nhost,port,peer\na,1,b\n", f"line 2: the column peer_port is missing: {NAMED}"),
     ("a,1,b,2\n", "line 1: the column host is missing"), ("", "line 1: the column host is missing"),
-    ("host,port,port,peer,peer_port\n", "line 1: the column port occurs twice"),
+    ("host,port,port,peer,peer_port\n", "line 1: the column port occurs more than once"),
     (HEAD + "a,1,b\n", "line 2: its peer_port is missing"),
     (HEAD + "# x\na,1, ,2\n", "line 3: its peer is missing"),
     (HEAD + "a,1,b,2,3\n", "line 2: it has 5 fields for 4 columns"),
     (HEAD + "a,1,b,2\n\nc,3,a,1\n", "line 4: a 1 is already planned in line 2"),
     (HEAD + "a,1,a,1\n", "line 2: a 1 is planned twice"),
     (HEAD, "it has no links"), ("strict graph {}\n", "it has no links"),
-    (HEAD + 'a,1,b,"2\nc,3,d,4\n', "line 2: a field in quotes has no end"),
+    (HEAD + 'a,1,b,"2\nc,3,d,4\n', "line 2: a quoted field has no closing quote"),
     (HEAD + 'a,1,b,"2"3\nc,3,d,4\n', "line 2: ',' expected after '\"'"),
     (HEAD + f"a,1,b,{'x' * 131_073}\n", "line 2: a field has over 131072 characters"),
     (HEAD + f"a,1,b,{'x' * 256}\n", "line 2: a name in it has 256 characters, but LLDP can send"),
@@ -174,7 +174,7 @@ class NetBox(Plans):
         plan = self.read(NETBOX)
         self.assertEqual(self.notes(plan), [
             "plan: 5 cables are left out: 2 for power or consoles, 2 with an end that is not a "
-            "port of a device, 1 planned or decommissioning",
+            "port of a device, 1 with the status planned or decommissioning",
             "plan: 1 cable ends at patch panels and cannot be judged: give --panels with NetBox's "
             "export of front ports"])
         self.assertEqual(([wish.line for wish in plan.ends.values()], plan.not_judged), ([2, 2], 1))
@@ -202,8 +202,8 @@ class NetBox(Plans):
             self.assertEqual(self.links(plan), ["a 1 - b 1", "a 2 - b 2", "a 3 - b 3"])
             self.assertEqual(self.notes(plan), [
                 "plan: 6 cables are left out: 3 with an end that is not a port of a device, 1 for "
-                "power or consoles, 1 planned or decommissioning, 1 with ends that cannot be "
-                "paired"])
+                "power or consoles, 1 with the status planned or decommissioning, 1 with ends "
+                "that cannot be paired"])
         nameless = cable_between(1, [("a", "1")], [("b", "1")])
         nameless["b_terminations"][0]["object"]["device"] = {"name": None, "display": "EX (7)"}
         self.assertEqual(self.links(self.read(json.dumps({"results": [nameless]}))),
@@ -232,7 +232,7 @@ class Panels(Plans):
         ring = HEAD + "pp1,R1,pp2,R1\npp2,F1,pp1,F1\n"
         for plan, panels, said in (
                 (self.PLAN + "leaf1,swp7,pp1,F1\n", self.PAIRS, "line 9: pp1 F1 is already"),
-                (self.PLAN, self.PAIRS + "pp1,F1,pp1,R7\n", "line 6: pp1 F1 is already planned"),
+                (self.PLAN, self.PAIRS + "pp1,F1,pp1,R7\n", "line 6: pp1 F1 is already joined"),
                 (ring, self.PAIRS, "it has no links"),
                 (ring + "leaf1,1,pp1,F1\na,1,b,1\n", self.PAIRS, "pp1 F1 is already planned")):
             self.assertIn(said, self.fault(plan, panels))

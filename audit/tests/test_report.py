@@ -11,7 +11,7 @@ from lldpa_audit.seen.tables import Tables
 SWAPPED = "l1 p1 = s2 q1; l1 p2 = s1 q1; s1 q1 = l1 p2"
 TWO = "l1 p1 - s1 q1; l1 p2 - s2 q1"
 THREE = "a 1 - b 1; a 2 - b 2; a 3 - b 3"
-NEARLY = "(P1 is known: only the case differs)"
+NEARLY = "(there is a port P1: only the case differs)"
 # links, what is known, and the lines; a neighbor `?` has no name, and `b 1!` another chassis ID
 ROWS: Sequence[Tuple[str, str, Sequence[str]]] = (
     ("a swp10 - b 10; a swp9 - b 9; a swp1 - b 1; a swp8 - b 8",
@@ -22,7 +22,7 @@ ROWS: Sequence[Tuple[str, str, Sequence[str]]] = (
      ["a 1  wrong: wants b 1, has x y; b 1 hears it", "1 cable: 0 right, 1 wrong"]),
     (THREE, "a 1 = b 2; a 2 =; a 3 = b 3; a 4 = b 1",
      ["1  wrong: wants b 1 (seen at 4), has b 2 (planned at 2)", "2  silent: wants b 2 (seen at 1)",
-      "4  unplanned: has b 1 (planned at 1)", "3 cables: 1 right, 2 wrong; 1 unplanned"]),
+      "4  unplanned: has b 1 (planned at 1)", "3 cables: 1 right, 2 wrong; 1 unplanned port"]),
     (THREE, "a 1 = b 2; a 2 = b 3; a 3 = b 1",
      ["1  wrong: wants b 1 (seen at 3), has b 2 (planned at 2)",
       "2  wrong: wants b 2 (seen at 1), has b 3 (planned at 3)",
@@ -41,12 +41,12 @@ ROWS: Sequence[Tuple[str, str, Sequence[str]]] = (
       "2  extra: x 0, x 1, x 2 and 3 more besides b 2", "2 cables: 0 right, 2 wrong"]),
     ("a p1 - b 1", "a P1 = b 1",
      ["P1  unplanned: has b 1 (planned at p1)", f"p1  no data: wants b 1 (seen at P1) {NEARLY}",
-      "1 cable: 0 right, 0 wrong, 1 not looked at (b); 1 unplanned"]),
+      "1 cable: 0 right, 0 wrong, 1 not looked at (b); 1 unplanned port"]),
     ("a p1 - b 1", "a p1 =; a P1 = b 1",
      ["P1  unplanned: has b 1 (planned at p1)", f"p1  silent: wants b 1 (seen at P1) {NEARLY}",
-      "1 cable: 0 right, 1 wrong; 1 unplanned"]),
+      "1 cable: 0 right, 1 wrong; 1 unplanned port"]),
     (TWO, f"{SWAPPED}; s2 q1 = l1 p1",
-     ["l1 p1  swapped with l1 p2: wants s1 q1, has s2 q1 (or else s1 q1 with s2 q1, not both)",
+     ["l1 p1  swapped with l1 p2: wants s1 q1, has s2 q1 (or exchange s1 q1 with s2 q1 instead)",
       "2 cables: 0 right, 2 wrong"]),
     (TWO, SWAPPED, ["l1 p1  swapped with l1 p2: wants s1 q1, has s2 q1",
                     "2 cables: 0 right, 2 wrong"]),
@@ -54,7 +54,7 @@ ROWS: Sequence[Tuple[str, str, Sequence[str]]] = (
      ["l1 p1  swapped with l1 p2: wants s1 q1, has s2 q1",
       "s1 q1  wrong: wants l1 p1 (seen at s2 q1), has x y", "2 cables: 0 right, 2 wrong"]),
     ("a 1 - z 1; b 1 - z 2", "a 1 = z 2; b 1 = z 1; z 1 = b 1; z 2 = a 1",
-     ["z 1  swapped with z 2: wants a 1, has b 1 (or else a 1 with b 1, not both)",
+     ["z 1  swapped with z 2: wants a 1, has b 1 (or exchange a 1 with b 1 instead)",
       "2 cables: 0 right, 2 wrong"]),
     # ports of a stack are not lanes of one port
     ("sw Gi1/0/1 - a 1; sw Gi1/0/2 - b 1; sw Gi1/0/3 - c 1",
@@ -65,7 +65,7 @@ ROWS: Sequence[Tuple[str, str, Sequence[str]]] = (
       "3 cables: 0 right, 3 wrong"]),
     ("sw Et1/1/1 - a 1; sw Et1/1/2 - b 1; sw Et1/1/3 - c 1",
      "sw Et1/1/1 = b 1; sw Et1/1/2 = c 1; sw Et1/1/3 = a 1",
-     ["Et1/1/1 to Et1/1/3  turned: the lanes of one port have one another's links",
+     ["Et1/1/1 to Et1/1/3  turned: the lanes of one port are in the wrong order",
       "3 cables: 0 right, 3 wrong"]),
 )
 

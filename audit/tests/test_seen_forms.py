@@ -65,11 +65,11 @@ class Faults(unittest.TestCase):
     def test_of_something_else(self) -> None:
         interface = b'{"lldp":{"interface":{"a":{"status":"RX","chassis":{},"port":{}}}}}'
         for octets, said in (
-                (interface, "a has no protocol: use `lldpcli -f json show neighbors"),
+                (interface, "'a' has a neighbor without a protocol: use `lldpcli -f json show"),
                 (b'{"lldp":[{"interface":[{"name":"a","via":"LLDP"}]}]}', "without chassis id"),
-                (b"lldp.a.status=RX\n", "a show other than `show neighbors`"),
+                (b"lldp.a.status=RX\n", "the output of another show command"),
                 (b'{"lldp": ' + b"9" * 5000 + b"}", "it is JSON, but not a known list"),
-                (b'{"swp1": []}\n{"swp2": []}', "it has more after its JSON than a prompt"),
+                (b'{"swp1": []}\n{"swp2": []}', "more than a prompt follows its JSON"),
                 (b"<rpc-reply>\xff</rpc-reply>", "it is not valid XML: "),
                 (b"<?xml version='1.0' encoding='x'?><rpc-reply/>", "not a known list"),
                 (b"<?xml version='1.0' encoding='utf-16'?><rpc-reply>&a;", "undefined entity")):
@@ -128,7 +128,7 @@ class Faults(unittest.TestCase):
     def test_compressed(self) -> None:
         packed = gzip.compress(WHOLE["json0"])
         for octets, fault in ((packed[:-9], "cut short"), (packed[:2] + WHOLE["json0"], "damaged"),
-                              (gzip.compress(b"x"), "it looks like text of a switch")):
+                              (gzip.compress(b"x"), "it looks like a switch's plain text")):
             found = in_a_file(octets)
             self.assertIn(fault, found.faults[0] if found else "")
 

@@ -61,7 +61,7 @@ class Trial:
     def compare(self, state, *names):
         """Waits until lldpcli and snmpwalk show these names, and audits each plan by each form."""
         if not eventually(lambda: all(name in text for name in names for text in (self.lldpcli("json"), self.walk()))):
-            sys.exit(f"{names}: they do not come")
+            sys.exit(f"{names}: not in the data of lldpcli and snmpwalk in time")
         for name, plan in PLANS.items():
             wanted = self.verdicts(plan, self.lldpcli("json"))
             print(f"{state}, {name}: {wanted}")
@@ -73,7 +73,7 @@ class Trial:
 def main():
     lack = next((f"{name} is not installed" for name in NEEDED if not shutil.which(name)), "")
     if lack or os.geteuid() != 0:
-        print(f"skipped: {lack or 'it wants root'}\n0 passed, 0 failed")
+        print(f"skipped: {lack or 'it needs root'}\n0 passed, 0 failed")
         return 77
     with contextlib.ExitStack() as opened:
         wires = opened.enter_context(contextlib.closing(Wires(3)))

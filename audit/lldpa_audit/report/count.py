@@ -39,7 +39,7 @@ class Count(NamedTuple):
         if self.mismatches:
             texts.append(f"{self.mismatches} with a mismatch")
         if self.unplanned:
-            texts.append(f"{self.unplanned} unplanned")
+            texts.append(f"{self.unplanned} unplanned port{'' if self.unplanned == 1 else 's'}")
         if self.ages:
             texts.append(f"sources {self.ages}")
         return "; ".join(texts)

@@ -26,7 +26,7 @@ def pictures_of(host: str, faults: Sequence[Finding], names: Names) -> Iterator[
             parts.append(group(fault, lines, top))
             top += ROW * len(lines) + GAP
         height = top - GAP + MARGIN
-        title = html.escape(f"{shown(host)}: {len(some)} ends with a fault")
+        title = html.escape(f"faulty ends of {shown(host)}")
         yield (f'<svg viewBox="0 0 {WIDTH} {height}" width="{WIDTH}" height="{height}" role="img" '
                f'aria-label="{title}">{"".join(parts)}</svg>')
 

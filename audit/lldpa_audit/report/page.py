@@ -57,8 +57,8 @@ def repairs(report: Report) -> Iterator[str]:
                f"<td class=number>{report.links_of(repair)}</tr>\n")
     yield "</table>\n"
     if len(report.told) > MOST_ROWS:
-        yield (f"<p>This page has the first {MOST_ROWS} of {len(report.repairs)} repairs "
-               f"and of {len(report.told)} ends.</p>\n")
+        yield (f"<p>This page has at most {MOST_ROWS} of the {len(report.repairs)} repairs "
+               f"and of the {len(report.told)} ends.</p>\n")
 
 
 def by_kind(report: Report) -> Iterator[str]:
@@ -84,7 +84,7 @@ def not_looked_at(hosts: Sequence[str]) -> Iterator[str]:
     """Yields the hosts without a source."""
     if hosts:
         names = ", ".join(text(shown(name)) for name in hosts)
-        yield (f"<details><summary>{len(hosts)} hosts were not looked at</summary>"
+        yield (f"<details><summary>Hosts that were not looked at: {len(hosts)}</summary>"
                f"<p>{names}</p></details>\n")
 
 

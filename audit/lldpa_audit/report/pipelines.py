@@ -23,7 +23,7 @@ def junit_of(report: Report, needs_all: bool = False) -> bytes:
     not_judged = report.count.cables[NOT_JUDGED]
     if not_judged:
         cases.append((End("not judged", "panels"), unseen,
-                      f"{not_judged} cables that cannot be followed through patch panels"))
+                      f"cables that cannot be followed through patch panels: {not_judged}"))
     counted = Counter(element for _, element, _ in cases)
     counts = (f'tests="{len(cases)}" failures="{counted["failure"]}" errors="0" '
               f'skipped="{counted["skipped"]}"')

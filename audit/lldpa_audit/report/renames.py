@@ -27,9 +27,10 @@ def exchange(faults: Faults, host: str, other: str, some: Sequence[End]) -> Repa
     names = [shown(faults.plan.hosts[one]) for one in (host, other)]
     counts = [sum(end.host == one for end in some) for one in (host, other)]
     ends = [far for end in some for far in (faults.far(end), end) if far is not None]
-    return Repair("exchanged", End(faults.plan.hosts[host], some[0].port),
-                  f"exchanged with {names[1]}: each is seen at all links planned for the other "
-                  f"({counts[0]} and {counts[1]})", faults.take(ends), names[0])
+    text = (f"exchanged with {names[1]}: each is seen at links planned for the other "
+            f"({counts[0]} for {names[0]}, {counts[1]} for {names[1]})")
+    return Repair("exchanged", End(faults.plan.hosts[host], some[0].port), text,
+                  faults.take(ends), names[0])
 
 
 def renamed(faults: Faults) -> Iterator[Repair]:
@@ -80,9 +81,8 @@ def repair(faults: Faults, host: str, some: Sequence[tuple[End, Seen]]) -> Repai
     fars = [faults.tables.ends.get(faults.plan.ends[key].wanted)
             for key in faults.plan.ends_of_hosts[host]]
     known = [told for told in fars if told is not None and told.neighbors]
-    at = (f"all {len(some)} of its links" if len(some) == len(known)
-          else f"{len(some)} of {len(known)} links of it")
-    text = f"answers as {shown(neighbor.hosts[0])} at {at}"
+    at = f"all {len(some)}" if len(some) == len(known) else f"{len(some)} of {len(known)}"
+    text = f"answers as {shown(neighbor.hosts[0])} at {at} links whose far end sees a neighbor"
     ends = faults.with_far([faults.plan.ends[end].wanted for end, _ in some], [Verdict.DISAGREES])
     return Repair("renamed", End(name, some[0][0].port), f"{text} ({differs})" if differs else text,
                   faults.take(ends), shown(name))

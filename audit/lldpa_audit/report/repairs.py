@@ -27,7 +27,7 @@ TO_DO = {
     "disagrees": "get new data from both ends",
     "no data": "give a list or a capture of the port",
     "unplanned": "remove the cable, or add it to the plan",
-    "mismatch": "configure both ends alike, as in the plan if it has the setting",
+    "mismatch": "give both ends the same setting: the planned one, if there is one",
 }
 
 
@@ -121,4 +121,4 @@ class Faults:
         """Returns a note on an unplanned port that has nearly the name of an end."""
         like = self._beside.get(self.differences.loosest(end))
         differs = self.differences.of_ends(like, end) if like else None
-        return f"{self.place(like)} is known: {differs}" if like and differs else ""
+        return f"there is a port {self.place(like)}: {differs}" if like and differs else ""

@@ -46,9 +46,9 @@ def repair_of_run(faults: Faults, ports: Sequence[End], begin: int, end: int, st
         fault = faults.left.get(ports[behind])
         if fault is not None and (fault.verdict in HAVE_NOBODY or faults.meant(fault) in run):
             run.append(ports[behind])
-    side = "next" if step > 0 else "one before"
-    return repair(faults, "shifted", run, f"shifted by one: each has what the {side} wants",
-                  ports[begin:end])
+    side = "next port" if step > 0 else "port before"
+    text = f"shifted by one: each has the neighbor that the {side} wants"
+    return repair(faults, "shifted", run, text, ports[begin:end])
 
 
 def turned(faults: Faults) -> Iterator[Repair]:
@@ -58,8 +58,8 @@ def turned(faults: Faults) -> Iterator[Repair]:
                  and port_of(faults.meant(faults.left[key])) == whole]
         if len(wrong) >= SHORTEST:
             wrong.sort(key=by_port)
-            yield repair(faults, "turned", wrong, "turned: the lanes of one port have one "
-                         "another's links", wrong)
+            yield repair(faults, "turned", wrong, "turned: the lanes of one port are in the wrong "
+                         "order", wrong)
 
 
 def broken_out(faults: Faults) -> Iterator[Repair]:
@@ -71,10 +71,10 @@ def broken_out(faults: Faults) -> Iterator[Repair]:
         are_planned = [key in faults.plan.ends for key in group]
         group.sort(key=by_port)
         if one.verdict is Verdict.UNPLANNED and all(are_planned):
-            text = f"not broken out: {of_ports(faults, group)} are planned"
+            text = f"not broken out: the plan has {of_ports(faults, group)}"
             yield repair(faults, "not broken out", [whole, *group], text, [whole])
         elif one.verdict in HAVE_NOBODY and not any(are_planned):
-            text = f"broken out: the plan has one port, but {of_ports(faults, group)} are seen"
+            text = f"broken out into {of_ports(faults, group)}, but planned as one port"
             yield repair(faults, "broken out", [whole, *group], text, [whole])
 
 

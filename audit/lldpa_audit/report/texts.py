@@ -65,7 +65,7 @@ class FaultTexts:
         if other is None:
             return text
         one, twin = [self.faults.all[key].end for key in other]
-        return f"{text} (or else {one} with {twin}, not both)"
+        return f"{text} (or exchange {one} with {twin} instead)"
 
     def wanted(self, end: End, wants: End) -> str:
         """Returns which end is wanted, and where else that one is seen."""

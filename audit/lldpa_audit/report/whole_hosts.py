@@ -36,7 +36,7 @@ def silent(faults: Faults) -> Iterator[Repair]:
         keys = [key for ends in links[host] for key in ends]
         if len(links[host]) >= FEWEST and all(key in faults.left for key in keys):
             end = faults.plan.ends[faults.plan.ends_of_hosts[host][0]].end
-            text = f"silent at all {len(links[host])} of its links"
+            text = f"silent at all {len(links[host])} links that were looked at"
             yield Repair("silent", end, text, faults.take(keys), shown(end.host))
 
 
@@ -69,7 +69,7 @@ def of_one_name(faults: Faults) -> Iterator[Repair]:
             places.setdefault(shown(faults.left[key].has[0].hosts[0]), faults.left[key].end)
         text = ", ".join(f"{name} at {end}" for name, end in places.items())
         name = faults.plan.hosts[host]
-        yield Repair("doubled", End(name, keys[0].port), f"doubled: it is {text}",
+        yield Repair("doubled", End(name, keys[0].port), f"doubled: seen as {text}",
                      faults.take(keys), shown(name))
 
 
@@ -84,9 +84,9 @@ def several_chassis(findings: Sequence[Finding]) -> Iterator[str]:
         some = {chassis: end for (name, chassis), end in heard.items() if name == host}
         ids = ", ".join(f"{shown(chassis)} at {end}"
                         for chassis, end in list(some.items())[:MOST_NAMED])
-        more = f"; so do {len(several) - 1} more hosts" if len(several) > 1 else ""
-        yield (f"{shown(host)} answers with {len(some)} chassis IDs ({ids}){more}: two devices may "
-               "have the same name")
+        more = f"; in all, {len(several)} hosts have several" if len(several) > 1 else ""
+        yield (f"{shown(host)} answers with {len(some)} chassis IDs ({ids}): two devices may have "
+               f"the same name{more}")
 
 
 def together(faults: Sequence[Finding], found: Mapping[End, Mismatch], names: Names, plan: Plan
@@ -125,5 +125,5 @@ def of_host(host: str, by: str, some: Sequence[Finding], found: Mapping[End, Mis
     first = found[some[0].end]
     end = next(end for end in first.ends if names.host(end.host) == host)
     example = first.text.partition(": ")[2]
-    return Repair(MISMATCH, end, f"mismatch at {len(some)} links: differs in {by}, as {example}",
-                  some, shown(end.host))
+    text = f"mismatch at {len(some)} links: differs in {by}; for example, {example}"
+    return Repair(MISMATCH, end, text, some, shown(end.host))

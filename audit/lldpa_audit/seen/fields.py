@@ -165,8 +165,8 @@ def read_form(tree: Any, form: Form) -> Listing:
         for one in neighbors_of(node, form, port):
             protocol = text(one, form.protocol) if form.protocol else LLDP
             if not protocol:
-                raise SeenFault(f"{port} has no protocol: use `lldpcli -f json show neighbors "
-                                "details`")
+                raise SeenFault(f"{port!r} has a neighbor without a protocol: use `lldpcli -f json "
+                                "show neighbors details`")
             heard = ports if protocol == LLDP else others
             heard.setdefault(port, []).append(seen(one, form, port))
         if form is OURS and node.get("too_many") is True:
@@ -186,8 +186,8 @@ def ports_of(tree: Any, form: Form) -> Iterator[tuple[str, Any]]:
             if not port:
                 raise SeenFault(f"a neighbor has no {form.port}: was it shown without `detail`?")
             if form.neighbors and places.setdefault(port, place) != place:
-                raise SeenFault(f"the port {port!r} is in it twice: in places {places[port]} and "
-                                f"{place}")
+                raise SeenFault(f"the port {port!r} is in it twice: as entries {places[port]} "
+                                f"and {place}")
             yield port, node
 
 
@@ -207,7 +207,7 @@ def seen(node: Any, form: Form, port: str) -> Seen:
     name, descr = text(node, form.name), text(node, form.descr)
     if form.of_names:
         if not (chassis or name) or not (port_id or descr):
-            raise SeenFault(f"{port!r} has a neighbor without a name of its host or of its port")
+            raise SeenFault(f"{port!r} has a neighbor whose host or port has no name")
     elif not chassis or not port_id:
         lacks = (form.port_id if chassis else form.chassis).partition(",")[0]
         raise SeenFault(f"{port!r} has a neighbor without {lacks}: was it shown without `detail`?")

@@ -27,8 +27,7 @@ CAUSES = (
     (r"lldp\.[^\n=]+\.via=", f"it is lldpcli's keyvalue: {USE_JSON}"),
     (r"-{70,}\nLLDP neighbors:", f"it is lldpcli's plain text: {USE_JSON}"),
     (r"(?:<\?xml[^>]*>)?\s*<lldp\b", f"it is lldpcli's XML: {USE_JSON}"),
-    (r"lldp\.", "it has lines of a show other than `show neighbors`: use `lldpa-ctl show "
-                 "neighbors`"),
+    (r"lldp\.", "it is the output of another show command: use `lldpa-ctl show neighbors`"),
     (r"\s*<(?:!DOCTYPE html|html)", "it is a web page, such as a login page"),
     (r"\s*<", "it is XML, but not a known list of neighbors"),
     (r"\s*[{\[]", "it begins like JSON, but is not valid JSON"),
@@ -36,7 +35,7 @@ CAUSES = (
      r"permission denied|connection (?:refused|timed)|unknown command|syntax error))",
      FAILED),
     (r"\s*\Z", "it is empty"),
-    ("", "it looks like text of a switch: give its JSON, or rows of ntc-templates"),
+    ("", "it looks like a switch's plain text: use its JSON, or rows of ntc-templates"),
 )
 
 

@@ -61,7 +61,7 @@ class Gathering:
         if not self.is_usable(host, port, found, files[0]):
             return
         if not found.ports:
-            self.tables.add_reason(host, port, f"{files[0]}: it names no Ethernet interface")
+            self.tables.add_reason(host, port, f"{files[0]}: it has no Ethernet interface")
         skipped = next((note for note in found.notes if "is skipped" in note), "")
         names = self.tables.names
         for name, heard in found.ports.items():

@@ -41,7 +41,7 @@ def decoded(text: str, begin: int) -> Any:
     except RecursionError:
         raise SeenFault("its JSON is nested too deeply") from None
     if BEGIN.search(text, end) or len(text[end:].strip()) > LONGEST_BANNER:
-        raise SeenFault("it has more after its JSON than a prompt: give one answer")
+        raise SeenFault("more than a prompt follows its JSON: save the output of only one command")
     return tree
 
 

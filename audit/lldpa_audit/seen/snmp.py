@@ -59,9 +59,9 @@ def rows_of(text: str) -> tuple[dict[str, Row], dict[str, Row]]:
         try:
             place = (ORDER[name], *map(int, index.split(".")))
         except ValueError:  # it may have thousands of digits, or two dots
-            raise SeenFault(f"{name}.{index[:40]} is not an index") from None
+            raise SeenFault(f"{name}.{index[:40]} has an invalid index") from None
         if place <= last:
-            raise SeenFault(f"{name}.{index} is out of order, as in two walks: {COMMAND}")
+            raise SeenFault(f"{name}.{index} is out of order, as if in two walks: {COMMAND}")
         last = place
         tables[name in REMOTE].setdefault(index, {})[name] = text_of(kind, value)
     return tables
@@ -91,8 +91,8 @@ def seen(row: Row, port: str) -> Seen:
     """Returns a neighbor. Raises SeenFault if it has no chassis ID or port ID."""
     chassis_kind, chassis, kind, port_id, descr, name = (row.get(column, "") for column in REMOTE)
     if not chassis or not port_id or not kind:
-        raise SeenFault(f"{port!r} has a neighbor without chassis ID, port ID or its subtype: "
-                        f"{COMMAND}")
+        raise SeenFault(f"{port!r} has a neighbor that lacks a chassis ID, port ID or port ID "
+                        f"subtype: {COMMAND}")
     return neighbor(identifier(chassis, chassis_kind, *OF_CHASSIS), kind_of(kind),
                     identifier(port_id, kind, *OF_PORT), name, descr)
 

@@ -42,7 +42,8 @@ def listing_of(tree: Any) -> Listing:
 def listing_of_host(tree: Any) -> Optional[Listing]:
     """Returns the neighbors in JSON of one host, None if its form is unknown. Raises SeenFault."""
     if is_failed(tree):
-        raise SeenFault(f"the command failed: {last_line(text(tree, 'comment, msg'))}")
+        why = text(tree, "comment, msg") or "no reason is given"
+        raise SeenFault(f"the command failed: {last_line(why)}")
     cause = next((cause for way, cause in CAUSES if leads(tree, way)), "")
     if cause:
         raise SeenFault(f"it is {cause}")
