@@ -52,7 +52,7 @@ class Captures(Hostile):
     def test_gzip_that_unpacks_to_very_much(self) -> None:
         bomb = gzip.compress(PCAP) + gzip.compress(bytes(1 << 20), 9) * 130
         ran = run(self.plan, "--host", "leaf1", f"swp1={self.file('bomb', bomb)}")
-        self.assertIn("its gzip data unpacks to more than the limit", ran.stderr)
+        self.assertIn("its gzip data unpacks to more than 134,217,728 octets", ran.stderr)
         self.assertEqual(ran.returncode, 1)
 
     def test_more_ports_than_an_agent_has(self) -> None:

@@ -13,7 +13,7 @@ class TestWords(unittest.TestCase):
                 ([], "PORT"),
                 (["eth0.5"], "a VLAN interface cannot be a port"),
                 (["0123456789abcdef"], "1 to 15"),
-                (["eth0", "eth0"], "same port twice"),
+                (["eth0", "eth0"], "port eth0 is given twice"),
                 ([f"p{number}" for number in range(65)], "an agent has at most 64"),
                 (["--log-most", "0", "eth0"], "not a number from 1"),
                 (["--log-most", "1e3", "eth0"], "not a number from 1"),

@@ -18,7 +18,7 @@ REFUSED = (
     ("configure lldp tx-hold x", "not a number",
      "x (intervals that peers keep a frame, 1 to 100)"),
     ("configure lldp max-neighbors 99", "out of range", "99 (1 to the number of --max-neighbors)"),
-    ("configure ports eth9 lldp status disabled", "no such port", "eth9 (a port of this agent)"),
+    ("configure ports p9 lldp status tx-only", "no such port", "p9 (must be a port of this agent)"),
     ("configure ports eth0 lldp status on", "unknown command",
      "on (rx-and-tx, rx-only, tx-only, disabled)"),
     ("configure lldp", "unknown command",

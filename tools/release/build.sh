@@ -19,7 +19,7 @@ fail() {
 
 . tools/library/arch.sh
 for command in "${tools}gcc" "${tools}strip" rt; do
-    command -v "$command" > /dev/null || fail "there is no $command"
+    command -v "$command" > /dev/null || fail "$command is not installed"
 done
 kit=$(dirname "$(rt doc)")
 folder=$(realpath -m -- "${folder:-crates/lldpa/out/$arch}")
@@ -65,7 +65,7 @@ tools/library/library.sh --arch "$arch" "$folder/lib" > /dev/null &
 library=$!
 compile_program > "$room/said" 2>&1 || {
     wait "$library" || true
-    fail "the program is not built: $(tail -n 5 "$room/said")"
+    fail "the build of the program failed: $(tail -n 5 "$room/said")"
 }
 for source in tools/release/platform.c crates/lldpa_c/front/memory.c; do
     "${tools}gcc" -std=gnu99 -O2 -fPIE -Wall -Wextra -Werror -c "$source" -o "$room/$(basename "$source").o"

@@ -201,7 +201,7 @@ if [ -n "$library" ]; then
     [ -f "$built/liblldpa.a" ] || { echo "no $built/liblldpa.a: tools/library/library.sh makes it" >&2; exit 1; }
     looks=none
 else
-    [ -f "$program" ] || { echo "no $program: build the program with rt run in crates/lldpa" >&2; exit 1; }
+    [ -f "$program" ] || { echo "no $program: 'rt run' in crates/lldpa builds it" >&2; exit 1; }
     [ -f "$live" ] || { echo "no $live: tools/release/live.sh builds it" >&2; exit 1; }
 fi
 files | while read -r way source name; do

@@ -29,12 +29,12 @@ done
 case ${arch:-$machine} in
     amd64 | x86_64) arch=amd64 triple=x86_64-unknown-linux-gnu ;;
     arm64 | aarch64) arch=arm64 triple=aarch64-unknown-linux-gnu ;;
-    *) fail "unknown architecture $arch" ;;
+    *) fail "unknown architecture ${arch:-$machine}" ;;
 esac
-command -v cargo > /dev/null || fail "there is no cargo"
+command -v cargo > /dev/null || fail "cargo is not installed"
 has_library() { [ -d "$("$1" --print sysroot)/lib/rustlib/$triple/lib" ]; }
 if ! has_library rustc; then
-    has_library /usr/bin/rustc 2> /dev/null || { echo "there is no standard library of Rust for $arch" >&2 && exit 3; }
+    has_library /usr/bin/rustc 2> /dev/null || { echo "the standard library of Rust for $arch is not installed" >&2 && exit 3; }
     PATH=/usr/bin:$PATH
 fi
 out=$PWD/rust/live/out

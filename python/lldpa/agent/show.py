@@ -111,7 +111,7 @@ class Reader:
         names: set[str] = set()
         while name := self.port_of("lldp", "neighbors"):
             count = self.number(f"lldp.{name}.neighbors")
-            self.check(name not in names, "another port's name")
+            self.check(name not in names, "a port that is not listed above")
             names.add(name)
             octets = self.number(f"lldp.{name}.octets")
             too_many = self.text(f"lldp.{name}.too-many")
@@ -148,7 +148,7 @@ class Reader:
         names: set[str] = set()
         while name := self.port_of("lldp", "sent"):
             if name in names:
-                raise self.fault("another port's name")
+                raise self.fault("a port that is not listed above")
             names.add(name)
             keys = [f"lldp.{name}.{shown_key(field)}" for field in Counters._fields]
             yield name, Counters(*map(self.number, keys))
@@ -168,7 +168,7 @@ class Reader:
             statuses[name] = self.text(f"configuration.{name}.status")
             self.check(statuses[name] in STATUSES, f"one of {', '.join(STATUSES)}")
         if self.at != begin + 1 + count or len(statuses) != count:
-            raise self.fault(f"the status of {count} ports")
+            raise self.fault(f"the status of {counted(count, 'port')}")
         return Configuration(**numbers, statuses=statuses)
 
 

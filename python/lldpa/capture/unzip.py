@@ -29,7 +29,7 @@ class Unzipped:
 
     def __init__(self, file: Readable, begun: bytes, most: Optional[int] = None) -> None:
         self._file = gzip.GzipFile(fileobj=Begun(file, begun))
-        self._left = most
+        self._left = self._most = most
 
     def read(self, size: int) -> bytes:
         """Returns up to `size` octets, none at the end. Raises BadCapture if it cannot continue."""
@@ -42,5 +42,5 @@ class Unzipped:
         if self._left is not None:
             self._left -= len(octets)
             if self._left < 0:
-                raise BadCapture("its gzip data unpacks to more than the limit")
+                raise BadCapture(f"its gzip data unpacks to more than {self._most:,} octets")
         return octets

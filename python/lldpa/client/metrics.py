@@ -51,7 +51,7 @@ def metrics(show: Show, live: Iterable[str]) -> list[str]:
         *metric_lines("lldpa_neighbors", "gauge", "Neighbors that the port holds.",
                       [({"port": port.name}, port.neighbors_held) for port in show.ports]),
         *metric_lines("lldpa_too_many", "gauge",
-                      "1 while a neighbor dropped for lack of room would still be present.",
+                      "1 until each neighbor dropped for lack of room would have aged out.",
                       [({"port": port.name}, int(port.too_many)) for port in show.ports]),
         *metric_lines("lldpa_neighbor_info", "gauge", "What a neighbor announces; always 1.",
                       [(described(neighbor), 1) for neighbor in show.neighbors]),

@@ -12,7 +12,7 @@ COMMAND = re.compile(r"  (configure (?:[^ ]+ )*[^ ]+)  +(.*)")
 FURTHER = re.compile(r" {20,}(.*)")  # the rest of a command's description
 THE_SAME = "the same"
 PORT, STATUS = "PORT", "STATUS"
-A_PORT = "a port of this agent"
+A_PORT = "must be a port of this agent"
 
 # the words of each form of a command, and its description; words in capitals are placeholders
 Forms = Dict[Tuple[str, ...], str]

@@ -84,8 +84,7 @@ def show(client: Client, given: Given, question: Question) -> None:
     live = client.ask("live")
     told = told_by([client.ask(line) for line in LINES], live, time.time())
     given.write(question.tree(told))
-    missing = question.missing(told)
-    if missing:
+    if missing := question.missing(told):
         raise Refused(f"no such port: {', '.join(missing)}")
 
 

@@ -37,7 +37,7 @@ class EtsTables:
     def words(self) -> str:
         classes, shares = " ".join(map(str, self.classes)), " ".join(map(str, self.bandwidths))
         algorithms = " ".join(SHORT.get(one, str(one)) for one in self.algorithms)
-        return f"classes {classes}, percent {shares}, algorithms {algorithms}"
+        return f"classes by priority {classes}, percent by class {shares}, algorithms {algorithms}"
 
     def value(self) -> Object:
         return {"classes": list(self.classes), "bandwidths": list(self.bandwidths),
@@ -58,13 +58,11 @@ class Ets(Tlv):
     def read(cls, octets: bytes) -> Optional[Ets]:
         """Reads flags with the number of classes (0 means 8), and the tables."""
         tables = EtsTables.read(octets[1:])
-        if tables is None:
-            return None
-        return cls(bool(octets[0] & 0x80), bool(octets[0] & 0x40), octets[0] & 0x07 or CLASS_COUNT,
-                   tables)
+        return None if tables is None else cls(bool(octets[0] & 0x80), bool(octets[0] & 0x40),
+                                               octets[0] & 0x07 or CLASS_COUNT, tables)
 
     def words(self) -> str:
-        return f"{willing(self.is_willing)}, {self.most_classes} classes; {self.tables.words()}"
+        return f"{willing(self.is_willing)}, class limit {self.most_classes}, {self.tables.words()}"
 
     def value(self) -> Any:
         return {"willing": self.is_willing, "credit_based_shaper": self.has_credit_based_shaper,
@@ -112,7 +110,7 @@ class Pfc(Tlv):
 
     def words(self) -> str:
         enabled = ", ".join(map(str, self.enabled)) or "none"
-        return f"{willing(self.is_willing)}, priorities {enabled}, at most {self.most_classes}"
+        return f"{willing(self.is_willing)}, priorities {enabled}, class limit {self.most_classes}"
 
     def value(self) -> Any:
         return {"willing": self.is_willing, "macsec_bypass": self.can_bypass_macsec,

@@ -93,9 +93,9 @@ class PowerOfPairs(Fields):
     down_seconds: int
 
     def words(self) -> str:
-        return (f"at most {watts(self.most_available)}, A {watts(self.requested_a)} requested and "
-                f"{watts(self.allocated_a)} allocated, B {watts(self.requested_b)} and "
-                f"{watts(self.allocated_b)}")
+        return (f"at most {watts(self.most_available)}, mode A {watts(self.requested_a)} requested "
+                f"and {watts(self.allocated_a)} allocated, mode B {watts(self.requested_b)} "
+                f"requested and {watts(self.allocated_b)} allocated")
 
     def value(self) -> Object:
         """Returns the powers in watts, and all other fields as they were sent."""
@@ -197,6 +197,6 @@ class Eee(Tlv):
     echo_receive: int
 
     def words(self) -> str:
-        return (f"wakes in {self.transmit} us, wants {self.receive} us or "
-                f"{self.fallback_receive} us, echoes {self.echo_transmit} us and "
-                f"{self.echo_receive} us")
+        return (f"transmit wake time {self.transmit} us, requests {self.receive} us (fallback "
+                f"{self.fallback_receive} us), echoes of the peer's values: transmit "
+                f"{self.echo_transmit} us, receive {self.echo_receive} us")

@@ -5,7 +5,7 @@
 
 use crate::clock::{self, SECOND};
 use crate::files::{self, Files};
-use crate::reports::warn;
+use crate::reports::{counted, warn};
 use crate::rights::text_of;
 use crate::state;
 use std::collections::VecDeque;
@@ -161,7 +161,8 @@ impl Log {
             }
             Ok(path) if octets > 0 && !self.trouble.is_empty() => {
                 let lost = self.lost - self.lost_told;
-                warn(&format!("the log continues in {path}; {lost} lines were not written"));
+                let lines_were = if lost == 1 { "line was" } else { "lines were" };
+                warn(&format!("the log continues in {path}; {lost} {lines_were} not written"));
                 if self.trouble == "stalled" && lines > 0 {
                     self.size = self.least; // so that another file begins
                 }
@@ -216,7 +217,7 @@ impl Log {
         }
         match self.waiting.iter().map(|one| one.1).sum::<u64>() {
             0 => (),
-            lines => self.tell(&format!("lacks its last {lines} lines")),
+            lines => self.tell(&format!("lacks its last {}", counted(lines as usize, "line"))),
         }
     }
 }

@@ -106,7 +106,8 @@ impl Port {
         packet::release(socket);
         self.index = None;
         self.gone_since = Some(now);
-        let further = if self.is_named { "; waiting for the next of that name" } else { "" };
+        let next = if what == "gone" { "of that name".into() } else { format!("one named {}", self.name) };
+        let further = if self.is_named { format!("; waiting for the next {next}") } else { String::new() };
         notice(&format!("{}: the interface is {what}{further}", self.name));
         self.told_link(false)
     }

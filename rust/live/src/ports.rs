@@ -179,9 +179,10 @@ impl Ports {
             } else if drops > *told {
                 let each = self.all.iter().filter(|port| count(port) > 0);
                 let each: Vec<_> = each.map(|port| format!("{} {}", port.name, count(port))).collect();
+                let (frames, were) = if drops == 1 { ("frame", "was") } else { ("frames", "were") };
                 let what = match kind {
-                    0 => format!("the kernel has dropped {drops} frames that came too fast"),
-                    _ => format!("{drops} frames over the limit of 64 a second for a port were dropped"),
+                    0 => format!("the kernel has dropped {drops} {frames} that came too fast"),
+                    _ => format!("{drops} {frames} over the limit of 64 a second for a port {were} dropped"),
                 };
                 notice(&format!("{what}: {}", each.join(", ")));
                 (*told, *next) = (drops, now + BETWEEN_REPORTS);

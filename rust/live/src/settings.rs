@@ -144,7 +144,7 @@ pub fn explained(line: &[u8], text: &str) -> String {
     };
     let allowed = |form: &&(&[&'static str], &'static str)| match form.0.get(place) {
         None => "no word is allowed here",
-        Some(&"PORT") => "a port of this agent",
+        Some(&"PORT") => "must be a port of this agent",
         Some(word) if is_value(word) => form.1,
         Some(word) => word,
     };

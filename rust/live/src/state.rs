@@ -43,7 +43,7 @@ pub fn read(path: &str, user: Option<User>) -> Result<Past, String> {
     let told = file.metadata().map_err(|fault| text_of(&fault))?;
     let is_ours = told.uid() == own_user() || user.map_or(false, |user| told.uid() == user.user);
     if !(told.is_file() && told.nlink() == 1 && is_ours && told.mode() & 0o077 == 0) {
-        return Err("it is not a file that only its user can access".into());
+        return Err("it must be a file that only lldpa-live's user can access".into());
     }
     let mut octets = Vec::new();
     file.take(MOST_OCTETS + 1).read_to_end(&mut octets).map_err(|fault| text_of(&fault))?;
@@ -63,7 +63,7 @@ pub fn past(octets: &[u8], wall: i64, now: i64) -> Result<Past, String> {
     let (then_wall, then) =
         (milliseconds(then_wall).ok_or(INCOMPLETE)?, milliseconds(then).ok_or(INCOMPLETE)?);
     if now < then || (wall - then_wall - (now - then)).abs() > MOST_APART {
-        return Err("this host was rebooted since then, or its clock was set".into());
+        return Err("this host was rebooted since the state was written, or its clock was set".into());
     }
     let mut past =
         Past { seconds: u32::try_from((now - then) / 1000).unwrap_or(u32::MAX), ..Past::default() };

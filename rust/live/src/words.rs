@@ -139,11 +139,11 @@ fn check_ports(parts: &[String]) -> Result<(), String> {
         return Err(format!("{part}: {form} (a VLAN interface cannot be a port)"));
     }
     let names: Vec<&String> = parts.iter().filter(|part| !patterns::is_pattern(part)).collect();
-    let is_again = |(place, name): (usize, &&String)| names[..place].contains(name);
-    match names.len() {
+    let again = names.iter().enumerate().find(|(place, name)| names[..*place].contains(name));
+    match (names.len(), again) {
         _ if parts.is_empty() => Err("a PORT is required".into()),
-        _ if names.iter().enumerate().any(is_again) => Err("the same port twice".into()),
-        count if count > MOST_PORTS => Err(format!(
+        (_, Some((_, name))) => Err(format!("the port {name} is given twice")),
+        (count, None) if count > MOST_PORTS => Err(format!(
             "{count} ports, but an agent has at most {MOST_PORTS}: run a second service for the others"
         )),
         _ => Ok(()),
