@@ -66,7 +66,7 @@ ALL = NEIGHBORS + STATISTICS + CHASSIS + CONFIGURATION
 
 
 def shows_of_transcript(name: str) -> Iterator[List[str]]:
-    """Yields the output of each show in a transcript, and of all shows after each of its lines."""
+    """Yields the output of each show in a transcript, and of all shows after its last line."""
     (_, words, _, trace, steps), = transcripts([name])
     assert not isinstance(steps, str), steps
     lines = [line for line, _ in steps] + [b"show " + show.encode() for show in SHOWS]

@@ -201,7 +201,8 @@ class Port:
         return any(self.signal(s) and self.sent_to[k] == self.sent_to[s] for s in range(self.last_start(k), k + 1))
 
     def is_open(self, k):
-        """Returns whether one more frame at k is within the limit of each run that ends there."""
+        """Returns whether one more frame at k is within the limit of each run of events ending at
+        k."""
         most = self.options.tx_credit_max
         return all(self.sent_to[k] - self.sent_to[i] + 1 <= most + self.ticks(i + 1, k) for i in range(k + 1))
 

@@ -17,9 +17,9 @@ NO_FAULTS = (Verdict.NO_DATA, Verdict.NOT_LOOKED_AT, Verdict.KNOWN)
 
 
 class Count(NamedTuple):
-    """How many cables are in each state. `unplanned` counts ports, `mismatches` right links, and
-    `faults` ends. `hosts` are those without a source, first those with most cables not looked
-    at."""
+    """How many cables are in each state, how many ports are unplanned, how many right links have a
+    mismatch, and how many ends have a fault. `hosts` are those without a source, first those
+    with most cables not looked at."""
 
     cables: Mapping[str, int]
     unplanned: int

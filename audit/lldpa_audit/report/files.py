@@ -17,6 +17,6 @@ def write(file: str, octets: bytes) -> None:
 
 
 def is_written_in_place(path: Path) -> bool:
-    """Returns whether a file is a pipe or a device, and so must not be replaced. A file or link of
-    another user is replaced in any case."""
+    """Returns whether a path is a pipe, a device or a link to one, and belongs to root or this
+    user. Such a path is written in place, any other is replaced."""
     return path.exists() and not path.is_file() and path.lstat().st_uid in (0, os.geteuid())

@@ -44,7 +44,7 @@ class FaultTexts:
         return f"{text} ({reason})" if reason else text
 
     def of_link(self, fault: Finding, other: Optional[Finding]) -> str:
-        """Returns what is wrong at an end, and at the other end, which has a lesser fault."""
+        """Returns what is wrong at an end and, if it adds something, what the other end has."""
         text = self.text(fault)
         are_alike = other is not None and fault.verdict is other.verdict
         if other is None or are_alike and other.verdict in (Verdict.ONE_SIDED, Verdict.SILENT):

@@ -65,7 +65,7 @@ pub struct Live {
     pub next_try: i64,
     /// When to check the host's name and the control socket: some systems report no changes.
     pub next_look: i64,
-    /// True if a missing interface was reported; true if a missing address was reported.
+    /// Whether it was reported that an interface is missing, and that there is no IPv4 address.
     pub is_awaiting: bool,
     pub was_missing: bool,
     pub last_number: u32,
