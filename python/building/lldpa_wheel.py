@@ -1,4 +1,4 @@
-"""Builds the wheel of the Python package (PEP 517). It needs only the standard library, so pip
+"""Builds the wheel of the Python package (PEP 517) with only the standard library, so that pip
 needs no network."""
 from __future__ import annotations
 
@@ -16,7 +16,7 @@ NAME = "lldpa"
 SUMMARY = "An LLDP agent as a library, and programs that use it; this wheel contains "
 WITHOUT = "everything except the program lldpa itself"
 PYTHON = ">=3.9"
-# each package and its folder in the repository; a source archive has both in its top folder
+# each package and the folder that contains it; in a source archive that is the top folder
 PACKAGES = {"lldpa": "python", "lldpa_audit": "audit"}
 # lldpctl is left out: it would hide lldpd's program of the same name
 PROGRAMS = {"lldpa-ctl": "lldpa.commands.ctl", "lldpa-capture": "lldpa.commands.capture",

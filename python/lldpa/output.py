@@ -52,10 +52,10 @@ class StandardErrors(io.FileIO):
 
 
 def run(name: str, body: Callable[[], int], failed: int, errors: str = "strict") -> int:
-    """Runs a program's body and returns its status. If its output fails, reports that and returns
-    `failed`.
+    """Runs a program's body and returns its status. If its output fails, returns `failed`, and
+    reports the error unless the reader closed the pipe.
 
-    `errors` is Python's error handler for characters that the terminal does not have.
+    `errors` is Python's error handler for characters that the terminal cannot show.
     """
     fault = "it is closed" if OUTPUT in missing_streams() else ""
     encoding = getattr(sys.stdout, "encoding", None) or "utf-8"

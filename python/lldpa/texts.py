@@ -31,8 +31,8 @@ def shown_octet(octet: int) -> str:
 
 
 def text_of(octets: bytes) -> Tuple[str, Optional[str]]:
-    """Returns octets as Unicode, and None. If they are not UTF-8, returns them as the agent shows
-    them, and the octets in hexadecimal."""
+    """Returns UTF-8 octets as Unicode, and None. Returns other octets as the agent shows them, and
+    in hexadecimal."""
     try:
         return octets.decode("utf-8"), None
     except UnicodeDecodeError:

@@ -15,8 +15,7 @@ LINK_TYPES = {
 
 class CaptureInterface(NamedTuple):
     """An interface of a capture: its name if the file has one, its link type, its time stamp units
-    per second, the seconds to add to its time stamps, and the most octets captured of one
-    packet."""
+    per second, the seconds to add to its time stamps, and its snapshot length in octets."""
     name: Optional[str]
     link_type: int
     units: int

@@ -12,8 +12,8 @@ class Reader:
     """Reads the records of one file. Each format of captures has a subclass.
 
     `at` is the place of the next record in the window, and `number` counts the packets before it.
-    `latest` is the last packet's time stamp in the file's own units. UNKNOWN is later than every
-    time stamp, so that the next packet is read. Most packets have their octets at offset OCTETS_AT.
+    `latest` is the last packet's time stamp in the file's own units. If it is UNKNOWN, the next
+    packet is read, not skipped. Most packets have their octets at offset OCTETS_AT of their record.
     """
     HEAD_SIZE = 0
     OCTETS_AT = 0

@@ -46,7 +46,7 @@ def opened(file: str) -> BinaryIO:
 
 
 def hold(file: str) -> None:
-    """Copies a pipe, so that it can be opened several times like a file. Raises OSError."""
+    """If the file is a pipe, copies it, so that it can be opened several times. Raises OSError."""
     if file not in HELD and os.path.exists(file) and is_stream(os.stat(file).st_mode):
         copy = tempfile.TemporaryFile(buffering=0)
         with open(file, "rb", buffering=0) as octets:

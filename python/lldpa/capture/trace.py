@@ -28,9 +28,8 @@ class TooManyPorts(LldpaFault):
     """The captures have frames for more ports than an agent can have."""
 
 class Told(NamedTuple):
-    """Functions to call with a note on what is skipped (`note`), with a fault that makes the trace
-    incomplete (`fault`), and with the last time stamp of a capture in seconds since 1970
-    (`end`)."""
+    """Functions that receive notes on the trace (`note`), faults that make it incomplete (`fault`),
+    and the last time stamp of each capture in seconds since 1970 (`end`)."""
     note: Tell
     fault: Tell
     end: Callable[[float], None] = lambda _: None
@@ -72,8 +71,8 @@ def ports_of(sources: Sequence[Source]) -> List[str]:
     """Returns the ports of captures, in the order of sources and interfaces, each once.
 
     If there are more than 64, returns only the ports that have LLDP frames, and raises TooManyPorts
-    if these are also more than 64. Standard input and pipes can be read only once, so they count as
-    one port: the given one, or eth0.
+    if more than 64 have some. Standard input and pipes can be read only once, so each counts as one
+    port: the given one, or eth0.
     """
     ports: Dict[str, None] = {}
     for source in sources:

@@ -20,6 +20,6 @@ LATER = {"Client": ".connection", "neighbor_object": ".as_json", "since_of": ".l
 def __getattr__(name: str) -> object:
     """Loads a module when its name is first used."""
     if name in LATER:
-        from importlib import import_module  # seldom needed, as in lldpa
+        from importlib import import_module  # seldom needed by lldpa-ctl
         return getattr(import_module(LATER[name], __name__), name)
     raise AttributeError(f"module {__name__!r} has no attribute {name!r}")

@@ -80,7 +80,7 @@ def others_of(neighbor: Neighbor) -> Iterator[Pair]:
 
 
 def local_time(utc: str) -> str:
-    """Converts a time that lldpa-live wrote to local time."""
+    """Converts a time of lldpa-live (UTC) to local time. Returns a malformed time as it is."""
     try:
         seconds = seconds_of(utc)
     except ValueError:

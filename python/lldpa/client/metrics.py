@@ -26,7 +26,7 @@ NUMBERS = (
     ("log-lines-lost", "lldpa_log_lines_lost_total", "counter",
      "Lines of the agent that were not written to the log."),
 )
-# for ports: key in `live`, metric, type, description, and the value for 1 (empty for numbers)
+# for ports: key in `live`, metric, type, description, and the value shown as 1 (empty for numbers)
 OF_PORTS = (
     ("interface", "lldpa_interface_present", "gauge",
      "Whether the interface of the port exists, 1 or 0.", "present"),

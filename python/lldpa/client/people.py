@@ -78,7 +78,7 @@ def name_of(neighbor: Neighbor) -> str:
 
 
 def port_of(neighbor: Neighbor) -> str:
-    """Returns the Port ID, or the Port Description if the Port ID is a MAC address or binary."""
+    """Returns the Port ID. If it is a MAC address or binary, prefers the Port Description."""
     if neighbor.port_id.kind in ("mac", "unhandled") and neighbor.port_descr:
         return readable(neighbor.port_descr)
     return identifier_text(neighbor.port_id)
@@ -144,7 +144,8 @@ def count_of(ports: Sequence[Port], width: int) -> list[str]:
 
 
 def reasons(show: Show, live: Mapping[str, Mapping[str, str]], width: int) -> list[str]:
-    """Returns why ports have no neighbor. `live` has what lldpa-live reports about each port."""
+    """Returns lines that say which ports have no link, and why other ports have no neighbor. `live`
+    has what lldpa-live reports about each port."""
     statuses = show.configuration.statuses if show.configuration else {}
     found: Dict[str, List[str]] = {}
     for port in show.ports:

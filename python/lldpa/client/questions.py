@@ -35,7 +35,7 @@ class Question(NamedTuple):
 
 
 def question(words: Sequence[str]) -> Question:
-    """Reads a command, whose words may be shortened. Raises Refused if it is unknown."""
+    """Reads a command, whose words may be shortened. The agent will refuse an unknown command."""
     words = in_full(words, COMMANDS)
     for front, short in OF_LLDPCLI.items():
         if tuple(words[:len(front)]) == front:
@@ -144,7 +144,7 @@ OWN: Dict[str, Callable[[Sequence[str]], Question]] = {
     "statistics": ask_statistics,
     "live": ask_live,
 }
-# the first words of all commands
+# the first words of the commands that `question` knows
 COMMANDS: Tuple[str, ...] = (*OWN, "show", "configure", "update")
 
 
@@ -172,7 +172,7 @@ def ports_of(show: Show) -> List[str]:
 
 
 def only(show: Show, ports: Sequence[str]) -> Show:
-    """Returns only these ports of a show, or all. Raises Refused if a port is unknown."""
+    """Returns only these ports of a show (all if empty). Raises Refused if a port is unknown."""
     if not ports:
         return show
     check(ports, ports_of(show))

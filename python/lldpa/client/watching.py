@@ -71,7 +71,7 @@ def changes(old: Neighbor, new: Neighbor) -> Iterator[str]:
 
 
 def content_of(neighbor: Neighbor) -> Dict[str, str]:
-    """Returns everything that a neighbor sent, by key, in words if its meaning is known."""
+    """Returns a neighbor's optional TLVs by key, in words if their meaning is known."""
     said = said_by(neighbor.org)
     plain = [(key, value) for key, value in neighbor.said if not key.startswith("org.")]
     rest = [(f"org.{kind}", octets) for kind, octets in said.rest]
@@ -82,7 +82,7 @@ def content_of(neighbor: Neighbor) -> Dict[str, str]:
 
 
 def looks(client: Client) -> Iterator[List[str]]:
-    """Asks for the neighbors again and again, and yields the answers while the agent runs."""
+    """Asks for the neighbors again and again, and yields each answer that is not a refusal."""
     while True:
         time.sleep(SECONDS_BETWEEN_LOOKS)
         try:

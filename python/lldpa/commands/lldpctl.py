@@ -151,7 +151,7 @@ def console(given: Given) -> int:
 
 
 def obey_in_child(given: Given, words: Sequence[str]) -> int:
-    """Runs a command in a child, which alone gives up root. Returns 1 if its output failed."""
+    """Runs a command in a child: only the child gives up root. Returns 1 if its output failed."""
     child = os.fork()
     if child == 0:
         status = 1

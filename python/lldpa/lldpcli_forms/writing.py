@@ -1,4 +1,4 @@
-"""Writes a tree in one of the forms: for people, as keys and values, and as JSON."""
+"""Writes a tree for people, as keys and values, or as JSON."""
 
 import json
 import unicodedata

@@ -88,7 +88,8 @@ class Tlv(Fields):
 
     @property
     def part(self) -> str:
-        """Returns a text that distinguishes TLVs of a class: for each text one TLV may be sent."""
+        """Returns a text that distinguishes TLVs of a class. At most one TLV may be sent for each
+        text."""
         return ""
 
     def words(self) -> str:
@@ -107,7 +108,7 @@ class Tlv(Fields):
 
     @classmethod
     def rows(cls, said: Said) -> List[Row]:
-        """Returns the rows that show people all TLVs of this class."""
+        """Returns the rows for people about all TLVs of this class."""
         texts = (one.words() for one in said.all(cls))
         return [Row(cls.key, cls.heading, cls.between.join(filter(None, texts)), cls.group)]
 
@@ -128,8 +129,8 @@ class Tlv(Fields):
 class Said:
     """The organizationally specific TLVs of a neighbor, in the order in which they were sent.
 
-    `rest` has OUI and subtype, and the octets in hexadecimal, of all TLVs that are not in `tlvs`:
-    TLVs of unknown kinds, malformed TLVs, and different TLVs of a kind that may be sent only once.
+    `rest` has OUI and subtype, and the octets in hexadecimal, of TLVs of unknown kinds, of
+    malformed TLVs, and of different TLVs of a kind that may be sent only once.
     """
     tlvs: Tuple[Tlv, ...] = ()
     rest: Tuple[Tuple[str, str], ...] = ()

@@ -107,8 +107,8 @@ class Coordinates(Location):
 
 
 def fixed(value: int, places: int, resolution: int, whole: int) -> str:
-    """Returns the absolute value of a fixed-point number in lldpd's form. Its last `places` bits
-    are those after the point.
+    """Returns the absolute value of a fixed-point number in lldpd's form. The last `places` bits
+    of `value` are those after the point.
 
     `resolution` is the number of valid bits, and `whole` the number of bits before the point. They
     determine how many decimal digits lldpd writes; it cuts off the rest.

@@ -6,8 +6,8 @@ The numbers are those of IANA-MAU-MIB (dot3MauType), and the bits those of ifMau
 import re
 from typing import Iterator, NamedTuple, Optional, Tuple
 
-# The types from 1 on: the name, with a slash and the duplex mode if the type has one of its own,
-# and lldpcli's description. A row with {first|second} is for several types, in this order.
+# The types from 1 on: the name, with a slash and the duplex mode if the type fixes the mode, and
+# lldpcli's description. A row with {first|second} is for several types, in this order.
 MAU_TYPES = """
 AUI No internal MAU, view from AUI
 10BASE5 Thick coax MAU

@@ -46,7 +46,7 @@ class MedCapabilities(Tlv):
 
     @classmethod
     def nodes(cls, said: Said) -> List[Node]:
-        """Returns the node of all LLDP-MED TLVs, or no node if the device class is missing."""
+        """Returns the node of all LLDP-MED TLVs, or no node if the device class is missing or 0."""
         found = said.one(cls)
         if found is None or found.device_class == 0:
             return []
