@@ -200,7 +200,7 @@ def lanes_of(number: int) -> Iterator[End]:
 
 
 def is_paneled(one: End) -> bool:
-    """Returns whether a leaf's link is paneled, as those to its first twelve servers are."""
+    """Returns whether an end is one of a leaf's ports swp1 to swp12, whose links have panels."""
     return one[0].startswith("leaf") and one[1][3:].isdecimal() and int(one[1][3:]) <= CASSETTE
 
 

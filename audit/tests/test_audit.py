@@ -126,7 +126,7 @@ class RandomPlans(unittest.TestCase):
 
 
 class Aggregates(unittest.TestCase):
-    """Hosts with very many ports that name their aggregates: twice the links cost twice as much."""
+    """Checks that judging twice as many links of aggregates takes only twice the steps."""
 
     def steps(self, links: int, peer: str, numbers: int) -> int:
         """Returns how many lines of code run to judge the links of a host to a peer."""

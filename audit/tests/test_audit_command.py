@@ -20,7 +20,7 @@ RIGHT = "1 cable: 1 right, 0 wrong\n"
 
 
 class Audits(InAFolder):
-    """Audits of leaf1, whose port swp1 is planned to have host01 eth0."""
+    """Audits of leaf1, whose port swp1 should hear host01 eth0."""
 
     def setUp(self) -> None:
         super().setUp()

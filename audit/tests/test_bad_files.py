@@ -101,7 +101,7 @@ class Lists(Hostile):
 
 
 class Shapes(InAFolder):
-    """Files that once took too much; audit/tools/try-damage.py tries the large ones."""
+    """Files that once took too much time or memory. audit/tools/try-damage.py has larger ones."""
 
     def test_small_ones(self) -> None:
         for name, write in shapes.SMALL.items():

@@ -49,7 +49,7 @@ class Faults(InAFolder):
             self.file(f"seen/{host}", FORMS[form](heard, *words))
 
     def tlvs(self, neighbor: End) -> Sequence[Tuple[str, str]]:
-        """Returns the frame size of a neighbor, and the number of its LAG."""
+        """Returns TLVs with a neighbor's frame size and, if it has one, its LAG's number."""
         size = self.fabric.frames.get(neighbor[0], 9216)
         lag = self.lags.get(neighbor)
         told = [] if lag is None else [("00120f.3", f"03{lag:08x}")]

@@ -9,7 +9,7 @@ from lldpa_audit.plan import PlanFault
 from lldpa_audit.report.order import natural
 from lldpa_audit.spelling import is_aggregate, plain, plain_port
 
-# each line has one port in all spellings that vendors have for it
+# each list has one port in all spellings that vendors have for it
 PORTS = [
     ["Gi1/0/1", "GigabitEthernet1/0/1", "gi1/0/1", "Gig1/0/1", "GigabitEthernet 1/0/1", "GE1/0/1"],
     ["XGE1/0/2", "XGigabitEthernet1/0/2", "Ten-GigabitEthernet1/0/2", "Te1/0/2"],

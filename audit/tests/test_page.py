@@ -31,7 +31,7 @@ parent.document.documentElement.setAttribute('data-widths', JSON.stringify([
 
 
 def many_faults(ends: int, hosts: int = 20) -> Report:
-    """Returns a report of this many ends, with faults of each kind, on this many hosts."""
+    """Returns a report of this many ends, with faults of several kinds, on this many hosts."""
     known = ["= ", "= other{0} p", "= {1}{0} eth0, other p", "= other{0} p, x 1, x 2, x 3, x 4",
              "= {1}{0} eth0, {1}{0} eth0"]
     return report_of("; ".join(f"leaf{at % hosts} swp{at} - {LONG}{at} eth0" for at in range(ends)),
@@ -93,7 +93,7 @@ class InABrowser(InAFolder):
 
     def test_thousand_faults(self) -> None:
         page = page_of(many_faults(1000)).decode().replace("</body>", f"{ASKED}</body>")
-        for width in (1280, 400):  # in a frame, since a browser's window has a least width
+        for width in (1280, 400):  # in a frame, since a browser's window has a minimum width
             frame = f'<iframe width={width} height=900 srcdoc="{html.escape(page)}"></iframe>'
             file = self.file("page.html", f"<!DOCTYPE html><html><body>{frame}</body></html>")
             ran = subprocess.run(

@@ -105,7 +105,7 @@ class Neighbors(unittest.TestCase):
 
 
 def neighbor(one: Neighbor) -> Seen:
-    """Returns a neighbor that the package has read."""
+    """Converts a neighbor that the package has read."""
     said = "".join(f"\nlldp.{one.port}.1.{key}={value}" for key, value in one.said)
     return seen_neighbor(one.chassis.text, one.port_id.kind, one.port_id.text, SAID.findall(said))
 

@@ -53,7 +53,7 @@ def read(tree: Any) -> Listing:
 
 
 def names_of(listing: Listing) -> Dict[str, List[Tuple[str, str]]]:
-    """Returns the best names of each neighbor."""
+    """Returns the first name of each neighbor's host, and that of its port."""
     return {port: [(one.hosts[0], one.ports[0]) for one in some]
             for port, some in listing.ports.items()}
 

@@ -1,5 +1,5 @@
 """For tests: lists of neighbors in each form. Those of vendors are made from their documents, not
-printed by switches. The walk has the lines that snmpwalk printed of a real lldpd (samples).
+printed by switches. The walk's lines are like those of snmpwalk at a real lldpd (samples).
 
 Each writer takes a host's ports with their neighbors, as pairs of host and port.
 """

@@ -27,7 +27,7 @@ def audit(program, plan, *words):
 
 
 def picture(program):
-    """Returns the picture of the example's page, which contains its style."""
+    """Returns the picture of the example's page, with its style inside."""
     with tempfile.TemporaryDirectory() as room:
         audit(program, "plan.csv", "--html", f"{room}/page.html")
         page = pathlib.Path(room, "page.html").read_text()

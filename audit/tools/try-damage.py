@@ -47,7 +47,7 @@ def samples():
 
 
 def damaged(octets, dice):
-    """Returns a file with pieces that are gone, changed, or repeated many times."""
+    """Returns a file with pieces that are removed, changed, or repeated many times."""
     for _ in range(dice.choice([1, 1, 2, 4])):
         at = dice.randrange(len(octets) + 1)
         end = min(len(octets), at + dice.choice([0, 1, 2, 4, 16, 64, 256]))
@@ -58,7 +58,7 @@ def damaged(octets, dice):
 
 
 def enlarged(octets, dice):
-    """Returns a file in which a piece is repeated until it has 32 MB; some of them are compressed."""
+    """Returns a file, enlarged to 32 MB by repeating a piece of it; one in five is compressed."""
     octets = gzip.decompress(octets) if octets.startswith(b"\x1f\x8b") and dice.random() < 0.5 else octets
     at = dice.randrange(len(octets))
     end = min(len(octets), at + dice.choice([1, 2, 3, 5, 8, 20, 60, 200, 1000]))

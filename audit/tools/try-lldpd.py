@@ -4,7 +4,7 @@ All forms must give the same verdicts.
 
     audit/tools/try-lldpd.py
 
-Each end of two links between two namespaces has an lldpd, and leaf1 also an snmpd; then a second
+Two links join two namespaces. Each has an lldpd, and that of leaf1 also an snmpd; later a second
 sender joins. It needs Linux, root, and Debian's packages lldpd, snmp, snmpd and iproute2. The last
 line is `N passed, M failed`. If something is missing, it says so, and its status is 77.
 """

@@ -9,8 +9,8 @@ Pair = tuple[End, End]
 
 
 class Exchanges(NamedTuple):
-    """The ends of exchanges. `told_at` maps each to the end in whose line it is reported, `others`
-    to the pair at the other side, if exchanging that pair would also mend it."""
+    """`told_at` maps each end of an exchange to the end whose line reports it. `others` maps it to
+    the pair of ends on the other side, if exchanging that pair would also mend the fault."""
 
     told_at: dict[End, End]
     others: dict[End, Pair]
@@ -18,7 +18,7 @@ class Exchanges(NamedTuple):
 
 def exchanges_of(faults: Faults) -> Exchanges:
     """Returns the exchanges among faults: pairs of ends that are swapped with each other. An
-    exchange also has each far end of the pair's links that hears the wrong end of the pair."""
+    exchange also includes the far end of either link if it hears the wrong end of the pair."""
     found = Exchanges({}, {})
     ranks = {key: rank for rank, key in enumerate(faults.all)}
     for key in faults.all:
@@ -29,7 +29,7 @@ def exchanges_of(faults: Faults) -> Exchanges:
 
 
 def add(found: Exchanges, faults: Faults, near: Pair, ranks: dict[End, int]) -> None:
-    """Adds an exchange by its first pair. It is reported at a pair of one host if there is one."""
+    """Adds the exchange of a pair. It is reported at two ends of the same host, if possible."""
     one, other = far_of(faults, *near), far_of(faults, *near[::-1])
     pairs = [near]
     if one is not None and other is not None and twin_of(faults, one) == other:
@@ -50,7 +50,7 @@ def twin_of(faults: Faults, key: End) -> Optional[End]:
 
 
 def far_of(faults: Faults, key: End, twin: End) -> Optional[End]:
-    """Returns the end that a swapped end wants, if its neighbor is the swapped end's twin."""
+    """Returns the end that `key` wants, if that end hears `twin`, with which `key` is swapped."""
     wants = faults.all[key].wants
     far = faults.names.end(wants) if wants is not None else None
     fault = faults.all.get(far) if far is not None else None

@@ -1,4 +1,4 @@
-"""Makes the repairs of one link, or of two that are exchanged."""
+"""Makes the repairs of exchanged cables, of single links, and of unplanned ports."""
 from typing import Iterator, Sequence
 
 from ..judging import Verdict
@@ -32,7 +32,7 @@ def of_links(faults: Faults, texts: FaultTexts) -> Iterator[Repair]:
             continue
         far = faults.far(key)
         ends = [key] if far is None or far not in faults.left else [key, far]
-        # the worse verdict comes first, and of two equal ones the end that hears somebody
+        # the end with the worse verdict comes first; of two equal ones, one that hears somebody
         ends.sort(key=lambda end: (RANKS.index(faults.left[end].verdict), not faults.left[end].has))
         moved = ports_beside(faults, ends)
         mends = faults.take(ends)

@@ -37,7 +37,7 @@ def junit_of(report: Report, needs_all: bool = False) -> bytes:
 
 
 def case_of(report: Report, one: Finding, unseen: str) -> tuple[str, str]:
-    """Returns the element for an end, empty if it is right, and the text in it."""
+    """Returns the element of an end's test case and its text; both are empty if all is right."""
     if one.verdict is Verdict.NOT_LOOKED_AT:
         return unseen, "not looked at: no source covers either end of its cable"
     if one.verdict is Verdict.KNOWN:
@@ -72,7 +72,7 @@ def metrics_of(report: Report) -> bytes:
 
 
 def gauge(name: str, told: str, label: str, values: Mapping[str, float]) -> str:
-    """Returns a metric with a value for each value of its label, or nothing if there are none."""
+    """Returns a metric with a line for each of these values, or an empty text without any."""
     name = f"lldpa_audit_{name}"
     lines = [f"# HELP {name} {told}\n# TYPE {name} gauge\n"] if values else []
     for text, value in values.items():

@@ -1,4 +1,4 @@
-"""Finds hosts that announce another name than planned at their links: one line for each host."""
+"""Finds hosts that announce another name than the planned one, and reports each in one line."""
 from typing import Iterator, Mapping, Sequence
 
 from ..judging import Verdict
@@ -34,7 +34,7 @@ def exchange(faults: Faults, host: str, other: str, some: Sequence[End]) -> Repa
 
 
 def renamed(faults: Faults) -> Iterator[Repair]:
-    """Yields a repair for each planned host that is heard by another name, and never by its own."""
+    """Yields a repair for each planned host heard under another name, and never under its own."""
     for host, by_name in other_names(faults).items():
         some = max(by_name.values(), key=len)
         own = [faults.left[end] for end, _ in some if end in faults.left]
@@ -44,8 +44,8 @@ def renamed(faults: Faults) -> Iterator[Repair]:
 
 
 def other_names(faults: Faults) -> Mapping[str, Mapping[str, Sequence[tuple[End, Seen]]]]:
-    """Returns the other names that are heard in place of planned hosts. Each host and name maps to
-    the wanted ends of that host, each with the neighbor that has this name and the wanted port."""
+    """Returns the wrong names that are heard in place of each planned host. Each name maps to the
+    wanted ends of that host, each with the neighbor that has this name and the wanted port."""
     heard: dict[str, dict[str, list[tuple[End, Seen]]]] = {}
     for key, fault in faults:
         neighbor, wanted = faults.only(fault), faults.far(key)
@@ -66,7 +66,7 @@ def has_port(faults: Faults, neighbor: Seen, wanted: End) -> bool:
 
 
 def is_heard_rightly(faults: Faults, host: str) -> bool:
-    """Returns whether a host is heard by its planned name at one of its links."""
+    """Returns whether a host is heard under its planned name at one of its links."""
     ends, names = faults.tables.ends, faults.names
     return any(names.answers(neighbor, key)
                for key in faults.plan.ends_of_hosts.get(host, ())
@@ -75,7 +75,7 @@ def is_heard_rightly(faults: Faults, host: str) -> bool:
 
 
 def repair(faults: Faults, host: str, some: Sequence[tuple[End, Seen]]) -> Repair:
-    """Returns the repair of a host that is heard by another name where these ends are wanted."""
+    """Returns the repair of a host that is heard under another name at these ends."""
     name, neighbor = faults.plan.hosts[host], some[0][1]
     differs = faults.differences.of_neighbor(neighbor, some[0][0])
     fars = [faults.tables.ends.get(faults.plan.ends[key].wanted)

@@ -32,8 +32,8 @@ TO_DO = {
 
 
 class Repair(NamedTuple):
-    """One line: its kind, where to go, what is wrong there, and the faults that it mends. `place`
-    names a whole host or several ports, if these are where to go."""
+    """One line of a report: its kind, where to go, what is wrong there, and the faults to mend.
+    `place` is shown instead of `end` if it is not empty, as for a whole host or several ports."""
 
     kind: str
     end: End
@@ -43,8 +43,8 @@ class Repair(NamedTuple):
 
 
 class Faults:
-    """The faults by their normalized ends, in order. `left` has those that no repair mends yet, and
-    `seen` the place where each wanted end is seen."""
+    """The faults by their normalized ends, in order. `left` has those that no repair mends yet.
+    `seen` maps wanted ends to the first faulty end that hears them."""
 
     def __init__(self, plan: Plan, tables: Tables, faults: Iterable[Finding]) -> None:
         self.plan = plan
@@ -80,7 +80,7 @@ class Faults:
         return wish.end if wish else self.left[key].end
 
     def far(self, key: End) -> Optional[End]:
-        """Returns the other end of the planned link of an end."""
+        """Returns the other end of an end's planned link, or None if the end is not planned."""
         wish = self.plan.ends.get(key)
         return wish.wanted if wish else None
 
@@ -109,7 +109,7 @@ class Faults:
         return self.plan.ends[ends.pop()] if len(ends) == 1 else None
 
     def place(self, end: End) -> str:
-        """Returns an end as its line names it: by its port if only one host is audited."""
+        """Returns an end as a line names it: only the port if its host is the only audited one."""
         is_ours = len(self.tables.hosts) == 1 and self.names.host(end.host) in self.tables.hosts
         return shown(end.port) if is_ours else str(end)
 
@@ -118,7 +118,7 @@ class Faults:
         return self.tables.reason(self.names.end(end)) or self.like(end)
 
     def like(self, end: End) -> str:
-        """Returns a note on an unplanned port that has nearly the name of an end."""
+        """Returns a note on an unplanned port with nearly this end's name, or an empty text."""
         like = self._beside.get(self.differences.loosest(end))
         differs = self.differences.of_ends(like, end) if like else None
         return f"there is a port {self.place(like)}: {differs}" if like and differs else ""

@@ -20,14 +20,14 @@ from .whole_hosts import of_one_name, silent, together, without_data
 
 # longer places are not padded
 WIDEST = 48
-# how many further columns a line shows, and how long their texts may be
+# how many further columns of the plan a line shows, and how long their texts may be
 MOST_DETAILS, LONGEST_DETAIL = 4, 40
 NO_FAULTS = (Verdict.RIGHT, Verdict.KNOWN, Verdict.NOT_LOOKED_AT)
 
 
 class Report:
-    """What an audit has found: `told` has the findings that are reported, by host and port,
-    `repairs` their repairs, and `mismatches` the right links with a mismatch."""
+    """What an audit has found. `told` has the findings to report, by host and port, and `repairs`
+    has their repairs. `mismatches` has the mismatch of each right link that has one, by one end."""
 
     def __init__(self, plan: Plan, tables: Tables, findings: Sequence[Finding],
                  mismatches: Optional[Mapping[End, Mismatch]] = None) -> None:
@@ -47,7 +47,7 @@ class Report:
         self.count = count(findings, plan, tables, len(self.mismatches))
 
     def _repairs(self) -> Iterator[Repair]:
-        """Yields the repairs: first those of many ends, last those of one port."""
+        """Yields the repairs: those of many ends before those of one port, and mismatches last."""
         for find in (exchanged, renamed, turned, looped, broken_out, shifted, without_data, silent,
                      of_one_name):
             yield from find(self.faults)

@@ -1,4 +1,4 @@
-"""Finds faults with one cause at several ports of a host: shifted cables, lanes and loops."""
+"""Finds faults with one cause at several ports of a host: shifted cables, breakouts and loops."""
 import re
 from collections import Counter
 from typing import Iterator, Optional, Sequence
@@ -15,7 +15,7 @@ LANE = re.compile(r"(.*[0-9])[s:][0-9]|((?:Et|Eth|Ethernet)[0-9]+/[0-9]+)/[0-9]"
 
 
 def shifted(faults: Faults) -> Iterator[Repair]:
-    """Yields a repair for each run of ports, each with what the next (or previous) one wants."""
+    """Yields a repair for each run of ports that hear what the next (or previous) one wants."""
     counts = Counter(key.host for key, fault in faults if faults.only(fault))
     for host in (host for host, count in counts.items() if count >= SHORTEST):
         ports = sorted(faults.plan.ends_of_hosts.get(host, ()), key=by_port)
@@ -39,7 +39,7 @@ def step_of(faults: Faults, key: End, places: dict[End, int]) -> int:
 
 
 def repair_of_run(faults: Faults, ports: Sequence[End], begin: int, end: int, step: int) -> Repair:
-    """Returns the repair of shifted ports, with the next port if the shift explains its fault."""
+    """Returns the repair of shifted ports, and of the port beside them if it fits the shift."""
     run = list(ports[begin:end])
     behind = end if step > 0 else begin - 1
     if 0 <= behind < len(ports):

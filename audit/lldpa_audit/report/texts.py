@@ -18,7 +18,7 @@ class FaultTexts:
         self.mismatches = mismatches
 
     def text(self, fault: Finding) -> str:
-        """Returns what is wrong at an end, or an empty text if it is right."""
+        """Returns the verdict on an end in words, or an empty text if nothing is wrong."""
         if fault.verdict is Verdict.KNOWN:
             return f"known: {shown(fault.reason)}"
         if fault.verdict is Verdict.NOT_LOOKED_AT:
@@ -58,7 +58,7 @@ class FaultTexts:
             f"{text}; {at} hears nobody")
 
     def swapped(self, fault: Finding, partner: End) -> str:
-        """Returns which end an end is swapped with, and which other exchange would mend it, too."""
+        """Returns which end an end is swapped with, and any other exchange that would do."""
         has = self.faults.plan.ends[self.names.end(partner)].wants
         text = f"{self.faults.place(partner)}: wants {fault.wants}, has {has}"
         other = self.exchanges.others.get(self.names.end(fault.end))
@@ -68,14 +68,14 @@ class FaultTexts:
         return f"{text} (or exchange {one} with {twin} instead)"
 
     def wanted(self, end: End, wants: End) -> str:
-        """Returns which end is wanted, and where else that one is seen."""
+        """Returns which end is wanted and, if it is seen at another end, where."""
         place = self.faults.seen.get(self.names.end(wants))
         if place is None or place == end:
             return str(wants)
         return f"{wants} (seen at {self.faults.place(place)})"
 
     def reason(self, fault: Finding) -> str:
-        """Returns why an end has no data, or no neighbor."""
+        """Returns why an end has no data or no neighbor, or an empty text if this is not known."""
         if fault.verdict is Verdict.NO_DATA:
             return self.faults.reason(fault.end)
         if fault.verdict is not Verdict.SILENT:

@@ -1,4 +1,4 @@
-"""Finds faults of whole hosts: no data, silence, two hosts of one name, another setting."""
+"""Finds faults of whole hosts: no data, silence, a name that two hosts have, differing settings."""
 from collections import Counter
 from typing import Iterator, Mapping, Sequence
 
@@ -41,8 +41,8 @@ def silent(faults: Faults) -> Iterator[Repair]:
 
 
 def silent_links(faults: Faults, host: str) -> Sequence[Sequence[End]]:
-    """Returns for each link of a host its ends that were looked at. Returns () if one of them is
-    not silent, if the host is seen elsewhere, or if only some of its ports were looked at."""
+    """Returns for each link of a host its ends with data. Returns () if one of them is not silent,
+    if a port of the host is seen elsewhere, or if an audited host has a link without data."""
     found: list[Sequence[End]] = []
     tables = faults.tables
     for key in faults.plan.ends_of_hosts.get(host, ()):
@@ -91,9 +91,9 @@ def several_chassis(findings: Sequence[Finding]) -> Iterator[str]:
 
 def together(faults: Sequence[Finding], found: Mapping[End, Mismatch], names: Names, plan: Plan
              ) -> Iterator[Repair]:
-    """Yields a repair for each host at which three or more links differ in the same way, and for
-    each other link with a mismatch. A link is reported at one host only: preferably where at
-    least half of the links differ so, and then where more of them do."""
+    """Yields a repair for each host with three or more links whose ends differ in the same way, and
+    for each other link with a mismatch. A link is reported at one host only: preferably one
+    where at least half of the links differ so, then the one with more such links."""
     groups: dict[tuple[str, str], list[Finding]] = {}
     for fault in faults:
         for key in keys_of(found[fault.end], names):

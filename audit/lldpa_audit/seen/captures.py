@@ -21,9 +21,9 @@ MOST_UNPACKED = 1 << 27
 
 
 def read_captures(files: Sequence[str], port: str, program: str) -> Listing:
-    """Returns the neighbors of a port from its captures or, without a port, of the interfaces that
-    the only capture names. Captures without time stamps have the time of the first file, and
-    large ones a longer time limit. Raises ValueError, OSError, and Ended if the agent ends."""
+    """Returns the neighbors of a port from its captures or, if `port` is empty, of each interface
+    that the only capture names. Without packets, the time is that of the first file. Large
+    captures have a longer time limit. Raises ValueError, OSError, and Ended if the agent ends."""
     stats = [stat_of(file) for file in files]
     seconds = max(SECONDS, sum(one.st_size for one in stats) >> 21)
     try:

@@ -156,8 +156,8 @@ def listed(node: Any, of: str) -> list[Any]:
 
 
 def read_form(tree: Any, form: Form) -> Listing:
-    """Returns the neighbors in JSON of this form. A neighbor that is heard by two protocols counts
-    once: the entries share a name of the host and of the port. Raises SeenFault."""
+    """Returns the neighbors in JSON of this form. One that is heard by LLDP and another protocol
+    counts once, if both entries share a name of the host and of the port. Raises SeenFault."""
     ports: dict[str, list[Seen]] = {}
     others: dict[str, list[Seen]] = {}  # those heard by other protocols
     for port, node in ports_of(tree, form):

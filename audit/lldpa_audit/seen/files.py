@@ -16,7 +16,7 @@ from .listing import Listing, SeenFault
 
 # fewer files than this are read by one process, since several need time to start
 MANY = 100
-# a process returns this many files at a time, and each name in them only once
+# a process returns at most this many files at once, and sends each name in them only once
 FILES_AT_A_TIME = 100
 FRONT = 512
 MOST_OCTETS = 32 << 20
@@ -73,8 +73,7 @@ def placed(listing: Listing, file: str, written: float) -> Listing:
 
 
 def read_files(whats: Sequence[What]) -> Iterator[Optional[Listing]]:
-    """Begins to read the files, in parallel if there are many. Yields what is in each. Raises
-    OSError."""
+    """Reads the files, in parallel if there are many. Yields what is in each. Raises OSError."""
     processors = len(os.sched_getaffinity(0))
     if len(whats) < MANY or processors < 2:
         return map(read_file, whats)

@@ -45,7 +45,7 @@ def of_host(host: str, folder: str, say: Say) -> Iterator[What]:
 
 
 def entries(folder: str, say: Say) -> Iterator["os.DirEntry[str]"]:
-    """Yields the entries of a folder that are not hidden, sorted by name."""
+    """Yields the entries of a folder that are not hidden, sorted by name. Notes what is skipped."""
     with os.scandir(folder) as found:
         there = sorted((one for one in found if not one.name.startswith(".")),
                        key=lambda one: one.name)

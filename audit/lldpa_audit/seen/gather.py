@@ -34,7 +34,7 @@ class Gathering:
 
     def add_files(self, whats: Sequence[What], files: Iterator[Optional[Listing]]) -> None:
         """Adds the files `whats`. Several captures of a port count as one. `files` yields what is
-        in each file that is not a capture of one port, or None for another capture."""
+        in each file that is not a capture of one port, or None if it is another kind of capture."""
         for what, listing in zip(of_hosts(whats), files):
             if listing is None:
                 self.add_captures(what.host, "", [what.file])

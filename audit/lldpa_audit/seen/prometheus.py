@@ -1,6 +1,6 @@
 """Reads an answer of Prometheus' API (https://prometheus.io/docs/prometheus/latest/querying/api/)
 with what `lldpa-ctl metrics` wrote at each host: `lldpa_neighbor_info` has the neighbors,
-`lldpa_too_many` each port, and `node_textfile_mtime_seconds` the time."""
+`lldpa_too_many` has all ports, and `node_textfile_mtime_seconds` has the time."""
 import re
 from collections import defaultdict
 from typing import Any, Iterator
@@ -18,7 +18,7 @@ EXPORTED = "exported_"  # precedes lldpa's label if the target has one of the sa
 
 
 def read_prometheus(tree: Any) -> Listing:
-    """Returns the neighbors of each host, each once at a port. Raises SeenFault."""
+    """Returns the neighbors of each host. Equal ones at a port count once. Raises SeenFault."""
     heard: dict[str, dict[str, dict[Any, Seen]]] = {}
     times: dict[str, float] = {}
     whole = set()

@@ -82,7 +82,7 @@ def text_of(kind: str, value: str) -> str:
 
 
 def port_name(row: Row) -> str:
-    """Returns the name of a local port: its ID if that is an interface's, else its description."""
+    """Returns the name of a local port: its ID if that names an interface, else its description."""
     subtype, port_id, descr = (row.get(column, "") for column in LOCAL)
     return descr or port_id if kind_of(subtype) == "local" else port_id
 

@@ -80,7 +80,7 @@ def listing_of_one(answers: list[Any]) -> Optional[Listing]:
 
 
 def listing_or_fault(tree: Any) -> Listing:
-    """Returns the neighbors of one host of many, or the fault that it has."""
+    """Returns the neighbors of one host of many, or a listing with the fault of its JSON."""
     try:
         found = listing_of_host(tree)
         if found is not None and not found.hosts:
