@@ -11,9 +11,9 @@ Side = tuple[str, str, bool, int]
 
 
 class Bundles:
-    """Counts, for each pair of hosts, the planned links that announce each pair of aggregates. An
-    aggregate of one host leads to one aggregate of the other. So if an aggregate is in several
-    pairs, only the pair with the most links belongs together; in a tie, none does."""
+    """Counts the planned links between each aggregate of a host and each of another, as announced.
+    An aggregate of one host leads to one aggregate of the other. So if an aggregate is in
+    several pairs, only the pair with the most links belongs together; in a tie, none does."""
 
     def __init__(self, plan: Plan, tables: Tables) -> None:
         self._tables = tables
@@ -31,13 +31,13 @@ class Bundles:
         return any(self._greatest[side][0] >= self._counts[pair] for side in pair)
 
     def _pair(self, end: End, other: End) -> tuple[Side, ...]:
-        """Returns the aggregates that both ends of a link announce, or () if one announces none."""
+        """Returns the aggregates that a link's two ends announce, or () if either is unknown."""
         ours, theirs = self._heard(other, end.host), self._heard(end, other.host)
         return () if ours is None or theirs is None else (
             (end.host, other.host, True, ours), (end.host, other.host, False, theirs))
 
     def _heard(self, end: End, host: str) -> Optional[int]:
-        """Returns the aggregate that an end's only neighbor announces, if it is of this host."""
+        """If an end's only neighbor is of `host`, returns the aggregate that it announces."""
         told = self._tables.ends.get(end)
         if told is None or len(told.neighbors) != 1:
             return None

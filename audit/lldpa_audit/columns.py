@@ -39,7 +39,7 @@ class Columns:
         self.others = [header[at].strip() for at in self._others]
 
     def _found(self, given: Optional[Mapping[str, str]]) -> tuple[Sequence[str], bool]:
-        """Returns the names of the four columns, and whether they are NetBox's."""
+        """Returns the names of the four columns, and whether they are those of NetBox's cables."""
         if given:
             return [key_of(given.get(name, name)) for name in COLUMNS], False
         for form in NETBOX:

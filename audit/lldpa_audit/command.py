@@ -42,7 +42,7 @@ class Audit:
     def __init__(self, given: argparse.Namespace) -> None:
         self.given = given
         self.progress = Progress(NAME)
-        self.status = 0  # of damaged or unreadable files
+        self.status = 0  # 1 if a source is damaged, 2 if two overlap
 
     def run(self) -> int:
         """Audits, prints the report and writes its files. Returns the exit status."""

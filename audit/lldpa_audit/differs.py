@@ -1,4 +1,4 @@
-"""Finds the only difference that keeps two names from matching: case, domain or spelling."""
+"""Finds the differences that alone keep two names from matching: case, domain or spelling."""
 from typing import Optional
 
 from .names import End, Names, Seen
@@ -15,7 +15,7 @@ class Differences:
         self._looser = [(differences, names.looser(*differences)) for differences in DIFFERENCES]
 
     def of_neighbor(self, neighbor: Seen, end: End) -> Optional[str]:
-        """Returns the only difference that keeps a neighbor from matching an end, if any."""
+        """Returns why a neighbor does not match an end, or None if it does or is another port."""
         if self._names.answers(neighbor, self._names.end(end)):
             return None
         for differences, rule in self._looser:
@@ -26,7 +26,7 @@ class Differences:
         return None
 
     def of_ends(self, one: End, other: End) -> Optional[str]:
-        """Returns the only difference between the names of two ends, if any."""
+        """Returns how two ends' names differ, or None if not only in case, domain or spelling."""
         for differences, rule in self._looser:
             if rule.end(one) == rule.end(other):
                 return words_of(differences)

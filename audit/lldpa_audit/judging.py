@@ -10,7 +10,7 @@ from .plan import Plan, Wish
 from .seen.tables import Tables, KnownPort
 
 
-# three candidates are enough: at most the end itself and the one it wants are not its partner
+# of three candidates for an end's partner, at most two are wrong: that end and the one it wants
 MOST_TRIED = 3
 
 
@@ -140,8 +140,8 @@ class Judge:
         return told is not None and any(self.names.answers(one, other) for one in told.neighbors)
 
     def partner(self, end: End, wanted: End, neighbor: Seen) -> Optional[End]:
-        """Returns the first end, of another link, that an end with only this neighbor is swapped
-        with: each hears the end that the other wants, not the one that it wants."""
+        """Returns the first end of another link that `end` is swapped with, if any: each hears only
+        the end that the other wants. The only neighbor of `end` is `neighbor`."""
         ends = (key for key in self.names.ends(neighbor) if key in self.plan.ends)
         others = {self.plan.ends[key].wanted for key in ends}
         for host in self.hosts_of_aggregate(neighbor):
@@ -167,7 +167,7 @@ class Judge:
     @cached_property
     def _with_another(self) -> Mapping[tuple[str, Union[End, str]], Sequence[End]]:
         """Returns the first planned ends whose only neighbor is wrong, keyed by the host that they
-        want and by what they hear: an end, or a host if it may be any of that host's ports."""
+        want and by what they hear: an end, or a host if the neighbor may be any of its ports."""
         found: dict[tuple[str, Union[End, str]], list[End]] = defaultdict(list)
         for end, wish in self.plan.ends.items():
             told = self.tables.ends.get(end)

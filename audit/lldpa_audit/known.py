@@ -14,7 +14,7 @@ VERDICTS = {one.value: (one,) for one in Verdict if one not in NOT_EXCUSED}
 
 
 class Row(NamedTuple):
-    """A row: an end, or a host if the port is empty, the verdicts excused there, and the reason."""
+    """A row: an end (a host if the port is empty), the verdicts excused there, reason and line."""
 
     end: End
     verdicts: Sequence[Verdict]
@@ -38,8 +38,8 @@ class Known(NamedTuple):
         return next((row.reason for row in rows if verdict in row.verdicts), "")
 
     def applied(self, one: Finding, names: Names) -> Finding:
-        """Returns a finding, made known if a row excuses it at either end of its link. If nobody
-        looked at the link, rows must excuse it at both ends."""
+        """Returns a finding, with the verdict `known` if a row excuses it at either end of its
+        link. If nobody looked at the link, rows must excuse it at both ends."""
         if one.verdict is Verdict.RIGHT:
             return one
         ours, theirs = (self.reason(names, end, one.verdict) for end in (one.end, one.wants))

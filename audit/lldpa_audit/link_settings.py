@@ -16,7 +16,7 @@ MOST_KEPT = 4096
 class Settings(NamedTuple):
     """What a port announces for its link. A field is None if it is not announced. The frame size is
     in octets, the speed in Mb/s, and duplex is `full` or `half`. A PVID of 0 means that there is
-    none, and `aggregation` is the number of the aggregate at that host."""
+    none, and `aggregation` is the number of the port's aggregate at its host."""
 
     max_frame_size: Optional[int] = None
     pvid: Optional[int] = None

@@ -35,7 +35,7 @@ class Said(NamedTuple):
 
 
 def said_of_links(findings: Iterable[Finding], tables: Tables, plan: Plan) -> Iterator[Said]:
-    """Yields for each end of a right link both ends' settings, as heard by the other end."""
+    """Yields for each right end the settings of its link's ends, each as the other heard them."""
     names = tables.names
     right = {names.end(one.end): one for one in findings if one.verdict is Verdict.RIGHT}
     wanted = expected(plan)
@@ -80,7 +80,7 @@ def mismatch(said: Said) -> Optional[Mismatch]:
 
 
 def differing(one: Settings, other: Settings) -> Iterator[tuple[str, str, str, str]]:
-    """Yields each difference of two ends: what each announces, and how it differs."""
+    """For each setting that differs, yields both values and how each differs from the other."""
     for (name, unit), value, its in zip(NAMES, one, other):
         if value is not None and its is not None and value != its:
             own, far = f"{worded(value)}{unit}", f"{worded(its)}{unit}"

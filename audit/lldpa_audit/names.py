@@ -11,7 +11,7 @@ from .link_settings import Settings
 from .spelling import is_aggregate, plain, plain_port
 
 
-LONGEST = 255  # LLDP can send no longer name
+LONGEST = 255  # the longest name that LLDP can send
 MOST_NAMED = 3  # hosts, ends or neighbors in one line
 
 
@@ -89,8 +89,8 @@ class Names:
         return key
 
     def hosts_of(self, neighbor: Seen) -> Sequence[str]:
-        """Returns the normalized hosts that a neighbor may be: several for a name without domain.
-        """
+        """Returns the normalized hosts that a neighbor may be. With `short_names`, a name without a
+        domain may be that host in any planned domain."""
         if self._is_strict:
             return neighbor.hosts
         keys = [self.host(name) for name in neighbor.hosts]

@@ -30,9 +30,9 @@ AT_NO_PANEL = (False, False)
 
 
 class Cable(NamedTuple):
-    """A cable of a plan. `rows` has host, port, peer and peer's port of each link in it, `line` is
-    its line in the plan, and `texts` are its further columns. `at_panels` says whether each side
-    is at a panel, and `position` is that of a front port at its rear port."""
+    """A cable of a plan, or a panel's pair of ports with a `position` at the rear port. `rows` has
+    host, port, peer and peer's port of each link in it, `line` is its line in the file, and
+    `texts` are its further columns. `at_panels` says whether each side is at a panel."""
 
     rows: Sequence[Sequence[str]]
     line: Optional[int] = None

@@ -12,7 +12,7 @@ ENDLESS = f"its link passes more than {MOST_PANELS} panels"
 
 
 class Cable(NamedTuple):
-    """The far end of a cable at a panel, as written and normalized, its line and its detail."""
+    """A cable at a panel: its far end, as written and normalized, its line and its detail."""
 
     end: End
     key: End

@@ -48,7 +48,7 @@ class Faults:
 
 
 class Detail(NamedTuple):
-    """What else a plan says of a cable: its further columns in order, and its path at panels."""
+    """What else a plan says of a cable: its further columns, and its link's path through panels."""
 
     texts: Sequence[str] = ()
     path: Sequence[End] = ()
@@ -60,8 +60,8 @@ FIRST = "1"
 
 class Link(NamedTuple):
     """A planned link: its two ends, and the plan's line for each, if known. The ends of a link
-    through panels are of two cables, each with a line and a detail. A panel's pair of ports is
-    also a link: from the front port to the rear port, with its position there, counted from 1."""
+    through panels belong to two cables, each with a line and a detail. A panel's front port and
+    rear port are also a link; `position` is then the one at the rear port, counted from 1."""
 
     one: End
     other: End
@@ -88,9 +88,9 @@ NOT_PLANNED = Wish(NO_END, NO_END, NO_END)
 
 
 class Plan:
-    """The planned ends by their normalized names, in the plan's order; the two ends of a link are
-    adjacent. Only an end in `whole` has several links, those of a breakout cable; `breakouts`
-    has these. `columns` names the texts of a detail, `notes` says what is left out, `not_judged`
+    """The planned ends by normalized name, in the plan's order; the two ends of a link are
+    adjacent. Only an end in `whole` has several links, those of a breakout cable: `breakouts`
+    has them. `columns` names the texts of a detail, `notes` says what is left out, `not_judged`
     counts the links that cannot be followed, and `unknown` has their ends. Raises PlanFault."""
 
     def __init__(self, file: str, links: Iterable[Link], names: Names,

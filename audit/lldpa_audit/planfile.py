@@ -42,7 +42,7 @@ class PlanFile:
 
     def _cables(self) -> Iterator[Union[Cable, str]]:
         """Returns each cable, or why it is left out."""
-        if self.text.lstrip()[:1] in ("{", "["):  # CSV and DOT do not begin so
+        if self.text.lstrip()[:1] in ("{", "["):  # CSV and DOT do not begin with these
             self.others = DETAILS
             return cables_of(self.text, self.faults)
         if is_dot(self.text):
@@ -59,7 +59,7 @@ class PlanFile:
             yield from (cable for cable in starmap(columns.cable, rows) if cable)
 
     def _links_of(self, cable: Cable) -> Sequence[Link]:
-        """Returns the links of a cable. Notes ends at panels and ends with several links."""
+        """Returns the links of a cable. Remembers ends at panels and ends with several links."""
         rows, line, texts, at_panels, position = cable
         detail = Detail(texts) if texts else NO_DETAIL
         links = []
@@ -84,7 +84,7 @@ class PlanFile:
 
 def read_plan(file: str, names: Names, columns: Optional[Mapping[str, str]] = None,
               panels: Optional[str] = None, progress: Optional[Progress] = None) -> Plan:
-    """Reads a plan, and follows its links through a file of panels. Raises PlanFault, OSError."""
+    """Reads a plan, and follows its links through listed panels. Raises PlanFault and OSError."""
     read = PlanFile(file, columns, panels is not None)
     links: Iterable[Link] = read.links()
     if progress is not None:

@@ -7,7 +7,7 @@ from typing import Iterator, Sequence
 from .plan import Faults, PlanFault
 
 
-LINE = re.compile(r"[^\n]*\n|[^\n]+")  # not all lines at once, which may take much memory
+LINE = re.compile(r"[^\n]*\n|[^\n]+")  # to split all lines at once would take much memory
 COMMENT = "#"
 
 
@@ -38,8 +38,8 @@ def table_of(faults: Faults, columns: Sequence[str], further: Sequence[str] = ()
 def rows_of(text: str, faults: Faults) -> Iterator[tuple[int, list[str]]]:
     """Yields each row with its line, first the header, without blank lines and comments. Shorter
     rows are filled with empty fields. A comment begins with `#`, and is before the header or has
-    fewer fields than it. A quoted field may have line feeds, even lines that look like comments.
-    Reading stops at a field without an end."""
+    fewer fields than it. A quoted field may span lines, even some that look like comments.
+    Reading stops at a field that is too long or has no closing quote."""
     lines = Lines(text)
     reader = csv.reader(lines, delimiter=separator_of(text), strict=True, skipinitialspace=True)
     width = 0
@@ -76,8 +76,8 @@ def separator_of(text: str) -> str:
 
 
 class Lines:
-    """Yields the lines of a text, without blank lines between rows and comments before the header.
-    `number` is the number of the last line, `begin` that of the first line of its row."""
+    """Yields the lines of a text, but skips blank lines between rows, and comments before the
+    header. `number` is the number of the latest line, `begin` that of the first line of its row."""
 
     def __init__(self, text: str) -> None:
         self._text = text

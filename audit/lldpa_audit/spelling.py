@@ -52,7 +52,7 @@ AGGREGATE = re.compile(r"(?:port-?channel|po|bundle-ether|be|ae|trk|bridge-aggre
 
 
 def plain(name: str) -> str:
-    """Returns a name with one spelling of its letters and addresses."""
+    """Returns a name in one spelling, also if it is a MAC address, an IP address or not ASCII."""
     if not name.isascii():
         return unicodedata.normalize("NFC", name)
     if MAC.fullmatch(name):

@@ -11,8 +11,8 @@ ENDINGS = (".gz", ".json", ".json0", ".xml", ".walk", ".txt", ".show", ".out", "
 
 
 class What(NamedTuple):
-    """A file of a host, with the port if it is a capture of one. An empty host may be found from
-    the file's name. If a file from a folder (`is_found`) cannot be opened, the audit goes on."""
+    """A file of a host, with the port if it is a capture of one. If the host is empty, `placed`
+    finds it. If a file from a folder (`is_found`) cannot be opened, the audit goes on."""
 
     host: str
     port: str

@@ -96,7 +96,7 @@ def add_words_of_report(parser: argparse.ArgumentParser) -> None:
 
 
 def columns(text: str) -> "dict[str, str]":
-    """Reads the columns of an option, such as `host=device,port=interface`."""
+    """Reads the value of `--columns`, such as `host=device,port=interface`."""
     pairs = [part.partition("=") for part in text.split(",")]
     given = {name.strip(): column.strip() for name, _, column in pairs}
     if len(given) == len(pairs) and set(given) <= set(COLUMNS) and all(given.values()):
