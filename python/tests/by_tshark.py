@@ -4,7 +4,7 @@ from typing import Any, Callable, Dict, List, Tuple
 
 from lldpa.organizational import LinkAggregation, Tlv
 
-# keys (or parts of keys) that tshark shows and that are not compared, by reason
+# keys, or parts of keys, of tshark's output that are not compared, for each reason
 LEFT_OUT = {
     "which TLV it is, and its length": (
         "lldp.tlv.", "lldp.orgtlv.oui", "lldp.ieee.802_1.subtype", "lldp.ieee.802_3.subtype",
@@ -25,7 +25,7 @@ Pairs = List[Tuple[str, str]]
 
 
 def compared(pairs: List[Any]) -> Pairs:
-    """Returns the pairs that tshark shows for a TLV and that are compared."""
+    """Returns tshark's pairs for a TLV, without those that are not compared."""
     return [(key, value) for key, value in pairs if not is_left_out(key)]
 
 
@@ -35,7 +35,7 @@ def is_left_out(key: str) -> bool:
 
 
 def expected(front: str, values: Dict[str, Any]) -> Pairs:
-    """Returns pairs of a key, after the prefix `front`, and a value in tshark's form."""
+    """Returns the values in tshark's form, each with its key after the prefix `front`."""
     return [(front + key, as_shown(value)) for key, value in values.items()]
 
 

@@ -6,7 +6,7 @@ from lldpa.organizational import Tlv
 
 
 class Sample(NamedTuple):
-    """A TLV's octets and value. `changed`: how many variants with one other octet can be read;
+    """A TLV's octets and value. `changed`: how many variants with one changed octet can be read;
     `fronts`: the lengths of beginnings that can be read; `ignored`: bits without a meaning."""
     kind: Tuple[str, int]
     octets: str
@@ -35,5 +35,5 @@ def by_layout(tlv: Any, layout: str = "") -> bytes:
 
 
 def counted(octets: bytes) -> bytes:
-    """Returns the octets, with their number in one octet in front."""
+    """Returns one octet with the number of these octets, and then these octets."""
     return bytes([len(octets)]) + octets

@@ -96,5 +96,5 @@ def of_frame(one: Judged, neighbor: Neighbor) -> Iterator[Tuple[Any, Any, str]]:
 
 
 def of_tlvs(pairs: Iterable[Pair]) -> List[Pair]:
-    """Returns the pairs that are compared: lldpcli's about organizationally specific TLVs."""
+    """Returns the pairs about organizationally specific TLVs, without those in `SLIPS`."""
     return [(key, value) for key, value in pairs if key.startswith(PARTS) and key not in SLIPS]

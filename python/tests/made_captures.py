@@ -66,7 +66,7 @@ def interface(order: str = "<", name: str = "", resolution: Optional[int] = None
 
 
 def units_of(resolution: Optional[int]) -> int:
-    """Returns the number of time units in a second that an interface's option states."""
+    """Returns how many time units a second has according to an interface's option (or 10**6)."""
     if resolution is None:
         return 10**6
     return 2**(resolution & 127) if resolution & 128 else 10**resolution
@@ -82,7 +82,7 @@ def packet(frame: Frame, order: str = "<", place: int = 0, units: int = 10**6) -
 
 def pcapng(frames: Sequence[Frame], order: str = "<", resolution: Optional[int] = None,
            link_type: int = ETHERNET, name: str = "") -> bytes:
-    """Returns a pcapng section with one interface and a block that readers skip."""
+    """Returns a pcapng section with one interface, a block that readers skip, and these frames."""
     head = section(order) + interface(order, name, resolution, link_type)
     units = units_of(resolution)
     packets = (packet(frame, order, 0, units) for frame in frames)

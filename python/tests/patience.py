@@ -30,7 +30,7 @@ def mostly(seconds: Sequence[float]) -> float:
 
 
 def stolen() -> float:
-    """Returns how many seconds of the processors a hypervisor gave to others."""
+    """Returns how many seconds of processor time a hypervisor gave to others."""
     ticks = Path("/proc/stat").read_text().split("\n", 1)[0].split()[8]
     return int(ticks) / os.sysconf("SC_CLK_TCK")
 
@@ -55,7 +55,7 @@ class Standstill:
             self.overslept += longer if longer > NAP else 0.0
 
     def seconds(self) -> float:
-        """Returns for how long it has stood still so far."""
+        """Returns for how long the machine has stood still so far."""
         return self.overslept + stolen() - self.stolen_before
 
     def __exit__(self, *_: object) -> None:

@@ -22,7 +22,7 @@ class Moments:
         self.count = 0
 
     def take(self) -> None:
-        """Notes the tables, once they are the same before and after the command."""
+        """Sends the command, and notes the tables. Does so again if they change meanwhile."""
         self.count += 1
         line = f"update{' ' * self.count}"
         before = self.live.ask("show neighbors")
@@ -52,8 +52,8 @@ def replayed(log: Path, line: str) -> Optional[list[str]]:
 
 
 def sent(folder: Path, port: str, source: bytes) -> list[bytes]:
-    """Returns the frames that a port sends when each file of a folder is replayed, with this source
-    address. Frames from the head of a file are left out."""
+    """Replays each file of a folder. Returns the frames that a port sends, with their source
+    address replaced by `source`, and without those from the head of a file."""
     frames: list[str] = []
     for log in sorted(folder.iterdir(), key=lambda path: path.stat().st_mtime_ns):
         text = log.read_text()

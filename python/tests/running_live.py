@@ -87,7 +87,7 @@ class Live:
         return int(self.told("live", f"live.{key}"))
 
     def spend(self, seconds: int) -> None:
-        """Waits until its agent was given this many more seconds."""
+        """Waits until lldpa-live has counted this many more seconds."""
         last = self.number("seconds") + seconds
         if not eventually(lambda: self.number("seconds") >= last):
             raise AssertionError(f"no {seconds} seconds pass: {self.errors()}")
@@ -185,7 +185,7 @@ class OnLinks(unittest.TestCase):
         self.assertTrue(eventually(live.neighbors))
 
     def refuses(self, text: str, *words: str, status: int = 1, **options: Any) -> None:
-        """Checks that lldpa-live does not start with these words, and says why."""
+        """Checks that lldpa-live, with these words, ends with this status and reports this text."""
         live = self.live(*words, **options)
         self.assertEqual(live.ends(), status, words)
         self.assertIn(text, live.errors())

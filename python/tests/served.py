@@ -18,7 +18,7 @@ from lldpa.client import Client
 
 REPOSITORY = Path(__file__).resolve().parents[2]
 PROGRAM = os.environ.get("LLDPA") or str(REPOSITORY / "crates" / "lldpa" / "out" / "lldpa")
-# lldpa-ctl finds and runs `lldpa --help`
+# lldpa-ctl runs `lldpa --help`, and finds lldpa by PATH
 os.environ["PATH"] = os.path.dirname(PROGRAM) + os.pathsep + os.environ.get("PATH", os.defpath)
 CTL = str(REPOSITORY / "bin" / "lldpa-ctl")
 GROUP_ADDRESS = bytes.fromhex("0180c200000e")

@@ -1,4 +1,4 @@
-"""Tests that lldpa-live announces a new management address of this host, with a new agent."""
+"""Tests that lldpa-live starts a new agent to announce a changed management address."""
 
 import os
 import shutil

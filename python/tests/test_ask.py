@@ -46,7 +46,7 @@ class Asked(OnLinks):
 
 @is_built
 class Unanswered(AnsweringCase):
-    """Tests questions that nobody or another program answers."""
+    """Tests questions that nobody answers, or that another program answers."""
 
     def test_nobody_is_there(self) -> None:
         path = str(self.folder / "none")

@@ -1,4 +1,4 @@
-"""Tests captures in practice: compressed, from pipes, with clocks that were set, and so on."""
+"""Tests captures from a FIFO, with skipped frames, with clocks that were set, and of many ports."""
 
 import os
 import random

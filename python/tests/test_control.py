@@ -48,7 +48,7 @@ class Answered(OnLinks):
         return rest_of(connection)
 
     def fill(self) -> None:
-        """Adds neighbors until their show exceeds the kernel's buffer for a connection."""
+        """Adds 128 neighbors to each port. A show of them exceeds the kernel's socket buffer."""
         for port in ("0", "1"):
             peer = self.peer(f"peer{port}")
             for number in range(128):

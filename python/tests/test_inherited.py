@@ -14,7 +14,7 @@ from patience import eventually
 from served import REPOSITORY
 from support import FilesCase
 
-# makes a user namespace as `nobody` without capabilities, and prints its capabilities there
+# becomes `nobody`, without capabilities, makes a user namespace, and prints the capabilities in it
 NAMESPACE = """
 import ctypes, os
 libc = ctypes.CDLL(None)
@@ -40,7 +40,7 @@ class OthersFolders(FilesCase):
 
 
 class OfRoot(OnLinks):
-    """Tests that root's rights are not misused, and that none are kept."""
+    """Tests programs of root: symbolic links, user namespaces, the keyring, and an empty root."""
 
     def test_a_link_to_a_folder_is_followed_in_a_folder_of_the_own_user_alone(self) -> None:
         target, theirs = self.folder / "target", self.folder / "theirs"

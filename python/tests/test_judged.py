@@ -12,7 +12,7 @@ from served import REPOSITORY
 
 
 class BesideOthers(unittest.TestCase):
-    """Tests each value that is shown, and each that is read."""
+    """Tests that all values are equal, and that a changed value is found."""
 
     def setUp(self) -> None:
         text = (REPOSITORY / "python" / "tests" / "judged.json").read_text()

@@ -19,7 +19,7 @@ QUESTIONS = 100
 LATE = 0.1
 MOST_LATE = QUESTIONS // 10
 MOST_KIB = 8_000
-A_SECOND, AT_ONCE = 64, 1024  # frames of a port that may change its table
+A_SECOND, AT_ONCE = 64, 1024  # limits for frames that may change a port's table
 
 # ten strangers that change their LLDPDU with each frame, 5,000 frames a second together
 STRANGERS = """

@@ -1,4 +1,4 @@
-"""Tests the log of a session: a trace with the time of day, of limited size."""
+"""Tests the log of a session, which is a trace with the time of day, and `--once`."""
 
 import os
 import re
@@ -30,7 +30,7 @@ class TestLog(OnLinks):
         self.assertEqual(live.ended(), 0)
         replayed = sent(self.log, "eth0", self.wires.address("eth0"))
         heard = list(iter(lambda: peer.hears(0.5), None))
-        # frames that were due while the link was down or the process stopped were not sent
+        # frames that were due while the link was down, or lldpa-live was stopped, were not sent
         left = iter(replayed)
         self.assertTrue(all(octets in left for octets in heard))
         self.assertEqual(replayed[-1], heard[-1])
@@ -40,7 +40,7 @@ class TestLog(OnLinks):
         self.assertNotIn(b"nonsense", log)
 
     def live_a_little(self, live: Live, peer: Peer) -> None:
-        """Makes events of each kind: frames, questions, refused lines, links and missed seconds."""
+        """Makes frames, questions, refused lines, changes of the link and missed seconds."""
         for frame in (numbered(1), numbered(2), numbered(3, ttl=1)):
             peer.send(frame)
         self.assertTrue(eventually(lambda: "lldp.eth0.ageouts=1" in live.ask("show statistics")))
@@ -100,7 +100,7 @@ class TestLog(OnLinks):
 
 
 class TestOnce(OnLinks):
-    """Tests `--once`, which ends as soon as each port has a neighbor."""
+    """Tests `--once`: lldpa-live ends when each port has a neighbor, or when its time is over."""
 
     links = 2
 

@@ -1,4 +1,4 @@
-"""Compares lldpcli's output forms with what lldpcli printed for the same frames."""
+"""Compares the package's output in lldpcli's forms with lldpcli's own for the same frames."""
 
 import json
 import re
@@ -21,7 +21,7 @@ PORTS = ["swp1", "swp2"]
 
 
 def told_of(agent: Agent, frames: Iterable[Tuple[str, bytes]]) -> Told:
-    """Returns the answers of an lldpa-live that received these frames at these ports."""
+    """Passes frames to the agent, and returns what an lldpa-live would then answer."""
     since: Dict[Tuple[str, str], str] = {}
     numbers: Dict[str, int] = {}
     for port, octets in frames:
@@ -83,7 +83,7 @@ class Texts(unittest.TestCase):
     """Tests names with each octet, and names that could deceive a reader."""
 
     def forms_of(self, name: bytes) -> Dict[str, str]:
-        """Returns all forms for a neighbor with this name."""
+        """Returns the output for a neighbor with this name, in each form."""
         octets = frame(b"\x04\x02\0\0\0\0\1", b"\x05p1", 120, tlv(5, name), tlv(6, name))
         tree = tree_of([("swp1", octets)])
         return {form: made(tree) for form, made in FORMS.items()}

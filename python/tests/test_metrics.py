@@ -74,7 +74,7 @@ class Metrics(unittest.TestCase):
             ("lldpa_left_out_total", "eth0"): 3, ("lldpa_left_out_total", "eth1"): 0})
 
     def own(self, *lines: bytes) -> Series:
-        """Returns the metrics about lldpa-live itself if its answer also has these lines."""
+        """Puts these lines in lldpa-live's answer. Returns the metrics about lldpa-live itself."""
         lines_by_key = {line.partition(b"=")[0]: line for line in (*LIVE_LINES, *lines)}
         self.served.live_lines = list(lines_by_key.values())
         return {(name, labels): value for (name, labels), value in self.shown().items()

@@ -56,8 +56,8 @@ class EachKind(unittest.TestCase):
                 self.assertEqual(count, sample.changed)
 
     def check(self, sample: Sample, octets: bytes) -> bool:
-        """Returns whether octets are read as a TLV. If so, checks that encoding this TLV returns
-        them."""
+        """Returns whether octets are read as a TLV. If so, checks that encoding the TLV returns
+        them, with the ignored bits 0."""
         tlv = read_tlv(*sample.kind, octets)
         oui, subtype = sample.kind
         shown = (f"{oui}.{subtype}", octets.hex())

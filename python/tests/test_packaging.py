@@ -129,7 +129,7 @@ class Installed(unittest.TestCase):
 
 
 class Modules(unittest.TestCase):
-    """Tests the package from its folder."""
+    """Tests the package in its folder, without installing it."""
 
     def run_module(self, *words: str) -> str:
         path = os.pathsep.join(str(REPOSITORY / name) for name in ("python", "audit"))

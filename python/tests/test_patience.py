@@ -13,7 +13,7 @@ class Tried(unittest.TestCase):
     """Tests `by_the_clock` with given standstills, on a test that fails a given number of times."""
 
     def ran(self, standstills: Sequence[float], failures: int) -> "tuple[bool, list[str], str]":
-        """Returns whether it passes in the end, the steps in their order, and what is printed."""
+        """Returns whether the test passes in the end, its steps in order, and what is printed."""
         done: list[str] = []
 
         class Case(unittest.TestCase):

@@ -13,7 +13,7 @@ class TestLaterPorts(OnLinks):
     """Tests interfaces that are added later and match a pattern."""
 
     def made(self, number: int, name: str = "vnet") -> Peer:
-        """Makes a link with another name, and opens a sender at its far end."""
+        """Makes a link with this name and number, and opens a sender at its far end."""
         ip("link", "add", f"{name}{number}", "up", "netns", self.wires.here, "type", "veth",
            "peer", "name", f"far{number}", "netns", self.wires.there)
         ip("-n", self.wires.there, "link", "set", f"far{number}", "up")

@@ -1,4 +1,4 @@
-"""Tests the table for people."""
+"""Tests how neighbors are shown in a table, and in one line."""
 
 import unittest
 

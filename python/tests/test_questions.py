@@ -1,4 +1,4 @@
-"""Tests the commands of lldpa-ctl for people."""
+"""Tests lldpa-ctl's tables, lists of ports, JSON and refusals."""
 
 import json
 from typing import Any

@@ -1,4 +1,4 @@
-"""Tests what an attacker who takes over lldpa-live gets: LLDP frames, and no rights."""
+"""Tests what an attacker who takes over lldpa-live can still do, and what the kernel refuses."""
 
 import array
 import ctypes
@@ -21,7 +21,7 @@ SYS_PIDFD_OPEN, SYS_PIDFD_GETFD = 434, 438
 
 
 def what_is_refused(packets: socket.socket) -> list[str]:
-    """Returns which calls are refused, of three that would let a packet socket read more."""
+    """Returns which of three calls are refused. Each would let a packet socket read more."""
     code = array.array("B", struct.pack("HBBI", 6, 0, 0, 0xFFFF))
     program = struct.pack("HP", 1, code.buffer_info()[0])
     refused = []

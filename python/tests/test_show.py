@@ -188,7 +188,7 @@ class Refused(unittest.TestCase):
     """Tests that lines that are not a show are reported with their number and text."""
 
     def changed(self, old: str, new: List[str]) -> Tuple[int, List[str]]:
-        """Returns the number of a line, and all lines with others in place of this line."""
+        """Returns the number of a line of `ALL`, and the lines of `ALL` with `new` in its place."""
         place = ALL.index(old)
         return place + 1, ALL[:place] + new + ALL[place + 1:]
 

@@ -1,4 +1,4 @@
-"""Tests that a new lldpa-live continues with the state that the one before left."""
+"""Tests that a new lldpa-live continues with the state that the previous one left."""
 
 import os
 import signal
@@ -21,7 +21,7 @@ class Restarts(Replaced):
         self.state = self.folder / "state"
 
     def ended(self) -> tuple[list[Neighbor], float, dict[tuple[str, str], str]]:
-        """Runs an lldpa-live until it ends. Returns its neighbors, when it was asked for them, and
+        """Starts an lldpa-live and ends it. Returns its neighbors, when it was asked for them, and
         since when it heard each."""
         live = self.begun("--state", str(self.state))
         since = since_of(live.ask("live"))

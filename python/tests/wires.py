@@ -75,7 +75,7 @@ class Wires:
         return self.there if end.startswith(("peer", "far")) else self.here
 
     def set_link(self, end: str, *words: str) -> None:
-        """Changes an end, such as `set_link("eth0", "down")`."""
+        """Changes an end of a link: `set_link("eth0", "down")` sets eth0 down."""
         ip("-n", self.side(end), "link", "set", end, *words)
 
     def remove_link(self, end: str) -> None:

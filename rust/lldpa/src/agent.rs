@@ -105,9 +105,9 @@ impl Agent {
         Ticks { taken: told.taken, aged_out: told.aged_out, sent: sent(&marks) }
     }
 
-    /// Returns the seconds until a port sends or a neighbor ages out without another call. None if
-    /// nothing is due. You may sleep that long, and then pass the seconds to [`Agent::ticks`]. If a
-    /// frame wakes you earlier, first report the seconds that passed, and then the frame.
+    /// Returns the seconds until a port sends or a neighbor ages out, if you make no other call.
+    /// None if nothing is due. You may sleep that long, and then pass the seconds to
+    /// [`Agent::ticks`]. If a frame comes earlier, report the seconds first, and then the frame.
     #[must_use]
     pub fn due(&self) -> Option<u32> {
         let mut seconds = sys::LLDPA_NEVER;

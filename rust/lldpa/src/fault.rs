@@ -150,7 +150,7 @@ faults! {
     }
 }
 
-/// Panics, since a call that reports no errors returned a number that this crate does not know.
+/// Panics, since the archive returned a number that this crate does not know.
 ///
 /// # Panics
 ///

@@ -31,7 +31,7 @@ numbered! {
 /// The result of a command: a show for [`crate::Agent::show`], or frames to send.
 #[derive(Clone, Debug, PartialEq, Eq)]
 pub struct Commanded {
-    /// The show that was asked for, or None if the command changed something.
+    /// The show that was asked for, or None if the command is not a show command.
     pub show: Option<Show>,
     /// The frames to send.
     pub sent: Vec<Sent>,
