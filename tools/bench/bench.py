@@ -2,9 +2,10 @@
 """Compares lldpa with plain C that does the same work (tools/bench/yardstick.c), in one run.
 
 Each row runs the programs in turn, several times, on a trace and on the beginning of that trace. It
-shows each program's least processor time for the one minus that for the other. C with vector instructions checks no TLVs: it
-shows what is possible. If valgrind is installed, callgrind counts instructions on a shorter trace,
-in columns that begin with #. Measures tshark and tcpdump if installed. Needs a C compiler.
+shows each program's least processor time for the trace, less that for the beginning, per item. C
+with vector instructions checks no TLVs: it shows what is possible. If valgrind is installed,
+callgrind counts instructions on a shorter trace, in columns that begin with #. Measures tshark and
+tcpdump if installed. Needs a C compiler.
 
 bench_rows.py has the rows, bench_counts.py counts instructions, bench_captures.py measures readers
 of captures, and bench_picture.py draws the picture.

@@ -122,7 +122,7 @@ def both(neighbors: int) -> list[list[str]]:
 
 def rows_received() -> list[Row]:
     """Returns the rows in which one port receives frames. C with vector instructions compares only
-    16 octets of a name, so the rows with long names do without it."""
+    16 octets of a name, so it does not run the rows with long names."""
     many, plain = [*MANY, "eth0"], [["read", "128"]]
     own, one = own_tags(), one_tag()
     return [

@@ -4,7 +4,7 @@
  *                                         walks the TLVs and refreshes one of NEIGHBORS; counts ticks
  *   yardstick vectors NEIGHBORS < TRACE   the same with SSE, but without a check of the TLVs; the
  *                                         first 16 octets of an LLDPDU serve as the neighbor's name
- *   yardstick show LINES < TRACE          writes the lines of that file for each line that begins with `show`
+ *   yardstick show LINES < TRACE          writes the file LINES for each line `show ..`
  *   yardstick send FRAME < TRACE          writes 64 lines `tx eth0 HEX` of that frame for each line
  */
 #include <emmintrin.h>

@@ -45,7 +45,7 @@ def numbers(live):
 
 
 def take(peer, moments, folder, number, sent):
-    """Sends quiet neighbors' frames, records the tables, and returns how many frames were sent."""
+    """Sends frames of quiet neighbors, and records the tables. Returns `sent` plus their number."""
     for place in range(5):
         if place != number % 5:
             peer.send(numbered(place, 30, tlv(5, b"moment %d" % number)))

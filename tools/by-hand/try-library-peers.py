@@ -77,7 +77,7 @@ def print_times(programs: dict[str, list[str]], files: dict[str, pathlib.Path]) 
 
 
 def judge(peer: str, frames: list[Frame], told: list[Told], counts: Counts) -> None:
-    """Compares all answers of a peer with the model's, and prints how often they differ."""
+    """Compares all answers of a peer with the model's, and prints how often each result occurs."""
     assert len(told) == len(frames), f"{peer} reports other frames"
     answers: collections.Counter[str] = collections.Counter()
     for frame, theirs in zip(frames, told):
@@ -92,7 +92,7 @@ def judge(peer: str, frames: list[Frame], told: list[Told], counts: Counts) -> N
 
 
 def judge_library(program: str, frames: list[Frame], room: pathlib.Path, counts: Counts) -> None:
-    """Compares the library's answers about the LLDPDUs of the frames with the model's."""
+    """Compares the library's answers about the LLDPDUs of LLDP frames with the model's."""
     rows = [row_of(frame.pdu) for frame in frames if frame.is_ours]
     for row, found in zip(rows, written_rows([program], rows, room)):
         counts.that(f"the library has the row {row}", row == found)

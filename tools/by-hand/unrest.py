@@ -99,7 +99,7 @@ class Unrest:
             self.wrong.append(f"{seconds:.0f} s: {self.told}, not {self.expected}")
 
     def is_as_sent(self) -> bool:
-        """Returns whether the quiet neighbors have their last names, and no neighbor is wrong."""
+        """Returns whether the tables show what was sent, or lldpa-live refuses the question."""
         try:
             ports = read_show(self.live.ask("show neighbors")).ports
         except Refused as refused:
@@ -138,7 +138,7 @@ class Unrest:
             self.live.ask(line)
 
     def address(self) -> None:
-        """Changes the address that this host announces."""
+        """Removes the address that this host announces, and usually adds another."""
         ip("-n", self.wires.here, "address", "flush", "dev", "eth1")
         if self.choice.random() < 0.7:
             ip("-n", self.wires.here, "address", "add", f"192.0.2.{self.choice.randrange(1, 9)}/24",
@@ -164,7 +164,7 @@ class Unrest:
         self.is_there = True
 
     def stand_still(self) -> None:
-        """Pauses lldpa-live for a moment, while the interface eth2 is replaced."""
+        """Pauses lldpa-live for a moment. Meanwhile replaces the interface eth2, if it exists."""
         self.live.signal(signal.SIGSTOP)
         if self.is_there:
             self.go()

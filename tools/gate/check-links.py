@@ -131,7 +131,7 @@ def large_numbers(text):
 
 
 def faults_of_page(page):
-    """Yields each thing that a page names or must not say, with its fault or None."""
+    """Yields what a page names, and what it must not contain, each with its fault or None."""
     text = without_code(page.read_text())
     for line in text.splitlines():
         if len(line) > 120 and not line.startswith("|"):

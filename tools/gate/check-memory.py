@@ -4,7 +4,7 @@
 Memory: only `Room` allocates memory, at opening. In lldp_program and the crates below it, no other
 module names a type that allocates memory. Below lldp_program no other type has a field with an
 allocator, and only opening calls receive one. They pass it only to opening calls, each once and for
-no more than is needed. Only modules that read the arguments receive the runtime's `Global`.
+no more room than is needed. Only modules that read the arguments receive the runtime's `Global`.
 
 Accesses: `Times` counts each access to a stored time. Only its functions `get`, `set` and `look`
 reach the times, and it cannot be copied. `look` does not count; only `Table::entries` and `entry`

@@ -116,7 +116,7 @@ def fault_of(kind: str, text: str) -> str | None:
     name, sign, where = text.partition(" = ")
     if not sign or not name:
         return "it does not say where it is tried"
-    # Commands and names may contain commas, so only a comma before a kind of place separates.
+    # Only a comma before a kind of place ends a place: commands and names may contain commas.
     places = re.split(rf", (?=(?:{'|'.join(PLACES)}) )", where)
     return next(filter(None, map(fault_of_place, places)), None)
 

@@ -131,7 +131,7 @@ check "the service below /opt/lldpa does not read /opt/lldpa/etc/lldpa.d" grep -
     '^ExecStart=/opt/lldpa/bin/lldpa-live .* --config /opt/lldpa/etc/lldpa.conf --config /opt/lldpa/etc/lldpa.d ' \
     "$room/opt/opt/lldpa/lib/systemd/system/lldpa.service"
 
-# The packages of the library have what install.sh --library installs. pkg-config finds it there.
+# The library's packages have what install.sh --library installs. pkg-config finds the library.
 library_packages() {
     LLDPA_LIB_DIR=$room/built
     export LLDPA_LIB_DIR

@@ -107,7 +107,7 @@ def check_programs(library: Library, counts: Counts) -> None:
 
 
 def run_program(name: str, command: list[str], room: pathlib.Path, counts: Counts) -> None:
-    """Runs a C program that is built, and counts its checks."""
+    """Runs a C program that was built, and counts its checks."""
     if name == "transcript":
         check_transcripts(command, counts)
     elif name == "vectors":
@@ -117,7 +117,7 @@ def run_program(name: str, command: list[str], room: pathlib.Path, counts: Count
 
 
 def check_refused(library: Library, counts: Counts) -> None:
-    """Refuses memory, under valgrind if installed: AddressSanitizer has its own malloc."""
+    """Runs refused.c, under valgrind if installed: the sanitizers have a malloc of their own."""
     wrapper = VALGRIND if shutil.which("valgrind") else []
     if not wrapper:
         skip("valgrind, which is not installed")

@@ -18,8 +18,8 @@ import model  # noqa: E402
 FRAMES = importlib.import_module("check-frames")
 ROWS = TOP / "examples" / "vectors.rows"
 HEADER = TOP / "crates" / "lldpa_c" / "include" / "lldpa.h"
-# Causes in order, how often each occurs, and the frame that it must send. They are worked out by
-# hand for a credit of 5, bursts of 4, a wait of 2 and the greatest interval.
+# Causes in order, how often each occurs, and the frame that it must send. The frames were worked
+# out by hand for a credit of 5, bursts of 4, a wait of 2 and the greatest interval.
 CAUSES = """CHANGE:1:QUIET TICK:1:ORDINARY CHANGE:1:ORDINARY NEIGHBOR:1:ORDINARY TICK:3:ORDINARY
 TICK:1:QUIET NOTHING:1:QUIET DOWN:1:QUIET TICK:1:QUIET CHANGE:1:QUIET UP:1:QUIET TICK:1:ORDINARY
 TICK:3599:QUIET TICK:1:ORDINARY STOP:1:SHUTDOWN STOP:1:QUIET ALLOW:1:QUIET TICK:1:QUIET
@@ -140,7 +140,7 @@ def written_rows(command: Sequence[str], rows: Iterable[str], room: pathlib.Path
 
 
 def fault_of_rows(command: Sequence[str], rows: Iterable[str], room: pathlib.Path) -> str | None:
-    """Returns the first row for which the library writes something else, or None."""
+    """Returns the first difference between these rows and those of the library, or None."""
     wanted = list(rows)
     pairs = zip_longest(wanted, written_rows(command, wanted, room))
     return next((f"{found}, not {row}" for row, found in pairs if found != row), None)

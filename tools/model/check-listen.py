@@ -7,7 +7,7 @@ A client asks a question whose answer is written in several pieces, and asks aga
 it all. Each answer must come at once: without TCP_NODELAY its last piece would wait about 40
 milliseconds, until the piece before is acknowledged. If too many are late while the machine stands
 still, all are asked again, at most twice. Then clients connect one after another to a program that
-may serve 65,535, the most. It must answer each and keep running. The last line is `N passed, M
+may serve 65,535, the limit. It must answer each and keep running. The last line is `N passed, M
 failed`.
 """
 import pathlib

@@ -4,8 +4,8 @@ It reads arguments, a trace, and the frames that the program sent at each event.
 computes three things from the whole list of events, like the definitions of lldp_transmit and
 lldp_engine: whether a port stops, whether a frame is due, and whether one more frame is within the
 limit. A run of events may have at most as many frames as the greatest credit, plus one for each
-second after its first event. A frame must be sent exactly if it is due and within the limit of
-every run that ends there. Each question goes over the events again.
+second after its first event. A frame must be sent at an event exactly if it is due and keeps each
+run that ends with this event within the limit. Each question goes over the events again.
 """
 import functools
 import re
@@ -14,7 +14,7 @@ from typing import NamedTuple, Optional
 
 import model
 
-# a comment that is one octet too long: its answer marks the end of the answer before
+# a comment that is one octet too long: its answer marks the end of the previous answer
 MARK = b"#" * 4097
 MARK_ANSWER = b"error: line too long"
 
@@ -70,8 +70,8 @@ def answers(output):
 
 
 class Port:
-    """Computes what the definitions say about a port at each position in the list of its events.
-    `sent` holds the positions at which an ordinary frame was sent."""
+    """Computes what the definitions say about a port at each position in the list of events. `sent`
+    holds the positions at which the port sent an ordinary frame."""
 
     def __init__(self, name, options, events, sent):
         self.name = name
@@ -201,8 +201,7 @@ class Port:
         return any(self.signal(s) and self.sent_to[k] == self.sent_to[s] for s in range(self.last_start(k), k + 1))
 
     def is_open(self, k):
-        """Returns whether one more frame at k is within the limit of each run of events ending at
-        k."""
+        """Returns whether a frame at k keeps each run of events that ends at k within its limit."""
         most = self.options.tx_credit_max
         return all(self.sent_to[k] - self.sent_to[i] + 1 <= most + self.ticks(i + 1, k) for i in range(k + 1))
 

@@ -212,7 +212,7 @@ class Port:
         return self.transmitter.tick(self.status in TRANSMITTING and self.is_up)
 
     def hear(self, frame):
-        """Handles a frame, unless it is not an LLDP frame or the port does not receive."""
+        """Handles a frame, if it is an LLDP frame and the port receives."""
         is_lldp = frame[:6] == NEAREST_BRIDGE and frame[12:14] == ETHERTYPE and len(frame) <= 1514
         if not is_lldp or self.status not in RECEIVING or not self.is_up:
             return None

@@ -27,7 +27,7 @@ mkdir -p "$folder"
 room=$(mktemp -d)
 trap 'rm -rf "$room"' EXIT
 
-# named_by prints the crates that crates.txt names for a crate; below adds all below these.
+# named_by CRATE prints the crates that crates.txt lists for it; below CRATE prints all below it.
 named_by() {
     sed -n "s/^$1\( [a-z]*\)*: *//p" crates.txt
 }

@@ -1,8 +1,8 @@
-//! Opens the agent, and replaces it when the ports or the management address change. The new agent
-//! is opened while the old one still runs, and is given lines that bring it to the same state: the
-//! settings in force, then each neighbor's last LLDPDU and the seconds between these LLDPDUs. Then
-//! the old agent is closed. Each later log file of a session begins with such lines. A saved state
-//! contains only those that rebuild the tables.
+//! Opens the agent, and returns the lines that bring a new agent to its state. When the ports or
+//! the management address change, a new agent is opened while the old one still runs, and is given
+//! these lines: the settings in force, then each neighbor's last LLDPDU and the seconds between
+//! these LLDPDUs. Then the old agent is closed. Each later log file of a session begins with such
+//! lines. A saved state contains only those that rebuild the tables.
 
 use crate::links::Mac;
 use crate::options::AgentOptions;
@@ -80,7 +80,7 @@ fn frame(port: &str, octets: &[u8]) -> Line {
     Line::Frame(port.into(), frame)
 }
 
-/// Returns the line that reports an LLDPDU with only these identifiers and this time to live.
+/// Returns the `rx` line of an LLDPDU with only these identifiers and this time to live.
 fn made(port: &str, msap: &Msap<'_>, ttl: u32) -> Line {
     let mut octets = Vec::new();
     for (kind, body) in [(1u16, msap.chassis), (2, msap.port), (3, &(ttl as u16).to_be_bytes()[..])] {
@@ -189,8 +189,8 @@ impl Running {
     }
 
     /// Returns the lines that bring an agent of these ports to the state of this one, without
-    /// sending. Ports that this agent lacks get the status `new`. `full` lists ports in the
-    /// too-many-neighbors condition with its remaining seconds, `downs` the ports without a link.
+    /// sending. Ports that this agent lacks get the status `new`. `full` lists the ports in the
+    /// too-many-neighbors condition and the seconds until it ends, `downs` those without a link.
     pub fn head(&self, names: &[String], new: Status, full: &[(String, u32)], downs: &[String]) -> Vec<Line> {
         let told = self.agent.configuration();
         let status = |name: &String| self.number(name).map_or(new, |place| told.status[usize::from(place)]);

@@ -15,7 +15,7 @@ const MOST_AT_ONCE: i64 = SECOND / 10;
 const BETWEEN_LOOKS: i64 = 10 * SECOND;
 
 impl Live {
-    /// Answers one question of each client, and gives the agent the host's name if it changed.
+    /// Gives the agent the host's name if it changed. Answers at most one question of each client.
     pub fn serve(&mut self, is_asked: bool) {
         self.next_look = clock::now() + BETWEEN_LOOKS;
         self.follow_name();
@@ -141,9 +141,9 @@ impl Live {
     }
 }
 
-/// Returns the answer to a line that is refused or ignored: one that is too long, empty, a comment
-/// or unknown, an event that only lldpa-live may report, or a change without permission. Returns
-/// None for all other lines.
+/// Returns the answer to a line that is refused or ignored: too long, blank, a comment, an unknown
+/// command, an event that only lldpa-live may report, or a change without permission. Returns None
+/// for all other lines.
 pub fn refusal(line: &[u8], may_change: bool) -> Option<&'static str> {
     let word = first_word(line);
     let first = line.iter().find(|octet| !b" \t".contains(octet));

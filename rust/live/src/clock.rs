@@ -7,7 +7,7 @@ pub const MILLISECOND: i64 = 1_000_000;
 /// Smaller changes of the wall clock are ignored, so a moment may be wrong by this much.
 pub const INEXACT: i64 = MILLISECOND;
 
-/// Reads a clock in nanoseconds. Clock 0 starts in 1970, 1 and 7 start at boot; 1 stops in suspend.
+/// Reads a clock in nanoseconds. Clock 0 counts from 1970, 1 and 7 from boot; 1 stops in suspend.
 pub fn read(number: i32) -> i64 {
     let mut time = [0; 2];
     let _ = sys::time(number, &mut time);

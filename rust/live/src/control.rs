@@ -45,7 +45,7 @@ impl Client {
         self.answer.is_empty() && is_whole && !self.is_over
     }
 
-    /// True if the client has ended its input and read all answers.
+    /// True if the client has ended its input, and all its lines are answered and the answers sent.
     fn is_left(&self) -> bool {
         self.is_at_end && self.asked.is_empty() && self.answer.is_empty()
     }
@@ -165,8 +165,8 @@ impl Control {
         }
     }
 
-    /// Admits a client. If all places are taken, it replaces the client that has been idle longest,
-    /// if for at least a minute. Otherwise it is refused.
+    /// Admits a client. If all places are taken, it replaces the client that has been idle longest;
+    /// if none has been idle for a minute, the new client is refused.
     fn admit(&mut self, mut stream: UnixStream, now: i64) {
         let peer = Peer::of(&stream);
         let most = if peer.is_preferred(&self.listening.path) { MOST_CLIENTS + KEPT } else { MOST_CLIENTS };
@@ -178,7 +178,7 @@ impl Control {
                 Some(longest) => drop(self.clients.remove(longest)),
                 None => {
                     let _ = stream.write(b"=1\nerror: too many clients\n");
-                    is_over = true; // only next turn, so that a client can send before it reads
+                    is_over = true; // removed next turn: until then it can send its line
                 }
             }
         }
@@ -188,7 +188,7 @@ impl Control {
         self.clients.extend(Some(client).filter(|client| !client.is_left()));
     }
 
-    /// Returns the next question. Clients take turns, with one question each.
+    /// Returns the next question, one for each client in turn. None after the last client.
     pub fn question(&mut self) -> Option<Question> {
         let first = std::mem::take(&mut self.next);
         let place = (first..self.clients.len()).find(|place| self.clients[*place].has_line())?;

@@ -64,7 +64,7 @@ pub fn enter(path: &str, user: Option<User>) -> Result<()> {
     Ok(())
 }
 
-/// Returns an error if this process may not create files here. Tries no write, which could hang.
+/// Returns an error if this process may not create files here. Does not write: that could hang.
 pub fn check(path: &str) -> Result<()> {
     sys::may_write(".")
         .map_err(|fault| at(path)(Error::new(fault.kind(), "lldpa-live's user may not create files there")))

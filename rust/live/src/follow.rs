@@ -1,5 +1,5 @@
-//! Handles changes while the agent runs: of interfaces that patterns select, and of the host's name
-//! and address. Replaces the agent if necessary. Also begins log files and saves the state.
+//! While the agent runs, follows changes of the interfaces that patterns select, and of the host's
+//! name and address. Replaces the agent if necessary. Also begins log files and saves the state.
 
 use crate::agent::{lines_text, set_text, Line, Running};
 use crate::clock::{self, SECOND};

@@ -1,4 +1,4 @@
-//! Gives the agent frames and link changes, and records and reports the changes to its neighbors.
+//! Gives the agent frames and link changes. Records and reports how its neighbors change.
 
 use crate::agent::{set_status, Line};
 use crate::clock;

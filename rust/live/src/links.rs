@@ -239,7 +239,7 @@ fn link_of(body: &[u8], is_there: bool) -> Option<Link> {
     })
 }
 
-/// Returns the interface's index and the global IPv4 address in a message, if it has an address.
+/// Returns the interface's index and the IPv4 address in a message. None if it is not global.
 fn address_of(body: &[u8]) -> Option<(i32, Ipv4Addr)> {
     let attributes = body.get(8..).filter(|_| body[0] == AF_INET && body[3] == 0)?;
     let octets = attribute(attributes, 2).or_else(|| attribute(attributes, 1))?;

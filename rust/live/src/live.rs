@@ -27,7 +27,7 @@ struct Outgoing {
     frame: Vec<u8>,
 }
 
-/// The result of a turn, apart from the frames.
+/// The moment that a turn reached, and whether signals or clients wait to be handled.
 pub struct Turn {
     /// The agent was given all frames and seconds up to this moment.
     moment: i64,
@@ -49,24 +49,25 @@ pub struct Live {
     pub control: Option<Control>,
     pub manager: Manager,
     pub events: Events,
-    /// The announced management address; a different one that was found since, and when.
+    /// The announced management address.
     pub management: Option<Ipv4Addr>,
-    pub other_management: Option<(Option<Ipv4Addr>, i64)>,
-    /// The port settings in the files, kept for later ports; how many settings were not applied.
+    pub other_management: Option<(Option<Ipv4Addr>, i64)>, // another that was found since, and when
+    /// The port settings in the files, kept for later ports.
     pub settings: Vec<Setting>,
-    pub not_taken: usize,
+    pub not_taken: usize, // how many settings were not applied
     pub host_name: String,
     /// Becomes ready when the host's name has changed.
     name_file: Option<Awaited<File>>,
     /// The value of `links.changes` when the ports were last matched with the interfaces.
     pub followed: u64,
-    /// When to write the state next; when to try next to open an agent.
+    /// When to write the state next.
     pub next_state: i64,
-    pub next_try: i64,
+    pub next_try: i64, // when to try next to open or replace the agent
     /// When to check the host's name and the control socket: some systems report no changes.
     pub next_look: i64,
-    /// Whether it was reported that an interface is missing, and that there is no IPv4 address.
+    /// True if it was reported that lldpa-live waits for an interface.
     pub is_awaiting: bool,
+    /// True if it was reported that there is no IPv4 address to announce.
     pub was_missing: bool,
     pub last_number: u32,
     outgoing: Vec<Outgoing>,
@@ -129,7 +130,6 @@ impl Live {
         Turn { moment, has_signal, is_asked }
     }
 
-    /// Registers the files to wait for.
     fn await_files(&mut self, now: i64, is_question: bool) {
         self.signals.wait_for(&self.epoll, IN);
         self.links.socket.wait_for(&self.epoll, IN);

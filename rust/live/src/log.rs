@@ -31,9 +31,9 @@ pub struct Log {
     thread: Option<(Sender<Work>, Receiver<Result<String>>)>,
     /// The octets and lines of each job that the thread has not finished, both 0 for a state.
     waiting: VecDeque<(usize, u64)>,
-    /// How long the thread has worked on its present job, and when that was last checked.
+    /// How long the thread has worked on its present job.
     waited: i64,
-    looked: i64,
+    looked: i64, // when this was last checked
     /// `stalled` or `full`, or empty if all is well.
     trouble: &'static str,
     pub lost: u64,
@@ -41,14 +41,14 @@ pub struct Log {
     /// True if no line was lost since the file began.
     is_whole: bool,
     next_try: i64,
-    /// The size of the file, and the size at which the next one begins; 0 before the first.
+    /// The size of the file once the thread has written all that it was given.
     size: u64,
-    least: u64,
+    least: u64, // the size at which the next file begins; 0 before the first
     /// The time in the last comment, in seconds since 1970.
     second: Option<i64>,
-    /// Lines that the thread was not given yet, and their number.
+    /// Lines that the thread was not given yet.
     kept: String,
-    kept_lines: u64,
+    kept_lines: u64, // the number of these lines
 }
 
 impl Log {
@@ -87,7 +87,7 @@ impl Log {
         self.kept_lines += 1;
     }
 
-    /// Gives the kept lines to the thread. If there is no room for them, they are lost.
+    /// Gives the kept lines to the thread. Without room, or after a gap in the file, they are lost.
     fn hand_over(&mut self) {
         let (octets, lines) =
             (std::mem::take(&mut self.kept).into_bytes(), std::mem::take(&mut self.kept_lines));

@@ -20,7 +20,7 @@ const ROOM_IN_KERNEL: i32 = 1 << 20;
 pub const LONGEST_FRAME: usize = 1514;
 pub const ROOMS: usize = 16; // frames that one call reads
 pub type Rooms = [[u8; LONGEST_FRAME]; ROOMS];
-/// The octets kept of a frame that is only counted: fewer than any whole frame has.
+/// How many octets are kept of a frame that is only counted: fewer than any whole frame has.
 const OF_ANOTHER: u32 = 13;
 
 const LLDP: u32 = ETH_P_LLDP as u32;

@@ -26,21 +26,21 @@ pub struct Port {
     pub name: String,
     /// True if the command line names it, false if only a pattern selects it.
     pub is_named: bool,
-    /// The index of the interface in use, and its present address.
+    /// The index of the interface in use.
     pub index: Option<i32>,
-    address: Option<Mac>,
+    address: Option<Mac>, // the last address of the interface
     /// Why the interface with the port's name cannot be used, or empty.
     fault: String,
-    /// True if it was reported that the interface is missing.
+    /// True if the interface was reported as missing, or a pattern added the port later.
     pub is_awaited: bool,
     /// The state of its link that was last given to the agent.
     pub is_up: Option<bool>,
     pub gone_since: Option<i64>,
     /// The moment since which the allowance of frames has accumulated.
     allowed_since: i64,
-    /// True if unread frames may be left in the socket; the moment of the last frame that was read.
+    /// True if unread frames may be left in the socket.
     pub has_more: bool,
-    pub read_to: i64,
+    pub read_to: i64, // the moment of the last frame that was read
     /// Until when the socket is not read, after a frame that was not accepted.
     pub rests_until: i64,
     pub kernel_drops: u64,

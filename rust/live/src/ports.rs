@@ -77,7 +77,7 @@ impl Ports {
         self.all.push(port);
     }
 
-    /// Returns the ports of patterns whose interfaces have been gone since this moment or longer.
+    /// Returns pattern-selected ports whose interfaces have been gone since this moment or longer.
     pub fn gone(&self, before: i64) -> Vec<String> {
         let is_gone = |port: &&Port| !port.is_named && port.gone_since.map_or(false, |since| since <= before);
         self.all.iter().filter(is_gone).map(|port| port.name.clone()).collect()
@@ -199,7 +199,7 @@ impl Ports {
     }
 }
 
-/// Splits news in two: for each name, the first part ends with the last news of a running
+/// Splits news in two. For each name, the first part has the news up to the last of a running
 /// interface. Both parts keep their order, even if several interfaces had the name in turn.
 pub fn ran_and_later(news: Vec<Link>) -> (Vec<Link>, Vec<Link>) {
     let last_run = |one: &Link| news.iter().rposition(|other| other.name == one.name && other.is_running);

@@ -1,4 +1,4 @@
-//! Writes reports for people to standard error, one line each, which begins with a level if the
+//! Writes reports for people to standard error. Each is one line, and begins with a level if the
 //! journal reads it. A line that cannot be written at once is lost.
 
 use crate::clock::{self, SECOND};

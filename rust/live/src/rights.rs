@@ -3,7 +3,7 @@
 use crate::sys;
 use std::io::{Error, Result};
 
-/// The number of the system call keyctl, or -1 on other processors.
+/// The number of the system call keyctl; -1, an invalid number, on all other processors.
 const KEYCTL: std::os::raw::c_long = if cfg!(target_arch = "x86_64") {
     250
 } else if cfg!(target_arch = "aarch64") {
@@ -29,7 +29,7 @@ fn entry(path: &str, name: &str) -> Option<Vec<String>> {
     text.lines().map(fields).find(|fields| fields[0] == name)
 }
 
-/// Reads the number of a user or a group. Refuses the greatest number, which means none.
+/// Reads the number of a user or a group. Refuses u32::MAX, which system calls take as `unchanged`.
 fn number_of(name: &str) -> Option<u32> {
     name.parse().ok().filter(|number| *number != u32::MAX)
 }

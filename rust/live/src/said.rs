@@ -1,4 +1,4 @@
-//! Describes neighbors: their identifiers as the agent shows them, and their changes for people.
+//! Describes neighbors: their identifiers as `show` prints them, and their changes in plain text.
 
 use crate::reports::readable;
 use lldpa::{tlv_text, Info, Msap, Tlv};
@@ -27,7 +27,7 @@ pub fn octets_of(digits: &str) -> Option<Vec<u8>> {
     are_digits.then(|| digits.as_bytes().chunks(2).map(pair).collect())?
 }
 
-/// Returns the key and the value of a TLV in `show`, such as `chassis.mac` and `00:11:22:33:44:55`.
+/// Returns a TLV's key and value as in `show`, such as `chassis.mac` and `00:11:22:33:44:55`.
 fn shown(kind: u8, body: &[u8]) -> (String, String) {
     let text = tlv_text(kind, body).unwrap_or_default();
     let (key, value) = text.split_once('=').unwrap_or((&text, ""));

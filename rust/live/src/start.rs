@@ -130,7 +130,7 @@ fn turn(live: &mut Live, last: i64) -> bool {
 }
 
 /// Waits until each port has a neighbor, at most this many seconds, and prints the neighbors.
-/// Returns the exit status: 0 if each has one or a signal came, else 1.
+/// Returns status 0 if each port has one, else 1. At a signal it prints nothing and returns 0.
 fn once(live: &mut Live, seconds: u64) -> i32 {
     let last = clock::now() + seconds as i64 * SECOND;
     let are_complete =

@@ -29,9 +29,9 @@ pub struct Past {
     pub lines: Vec<Line>,
     /// When each neighbor came (milliseconds since 1970), keyed by its port and MSAP identifier.
     pub came: HashMap<(String, String), i64>,
-    /// How many seconds pass in the lines, and how many have passed since the state was written.
+    /// How many seconds pass in the lines.
     passed: u32,
-    pub seconds: u32,
+    pub seconds: u32, // how many have passed since the state was written
 }
 
 /// Reads the state at a path. The file must be private to `user` or to this process's user.
@@ -92,7 +92,7 @@ impl Past {
         Some(())
     }
 
-    /// Reads a line, and notes its neighbor's time to live. Returns None if the line is malformed.
+    /// Reads a line, and notes the time to live of a frame's neighbor. None if it is malformed.
     fn take(&mut self, line: &str, ttls: &mut HashMap<(String, String), u32>) -> Option<()> {
         let words: Vec<&str> = line.split(' ').collect();
         match words[..] {

@@ -136,7 +136,7 @@ pub fn events(epoll: RawFd, events: &mut Events, milliseconds: c_int) -> Result<
 
 /// Blocks SIGHUP, SIGINT and SIGTERM (`how` 0) or unblocks the last two (1). Skips ignored signals.
 pub fn block_signals(how: c_int) -> [u64; 16] {
-    let (mut set, mut told) = ([0; 16], [0u64; 19]); // its first number is the handler
+    let (mut set, mut told) = ([0; 16], [0u64; 19]); // told[0] will be the handler
     for number in [1, 2, 15].into_iter().skip(how as usize) {
         let is_wanted = handler(number, None, &mut told).is_ok() && told[0] != 1;
         set[0] |= u64::from(is_wanted) << (number - 1);

@@ -7,7 +7,7 @@
 #include "checks.h"
 #include "lldpa.h"
 
-/* Checks that the longest text of a fault just fits LLDPA_FAULT_ROOM. A law fixes the texts. */
+/* Checks that the longest fault text just fits LLDPA_FAULT_ROOM. A contract fixes the texts. */
 static void try_words(void)
 {
     uint8_t room[LLDPA_FAULT_ROOM];

@@ -33,7 +33,7 @@ static void call_nothing(void)
 {
 }
 
-/* Returns how many octets of the stack a call writes to. */
+/* Returns how far down the stack a call writes, in octets. */
 static size_t taken_by(void (*call)(void))
 {
     size_t untouched = 0;
