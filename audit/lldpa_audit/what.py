@@ -45,7 +45,8 @@ def placed(what: What, plan: Plan, names: Names, ours: str) -> What:
 
 
 def host_of_file(file: str, plan: Plan, names: Names, ours: str) -> str:
-    """Returns the host that a file is named after, or `ours` if only that one is planned."""
+    """Returns the host that a file is named after, or `ours` if the plan has `ours` but not that
+    host."""
     named = without_ending(os.path.basename(file))
     is_named = names.host(named) in plan.hosts
     return named if is_named or names.host(ours) not in plan.hosts else ours

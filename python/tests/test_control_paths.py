@@ -106,7 +106,8 @@ class Permission(AtAPath):
     """Tests what the owner, members of the group, and other users may do."""
 
     def asker(self, *groups: int, user: int = STRANGER) -> "subprocess.Popen[str]":
-        """Starts a process as this user. It asks each line that it reads, and prints the answer."""
+        """Starts a process as this user. It sends lldpa-live each line that it reads, and prints
+        the answer."""
         words = [sys.executable, "-c", ASKER, self.path, str(user), *map(str, groups)]
         asker = subprocess.Popen(words, stdin=subprocess.PIPE, stdout=subprocess.PIPE,
                                  stderr=subprocess.DEVNULL, text=True)

@@ -117,7 +117,8 @@ def run_program(name: str, command: list[str], room: pathlib.Path, counts: Count
 
 
 def check_refused(library: Library, counts: Counts) -> None:
-    """Runs refused.c, under valgrind if installed: the sanitizers have a malloc of their own."""
+    """Runs refused.c without the sanitizers, which have a malloc of their own; under valgrind if
+    installed."""
     wrapper = VALGRIND if shutil.which("valgrind") else []
     if not wrapper:
         skip("valgrind, which is not installed")

@@ -76,7 +76,8 @@ def name_of(prefix: str, name: str) -> str:
 
 
 def table_of(name: str, function: str, rows: list[tuple[str, str, str]]) -> str:
-    """Returns a table of rows: the name, an argument, and the value of the function."""
+    """Returns a theorem `name`: `function` has these values. A row has a name, an argument, a
+    value."""
     lines = [f"({given}, {gives})  -- {row}" for row, given, gives in rows]
     return f"\n{name} : Gives {function}\n    (" + "\n    ∷ ".join(lines) + "\n    ∷ [])\n"
 

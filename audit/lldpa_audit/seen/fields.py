@@ -16,12 +16,13 @@ from .shows import SETTING, settings_of_tlvs
 
 
 class Form(NamedTuple):
-    """The ways to ports, from a port to its neighbors, and from a neighbor to its fields. `sign`
-    leads somewhere in this form alone. Without `port`, the port is the name that `*` matched.
-    `neighbors` begins with `?` if a port may lack it. Without `kind`, a Port ID that looks like
-    an interface's name is one. `settings` leads to frame size, PVID, MAU type and aggregate,
-    `protocol` to the protocol. A neighbor must have a chassis ID and a Port ID or, with
-    `of_names`, any name of its host and any of its port."""
+    """A form of JSON: the ways to ports, from a port to its neighbors, and from a neighbor to its
+    fields. JSON in which `sign` leads somewhere has this form. If `port` is empty, the port is
+    the name that `*` matched. A `?` before `neighbors` says that a port may lack neighbors. If
+    `kind` is empty, a Port ID that looks like an interface's name is one. `settings` leads to
+    frame size, PVID, MAU type and aggregate, `protocol` to the protocol. A neighbor needs a
+    chassis ID and a Port ID; with `of_names`, any name of its host and any name of its port are
+    enough."""
 
     sign: str
     ports: str
