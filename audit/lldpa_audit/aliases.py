@@ -14,13 +14,13 @@ def read_aliases(file: str, names: Names) -> Aliases:
     faults, aliases = Faults(file), Aliases({}, {})
     for line, fields in table_of(faults, COLUMNS):
         if len(fields) != len(COLUMNS) or not fields[2] or not any(fields[:2]):
-            faults.add(line, "it needs an alias, a host or a port (or both), and no more fields")
+            faults.add(line, "it must be host,port,alias; only the host or the port may be empty")
             continue
         why = added(aliases, names, *fields)
         if why:
             faults.add(line, why)
     for alias, host in aliases.hosts.items():
-        if host in aliases.hosts:
+        if alias != host in aliases.hosts:
             faults.add(None, f"{host} is an alias itself, so it cannot have the alias {alias}")
     faults.end()
     ports: dict[End, list[str]] = {}
@@ -34,9 +34,9 @@ def added(aliases: Aliases, names: Names, host: str, port: str, alias: str) -> s
     """Adds an alias. Returns why it cannot be added, or an empty text."""
     host = names.plain_host(host)
     if not port:
-        key = names.plain_host(alias)
-        is_new = aliases.hosts.setdefault(key, host) == host != key
-        return "" if is_new else f"{alias} cannot be an alias of two hosts, or of itself"
+        before = aliases.hosts.setdefault(names.plain_host(alias), host)
+        why = f"{alias} is an alias of itself" if host == names.plain_host(alias) else ""
+        return why if before == host else f"{alias} is an alias of two hosts: {before} and {host}"
     ports = aliases.ports.setdefault(End(host, names.plain_port(alias)), [])
     ports.append(names.plain_port(port))
     return "" if len(ports) <= MOST_PORTS else f"{alias} is an alias of over {MOST_PORTS} ports"

@@ -51,12 +51,12 @@ class Columns:
     def _has_all(self, line: int) -> bool:
         """Returns whether each of the four columns occurs once, and adds faults if not."""
         count = self._faults.count
-        for name in self._columns:
+        for name in dict.fromkeys(self._columns):
             times = self._names.count(name)
             if times != 1:
                 found = "occurs more than once" if times else "is missing"
                 self._faults.add(line, f"the column {name} {found}: the header must name the "
-                                       f"columns {','.join(self._columns)}")
+                                       f"columns {','.join(dict.fromkeys(self._columns))}")
         return self._faults.count == count
 
     def _place_of(self, *names: str) -> Optional[int]:

@@ -139,11 +139,11 @@ class Audit:
 def unplanned_hosts(tables: Tables, plan: Plan, files: Mapping[str, str]) -> Sequence[str]:
     """Returns notes on audited hosts without planned cables. Raises ValueError if all lack them."""
     if not tables.hosts:
-        raise ValueError(f"no file has the neighbors of a host that {plan.file} names")
+        raise ValueError(f"no file has neighbors of any host in {plan.file}")
     unplanned = {key: host for key, host in tables.hosts.items() if key not in plan.hosts}
     loose = Names(ignore_case=True, short_names=True)
     like = {loose.host(one): one for one in plan.hosts.values()} if unplanned else {}
-    told = [f"{plan.file} has no cable of the host {shown(host)}"
+    told = [f"{plan.file} has no cable of the host {shown(host)} that can be judged"
             f"{advice(like.get(loose.host(host)), files.get(key, ''), plan)}"
             for key, host in unplanned.items()]
     if len(unplanned) == len(tables.hosts):

@@ -9,7 +9,6 @@ from .names import End, Seen
 from .plan import Plan, Wish
 from .seen.tables import Tables, KnownPort
 
-
 # of three candidates for an end's partner, at most two are wrong: that end and the one it wants
 MOST_TRIED = 3
 

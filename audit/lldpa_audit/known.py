@@ -48,7 +48,7 @@ class Known(NamedTuple):
 
     def unplanned(self, plan: Plan) -> list[str]:
         """Returns a note on each row that names nothing planned, and so excuses nothing."""
-        return [f"{self.file}: line {row.line}: {place_of(row.end)} is not planned"
+        return [f"{self.file}: line {row.line}: {place_of(row.end)} has no link that can be judged"
                 for key, rows in self.rows.items() for row in rows
                 if Verdict.UNPLANNED not in row.verdicts
                 and (key not in plan.ends if key.port else key.host not in plan.hosts)]
@@ -64,8 +64,8 @@ def read_known(file: str, names: Names, today: datetime.date) -> Known:
         host, port, reason, last, verdict, *rest = [*fields, ""]
         until, verdicts = date_of(last), VERDICTS.get(verdict) if verdict else SILENCE
         if rest[1:] or not host or not reason or until is None:
-            faults.add(line, "it needs a host, a reason, a date such as 2026-12-31 or none, and "
-                             "at most 5 fields")
+            faults.add(line, "the row needs a host and a reason, a date such as 2026-12-31 or "
+                             "nothing in the column until, and at most 5 fields")
         elif verdicts is None:
             faults.add(line, f"{verdict!r} cannot be excused, only {', '.join(VERDICTS)}")
         elif until < today:

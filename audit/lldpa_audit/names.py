@@ -10,7 +10,6 @@ from lldpa.texts import CUT, printable
 from .link_settings import Settings
 from .spelling import is_aggregate, plain, plain_port
 
-
 LONGEST = 255  # the longest name that LLDP can send
 MOST_NAMED = 3  # hosts, ends or neighbors in one line
 

@@ -6,7 +6,6 @@ from typing import Any, Iterable, Iterator, NamedTuple, Optional, Sequence, Unio
 
 from .plan import FIRST, NO_END, Faults
 
-
 # the further fields of a cable that are reported with its faults
 DETAILS = ("id", "label", "type", "color", "length", "length_unit", "status", "description")
 
@@ -79,7 +78,7 @@ def cables_of(text: str, faults: Faults) -> Iterator[Union[Cable, str]]:
     try:
         tree = json.loads(text)
     except (ValueError, RecursionError) as fault:
-        faults.add(None, f"it is not JSON: {fault}")
+        faults.add(None, f"it cannot be read as JSON: {fault}")
         return
     pages = tree if isinstance(tree, list) else [tree]
     for page in pages:
@@ -88,8 +87,8 @@ def cables_of(text: str, faults: Faults) -> Iterator[Union[Cable, str]]:
             faults.add(None, "it is JSON, but not an answer of NetBox's /api/dcim/cables/")
             return
         if page.get("next") and page is pages[-1]:
-            faults.add(None, "it is one page of several: ask with ?limit=0, or put the pages into "
-                             "one list")
+            faults.add(None, "its last page names a next one: ask NetBox with ?limit=0, or put all "
+                             "pages into one list")
         yield from map(cable_of, found)
 
 

@@ -5,7 +5,6 @@ from typing import Iterable, Iterator, NamedTuple, Optional, Sequence, Union
 from .names import End, Names
 from .plan import Detail, Faults, Link, planned_twice
 
-
 # a link is followed through at most this many panels, since a ring of panels has no end
 MOST_PANELS = 100
 ENDLESS = f"its link passes more than {MOST_PANELS} panels"
@@ -48,9 +47,10 @@ class Panels:
         taken = self._fronts_of.setdefault(rear, {}).setdefault(pair.position, pair.one)
         is_other = before[:2] != pair[:2] or before.position != pair.position
         if is_other or front in self._fronts_of:
-            faults.add(pair.line, f"{pair.one} is already joined to another port or position")
+            faults.add(pair.line, f"{pair.one} is joined to itself" if front == rear else
+                       f"{pair.one} is already joined to another port or position")
         elif taken != pair.one or back is not None:
-            faults.add(pair.line, f"{pair.other} is already joined to {taken}")
+            faults.add(pair.line, f"{pair.other} is also joined to {back.other if back else taken}")
         self._hosts.update((front.host, rear.host))
 
     def through(self, links: Iterable[Link]) -> Iterator[Link]:
@@ -114,7 +114,7 @@ class Panels:
             return f"{self._file} has no row for {cable.end}"
         if not positions:
             return next(iter(fronts.values())) if len(fronts) == 1 else (
-                f"{cable.end} has {len(fronts)} positions, and which one is meant is unknown")
+                f"{cable.end} has {len(fronts)} positions, and nothing says which one is meant")
         position = positions.pop()
         return fronts.get(position) or f"{self._file} has no position {position} at {cable.end}"
 

@@ -112,7 +112,7 @@ class Plan:
             else:
                 self._add(link, names, faults)
         if not self.ends and not self.breakouts and not faults.count:
-            faults.add(None, "it has no links")
+            faults.add(None, "it has no link to judge; for cables at patch panels, give --panels")
         self.hosts = {key.host: wish.end.host for key, wish in self.ends.items()}
         for key, some in self.breakouts.items():
             self.hosts.update((names.host(end.host), end.host) for link in some for end in link[:2])

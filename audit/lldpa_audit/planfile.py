@@ -123,6 +123,6 @@ def notes_of_panels(file: str, read: PlanFile, followed: Optional[Panels]) -> li
                 "with NetBox's export of front ports"] if count else []
     dead_ends = followed.dead_ends
     notes = [f"{begin} cannot be judged: {why}" for begin, why in dead_ends[:MOST_NAMED]]
-    if len(dead_ends) > MOST_NAMED:
-        notes.append(f"{len(dead_ends) - MOST_NAMED} more cannot be judged")
+    if more := len(dead_ends[MOST_NAMED:]):
+        notes.append(f"{more} more {'port' if more == 1 else 'ports'} cannot be judged")
     return notes

@@ -6,7 +6,6 @@ from typing import Iterator, Sequence
 
 from .plan import Faults, PlanFault
 
-
 LINE = re.compile(r"[^\n]*\n|[^\n]+")  # to split all lines at once would take much memory
 COMMENT = "#"
 
@@ -29,7 +28,7 @@ def table_of(faults: Faults, columns: Sequence[str], further: Sequence[str] = ()
     line, header = next(rows, (1, []))
     names = [name.strip().lower() for name in header]
     if names not in (columns, [*columns, *further]):
-        faults.add(line, f"the header must be {','.join(columns)}")
+        faults.add(line, f"the header must be {','.join([*columns, *map('[{}]'.format, further)])}")
         return
     for line, row in rows:
         yield line, [field.strip() for field in row]

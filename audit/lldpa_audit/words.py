@@ -11,18 +11,19 @@ from .ages import seconds_of
 from .columns import COLUMNS
 
 WORDS = """\
-PLAN is CSV, an export or API answer of NetBox's cables, or a topology in DOT. Each WHAT is:
+PLAN is CSV, the cables that NetBox exports or its API returns, or a topology in DOT. Each WHAT is:
   FOLDER          files of many hosts, each named after its host: leaf1.json, or files in leaf1/
   HOST:FILE       a host's list of neighbors: the JSON of a switch (EOS, NX-OS, Junos, Cumulus),
                   NAPALM, lldpcli, networkctl, OpenConfig, Prometheus or lldpa; rows of
                   ntc-templates; the output of snmpwalk; or a capture that names its interfaces
   HOST:FOLDER     several files of a host
-  FILE            a list or capture of the host that the file is named after, or of this host
+  FILE            a list or capture of the host that the file is named after or, if the plan has
+                  no such host, of this host
   PORT=FILE       a capture taken at a port of this host; HOST:PORT=FILE for another host
 
-The exit status is 0 if everything that was looked at is right, 1 for a fault, a damaged file or,
-with --all, a cable that nobody looked at, and 2 for a wrong argument or plan, or a file that cannot
-be read.
+The exit status is 0 if everything that was looked at is right or known, 1 for a fault, a mismatch,
+a damaged file or, with --all, a cable that was not looked at or cannot be judged, and 2 for a wrong
+argument or plan, two lists of one host, or a file that cannot be read.
 
 examples:
   lldpa-audit --all --vendor-names cables.csv lists/
@@ -36,12 +37,13 @@ def read_words(words: Optional[Sequence[str]]) -> argparse.Namespace:
     """Reads the command line. Ends the program with status 2 if it is wrong."""
     parser = argparse.ArgumentParser(
         prog="lldpa-audit", allow_abbrev=False, epilog=WORDS,
-        usage="lldpa-audit [OPTION ..] PLAN WHAT ..",
+        usage="lldpa-audit [OPTION ..] PLAN [WHAT ..]",
         description="Compares a plan of the cabling with the neighbors seen at each port, and "
                     "prints one line for each repair.",
         formatter_class=argparse.RawDescriptionHelpFormatter)
     parser.add_argument("plan", metavar="PLAN", help="the planned cables, see below")
-    parser.add_argument("what", metavar="WHAT", nargs="*", help="what was seen, see below")
+    parser.add_argument("what", metavar="WHAT", nargs="*", help="what was seen, see below; "
+                        "may be omitted with --live")
     add_words_of_input(parser)
     add_words_of_report(parser)
     add_version(parser)
@@ -59,7 +61,7 @@ def add_words_of_input(parser: argparse.ArgumentParser) -> None:
              "host=device,port=interface,peer=to,peer_port=to_port")
     add("--panels", metavar="FILE",
         help="the pairs of ports that panels join, such as NetBox's export of front ports")
-    add("--live", action="store_true", help="ask the lldpa-live of this host")
+    add("--live", action="store_true", help="read this host's neighbors from lldpa-live")
     add("--control", metavar="PATH", default=DEFAULT_PATH,
         help=f"the control socket of lldpa-live (default: {DEFAULT_PATH})")
     add("--wait", metavar="TIME", type=seconds_of, default=0.0,
@@ -69,8 +71,7 @@ def add_words_of_input(parser: argparse.ArgumentParser) -> None:
     add("--host", metavar="NAME", default=socket.gethostname(),
         help="this host's name in the plan (default: the system's name)")
     add("--settings", action="store_true",
-        help="compare frame size, VLAN, speed and duplex of both ends of each link judged right")
-
+        help="compare frame size, PVID, speed, duplex and aggregation of both ends of right links")
     add("--ignore-case", action="store_true", help="ignore case when comparing names")
     add("--short-names", action="store_true",
         help="compare hosts' domains only if both names have one")
@@ -85,12 +86,13 @@ def add_words_of_report(parser: argparse.ArgumentParser) -> None:
     add("--all", action="store_true",
         help="count cables that were not looked at, or cannot be judged, as faults")
     add("--known", metavar="FILE",
-        help="faults to excuse, in CSV with the columns host,port,reason,until and verdict")
+        help="faults to excuse, in CSV with the columns host,port,reason,until[,verdict]")
     add("--planned-only", action="store_true", help="do not report ports that are not planned")
     add("--by", metavar="COLUMN", default="",
         help="group the lines by a column of the plan, such as rack")
     add("--json", action="store_true", help="print repairs and verdicts as JSON")
-    add("--junit", metavar="FILE", help="write a JUnit report with a test case for each end")
+    add("--junit", metavar="FILE", 
+        help="write a JUnit report with a test case for each port that has a verdict")
     add("--metrics", metavar="FILE", help="write metrics for node_exporter's textfile collector")
     add("--html", metavar="FILE", help="write a page with the repairs and pictures of faulty hosts")
 

@@ -37,7 +37,7 @@ REFUSED: Sequence[Tuple[str, Any, str]] = (
         {"port": "swp1", "neighborDevice": "host01", "neighborPort": "eth0", "ttl": 120}]},
      "it is EOS' short list, without chassis IDs: use `show lldp neighbors detail | json`"),
     ("16: IOS", IOS, "it looks like a switch's plain text: use its JSON, or rows of ntc-templates"),
-    ("16: keyvalue", "lldp.swp1.via=LLDP\n", f"it is lldpcli's keyvalue: {USE_JSON}"),
+    ("16: keyvalue", "lldp.swp1.via=LLDP\n", f"it is in lldpcli's keyvalue format: {USE_JSON}"),
     ("16: XML", '<?xml version="1.0"?>\n<lldp/>', f"it is lldpcli's XML: {USE_JSON}"),
     ("16: a page", "<!DOCTYPE html><p>Log in", "it is a web page, such as a login page"),
     ("16: a shell", "sh: lldpcli: command not found\n",
@@ -76,11 +76,11 @@ PARTS = (
         "lists/leaf1.json lists/leaf2.lab.json", 0, ALL_RIGHT),
     Row("12: a file of no planned host", {"lists/leaf1.json": LEAF1, "lists/x.json": {}},
         "lists/leaf1.json lists/x.json", 0,
-        ["plan.csv has no cable of the host x: if the file is of another host, write HOST:FILE, "
-         "such as leaf1:lists/x.json",
+        ["plan.csv has no cable of the host x that can be judged: if the file is of another host, "
+         "write HOST:FILE, such as leaf1:lists/x.json",
          "3 cables: 2 right, 0 wrong, 1 not looked at (host04, leaf2.lab)"]),
     *(Row(f"a file that tells nothing: {why}", {"l": text, "leaf2.lab": LEAF2}, "leaf1:l leaf2.lab",
-          1, [*(f"plan.csv has no cable of the host {host}" for host in unplanned),
+          1, [*(f"plan.csv has no cable of the host {one} that can be judged" for one in unplanned),
               f"leaf1  no data at 2 of 2 ports (l: {why})",
               "3 cables: 1 right, 0 wrong, 2 not looked at (host01, host02)"])
       for text, unplanned, why in (
@@ -100,7 +100,7 @@ PARTS = (
         "seen/leaf2.lab/lldp/neighbors.json": LEAF2}, words, 0, ALL_RIGHT)
       for words in ("seen", "leaf1:seen/leaf1 leaf2.lab:seen/leaf2.lab")),
     Row("12: a folder without files", {"seen/.hidden": "x"}, "seen", 2,
-        ["seen: it is a folder without files"]),
+        ["seen: it is a folder without files to read"]),
     Row("12: what is skipped in a folder", {
         "seen/fifo": os.mkfifo, "seen/gone.json": lambda path: path.symlink_to("nowhere"),
         "seen/leaf1.json~": "{", "seen/leaf1/list": LEAF1,
@@ -108,7 +108,7 @@ PARTS = (
             "seen/fifo: it is not a file, and is skipped",
             "seen/gone.json: it is a link that leads nowhere, and is skipped",
             "seen/leaf1/latest: it is a link to a folder, and is skipped",
-            "seen/leaf1.json~: it is a copy that an editor left, and is skipped",
+            "seen/leaf1.json~: it is named like a backup copy, and is skipped",
             "3 cables: 2 right, 0 wrong, 1 not looked at (host04, leaf2.lab)"]),
     Row("12: one of two files of a host is damaged", {
         "a": vendors.napalm({"swp1": RIGHT["swp1"]}), "b": "{"}, "leaf1:a leaf1:b", 1, [

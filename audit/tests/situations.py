@@ -71,8 +71,8 @@ KNOWN_FAULTS = [
          ["swp1  silent: wants nas1 e0", "2 cables: 1 right, 1 wrong"]),
         ("a row of nothing planned", "swp1 nas1 e0\nswp2 srv2 e0",
          KNOWN + "nas9,,sends no LLDP,\nleaf1,swp9,spare,\n", 0,
-         ["known: line 2: nas9 is not planned", "known: line 3: leaf1 swp9 is not planned",
-          "2 cables: 2 right, 0 wrong"]),
+         ["known: line 2: nas9 has no link that can be judged", "known: line 3: leaf1 swp9 has "
+          "no link that can be judged", "2 cables: 2 right, 0 wrong"]),
         ("a bad verdict", "swp1 nas1 e0", KNOWN_VERDICT + "nas1,,x,,quiet\n", 2,
          ["known: line 2: 'quiet' cannot be excused, only wrong, swapped, silent, extra, "
           "doubled, one-sided, disagrees, unplanned, no data"]))]
@@ -85,7 +85,7 @@ PANELS = (
         "leaf1 swp3 cannot be judged: panels has no row for pp1 F3",
         "srv3 e0 cannot be judged: panels has no row for pp2 F3",
         "leaf1 swp4 cannot be judged: panels has no row for pp1 F4",
-        "1 more cannot be judged",
+        "1 more port cannot be judged",
         "4 cables: 2 right, 0 wrong, 2 not judged"], "--panels panels",
         {"panels": PAIRS + "".join(PAIR_ROWS[:2] + PAIR_ROWS[4:6])}),
     situation("and all are needed", PANELED,
@@ -241,8 +241,8 @@ RUN = HEAD + "".join(f"s,p{at},x{at},e0\n" for at in range(6))
 MORE = (
     situation("two chassis IDs of one name", SW1 + "a,3,sw1,p3\n",
               {"a": "1 sw1 p1 c1 -\n2 sw1 p2 c2 -\n3 sw1 p3 c2 -"}, 0, [
-                  "sw1 answers with 2 chassis IDs (c1 at a 1, c2 at a 3): two devices may have the "
-                  "same name", "3 cables: 3 right, 0 wrong"]),
+                  "sw1 is heard with 2 chassis IDs (c1 at a 1 and c2 at a 3): two devices may have "
+                  "the same name", "3 cables: 3 right, 0 wrong"]),
     situation("a label like a comment", "label," + HEAD + "#17,leaf1,swp1,host01,eth0\n"
               "# of rack 2\n#18,leaf1,swp2,host01,eth1\n",
               {"leaf1": neighbor("swp1", "host09", "eth9")}, 1, [

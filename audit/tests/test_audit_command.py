@@ -106,7 +106,7 @@ class Words(Audits):
                 (capture[5:], "it does not name the port of its frames: write PORT="),
                 (f"--by row {capture}", "has no column row"),
                 (f"--host LEAF1.lab {capture}",
-                 "has no cable of the host LEAF1.lab, but has the host leaf1: see --host")):
+                 "no cable of the host LEAF1.lab that can be judged, but has the host leaf1: see")):
             status, out, err = self.audit(*words.split())
             self.assertEqual((status, out), (2, ""), words)
             self.assertIn(said, err)

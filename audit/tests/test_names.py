@@ -133,9 +133,9 @@ class FurtherNames(InAFolder):
 
     def test_faults(self) -> None:
         for text, said in (("host,port\n", "line 1: the header must be host,port,alias"),
-                           ("host,port,alias\n,,x\n", "line 2: it needs an alias, a host"),
-                           ("host,port,alias\na,1,\n", "line 2: it needs an alias"),
-                           ("host,port,alias\na,,x\nb,,x\n", "line 3: x cannot be an alias of"),
+                           ("host,port,alias\n,,x\n", "line 2: it must be host,port,alias; "),
+                           ("host,port,alias\na,1,\n", "line 2: it must be host"),
+                           ("host,port,alias\na,,x\nb,,x\n", "line 3: x is an alias of two hosts"),
                            ("host,port,alias\na,,b\nb,,c\n", "b is an alias itself, so it cannot")):
             with self.assertRaisesRegex(PlanFault, said):
                 self.aliases(text)

@@ -82,7 +82,7 @@ REFUSED = (
     (HEAD + "a,1,b,2,3\n", "line 2: it has 5 fields for 4 columns"),
     (HEAD + "a,1,b,2\n\nc,3,a,1\n", "line 4: a 1 is already planned in line 2"),
     (HEAD + "a,1,a,1\n", "line 2: a 1 is planned twice"),
-    (HEAD, "it has no links"), ("strict graph {}\n", "it has no links"),
+    (HEAD, "it has no link to judge"), ("strict graph {}\n", "it has no link to judge"),
     (HEAD + 'a,1,b,"2\nc,3,d,4\n', "line 2: a quoted field has no closing quote"),
     (HEAD + 'a,1,b,"2"3\nc,3,d,4\n', "line 2: ',' expected after '\"'"),
     (HEAD + f"a,1,b,{'x' * 131_073}\n", "line 2: a field has over 131072 characters"),
@@ -97,8 +97,8 @@ REFUSED = (
     ("graph {\na:1 -- b:2\n", "line 3: it ends without }"),
     ("graph {\na:1 -- b:2\n}}", f"line 3: '}}' {NO_EDGE}"), ("graph {\n/* }", "line 2: '/* }'"),
     ('graph {\nlabel="\n\n}', "line 2: 'label=\"' is not"),
-    ("{", "it is not JSON"), ("[1]", "answer of NetBox's"), ('{"results": [{"id": 7}]}', "no link"),
-    ('{"next": "x", "results": []}', "it is one page of several"),
+    ("{", "it cannot be read as JSON"), ("[1]", "answer of NetBox's"),
+    ('{"results": [{"id": 7}]}', "no link"), ('{"next": "x", "results": []}', "last page names a"),
 )
 
 
@@ -233,7 +233,8 @@ class Panels(Plans):
         for plan, panels, said in (
                 (self.PLAN + "leaf1,swp7,pp1,F1\n", self.PAIRS, "line 9: pp1 F1 is already"),
                 (self.PLAN, self.PAIRS + "pp1,F1,pp1,R7\n", "line 6: pp1 F1 is already joined"),
-                (ring, self.PAIRS, "it has no links"),
+                (self.PLAN, self.PAIRS + "p,R,p,X\np,F,p,R\n", "line 7: p R is also joined to p X"),
+                (ring, self.PAIRS, "it has no link to judge"),
                 (ring + "leaf1,1,pp1,F1\na,1,b,1\n", self.PAIRS, "pp1 F1 is already planned")):
             self.assertIn(said, self.fault(plan, panels))
 

@@ -82,7 +82,7 @@ def repair(faults: Faults, host: str, some: Sequence[tuple[End, Seen]]) -> Repai
             for key in faults.plan.ends_of_hosts[host]]
     known = [told for told in fars if told is not None and told.neighbors]
     at = f"all {len(some)}" if len(some) == len(known) else f"{len(some)} of {len(known)}"
-    text = f"answers as {shown(neighbor.hosts[0])} at {at} links whose far end sees a neighbor"
+    text = f"is heard as {shown(neighbor.hosts[0])} at {at} links whose other end hears a neighbor"
     ends = faults.with_far([faults.plan.ends[end].wanted for end, _ in some], [Verdict.DISAGREES])
     return Repair("renamed", End(name, some[0][0].port), f"{text} ({differs})" if differs else text,
                   faults.take(ends), shown(name))

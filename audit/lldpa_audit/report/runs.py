@@ -46,7 +46,7 @@ def repair_of_run(faults: Faults, ports: Sequence[End], begin: int, end: int, st
         fault = faults.left.get(ports[behind])
         if fault is not None and (fault.verdict in HAVE_NOBODY or faults.meant(fault) in run):
             run.append(ports[behind])
-    side = "next port" if step > 0 else "port before"
+    side = "next port" if step > 0 else "previous port"
     text = f"shifted by one: each has the neighbor that the {side} wants"
     return repair(faults, "shifted", run, text, ports[begin:end])
 

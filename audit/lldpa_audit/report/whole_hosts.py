@@ -7,6 +7,7 @@ from ..mismatches import MISMATCH, Mismatch
 from ..names import MOST_NAMED, End, Names, shown
 from ..plan import Plan
 from .repairs import Faults, Repair
+from .texts import listed
 
 FEWEST, FEWEST_UNLIKE = 2, 3
 
@@ -82,11 +83,10 @@ def several_chassis(findings: Sequence[Finding]) -> Iterator[str]:
     several = [host for host, count in counts.items() if count > 1]
     for host in several[:1]:
         some = {chassis: end for (name, chassis), end in heard.items() if name == host}
-        ids = ", ".join(f"{shown(chassis)} at {end}"
-                        for chassis, end in list(some.items())[:MOST_NAMED])
-        more = f"; in all, {len(several)} hosts have several" if len(several) > 1 else ""
-        yield (f"{shown(host)} answers with {len(some)} chassis IDs ({ids}): two devices may have "
-               f"the same name{more}")
+        ids = [f"{shown(chassis)} at {end}" for chassis, end in list(some.items())[:MOST_NAMED]]
+        text = f"{len(some)} chassis IDs ({listed(ids, len(some) - len(ids))})"
+        more = f"; in all, {len(several)} hosts have several chassis IDs" if several[1:] else ""
+        yield f"{shown(host)} is heard with {text}: two devices may have the same name{more}"
 
 
 def together(faults: Sequence[Finding], found: Mapping[End, Mismatch], names: Names, plan: Plan

@@ -152,7 +152,7 @@ def listed(node: Any, of: str) -> list[Any]:
     """Returns a list of objects. Some vendors omit the list around one object. Raises SeenFault."""
     some = [node] if isinstance(node, dict) else node
     if not isinstance(some, list) or not all(isinstance(one, dict) for one in some):
-        raise SeenFault(f"{of!r} is not a list of objects")
+        raise SeenFault(f"{f'the value of {of!r}' if of else 'it'} is not a list of objects")
     return some
 
 
@@ -185,7 +185,8 @@ def ports_of(tree: Any, form: Form) -> Iterator[tuple[str, Any]]:
         for place, node in enumerate(listed(found, form.ports) if form.port else [found], 1):
             port = text(node, form.port) if form.port else name
             if not port:
-                raise SeenFault(f"a neighbor has no {form.port}: was it shown without `detail`?")
+                raise SeenFault(f"an entry has no {form.port.replace(', ', ' or ')}: was "
+                                "it shown without `detail`?")
             if form.neighbors and places.setdefault(port, place) != place:
                 raise SeenFault(f"the port {port!r} is in it twice: as entries {places[port]} "
                                 f"and {place}")

@@ -19,7 +19,7 @@ def read_whats(words: Sequence[str], ours: str, say: Say) -> Iterator[What]:
         files = list(of_host(what.host, what.file, say) if what.file != word
                      else of_hosts(word, say))
         if not files:
-            raise ValueError(f"{what.file}: it is a folder without files")
+            raise ValueError(f"{what.file}: it is a folder without files to read")
         yield from files
 
 
@@ -60,7 +60,7 @@ def entries(folder: str, say: Say) -> Iterator["os.DirEntry[str]"]:
 def why_passed_over(entry: "os.DirEntry[str]") -> str:
     """Returns why an entry can be neither a list of neighbors nor a capture, or an empty text."""
     if entry.name.endswith(("~", ".bak", ".orig", ".swp", ".tmp")):
-        return "it is a copy that an editor left"
+        return "it is named like a backup copy"
     if entry.is_dir() or entry.is_file():
         return ""
     return "it is a link that leads nowhere" if entry.is_symlink() else "it is not a file"

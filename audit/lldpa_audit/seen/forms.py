@@ -24,7 +24,7 @@ FAILED = "the command that wrote it failed"
 USE_JSON = "use `lldpcli -f json show neighbors details`"
 # what a text is if it is not a list of neighbors: a pattern for its beginning, and the message
 CAUSES = (
-    (r"lldp\.[^\n=]+\.via=", f"it is lldpcli's keyvalue: {USE_JSON}"),
+    (r"lldp\.[^\n=]+\.via=", f"it is in lldpcli's keyvalue format: {USE_JSON}"),
     (r"-{70,}\nLLDP neighbors:", f"it is lldpcli's plain text: {USE_JSON}"),
     (r"(?:<\?xml[^>]*>)?\s*<lldp\b", f"it is lldpcli's XML: {USE_JSON}"),
     (r"lldp\.", "it is the output of another show command: use `lldpa-ctl show neighbors`"),

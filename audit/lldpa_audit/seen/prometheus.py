@@ -57,8 +57,8 @@ def samples(tree: Any) -> Iterator[tuple[str, dict[str, str], float]]:
                 yield (found[1] or found[2], defaultdict(str, {**labels, **ours}),
                        float(one["value"][1]))
     except (AttributeError, IndexError, KeyError, TypeError, ValueError):
-        raise SeenFault("it is an answer of Prometheus, but a series in it lacks the label "
-                        "instance or its value") from None
+        raise SeenFault("it is an answer of Prometheus, but a series in it lacks a value, or "
+                        "the label instance") from None
 
 
 def is_of_agent(file: str) -> bool:

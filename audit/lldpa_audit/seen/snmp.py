@@ -35,7 +35,7 @@ def read_walk(text: str) -> Listing:
     names = {number: port_name(row) for number, row in local.items() if LOCAL[1] in row}
     ports: dict[str, list[Seen]] = {name: [] for name in names.values()}
     if len(ports) < len(names):
-        raise SeenFault("two of its ports have the same lldpLocPortId")
+        raise SeenFault("two of its ports have the same name in lldpLocPortId or lldpLocPortDesc")
     for index, row in remote.items():
         _, _, further = index.partition(".")
         number = further.partition(".")[0]
@@ -61,7 +61,7 @@ def rows_of(text: str) -> tuple[dict[str, Row], dict[str, Row]]:
         except ValueError:  # it may have thousands of digits, or two dots
             raise SeenFault(f"{name}.{index[:40]} has an invalid index") from None
         if place <= last:
-            raise SeenFault(f"{name}.{index} is out of order, as if in two walks: {COMMAND}")
+            raise SeenFault(f"{name}.{index} is out of order, as if from another walk: {COMMAND}")
         last = place
         tables[name in REMOTE].setdefault(index, {})[name] = text_of(kind, value)
     return tables

@@ -75,7 +75,7 @@ def listing_of_one(answers: list[Any]) -> Optional[Listing]:
         return listing_of_host(answers[0])
     found = [one for one in map(listing_or_fault, filter(None, answers)) if not one.faults]
     if len(found) > 1:
-        raise SeenFault(f"it has {len(found)} lists: give one")
+        raise SeenFault(f"it has {len(found)} lists of neighbors: give only one")
     return found[0] if found else None
 
 
