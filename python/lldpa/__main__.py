@@ -8,7 +8,7 @@ lldpa {__version__}, the Python package of an LLDP agent
   python3 -m lldpa.commands.ctl      lldpa-ctl, asks a running lldpa-live
   python3 -m lldpa.commands.capture  lldpa-capture, converts captures to a trace
   python3 -m lldpa_audit             lldpa-audit, checks cabling against a plan
-  python3 -m lldpa.commands.lldpctl  lldpctl, answers like lldpd's lldpctl
+  python3 -m lldpa.commands.lldpctl  lldpctl, prints answers as lldpd's lldpctl does
 
 Each prints help with --help. In Python, use `from lldpa import Agent` to run an agent, and
 `from lldpa.client import Client` to ask a running lldpa-live.

@@ -177,9 +177,9 @@ class Damaged(unittest.TestCase):
         bad = packet(whole(LLDP))
         damages = {
             "a block's two lengths differ": bad[:-4] + b"\0\0\0\0",
-            "a block has only 8 octets": bad[:4] + b"\x08\0\0\0" + bad[8:],
+            "a block's length is only 8": bad[:4] + b"\x08\0\0\0" + bad[8:],
             "the length of a record is far too large": bad[:4] + b"\xff\xff\xff\x7f" + bad[8:],
-            "the fields of a block do not fit in it": packet(whole(LLDP), place=1),
+            "a field or the interface of a block is invalid": packet(whole(LLDP), place=1),
             "a section has an unknown byte order": section()[:8] + b"abcd" + section()[12:],
         }
         for why, record in damages.items():

@@ -94,7 +94,7 @@ class Answers(Program):
         self.assertNotIn("discarded", self.run_ctl("details"))
         self.served.frame("eth1", numbered(2, 120, tlv(6, b"d" * 256)))
         self.assertEqual(self.run_ctl("details").splitlines()[-1],
-                         "eth1: 1 TLV discarded since the start")
+                         "eth1: 1 TLV discarded since the agent started")
         self.assertNotIn("discarded", self.run_ctl("details", "eth0"))
 
     def test_on_a_terminal_it_is_as_wide_and_nothing_is_raw(self) -> None:
@@ -152,7 +152,8 @@ class Faults(Program):
             accepting.join()
 
     def test_bad_words(self) -> None:
-        self.run_ctl("configure", 'a"b', status=2, said='a word contains a double quote: a"b')
+        for word in ('a"b', "中"):
+            self.run_ctl(word, status=2, said=f"a word must be ASCII without double quotes: {word}")
         self.run_ctl("a\nb", status=2, said="a line contains a line feed")
         for words in (["metrics", "x"], ["--json", "metrics"], ["--jso"],
                       ["--output", "x", "show", "neighbors"], ["--output", "x"],

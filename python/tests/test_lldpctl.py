@@ -139,7 +139,7 @@ class Handed(Program):
                                  "local-chassis.chassis.name=a b"])
         self.assertIn("usage: lldpcli ", told.stdout)
         self.assertEqual(told.stderr.splitlines(), [
-            "lldpcli: unknown word: bogus (show, watch, configure, update)",
+            "lldpcli: wrong word: bogus (show, watch, configure, update)",
             "lldpcli: No closing quotation"])
         self.assertNotIn(b"update", self.served.asked)
 
@@ -162,10 +162,10 @@ class Refusals(Program):
     def test_words(self) -> None:
         shows = "neighbors, interfaces, chassis, statistics, configuration"
         for words, said in (
-                (["show", "bogus"], f"unknown word: bogus ({shows})"),
+                (["show", "bogus"], f"wrong word: bogus ({shows})"),
                 (["show"], f"a word is missing after show ({shows})"),
-                (["resume"], "unknown word: resume (show, watch, configure, update)"),
-                (["update", "x"], "unknown word: x (no word is allowed here)"),
+                (["resume"], "wrong word: resume (show, watch, configure, update)"),
+                (["update", "x"], "wrong word: x (no word is allowed here)"),
                 (["watch", "limit", "0"], "not a number from 1 to 999999999: 0"),
                 (["configure", "med", "x"], "unknown command: med (system or lldp or ports)"),
                 (["conf", "lldp", "tx-h", "0"],

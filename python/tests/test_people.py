@@ -93,8 +93,8 @@ class Table(unittest.TestCase):
         lines = table([port("eth0", too_many=True), port("eth1"),
                        Port("p2", 128, 0, True)], 1000)
         self.assertEqual(lines, [
-            "128 neighbors on 3 ports. eth0 had no room for all: raise --max-neighbors."
-            " p2 had no room for all: a port holds at most 128."])
+            "128 neighbors on 3 ports. eth0 had no room for a neighbor: raise --max-neighbors; "
+            "a port holds at most 128. p2 had no room for a neighbor: a port holds at most 128."])
         for line in table([port("eth0", too_many=True)] * 5, 40):
             self.assertLessEqual(len(line), 40)
 

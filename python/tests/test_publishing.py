@@ -11,7 +11,7 @@ from typing import Any, List
 from served import LIVE_LINES, Program, numbered
 
 DOWN = """\
-# HELP lldpa_up Whether lldpa-live answers and its agent runs, 1 or 0.
+# HELP lldpa_up 1 if lldpa-live answers and its agent runs, else 0.
 # TYPE lldpa_up gauge
 lldpa_up 0
 """

@@ -85,7 +85,7 @@ class Traces(FilesCase):
         heard = [packet(whole(LLDP), place=place) for place in range(65)]
         three = self.file(many + heard[7] + heard[64] + heard[3], "three")
         self.assertEqual(ports_of([Source(three)]), ["swp3", "swp7", "swp64"])
-        with self.assertRaisesRegex(TooManyPorts, "65 ports; the limit is 64"):
+        with self.assertRaisesRegex(TooManyPorts, "65 ports have LLDP frames; the limit is 64"):
             ports_of([Source(self.file(many + b"".join(heard)))])
 
     def test_interfaces_that_are_none_of_ours(self) -> None:
@@ -186,7 +186,7 @@ class Program(FilesCase):
         for words, text in ((["--port", "eth0.10", "a"], "'eth0.10' cannot be a port: a port's name"),
                             (["eth0.10=a"], "'eth0.10' cannot be a port: a port's name"),
                             (["--port", "x" * 16, "a"], "a port's name has 1 to 15"),
-                            ([f"p{i}=a" for i in range(65)], "65 ports; the limit is 64"),
+                            ([f"p{i}=a" for i in range(65)], "65 ports have LLDP frames;"),
                             ([], "FILE"), (["--por", "x", "a"], "--por")):
             written, said, status = self.ran(*words)
             with self.subTest(words[:2]):

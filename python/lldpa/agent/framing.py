@@ -52,10 +52,10 @@ def checked(line: Line) -> bytes:
 
 
 def command(*words: str) -> str:
-    """Joins words to a line, and quotes them if needed. Raises ValueError if a word has a quote."""
+    """Joins words to a line, quoted if needed. Raises ValueError if one has " or is not Latin-1."""
     for word in words:
-        if '"' in word:
-            raise ValueError(f"a word contains a double quote: {word}")
+        if re.search('["\u0100-\U0010ffff]', word):  # a line is encoded in Latin-1
+            raise ValueError(f"a word must be ASCII without double quotes: {word}")
     return " ".join(f'"{word}"' if not word or set(" \t#") & set(word) else word for word in words)
 
 
@@ -73,7 +73,7 @@ def rx(port: str, octets: bytes) -> str:
 def ticks(seconds: int) -> List[str]:
     """Returns the `tick` lines for this many seconds. Raises ValueError if they are negative."""
     if seconds < 0:
-        raise ValueError(f"a negative number of seconds: {seconds}")
+        raise ValueError(f"the number of seconds is negative: {seconds}")
     whole, rest = divmod(seconds, MOST_TICKS)
     lines = [f"tick {MOST_TICKS}"] * whole
     if rest:

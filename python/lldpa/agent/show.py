@@ -103,7 +103,7 @@ class Reader:
         is_configured = self.next().startswith("configuration.")
         configuration = self.configuration() if is_configured else None
         if self.at < len(self.lines) - 1:
-            raise self.fault("the end or another show")
+            raise self.fault("shows in the order neighbors, statistics, chassis, configuration")
         return Show(ports, counters, chassis, configuration)
 
     def ports(self) -> Iterator[Port]:
@@ -168,7 +168,7 @@ class Reader:
             statuses[name] = self.text(f"configuration.{name}.status")
             self.check(statuses[name] in STATUSES, f"one of {', '.join(STATUSES)}")
         if self.at != begin + 1 + count or len(statuses) != count:
-            raise self.fault(f"the status of {counted(count, 'port')}")
+            raise self.fault(f"the status of {counted(count, 'port')}, each once")
         return Configuration(**numbers, statuses=statuses)
 
 

@@ -101,8 +101,8 @@ class Neighbor(NamedTuple):
 class Port(NamedTuple):
     """A port and its neighbors, in the order of its table.
 
-    `octets` is the size of all data stored about the neighbors. `too_many` is true until every
-    neighbor that was dropped for lack of room would have aged out.
+    `octets` is the size of all data stored about the neighbors. `too_many` is true while a
+    neighbor that was dropped for lack of room would still be present.
     """
     name: str
     neighbors_held: int

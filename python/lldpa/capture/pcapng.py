@@ -41,7 +41,7 @@ class PcapngReader(Reader):
                 raise self.window.damage(at, "a section has an unknown byte order")
         size: int = struct.unpack_from(order + "I", octets, at + 4)[0]
         if size < self.HEAD_SIZE:
-            raise self.window.damage(at, f"a block has only {size} octets")
+            raise self.window.damage(at, f"a block's length is only {size}")
         return size
 
     def read_record(self, at: int) -> Optional[Look]:
@@ -63,7 +63,7 @@ class PcapngReader(Reader):
             elif kind == SIMPLE_PACKET:
                 return self._simple_packet(begin, end)
         except (struct.error, IndexError):
-            raise self.window.damage(at, "the fields of a block do not fit in it") from None
+            raise self.window.damage(at, "a field or the interface of a block is invalid") from None
         return None
 
     def pass_over(self, stop: int) -> Optional[int]:

@@ -81,7 +81,7 @@ def ports_of(sources: Sequence[Source]) -> List[str]:
         heard = {line.split(" ")[1] for line in frames_of(sources, SILENT, False)}
         ports = {name: None for name in ports if name in heard}
     if len(ports) > MOST_PORTS:
-        raise TooManyPorts(f"{len(ports)} ports; the limit is {MOST_PORTS}")
+        raise TooManyPorts(f"{len(ports)} ports have LLDP frames; the limit is {MOST_PORTS}")
     return list(ports)
 
 

@@ -36,7 +36,7 @@ def connect(connection: socket.socket, path: str, seconds: float) -> None:
     try:
         connection.connect(path)
     except BlockingIOError:
-        raise TimeoutError(f"no connection within {seconds:g} seconds") from None
+        raise TimeoutError(f"no connection within {seconds:g} second{'s'[seconds == 1:]}") from None
 
 
 class Gone(LldpaFault, ConnectionError):
@@ -104,14 +104,14 @@ class Client:
         self.octets += octets
 
     def in_time(self, call: Callable[[Any], Any], argument: Any) -> Any:
-        """Calls a method of the socket, and returns its result. Raises TimeoutError if the time for
-        the answer is over, also in Python 3.9, where socket.timeout is another class."""
+        """Calls a socket method. Raises TimeoutError, also in Python 3.9, if the time is over."""
         left = self.last - time.monotonic()
         if left > 0:
             self.connection.settimeout(left)
             with contextlib.suppress(socket.timeout):
                 return call(argument)
-        raise TimeoutError(f"no complete answer within {self.seconds:g} seconds")
+        raise TimeoutError(f"no complete answer within {self.seconds:g} "
+                           f"second{'s'[self.seconds == 1:]}")
 
     def close(self) -> None:
         """Closes the connection."""

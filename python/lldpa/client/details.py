@@ -30,8 +30,8 @@ def details(ports: Sequence[Port], since: Since, width: int) -> list[str]:
 
 def discarded(counters: Mapping[str, Counters]) -> list[str]:
     """Returns a line for each port that discarded TLVs. A neighbor's lines do not show these."""
-    return [f"{readable(port)}: {counted(of.tlvs_discarded, 'TLV')} discarded since the start"
-            for port, of in counters.items() if of.tlvs_discarded]
+    return [f"{readable(port)}: {counted(of.tlvs_discarded, 'TLV')} discarded "
+            "since the agent started" for port, of in counters.items() if of.tlvs_discarded]
 
 
 def detail_lines(neighbor: Neighbor, since: Optional[str], width: int) -> list[str]:

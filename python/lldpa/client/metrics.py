@@ -13,9 +13,9 @@ SAID = ("0080c2.1", "00120f.4")  # Port VLAN ID and Maximum Frame Size, which ar
 
 # key in `live`, metric, description, and states; the sample of the current state is 1
 STATES = (
-    ("agent", "lldpa_agent_state", "1 for the current state of the agent, 0 for others.",
+    ("agent", "lldpa_agent_state", "1 for the current state of the agent, 0 for the others.",
      ("running", "waiting")),
-    ("log", "lldpa_log_state", "1 for the current state of the log, 0 for others.",
+    ("log", "lldpa_log_state", "1 for the current state of the log, 0 for the others.",
      ("full", "off", "on", "stalled")),
 )
 NUMBERS = (
@@ -29,8 +29,8 @@ NUMBERS = (
 # for ports: key in `live`, metric, type, description, and the value shown as 1 (empty for numbers)
 OF_PORTS = (
     ("interface", "lldpa_interface_present", "gauge",
-     "Whether the interface of the port exists, 1 or 0.", "present"),
-    ("link", "lldpa_link_up", "gauge", "Whether the port has a carrier, 1 or 0.", "up"),
+     "1 if the interface of the port exists, else 0.", "present"),
+    ("link", "lldpa_link_up", "gauge", "1 if the port has a carrier, else 0.", "up"),
     ("kernel-drops", "lldpa_kernel_drops_total", "counter",
      "Frames that the kernel dropped because lldpa-live did not read them in time.", ""),
     ("limit-drops", "lldpa_limit_drops_total", "counter",
@@ -50,10 +50,10 @@ def metrics(show: Show, live: Iterable[str]) -> list[str]:
         *live_lines(LiveLines(live)),
         *metric_lines("lldpa_neighbors", "gauge", "Neighbors that the port holds.",
                       [({"port": port.name}, port.neighbors_held) for port in show.ports]),
-        *metric_lines("lldpa_too_many", "gauge",
-                      "1 until each neighbor dropped for lack of room would have aged out.",
+        *metric_lines("lldpa_too_many", "gauge", "1 while a neighbor that was dropped for lack of "
+                      "room would still be present, else 0.",
                       [({"port": port.name}, int(port.too_many)) for port in show.ports]),
-        *metric_lines("lldpa_neighbor_info", "gauge", "What a neighbor announces; always 1.",
+        *metric_lines("lldpa_neighbor_info", "gauge", "Always 1; the labels describe a neighbor.",
                       [(described(neighbor), 1) for neighbor in show.neighbors]),
         *metric_lines("lldpa_expires_seconds", "gauge", "Seconds until the neighbor ages out.",
                       [(identified(neighbor), neighbor.expires) for neighbor in show.neighbors]),
@@ -63,7 +63,7 @@ def metrics(show: Show, live: Iterable[str]) -> list[str]:
 
 def up_lines(is_up: bool) -> Iterator[str]:
     """Yields the metric `lldpa_up`. If lldpa-live does not answer, no other metric is written."""
-    text = "Whether lldpa-live answers and its agent runs, 1 or 0."
+    text = "1 if lldpa-live answers and its agent runs, else 0."
     return metric_lines("lldpa_up", "gauge", text, [({}, int(is_up))])
 
 

@@ -137,9 +137,9 @@ def count_of(ports: Sequence[Port], width: int) -> list[str]:
     held = sum(port.neighbors_held for port in ports)
     said = f"{counted(held, 'neighbor')} on {counted(len(ports), 'port')}."
     for port in (port for port in ports if port.too_many):
-        is_full = port.neighbors_held >= MOST_NEIGHBORS
-        remedy = f"a port holds at most {MOST_NEIGHBORS}" if is_full else "raise --max-neighbors"
-        said += f" {printable(port.name)} had no room for all: {remedy}."
+        remedy = "" if port.neighbors_held >= MOST_NEIGHBORS else "raise --max-neighbors; "
+        said += (f" {printable(port.name)} had no room for a neighbor: {remedy}"
+                 f"a port holds at most {MOST_NEIGHBORS}.")
     return list(wrapped(said, max(width, LEAST_WIDTH_OF_TEXT)))
 
 

@@ -194,11 +194,11 @@ def explanation(words: Sequence[str], text: str, commands: Sequence[str] = COMMA
     if text not in OF_A_WORD or not words:
         return text
     if words[0] not in commands:
-        return f"{text}: {words[0]} ({', '.join(commands)})"
+        return f"{text}: {words[0] or 'empty word'} ({', '.join(commands)})"
     if words[0] == "configure":
         from .refused import explained  # seldom needed
         return explained(command(*words), text)
     if words[0] == "show" and (len(words) == 1 or words[1] not in SHOWS):
-        return f"{text}: {words[1] if len(words) > 1 else 'a word is missing'} ({', '.join(SHOWS)})"
+        return f"{text}: {''.join(words[1:2]) or 'a word is missing'} ({', '.join(SHOWS)})"
     first = 2 if words[0] == "show" else 1
     return f"{text}: {words[first]} (no word is allowed here)" if len(words) > first else text

@@ -62,7 +62,7 @@ def source_of(word: str, names: Mapping[str, str]) -> Source:
     if mark and is_port_name(front):
         return Source(file, front)
     if mark and not os.path.exists(word):
-        raise ValueError(f"{front!r} cannot be a port: {PORT_NAME_RULE}; use another PORT={file}")
+        raise ValueError(f"no file {word!r}, and {front!r} cannot be a port: {PORT_NAME_RULE}")
     return Source(word, names.get(ANY_INTERFACE), names)
 
 
@@ -94,9 +94,9 @@ def run(given: argparse.Namespace) -> int:
     if not given.ports:
         return write_trace(sources, not given.no_seconds, given.show)
     ports = ports_of(sources)
-    for port in ports:
-        if port.startswith("-"):  # other programs could take it for an option
-            raise ValueError(f"port {port!r} looks like an option: use --port='{port}=NAME'")
+    for one in ports:
+        if one.startswith("-"):  # other programs could take it for an option
+            raise ValueError(f"port {one!r} looks like an option: rename it (--port='{one}=NAME')")
     print("\n".join(ports), flush=True)
     faults = [f"{source.file}: {why}" for source in sources if (why := fault_of(source.file))]
     for fault in faults:

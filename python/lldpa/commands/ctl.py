@@ -10,7 +10,7 @@ from ..client.people import terminal_width
 from ..client.questions import (COMMANDS, Question, check, completed, explanation, listed,
                                 question)
 from ..agent.framing import Refused, command, words_of
-from ..agent.show import read_show
+from ..agent.show import ShowFault, read_show
 from ..faults import LldpaFault
 from ..texts import printable
 
@@ -146,7 +146,8 @@ def said_of(fault: Exception, path: str) -> str:
         return f"{path}: permission denied (only root and the group of the socket may ask)"
     if isinstance(fault, TimeoutError) or isinstance(fault, OSError) and fault.strerror:
         return f"{path}: {fault.strerror or fault}"
-    return printable(str(fault))
+    front = "not an answer of lldpa-live: " if isinstance(fault, ShowFault) else ""
+    return printable(f"{front}{fault}")
 
 
 def main(words: Optional[Sequence[str]] = None) -> int:

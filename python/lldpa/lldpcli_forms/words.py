@@ -62,8 +62,7 @@ def of_lldpcli(words: Sequence[str]) -> Command:
     if first == "configure":
         return Lines(question(in_full([first, *rest], forms_of("lldpa"))).lines)
     if first == "update":
-        if rest:
-            raise Refused(f"unknown word: {rest[0]} (no word is allowed here)")
+        read_rest(rest, [])
         return Lines([first])
     if first == "watch":
         return read_rest(rest, ["details", "summary", "hidden", LIMIT, PORTS])
@@ -104,7 +103,7 @@ def meant(word: str, able: Sequence[str]) -> str:
     found = [one for one in able if one.startswith(word)] if word else []
     if len(found) != 1:
         instead = ", ".join(able) if able else "no word is allowed here"
-        raise Refused(f"unknown word: {word} ({instead})")
+        raise Refused(f"wrong word: {word or 'empty word'} ({instead})")
     return found[0]
 
 
