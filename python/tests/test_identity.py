@@ -23,7 +23,7 @@ class TestLate(OnLinks):
         ip("-n", here, "link", "add", "vethA", "up", "type", "veth", "peer", "name", "vethB")
         ip("-n", here, "link", "set", "vethB", "up")
         live = self.live("eth0", "eth1", awaits=False)
-        self.assertTrue(live.says("eth0 eth1: no such interface yet; waiting for it"))
+        self.assertTrue(live.says("eth0 eth1: no such interface yet; waiting for one"))
         live.comes_to("live.agent=waiting")
         self.assertEqual(live.ask_refused("show neighbors"),
                          "waiting for an interface: eth0 eth1")

@@ -22,11 +22,11 @@ class TestWords(unittest.TestCase):
                 (["--connect", "4711", "eth0"], "--connect"),
                 (["--nonsense", "eth0"], "--nonsense"),
                 (["--con", "4711", "eth0"], "--con"),
-                (["--control-group", "lldpa-none", "eth0"], "group lldpa-none does not exist"),
-                (["eth0", "--", "eth1"], "only options of lldpa may follow --"),
-                (["eth0", "--", "--hostname", "a", "b"], "only options of lldpa may follow --"),
+                (["--control-group", "lldpa-none", "eth0"], "lldpa-none is not in /etc/group"),
+                (["eth0", "--", "eth1"], "only long options of lldpa may follow --"),
+                (["eth0", "--", "--hostname", "a", "b"], "b: only long options of lldpa"),
                 (["eth0", "--", "--hostname", "a", "--hostname=b"], "--hostname is given twice"),
-                (["eth0", "--", "--listen", "1"], "--listen cannot be used with lldpa-live"),
+                (["eth0", "--", "--listen", "1"], "--listen cannot be used after --"),
                 (["eth0", "--", "--mac", "02:00"], "--mac"),
                 (["eth0", "--", "--role", "king"], "--role"),
                 (["eth0", "--", "--max-neighbors", "129"], "--max-neighbors"),
@@ -60,13 +60,13 @@ class TestStart(OnLinks):
         for status, text, *words in (
                 (1, "eth5: there is no such interface", "--only-existing", "eth0", "eth5"),
                 (1, "lo: not an Ethernet interface", "lo"),
-                (1, "no Ethernet interface has such a name", "--only-existing", "lan*", "!lan3"),
-                (1, "no Ethernet interface has such a name", "!eth*"),
-                (1, "no Ethernet interface has such a name", "--once", "1", "lan*"),
+                (1, "no Ethernet interface is selected", "--only-existing", "lan*", "!lan3"),
+                (1, "no Ethernet interface is selected", "!eth*"),
+                (1, "no Ethernet interface is selected", "--once", "1", "lan*"),
                 (1, str(file), "--log", str(file), "eth0"),
                 (1, f"{folder}: {cannot}", "--log", str(folder), "eth0"),
                 # with status 2 systemd does not start it again
-                (2, "error: user no-such-one does not exist", "--user", "no-such-one", "eth0")):
+                (2, "error: user nemo is not in /etc/passwd", "--user", "nemo", "eth0")):
             self.refuses(text, *words, status=status)
 
     def test_without_any_right_it_says_what_it_needs(self) -> None:

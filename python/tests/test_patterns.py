@@ -21,7 +21,7 @@ class TestLaterPorts(OnLinks):
 
     def test_a_pattern_waits_and_takes_what_comes_later(self) -> None:
         live = self.live("lan*", "!lan7", "lan9", awaits=False)
-        self.assertTrue(live.says("lan* !lan7 lan9: no such interface yet; waiting for it, and un"))
+        self.assertTrue(live.says("lan* !lan7 lan9: no such interface yet; waiting for one, and"))
         self.assertEqual(live.ask_refused("show neighbors"),
                          "waiting for an interface: lan* !lan7 lan9")
         first = self.made(1, "lan")

@@ -85,7 +85,7 @@ class TestSettings(OnLinks):
         self.assertEqual(live.errors().splitlines(), [
             f"lldpa-live: {self.file}:3: configure lldp tx-interval 3601: "
             "out of range: 3601 (seconds between frames, 1 to 3600)",
-            f"lldpa-live: {self.file}:4: show neighbors: show is not allowed, only `configure`",
+            f"lldpa-live: {self.file}:4: show neighbors: a setting must begin with `configure`",
             "lldpa-live: 2 settings were not applied"])
         shown = live.ask("show configuration")
         self.assertIn("configuration.tx-hold=3", shown)
@@ -153,7 +153,7 @@ class TestSettings(OnLinks):
         (self.parts / "14-device.conf").symlink_to("/dev/zero")
         told = [f"lldpa-live: {self.parts}/{name}.conf: {why}" for name, why in (
             ("10-locked", "Permission denied"), ("11-dangling", "No such file or directory"),
-            ("12-folder", "not a file"), ("13-pipe", "not a file"), ("14-device", "not a file"))]
+            *((name, "not a regular file") for name in ("12-folder", "13-pipe", "14-device")))]
         told.append("lldpa-live: 5 settings were not applied")
         live = self.live(*self.words(), "eth0")
         self.assertEqual(live.errors().splitlines(), told)

@@ -61,13 +61,13 @@ class Restarts(Replaced):
         old = b"%s %.3f %.3f\n" % (head, wall_clock - LONG - 10, boot_clock - LONG - 10)
         booted = b"%s %.3f %.3f\n" % (head, wall_clock, boot_clock + 1000)
         was_set = b"%s %.3f %.3f\n" % (head, wall_clock - 60, boot_clock)
-        for octets, why in ((whole[:-3], "it is not complete"), (b"x" * 99, "it is not complete"),
-                            (old + rest, "it is too old"),
-                            (first.replace(b".", b"0", 1) + b"\n" + rest, "it is not complete"),
+        for octets, why in ((whole[:-3], "or damaged"), (b"x" * 99, "or damaged"),
+                            (old + rest, "can still be present"),
+                            (first.replace(b".", b"0", 1) + b"\n" + rest, "or damaged"),
                             (booted + rest, "rebooted since"), (was_set + rest, "clock was set"),
                             (whole.replace(b"\nrx ", b"\nupdate\nrx ", 1), "a malformed line"),
                             (whole.replace(b"# since eth0", b"# since eth7", 1), "name different"),
-                            (b"\xff" + whole, "it is not complete")):
+                            (b"\xff" + whole, "or damaged")):
             self.state.write_bytes(octets)
             live = self.live("--state", str(self.state), "eth0", "eth1")
             self.assertTrue(live.says("the state is not used: "), why)

@@ -8,7 +8,7 @@ from typing import IO, BinaryIO, Dict, Mapping, NamedTuple, Optional
 
 from .packets import CaptureInterface
 
-PORT_NAME_RULE = "a port's name has 1 to 15 letters, digits, -, _, / and :"
+PORT_NAME_RULE = "a port's name has 1 to 15 ASCII letters, digits, -, _, / and :"
 UNNAMED = "eth0"
 STANDARD_INPUT = "-"
 

@@ -127,12 +127,11 @@ impl Live {
 
     /// Applies a setting. Returns why it is refused, unless a pattern may still add its port.
     fn why_refused(&mut self, setting: &Setting) -> Option<String> {
-        let word = first_word(&setting.line);
         if setting.line.len() > LONGEST_LINE {
             return Some("line too long".into());
         }
-        if word != "configure" {
-            return Some(format!("{word} is not allowed, only `configure`"));
+        if first_word(&setting.line) != "configure" {
+            return Some("a setting must begin with `configure`".into());
         }
         let refusal = self.command(&setting.line).err()?;
         let text = refusal.trim_start_matches("error: ");

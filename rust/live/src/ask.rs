@@ -38,7 +38,7 @@ fn read(stream: &mut UnixStream, moment: i64) -> Result<Vec<u8>> {
     loop {
         let left = (moment - clock::now()) / MILLISECOND;
         if left <= 0 {
-            return wrong("no answer within 10 seconds");
+            return wrong("no complete answer within 10 seconds");
         }
         stream.set_read_timeout(Some(Duration::from_millis(left as u64)))?;
         let length = match stream.read(&mut room) {

@@ -137,7 +137,7 @@ impl Control {
             let renewed = self.listening.renew();
             let was_lost = std::mem::replace(&mut self.is_lost, renewed.is_err());
             if let (Err(fault), false) = (renewed, was_lost) {
-                let what = "the control socket was removed, and cannot be made again";
+                let what = "the control socket was removed, and cannot be created again";
                 warn(&format!("{}: {what}: {}", self.listening.path, text_of(&fault)));
             }
         }

@@ -138,10 +138,10 @@ impl Files {
         let mut file = self.file.take().ok_or_else(|| Error::from_raw_os_error(EBADF))?;
         let found = file.metadata()?;
         if found.nlink() == 0 {
-            return Err(Error::new(ErrorKind::NotFound, "its file was removed"));
+            return Err(Error::new(ErrorKind::NotFound, "the log's file was removed"));
         }
         if found.len() != self.size {
-            return Err(Error::new(ErrorKind::Other, "its file was changed by another program"));
+            return Err(Error::new(ErrorKind::Other, "another program changed the log's file"));
         }
         match self.make_room(octets.len() as u64).and_then(|()| file.write(octets)) {
             Ok(length) if length == octets.len() => {

@@ -118,8 +118,8 @@ impl Live {
                 true
             }
             Err(fault) => {
-                let what = "the agent cannot be replaced";
-                self.try_later(&format!("{what}: {fault}; it stays in use, and lldpa-live tries again"));
+                let what = "a new agent for the changed ports or address cannot be opened";
+                self.try_later(&format!("{what}: {fault}; the old one stays, and lldpa-live tries again"));
                 false
             }
         }

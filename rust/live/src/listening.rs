@@ -107,7 +107,7 @@ pub fn connect(path: &str, patience: Duration) -> Result<UnixStream> {
     thread::spawn(move || ours.send(UnixStream::connect(path)));
     theirs
         .recv_timeout(patience)
-        .unwrap_or_else(|_| Err(Error::new(ErrorKind::TimedOut, "no answer in time")))
+        .unwrap_or_else(|_| Err(Error::new(ErrorKind::TimedOut, "the connection was not accepted in time")))
 }
 
 /// Returns a listening socket. Its mode is 0600 at first, then 0660 if a group is given.

@@ -6,7 +6,7 @@
 use crate::clock::{self, SECOND};
 use crate::files::{self, Files};
 use crate::reports::{counted, warn};
-use crate::rights::text_of;
+use crate::rights::{at, text_of};
 use crate::state;
 use std::collections::VecDeque;
 use std::fmt::{Display, Write};
@@ -105,7 +105,7 @@ impl Log {
     pub fn write_state(&mut self, path: &str, octets: Vec<u8>) {
         if self.waited < TO_STALL {
             let path = path.to_string();
-            self.send(0, 0, move |_| state::write(&path, &octets).map(|()| path));
+            self.send(0, 0, move |_| state::write(&path, &octets).map_err(at(&path)).map(|()| path));
         }
     }
 
@@ -217,7 +217,7 @@ impl Log {
         }
         match self.waiting.iter().map(|one| one.1).sum::<u64>() {
             0 => (),
-            lines => self.tell(&format!("lacks its last {}", counted(lines as usize, "line"))),
+            lines => self.tell(&format!("lacks {} at its end", counted(lines as usize, "line"))),
         }
     }
 }

@@ -53,6 +53,6 @@ fn main() {
 }
 
 pub fn wrong_words(why: &str) -> i32 {
-    report(ERROR, &format!("error: {why}; lldpa-live --help lists the options"));
+    report(ERROR, &format!("error: {why}; see lldpa-live --help"));
     WRONG_WORDS
 }

@@ -86,7 +86,7 @@ impl Live {
         self.ports.all.iter_mut().for_each(|port| port.is_awaited = true);
         let awaited = self.given.parts.join(" ");
         notice(&format!(
-            "{awaited}: no such interface yet; waiting for it, and until then nothing is sent or received"
+            "{awaited}: no such interface yet; waiting for one, and until then nothing is sent or received"
         ));
         self.manager.tell("READY=1"); // so that it does not hold up the start of the system
         self.manager.show(format!("waiting for an interface: {awaited}"));

@@ -24,14 +24,14 @@ impl AgentOptions {
         let mut rest = words.iter();
         while let Some(word) = rest.next() {
             let option =
-                word.strip_prefix("--").ok_or(format!("{word}: only options of lldpa may follow --"))?;
+                word.strip_prefix("--").ok_or(format!("{word}: only long options of lldpa may follow --"))?;
             let (name, value) = split(option);
             if given.contains(&name) {
                 return Err(format!("--{name} is given twice"));
             }
             given.push(name);
             if NOT_HERE.contains(&name) {
-                return Err(format!("--{name} cannot be used with lldpa-live"));
+                return Err(format!("--{name} cannot be used after --"));
             }
             if option == "receive-only" {
                 options.numbers.receive_only = true;
@@ -39,7 +39,7 @@ impl AgentOptions {
                 continue;
             }
             let value = value.or_else(|| rest.next().map(|next| &next[..]));
-            options.take(name, value.ok_or(format!("--{name}: a value is required"))?)?;
+            options.take(name, value.ok_or(format!("lldpa has no option --{name} without a value"))?)?;
         }
         Ok(options)
     }
@@ -51,9 +51,9 @@ impl AgentOptions {
             found.ok_or_else(|| wrong(&format!("a number from 1 to {last}")))
         };
         match name {
-            "mac" => self.mac = Some(mac_of(value).ok_or_else(|| wrong("a MAC address"))?),
+            "mac" => self.mac = Some(mac_of(value).ok_or(wrong("a MAC address like 02:00:5e:00:53:01"))?),
             "hostname" if is_text(value) => self.hostname = Some(value.into()),
-            "hostname" => return Err(wrong("a text of at most 255 printable characters")),
+            "hostname" => return Err(wrong("a text of at most 255 printable ASCII characters")),
             "management" => self.management = Some(value.parse().map_err(|_| wrong("an IPv4 address"))?),
             "role" => {
                 self.numbers.role = match value {
@@ -67,7 +67,7 @@ impl AgentOptions {
             "tx-credit-max" => self.numbers.credit_max = number(10)?,
             "tx-fast-init" => self.numbers.fast_init = number(8)?,
             "reinit-delay" => self.numbers.reinit = number(10)?,
-            _ => return Err(format!("unknown option of lldpa: --{name}")),
+            _ => return Err(format!("lldpa has no option --{name} with a value")),
         }
         if !["mac", "hostname", "management"].contains(&name) {
             self.words.push(format!("--{name}={value}"));

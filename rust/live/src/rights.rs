@@ -40,19 +40,19 @@ pub fn user_of(name: &str) -> std::result::Result<User, String> {
     let fields = entry("/etc/passwd", name);
     let found = fields.and_then(|fields| Some(User { user: field(&fields, 2)?, group: field(&fields, 3)? }));
     let of_number = || number_of(name).map(|number| User { user: number, group: number });
-    found.or_else(of_number).ok_or(format!("user {name} does not exist"))
+    found.or_else(of_number).ok_or(format!("user {name} is not in /etc/passwd"))
 }
 
 /// Returns the group with this name in /etc/group, or else with this number.
 pub fn group_of(name: &str) -> std::result::Result<u32, String> {
     let found = entry("/etc/group", name).and_then(|fields| fields.get(2)?.parse().ok());
-    found.or_else(|| number_of(name)).ok_or(format!("group {name} does not exist"))
+    found.or_else(|| number_of(name)).ok_or(format!("group {name} is not in /etc/group"))
 }
 
 /// Returns the user that root becomes, by default `nobody`. None if this process is not root.
 pub fn user_to_be(name: Option<&str>) -> std::result::Result<Option<User>, String> {
     if own_user() != 0 {
-        return name.map_or(Ok(None), |_| Err("--user: only root can become another user".into()));
+        return name.map_or(Ok(None), |_| Err("--user: only root can use this option".into()));
     }
     let nobody = User { user: 65534, group: 65534 };
     name.map_or(Ok(user_of("nobody").unwrap_or(nobody)), user_of).map(Some)

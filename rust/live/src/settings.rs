@@ -62,7 +62,7 @@ fn files_of(path: &str) -> Result<Vec<String>> {
 fn lines_of(path: &str) -> Result<Vec<Setting>> {
     let wrong = |what: String| at(path)(Error::new(ErrorKind::Other, what));
     if !fs::metadata(path).map_err(at(path))?.is_file() {
-        return Err(wrong("not a file".into()));
+        return Err(wrong("not a regular file".into()));
     }
     let file = OpenOptions::new().read(true).custom_flags(O_NONBLOCK).open(path).map_err(at(path))?;
     let mut octets = Vec::new();
@@ -138,7 +138,7 @@ pub fn explained(line: &[u8], text: &str) -> String {
     let most = FORMS.iter().map(|form| fitting(form.0, &words)).max().unwrap_or(0);
     let forms: Vec<_> = FORMS.iter().filter(|form| fitting(form.0, &words) == most).collect();
     let place = match text {
-        "bad quote" => return text.into(),
+        "bad quote" | "too many held" => return text.into(),
         "unknown command" | "extra word" => most,
         _ => forms[0].0.iter().position(|word| is_value(word)).unwrap_or(most),
     };

@@ -75,7 +75,7 @@ fn first_ports(given: &Given, links: &Links, may_wait: bool) -> Result<Vec<Strin
     let wrong = |what: String| Err(Error::new(ErrorKind::Other, what));
     let mut names = patterns::ports_of(&given.parts, links);
     if names.is_empty() && !may_wait {
-        return wrong(format!("{}: no Ethernet interface has such a name", given.parts.join(",")));
+        return wrong(format!("{}: no Ethernet interface is selected", given.parts.join(",")));
     }
     for name in &names {
         match links.named(name) {

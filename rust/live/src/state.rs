@@ -18,7 +18,7 @@ use std::os::unix::fs::{MetadataExt, OpenOptionsExt};
 
 const FRONT: &str = "# lldpa-live state 1 ";
 const END: &str = "# end\n";
-const INCOMPLETE: &str = "it is not complete";
+const INCOMPLETE: &str = "it is incomplete or damaged";
 const MOST_APART: i64 = 5_000; // milliseconds by which the clocks may differ within one boot
 const MOST_LINES: usize = 64 * 128 * 4; // for each neighbor two frames, one `since`, one `tick`
 const MOST_OCTETS: u64 = 64 * 128 * 2 * 4096;
@@ -43,7 +43,7 @@ pub fn read(path: &str, user: Option<User>) -> Result<Past, String> {
     let told = file.metadata().map_err(|fault| text_of(&fault))?;
     let is_ours = told.uid() == own_user() || user.map_or(false, |user| told.uid() == user.user);
     if !(told.is_file() && told.nlink() == 1 && is_ours && told.mode() & 0o077 == 0) {
-        return Err("it must be a file that only lldpa-live's user can access".into());
+        return Err("it must be a regular file of lldpa-live's user, with mode 0600 and one hard link".into());
     }
     let mut octets = Vec::new();
     file.take(MOST_OCTETS + 1).read_to_end(&mut octets).map_err(|fault| text_of(&fault))?;
@@ -69,7 +69,7 @@ pub fn past(octets: &[u8], wall: i64, now: i64) -> Result<Past, String> {
         Past { seconds: u32::try_from((now - then) / 1000).unwrap_or(u32::MAX), ..Past::default() };
     let mut ttls = HashMap::new();
     if rest.lines().count() > MOST_LINES {
-        return Err("it has too many neighbors".into());
+        return Err("it has too many lines".into());
     }
     for line in rest.lines() {
         let malformed = || format!("it has a malformed line: {}", line.chars().take(100).collect::<String>());
@@ -79,7 +79,7 @@ pub fn past(octets: &[u8], wall: i64, now: i64) -> Result<Past, String> {
         return Err("its comments and frames name different neighbors".into());
     }
     if past.seconds > ttls.values().copied().max().unwrap_or(0) {
-        return Err("it is too old".into());
+        return Err("no neighbor in it can still be present".into());
     }
     Ok(past)
 }

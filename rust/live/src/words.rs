@@ -22,8 +22,8 @@ options:
                          be repeated
   --control PATH         the control socket (default /run/lldpa/control)
   --control-group GROUP  let members of this group use the control socket
-  --events               report on standard error when a neighbor or a link
-                         comes, changes or goes
+  --events               report on standard error when a neighbor comes, changes
+                         or goes, or a link goes up or down
   --forget-on-down       empty the table of a port when its link goes down
   --log FOLDER           log the session in this folder, as traces that lldpa
                          can replay
@@ -135,7 +135,7 @@ pub fn number(text: &str, last: u64) -> Option<u64> {
 /// Returns an error if a name is malformed or given twice, or if there are no ports or too many.
 fn check_ports(parts: &[String]) -> Result<(), String> {
     if let Some(part) = parts.iter().find(|part| !patterns::is_able(part)) {
-        let form = "a port's name has 1 to 15 letters, digits, -, _, / and :";
+        let form = "a port's name has 1 to 15 ASCII letters, digits, -, _, / and :";
         return Err(format!("{part}: {form} (a VLAN interface cannot be a port)"));
     }
     let names: Vec<&String> = parts.iter().filter(|part| !patterns::is_pattern(part)).collect();
@@ -144,7 +144,7 @@ fn check_ports(parts: &[String]) -> Result<(), String> {
         _ if parts.is_empty() => Err("a PORT is required".into()),
         (_, Some((_, name))) => Err(format!("the port {name} is given twice")),
         (count, None) if count > MOST_PORTS => Err(format!(
-            "{count} ports, but an agent has at most {MOST_PORTS}: run a second service for the others"
+            "{count} ports, but an agent has at most {MOST_PORTS}: run further services for the others"
         )),
         _ => Ok(()),
     }
