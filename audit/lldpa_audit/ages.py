@@ -1,4 +1,4 @@
-"""Computes the ages of sources, and converts spans of time to and from text."""
+"""Computes the ages of an audit's sources, and converts spans of time to and from text."""
 import re
 from argparse import ArgumentTypeError
 from typing import NamedTuple, Sequence

@@ -4,13 +4,13 @@ from .plan import Faults
 from .rows import table_of
 
 COLUMNS = ["host", "port", "alias"]
-MOST_PORTS = 64  # no aggregate has so many members
+MOST_PORTS = 64  # no aggregate has more members
 
 
 def read_aliases(file: str, names: Names) -> Aliases:
     """Returns the aliases in a file, normalized. A row without a port gives a host another name; a
-    row without a host is for a port of any host. Several ports may share an alias: a neighbor
-    that announces it may be any of them. Raises PlanFault and OSError."""
+    row without a host is for a port of any host. Several ports may share an alias. A neighbor
+    that announces the alias may then be any of these ports. Raises PlanFault and OSError."""
     faults, aliases = Faults(file), Aliases({}, {})
     for line, fields in table_of(faults, COLUMNS):
         if len(fields) != len(COLUMNS) or not fields[2] or not any(fields[:2]):

@@ -1,4 +1,4 @@
-"""Plans NetBox's breakout cables: one port at one side, one end for each lane at the other."""
+"""Plans NetBox's breakout cables. Each joins one port to several ends, one for each lane."""
 import re
 from typing import Iterator, Optional, Sequence
 
@@ -10,8 +10,8 @@ LANE = re.compile(r"[s:/.][0-9]")
 
 
 def join_lanes(plan: Plan, tables: Tables) -> None:
-    """Plans each link of a breakout cable at a lane of its own: one that hears the link's far end,
-    one without data that the far end hears, or else one that is left."""
+    """Plans each link of a breakout cable at a lane of its own. A lane that hears the link's far
+    end is preferred, then one that has no data but is heard by the far end, then any other."""
     of_hosts: dict[str, list[End]] = {whole.host: [] for whole in plan.breakouts}
     for key in tables.ends if plan.breakouts else ():
         if key.host in of_hosts:
@@ -39,7 +39,7 @@ def is_lane(port: str, whole: str) -> bool:
 
 
 def split(tables: Tables, whole: End) -> list[End]:
-    """Splits a port with several neighbors into a lane for each. Returns the lanes, or the port."""
+    """Splits a port with several neighbors. Returns a lane for each neighbor, or else the port."""
     known = tables.ends[whole]
     if len(known.neighbors) < 2:
         return [whole]
@@ -52,7 +52,7 @@ def split(tables: Tables, whole: End) -> list[End]:
 
 def joined(lanes: Sequence[End], links: Sequence[Link], whole: End, tables: Tables
            ) -> Iterator[tuple[End, Link]]:
-    """Yields the lane of each link, and the link. Lanes that nobody saw are named by a number."""
+    """Yields each link with its lane. Lanes that nobody saw are named by a number."""
     left = list(links)
     unheard: list[End] = []
     for lane in lanes:
@@ -81,7 +81,7 @@ def hears(tables: Tables, lane: End, end: End) -> bool:
 
 
 def lane_heard(tables: Tables, end: End, whole: End) -> Optional[End]:
-    """Returns the first lane of the port `whole` that an end hears, normalized, or None."""
+    """Returns the lane of `whole`, or `whole` itself, that an end hears, normalized; or None."""
     known = tables.ends.get(tables.names.end(end))
     heard = [key for one in (known.neighbors if known else ()) for key in tables.names.ends(one)]
     return next((key for key in heard if key.host == whole.host

@@ -1,4 +1,4 @@
-"""Finds which aggregates of two hosts belong together, by the numbers that they announce."""
+"""Finds which aggregates of two hosts belong together, by the numbers that the hosts announce."""
 from collections import Counter
 from typing import Optional
 
@@ -6,14 +6,14 @@ from .names import End
 from .plan import Plan
 from .seen.tables import Tables
 
-# an aggregate between two hosts: the hosts, whether it is at the first one, and its number
+# an aggregate of one of two hosts: both hosts, whether the first one has it, and its number
 Side = tuple[str, str, bool, int]
 
 
 class Bundles:
-    """Counts the planned links between each aggregate of a host and each of another, as announced.
-    An aggregate of one host leads to one aggregate of the other. So if an aggregate is in
-    several pairs, only the pair with the most links belongs together; in a tie, none does."""
+    """Counts the planned links between each two aggregates, by the numbers that their hosts
+    announce. An aggregate of a host leads to one aggregate of another host. So if an aggregate
+    is in several pairs, only the pair with the most links belongs together; in a tie, none does."""
 
     def __init__(self, plan: Plan, tables: Tables) -> None:
         self._tables = tables
@@ -37,7 +37,7 @@ class Bundles:
             (end.host, other.host, True, ours), (end.host, other.host, False, theirs))
 
     def _heard(self, end: End, host: str) -> Optional[int]:
-        """If an end's only neighbor is of `host`, returns the aggregate that it announces."""
+        """Returns the aggregate of an end's only neighbor, if that neighbor is a port of `host`."""
         told = self._tables.ends.get(end)
         if told is None or len(told.neighbors) != 1:
             return None

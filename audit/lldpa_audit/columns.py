@@ -1,4 +1,4 @@
-"""Finds the columns of a CSV file that name the ends of a link: ours, NetBox's, or given ones."""
+"""Finds which columns of a CSV file name the ends of a link: lldpa's, NetBox's, or given ones."""
 import re
 from typing import Mapping, Optional, Sequence, Union
 
@@ -21,8 +21,8 @@ PANELS = (("panel", "front", "panel", "rear"), ("device", "name", "device", "rea
 
 
 class Columns:
-    """Reads rows by the header of their file, and adds faults for errors. `others` names the
-    further columns, and `can_read` says whether the header names both ends."""
+    """Reads the rows of a CSV file by its header, and adds a fault for each error. `others` names
+    the further columns, and `can_read` says whether the header names both ends of a link."""
 
     def __init__(self, header: Sequence[str], line: int, faults: Faults,
                  given: Optional[Mapping[str, str]] = None) -> None:
@@ -60,7 +60,7 @@ class Columns:
         return self._faults.count == count
 
     def _place_of(self, *names: str) -> Optional[int]:
-        """Returns the place of the first of these columns that the file has."""
+        """Returns the place of the first of these columns that the file has, or None."""
         return next((self._names.index(name) for name in names if name in self._names), None)
 
     def cable(self, line: int, fields: Sequence[str]) -> Union[Cable, str, None]:

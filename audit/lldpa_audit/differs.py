@@ -1,4 +1,4 @@
-"""Finds the differences that alone keep two names from matching: case, domain or spelling."""
+"""Finds whether names differ only in case, domain or spelling."""
 from typing import Optional
 
 from .names import End, Names, Seen
@@ -15,7 +15,7 @@ class Differences:
         self._looser = [(differences, names.looser(*differences)) for differences in DIFFERENCES]
 
     def of_neighbor(self, neighbor: Seen, end: End) -> Optional[str]:
-        """Returns why a neighbor does not match an end, or None if it does or is another port."""
+        """Returns why a neighbor does not match an end; None if it matches or is another port."""
         if self._names.answers(neighbor, self._names.end(end)):
             return None
         for differences, rule in self._looser:
@@ -26,14 +26,14 @@ class Differences:
         return None
 
     def of_ends(self, one: End, other: End) -> Optional[str]:
-        """Returns how two ends' names differ, or None if not only in case, domain or spelling."""
+        """Returns how two ends differ, or None if more than case, domain and spelling differs."""
         for differences, rule in self._looser:
             if rule.end(one) == rule.end(other):
                 return words_of(differences)
         return None
 
     def loosest(self, end: End) -> End:
-        """Returns an end, normalized as if all differences were allowed."""
+        """Returns an end, normalized so that case, domain and spelling do not count."""
         return self._looser[-1][1].end(end)
 
 

@@ -9,7 +9,8 @@ from .names import End, Seen
 from .plan import Plan, Wish
 from .seen.tables import Tables, KnownPort
 
-# of three candidates for an end's partner, at most two are wrong: that end and the one it wants
+
+# three candidates for a partner suffice: only the end itself and the end it wants are excluded
 MOST_TRIED = 3
 
 
@@ -29,7 +30,7 @@ class Verdict(Enum):
 
 
 class Finding(NamedTuple):
-    """The verdict on an end. `wants` is the end that it should see, None if it is unplanned; `has`
+    """The verdict on `end`. `wants` is the end it should see, None if `end` is unplanned. `has`
     lists its neighbors, `partner` is the end it is swapped with, and `reason` excuses its fault."""
 
     end: End
@@ -41,8 +42,8 @@ class Finding(NamedTuple):
 
 
 def audit(plan: Plan, tables: Tables, planned_only: bool = False) -> list[Finding]:
-    """Returns a finding for each planned end of an audited host and each end of a link that nobody
-    looked at, in the plan's order, and then for each unplanned port with a neighbor."""
+    """Returns findings on planned ends of audited hosts and on ends of links that nobody looked at,
+    in the plan's order. Unplanned ports with a neighbor follow, unless `planned_only`."""
     judge = Judge(plan, tables)
     findings = list(judge.planned())
     if judge.names.short_names:
@@ -74,7 +75,7 @@ class Judge:
                     yield Finding(its_wish.end, Verdict.NOT_LOOKED_AT, its_wish.wants)
 
     def of_several_domains(self, findings: Sequence[Finding]) -> Iterator[Finding]:
-        """Yields the findings; right ends are `doubled` if hosts of two domains share a name."""
+        """Yields the findings; a right end is `doubled` if it wants a host heard in two domains."""
         heard: dict[str, set[str]] = defaultdict(set)
         names, right = self.names, Verdict.RIGHT
         for one in findings:
@@ -120,7 +121,7 @@ class Judge:
         return len(told.neighbors) == 1 and self.names.answers(told.neighbors[0], end)
 
     def verdict(self, end: End, wanted: End, neighbors: Sequence[Seen]) -> Verdict:
-        """Returns the verdict on an end with data. A swapped end is still wrong here."""
+        """Returns the verdict on an end with data. For a swapped end, the verdict is `wrong`."""
         if not neighbors:
             return Verdict.ONE_SIDED if self.sees(wanted, end) else Verdict.SILENT
         if len(neighbors) > 1:
@@ -139,8 +140,8 @@ class Judge:
         return told is not None and any(self.names.answers(one, other) for one in told.neighbors)
 
     def partner(self, end: End, wanted: End, neighbor: Seen) -> Optional[End]:
-        """Returns the first end of another link that `end` is swapped with, if any: each hears only
-        the end that the other wants. The only neighbor of `end` is `neighbor`."""
+        """Returns the first end that `end` is swapped with, or None. Two ends are swapped if each
+        hears only the end that the other wants. `neighbor` is the only neighbor of `end`."""
         ends = (key for key in self.names.ends(neighbor) if key in self.plan.ends)
         others = {self.plan.ends[key].wanted for key in ends}
         for host in self.hosts_of_aggregate(neighbor):
@@ -165,8 +166,8 @@ class Judge:
 
     @cached_property
     def _with_another(self) -> Mapping[tuple[str, Union[End, str]], Sequence[End]]:
-        """Returns the first planned ends whose only neighbor is wrong, keyed by the host that they
-        want and by what they hear: an end, or a host if the neighbor may be any of its ports."""
+        """Returns the first planned ends with one neighbor, a wrong one, by the host that they want
+        and by what they hear: an end, or a host if the neighbor may be any of its ports."""
         found: dict[tuple[str, Union[End, str]], list[End]] = defaultdict(list)
         for end, wish in self.plan.ends.items():
             told = self.tables.ends.get(end)

@@ -23,7 +23,7 @@ class Row(NamedTuple):
 
 
 class Known(NamedTuple):
-    """The rows by normalized end. `notes` names the rows whose last day is over."""
+    """The rows of a file by normalized end. `notes` names the rows whose last day is over."""
 
     file: str
     rows: dict[End, list[Row]]
@@ -38,8 +38,8 @@ class Known(NamedTuple):
         return next((row.reason for row in rows if verdict in row.verdicts), "")
 
     def applied(self, one: Finding, names: Names) -> Finding:
-        """Returns a finding, with the verdict `known` if a row excuses it at either end of its
-        link. If nobody looked at the link, rows must excuse it at both ends."""
+        """Returns a finding, with the verdict `known` if a row excuses its verdict at either end of
+        the link. If nobody looked at the link, rows must excuse the verdict at both ends."""
         if one.verdict is Verdict.RIGHT:
             return one
         ours, theirs = (self.reason(names, end, one.verdict) for end in (one.end, one.wants))
@@ -85,7 +85,7 @@ def place_of(end: End) -> str:
 
 
 def date_of(text: str) -> Optional[datetime.date]:
-    """Reads a date. Returns the latest one for an empty text, and None for a wrong one."""
+    """Reads a date. Returns the latest possible date for an empty text, None for a wrong text."""
     try:
         return datetime.date.fromisoformat(text) if text else datetime.date.max
     except ValueError:

@@ -1,4 +1,4 @@
-"""Limits the memory of a run, and the processor time for each file."""
+"""Limits the memory of an audit, and the processor time for each file."""
 import resource
 import signal
 import sys

@@ -14,9 +14,9 @@ MOST_KEPT = 4096
 
 
 class Settings(NamedTuple):
-    """What a port announces for its link. A field is None if it is not announced. The frame size is
-    in octets, the speed in Mb/s, and duplex is `full` or `half`. A PVID of 0 means that there is
-    none, and `aggregation` is the number of the port's aggregate at its host."""
+    """What a port announces for its link. A field is None if the port does not announce it, or
+    announces a frame size or PVID of 0. The frame size is in octets, the speed in Mb/s, and
+    duplex is `full` or `half`. `aggregation` is the number of the port's aggregate at its host."""
 
     max_frame_size: Optional[int] = None
     pvid: Optional[int] = None
@@ -32,8 +32,8 @@ NO_SETTINGS = Settings()
 @lru_cache(MOST_KEPT)  # a network has few settings, and many ports
 def settings_of(max_frame_size: str, pvid: str, mau_type: str, aggregation: str
                 ) -> Optional[Settings]:
-    """Returns settings from the texts of lldpcli, or None if none is announced. A text is empty if
-    lldpcli prints nothing, as for the aggregation of a port that is not aggregated."""
+    """Returns the settings in these texts, or None if there are none. A text is empty if a setting
+    is not given: lldpcli prints no aggregation for a port that is not aggregated."""
     speed, duplex = speed_and_duplex(mau_type)
     return none_if_empty(Settings(number(max_frame_size) or None, number(pvid) or None, speed,
                                   duplex, True if aggregation else None,

@@ -16,8 +16,8 @@ MISMATCH = "mismatch"
 
 
 class Mismatch(NamedTuple):
-    """How the ends of a link differ: in words, and by how much as seen from each end. Links of a
-    host that differ by the same amount may have one cause."""
+    """How the ends of a link differ. `by_how_much` is the difference as seen from the first end,
+    and `opposite` from the other end. Equal differences at links of a host may have one cause."""
 
     text: str
     ends: tuple[End, End]
@@ -35,7 +35,7 @@ class Said(NamedTuple):
 
 
 def said_of_links(findings: Iterable[Finding], tables: Tables, plan: Plan) -> Iterator[Said]:
-    """Yields for each right end the settings of its link's ends, each as the other heard them."""
+    """Yields for each right end the settings that both ends of its link hear from each other."""
     names = tables.names
     right = {names.end(one.end): one for one in findings if one.verdict is Verdict.RIGHT}
     wanted = expected(plan)
@@ -48,7 +48,7 @@ def said_of_links(findings: Iterable[Finding], tables: Tables, plan: Plan) -> It
 
 
 def mismatches(findings: Iterable[Finding], tables: Tables, plan: Plan) -> dict[End, Mismatch]:
-    """Returns the mismatch of each right link that has one, under its first end in the plan."""
+    """Returns the mismatch of each right link that has one, under the first of its right ends."""
     found: dict[End, Mismatch] = {}
     for said in said_of_links(findings, tables, plan):
         one = mismatch(said) if said.ends[1] not in found else None

@@ -25,9 +25,9 @@ class End(NamedTuple):
 
 
 class Seen(NamedTuple):
-    """A neighbor: the names of its host and of its port, the best first. It announces whether its
-    port is `aggregated`, and the `settings` of its link. `is_named` is true if its Port ID is
-    the name or alias of an interface; then the Port ID is the first of its port's names."""
+    """A neighbor: the names of its host and of its port, the best one first. `aggregated` and
+    `settings` are what it announces for its link. `is_named` is true if its Port ID is the name
+    or alias of an interface; then the Port ID is the first of its port's names."""
 
     hosts: tuple[str, ...]
     ports: tuple[str, ...]
@@ -48,8 +48,8 @@ NAMELESS = Seen((), ())
 
 
 class Aliases(NamedTuple):
-    """Aliases of hosts and of ports, all normalized. An alias may be shared by several ports. With
-    an empty host, it is for a port of any host."""
+    """`hosts` maps an alias to a host. `ports` maps a host (any host, if empty) and an alias to the
+    ports that share the alias. All these names are normalized."""
 
     hosts: dict[str, str]
     ports: dict[End, list[str]]
@@ -59,9 +59,9 @@ NO_ALIASES = Aliases({}, {})
 
 
 class Names:
-    """The rules for comparing names: two are the same if their normalized forms are equal.
-    `planned` has the normalized ends of the plan, and `planned_ports` their ports. These decide
-    whether a Port Description counts, since people write it by hand."""
+    """The rules for comparing names. Two names are the same if their normalized forms are equal.
+    `planned` has the normalized ends of the plan, and `planned_ports` their ports. If a Port ID
+    is planned, the Port Description does not count, since people write it by hand."""
 
     def __init__(self, ignore_case: bool = False, short_names: bool = False,
                  vendor_names: bool = False, aliases: Aliases = NO_ALIASES) -> None:
@@ -89,7 +89,7 @@ class Names:
 
     def hosts_of(self, neighbor: Seen) -> Sequence[str]:
         """Returns the normalized hosts that a neighbor may be. With `short_names`, a name without a
-        domain may be that host in any planned domain."""
+        domain may mean the host with this name in any planned domain."""
         if self._is_strict:
             return neighbor.hosts
         keys = [self.host(name) for name in neighbor.hosts]

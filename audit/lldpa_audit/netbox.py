@@ -13,7 +13,7 @@ DETAILS = ("id", "label", "type", "color", "length", "length_unit", "status", "d
 OF_PANELS = ("frontport", "rearport")
 PORTS = ("interface", *OF_PANELS)
 CIRCUIT = "circuittermination"
-# names of power and console ports: exports with NetBox's table headings do not say the types
+# names of power and console ports, for exports with NetBox's table headings, which lack the types
 OTHER_PORT = re.compile(r"(?:(?:rj45|(?:mini-?)?usb)[ _-]?)?"
                         r"(?:psu?|pem|pwr|power|outlet|inlet|con|console|serial|tty[a-z]?|aux)"
                         r"(?:[ _-]?(?:supply|feed|port))?[ _:/.-]?[a-z]?[0-9]{0,3}", re.I)
@@ -29,9 +29,9 @@ AT_NO_PANEL = (False, False)
 
 
 class Cable(NamedTuple):
-    """A cable of a plan, or a panel's pair of ports with a `position` at the rear port. `rows` has
-    host, port, peer and peer's port of each link in it, `line` is its line in the file, and
-    `texts` are its further columns. `at_panels` says whether each side is at a panel."""
+    """A cable of a plan, or a panel's pair of ports with the `position` at the rear port. `rows`
+    has host, port, peer and peer's port of each link in the cable, `line` is its line in the
+    file, and `texts` are its further columns. `at_panels` says which sides are at a panel."""
 
     rows: Sequence[Sequence[str]]
     line: Optional[int] = None
@@ -41,7 +41,7 @@ class Cable(NamedTuple):
 
 
 class Side(NamedTuple):
-    """The ends at one side of a cable, and NetBox's types of them if these are known."""
+    """The ends at one side of a cable, and their types in NetBox, if known."""
 
     ends: Sequence[Pair]
     kinds: Sequence[str]
@@ -54,8 +54,8 @@ class Side(NamedTuple):
 
 def between(one: Side, other: Side, kind: str, status: str, line: Optional[int],
             texts: Sequence[str]) -> Union[Cable, str]:
-    """Returns the cable between two sides, or why it is left out. It joins the first ends of both
-    sides, the second ones and so on, or each end with the only end of the other side."""
+    """Returns the cable between two sides, or why it is left out. The cable joins the first ends of
+    both sides, the second ends and so on, or the only end of a side with each end of the other."""
     kinds, ends = [*one.kinds, *other.kinds], [*one.ends, *other.ends]
     if status in ("planned", "decommissioning"):
         return ABSENT

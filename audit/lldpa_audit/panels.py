@@ -20,9 +20,9 @@ class Cable(NamedTuple):
 
 
 class Panels:
-    """Follows cables through panels. If several front ports share a rear port, such as a trunk's, a
-    link leaves the far panel at the position where it entered the first. `dead_ends` has the
-    ends whose links cannot be followed, each with the reason."""
+    """Follows cables through panels. If several front ports share a rear port, as with a trunk
+    cable, a link leaves the far panel at the position where it entered the near one. `dead_ends`
+    has the ends whose links cannot be followed, each with the reason."""
 
     def __init__(self, pairs: Iterable[Link], names: Names, faults: Faults,
                  faults_of_pairs: Faults) -> None:
@@ -103,8 +103,8 @@ class Panels:
                    Detail(cable.detail.texts, path[::-1]))
 
     def _other_side(self, cable: Cable, positions: list[str]) -> Union[End, str]:
-        """Returns the other side of the panel where a cable ends, or why it is not known.
-        `positions` has the link's position in each trunk that it has entered and not left."""
+        """Returns the other side of the panel where a cable ends, or why that side is not known.
+        `positions` has the link's position in each trunk that the link has entered and not left."""
         pair = self._pairs.get(cable.key)
         if pair is not None:
             positions.append(pair.position)

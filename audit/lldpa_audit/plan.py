@@ -60,8 +60,8 @@ FIRST = "1"
 
 class Link(NamedTuple):
     """A planned link: its two ends, and the plan's line for each, if known. The ends of a link
-    through panels belong to two cables, each with a line and a detail. A panel's front port and
-    rear port are also a link; `position` is then the one at the rear port, counted from 1."""
+    through panels belong to two cables, each with a line and a detail. A panel's pair of ports
+    is also a link; `position` is the front port's position at the rear port, counted from 1."""
 
     one: End
     other: End
@@ -73,8 +73,8 @@ class Link(NamedTuple):
 
 
 class Wish(NamedTuple):
-    """A planned end and the end that it wants, as the plan writes them; `wanted` is the latter,
-    normalized. `line` and `detail` are those of its cable."""
+    """A planned end and the end that it wants, as the plan writes them. `wanted` is the wanted end,
+    normalized. `line` and `detail` are those of the planned end's cable."""
 
     end: End
     wants: End
@@ -88,9 +88,9 @@ NOT_PLANNED = Wish(NO_END, NO_END, NO_END)
 
 
 class Plan:
-    """The planned ends by normalized name, in the plan's order; the two ends of a link are
-    adjacent. Only an end in `whole` has several links, those of a breakout cable: `breakouts`
-    has them. `columns` names the texts of a detail, `notes` says what is left out, `not_judged`
+    """`ends` has the planned ends by normalized name, in the plan's order, with the two ends of a
+    link adjacent. `breakouts` has a breakout cable's links by the end in `whole` that they
+    share. `columns` names the texts of a detail, `notes` says what is left out, `not_judged`
     counts the links that cannot be followed, and `unknown` has their ends. Raises PlanFault."""
 
     def __init__(self, file: str, links: Iterable[Link], names: Names,

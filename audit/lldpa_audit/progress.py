@@ -1,4 +1,4 @@
-"""Shows a program's progress on a terminal if it takes more than two seconds."""
+"""Shows a program's progress on a terminal, if the program runs for more than two seconds."""
 import os
 import sys
 import time

@@ -22,7 +22,7 @@ def text_of(file: str) -> str:
 
 def table_of(faults: Faults, columns: Sequence[str], further: Sequence[str] = ()
              ) -> Iterator[tuple[int, list[str]]]:
-    """Yields the line and the fields of each row of the file. Its header must have these columns,
+    """Yields the line and the fields of each row of the file. The header must have these columns,
     perhaps followed by the further ones. Raises PlanFault and OSError."""
     rows = rows_of(text_of(faults.file), faults)
     line, header = next(rows, (1, []))
@@ -37,8 +37,8 @@ def table_of(faults: Faults, columns: Sequence[str], further: Sequence[str] = ()
 def rows_of(text: str, faults: Faults) -> Iterator[tuple[int, list[str]]]:
     """Yields each row with its line, first the header, without blank lines and comments. Shorter
     rows are filled with empty fields. A comment begins with `#`, and is before the header or has
-    fewer fields than it. A quoted field may span lines, even some that look like comments.
-    Reading stops at a field that is too long or has no closing quote."""
+    fewer fields than the header. A quoted field may span lines, even some that look like
+    comments. Reading stops at a field that is too long or has no closing quote."""
     lines = Lines(text)
     reader = csv.reader(lines, delimiter=separator_of(text), strict=True, skipinitialspace=True)
     width = 0
@@ -76,7 +76,7 @@ def separator_of(text: str) -> str:
 
 class Lines:
     """Yields the lines of a text, but skips blank lines between rows, and comments before the
-    header. `number` is the number of the latest line, `begin` that of the first line of its row."""
+    header. `number` is the latest line's number, `begin` that of the latest row's first line."""
 
     def __init__(self, text: str) -> None:
         self._text = text
@@ -95,7 +95,7 @@ class Lines:
 
 
 def has_fields(line: str) -> bool:
-    """Returns whether a line is not blank."""
+    """Returns whether a line has more than blanks and separators."""
     return bool(line.strip(" \t\r\n,;"))
 
 

@@ -9,7 +9,7 @@ MAC = re.compile(r"[0-9a-f]{2}(?P<mark>[:-])(?:[0-9a-f]{2}(?P=mark)){4}[0-9a-f]{
 IP_ADDRESS = re.compile(r"[0-9a-f.:]+", re.I)
 LONGEST_ADDRESS = 45
 
-# a port: the speed (Huawei), letters, and a number in parts, some with RP or CPU (IOS-XR)
+# a port's name: perhaps a speed (Huawei), letters, a number in parts, some with RP or CPU (IOS-XR)
 PORT = re.compile(r"((?:25|40|50|100|200|400)?[A-Za-z-]*[A-Za-z]) ?"
                   r"([0-9]+(?:[/:.](?:RP|RSP|CPU)?[0-9]+)*)", re.I)
 
@@ -52,7 +52,7 @@ AGGREGATE = re.compile(r"(?:port-?channel|po|bundle-ether|be|ae|trk|bridge-aggre
 
 
 def plain(name: str) -> str:
-    """Returns a name in one spelling, also if it is a MAC address, an IP address or not ASCII."""
+    """Returns a name in one spelling if it is a MAC address, an IP address or not ASCII."""
     if not name.isascii():
         return unicodedata.normalize("NFC", name)
     if MAC.fullmatch(name):

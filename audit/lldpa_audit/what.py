@@ -11,8 +11,8 @@ ENDINGS = (".gz", ".json", ".json0", ".xml", ".walk", ".txt", ".show", ".out", "
 
 
 class What(NamedTuple):
-    """A file of a host, with the port if it is a capture of one. If the host is empty, `placed`
-    finds it. If a file from a folder (`is_found`) cannot be opened, the audit goes on."""
+    """A file of a host, with the port if it is a capture of one port. If the host is empty,
+    `placed` finds it. If a file from a folder (`is_found`) cannot be opened, the audit goes on."""
 
     host: str
     port: str
@@ -30,8 +30,8 @@ def read_what(word: str, ours: str) -> What:
 
 
 def placed(what: What, plan: Plan, names: Names, ours: str) -> What:
-    """Finds the host of a file without one, and splits HOST:PORT. But the colon belongs to the port
-    if the plan has such a port, or if a number follows and no planned host precedes it."""
+    """Finds the host of a file without a host, and splits HOST:PORT. A colon belongs to the port if
+    the plan has such a port, or if a number follows it and no planned host precedes it."""
     if not what.host:
         return what._replace(host=host_of_file(what.file, plan, names, ours))
     if ":" not in what.port or names.end(End(what.host, what.port)) in plan.ends:

@@ -34,7 +34,7 @@ The manual page lldpa-audit(1) describes the verdicts.
 
 
 def read_words(words: Optional[Sequence[str]]) -> argparse.Namespace:
-    """Reads the command line. Ends the program with status 2 if it is wrong."""
+    """Reads the command line. If it is wrong, ends the program with status 2."""
     parser = argparse.ArgumentParser(
         prog="lldpa-audit", allow_abbrev=False, epilog=WORDS,
         usage="lldpa-audit [OPTION ..] PLAN [WHAT ..]",

@@ -18,8 +18,8 @@ NO_FAULTS = (Verdict.NO_DATA, Verdict.NOT_LOOKED_AT, Verdict.KNOWN)
 
 class Count(NamedTuple):
     """How many cables are in each state, how many ports are unplanned, how many right links have a
-    mismatch, and how many ends have a fault. `hosts` are those without a source, first those
-    with most cables not looked at."""
+    mismatch, and how many ends have a fault. `hosts` has the hosts without a source, sorted by
+    how many of their cables nobody looked at, most first."""
 
     cables: Mapping[str, int]
     unplanned: int

@@ -32,7 +32,7 @@ def pictures_of(host: str, faults: Sequence[Finding], names: Names) -> Iterator[
 
 
 def lines_of(fault: Finding, names: Names) -> list[Line]:
-    """Returns the lines from an end to its first neighbors and, if missing, to the wanted one."""
+    """Returns the lines from an end to its first neighbors and to the wanted end, if not seen."""
     wants = fault.wants
     key = names.end(wants) if wants is not None else None
     are_it = [key is not None and names.answers(one, key) for one in fault.has]

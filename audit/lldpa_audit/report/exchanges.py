@@ -1,4 +1,4 @@
-"""Finds exchanged cables: an exchange is seen at both sides, but is reported in one line."""
+"""Finds exchanged cables, so that an exchange that both sides see is reported in one line."""
 from typing import NamedTuple, Optional
 
 from ..judging import Verdict
@@ -9,8 +9,8 @@ Pair = tuple[End, End]
 
 
 class Exchanges(NamedTuple):
-    """`told_at` maps each end of an exchange to the end whose line reports it. `others` maps it to
-    the pair of ends on the other side, if exchanging that pair would also mend the fault."""
+    """`told_at` maps each end of an exchange to the end whose line reports the exchange. `others`
+    maps an end to the other side's pair of ends, if exchanging these would also mend the fault."""
 
     told_at: dict[End, End]
     others: dict[End, Pair]
@@ -18,7 +18,7 @@ class Exchanges(NamedTuple):
 
 def exchanges_of(faults: Faults) -> Exchanges:
     """Returns the exchanges among faults: pairs of ends that are swapped with each other. An
-    exchange also includes the far end of either link if it hears the wrong end of the pair."""
+    exchange also includes the far end of either link, if this hears the wrong end of the pair."""
     found = Exchanges({}, {})
     ranks = {key: rank for rank, key in enumerate(faults.all)}
     for key in faults.all:
@@ -29,7 +29,7 @@ def exchanges_of(faults: Faults) -> Exchanges:
 
 
 def add(found: Exchanges, faults: Faults, near: Pair, ranks: dict[End, int]) -> None:
-    """Adds the exchange of a pair. It is reported at two ends of the same host, if possible."""
+    """Adds the exchange of a pair. If possible, it is reported at a pair of ends of one host."""
     one, other = far_of(faults, *near), far_of(faults, *near[::-1])
     pairs = [near]
     if one is not None and other is not None and twin_of(faults, one) == other:

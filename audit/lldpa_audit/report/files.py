@@ -4,7 +4,7 @@ from pathlib import Path
 
 
 def write(file: str, octets: bytes) -> None:
-    """Writes a file; a plain one is replaced as a whole. Raises OSError."""
+    """Writes a file. A regular file is replaced as a whole. Raises OSError."""
     path = Path(file)
     try:
         if is_written_in_place(path):

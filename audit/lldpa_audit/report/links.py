@@ -32,7 +32,7 @@ def of_links(faults: Faults, texts: FaultTexts) -> Iterator[Repair]:
             continue
         far = faults.far(key)
         ends = [key] if far is None or far not in faults.left else [key, far]
-        # the end with the worse verdict comes first; of two equal ones, one that hears somebody
+        # the end with the worse verdict comes first; of equal verdicts, an end that hears somebody
         ends.sort(key=lambda end: (RANKS.index(faults.left[end].verdict), not faults.left[end].has))
         moved = ports_beside(faults, ends)
         mends = faults.take(ends)
@@ -41,7 +41,7 @@ def of_links(faults: Faults, texts: FaultTexts) -> Iterator[Repair]:
 
 
 def ports_beside(faults: Faults, ends: Sequence[End]) -> list[End]:
-    """Returns the unplanned ports where an end of a link is seen, and those that an end hears."""
+    """Returns the unplanned ports that hear one of these ends of a link, or are heard by it."""
     found: dict[End, None] = {}
     for end in ends:
         place, neighbor = faults.seen.get(end), faults.only(faults.left[end])

@@ -24,7 +24,7 @@ def page_of(report: Report) -> bytes:
 
 
 def parts(report: Report) -> Iterator[str]:
-    """Yields the page: the count, the repairs, faults by kind and host, and hosts with faults."""
+    """Yields the page: count, repairs, faults by kind and host, a section per host with faults."""
     hosts: dict[str, list[Finding]] = {}
     for fault in report.told[:MOST_ROWS]:
         hosts.setdefault(report.names.host(fault.end.host), []).append(fault)

@@ -17,7 +17,7 @@ NAME = "lldpa-audit"
 
 
 def junit_of(report: Report, needs_all: bool = False) -> bytes:
-    """Returns a JUnit report. Ends that nobody looked at are skipped, or fail with `needs_all`."""
+    """Returns a JUnit report. Ends that nobody looked at are skipped or, with `needs_all`, fail."""
     unseen = "failure" if needs_all else "skipped"
     cases = [(one.end, *case_of(report, one, unseen)) for one in report.in_order()]
     not_judged = report.count.cables[NOT_JUDGED]
@@ -72,7 +72,7 @@ def metrics_of(report: Report) -> bytes:
 
 
 def gauge(name: str, told: str, label: str, values: Mapping[str, float]) -> str:
-    """Returns a metric with a line for each of these values, or an empty text without any."""
+    """Returns a metric with a line for each value, or an empty text if there are no values."""
     name = f"lldpa_audit_{name}"
     lines = [f"# HELP {name} {told}\n# TYPE {name} gauge\n"] if values else []
     for text, value in values.items():

@@ -44,8 +44,8 @@ def renamed(faults: Faults) -> Iterator[Repair]:
 
 
 def other_names(faults: Faults) -> Mapping[str, Mapping[str, Sequence[tuple[End, Seen]]]]:
-    """Returns the wrong names that are heard in place of each planned host. Each name maps to the
-    wanted ends of that host, each with the neighbor that has this name and the wanted port."""
+    """Returns for each planned host the wrong names that are heard in its place. Each name maps to
+    wanted ends of the host, each with the neighbor that has this name and the wanted port."""
     heard: dict[str, dict[str, list[tuple[End, Seen]]]] = {}
     for key, fault in faults:
         neighbor, wanted = faults.only(fault), faults.far(key)

@@ -44,7 +44,7 @@ class Repair(NamedTuple):
 
 class Faults:
     """The faults by their normalized ends, in order. `left` has those that no repair mends yet.
-    `seen` maps wanted ends to the first faulty end that hears them."""
+    `seen` maps each wanted end to the first faulty end that hears it."""
 
     def __init__(self, plan: Plan, tables: Tables, faults: Iterable[Finding]) -> None:
         self.plan = plan
@@ -85,7 +85,7 @@ class Faults:
         return wish.wanted if wish else None
 
     def with_far(self, keys: Iterable[End], verdicts: Sequence[Verdict]) -> list[End]:
-        """Returns these ends, and the other ends of their links that have one of these verdicts."""
+        """Returns these ends, and each far end of their links that has one of these verdicts."""
         ends = list(keys)
         for key in list(ends):
             far = self.far(key)
@@ -114,7 +114,7 @@ class Faults:
         return shown(end.port) if is_ours else str(end)
 
     def reason(self, end: End) -> str:
-        """Returns why nothing is known of an end."""
+        """Returns why nothing is known of an end, or an empty text."""
         return self.tables.reason(self.names.end(end)) or self.like(end)
 
     def like(self, end: End) -> str:

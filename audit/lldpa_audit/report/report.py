@@ -26,8 +26,8 @@ NO_FAULTS = (Verdict.RIGHT, Verdict.KNOWN, Verdict.NOT_LOOKED_AT)
 
 
 class Report:
-    """What an audit has found. `told` has the findings to report, by host and port, and `repairs`
-    has their repairs. `mismatches` has the mismatch of each right link that has one, by one end."""
+    """What an audit has found. `told` has the findings to report, sorted by host and port, and
+    `repairs` their repairs. `mismatches` has the mismatch of a right link under one of its ends."""
 
     def __init__(self, plan: Plan, tables: Tables, findings: Sequence[Finding],
                  mismatches: Optional[Mapping[End, Mismatch]] = None) -> None:
@@ -57,8 +57,8 @@ class Report:
         yield from together(unlike, self.mismatches, self.names, self.plan)
 
     def lines(self, by: str = "") -> list[str]:
-        """Returns a line for each repair, and the count. If a column of the plan is named, the
-        lines are grouped by its texts, each group below a line with the text."""
+        """Returns a line for each repair, and the count. If `by` names a column of the plan, the
+        lines are grouped by the column's texts, each group below a line with its text."""
         told = [(self._column(one, by), self.place(one), f"{one.text}{self._details(one)}")
                 for one in self.repairs]
         width = max((len(place) for _, place, _ in told if len(place) <= WIDEST), default=0)

@@ -15,7 +15,7 @@ LANE = re.compile(r"(.*[0-9])[s:][0-9]|((?:Et|Eth|Ethernet)[0-9]+/[0-9]+)/[0-9]"
 
 
 def shifted(faults: Faults) -> Iterator[Repair]:
-    """Yields a repair for each run of ports that hear what the next (or previous) one wants."""
+    """Yields a repair for each run of ports that hear what the next (or previous) port wants."""
     counts = Counter(key.host for key, fault in faults if faults.only(fault))
     for host in (host for host, count in counts.items() if count >= SHORTEST):
         ports = sorted(faults.plan.ends_of_hosts.get(host, ()), key=by_port)
@@ -32,7 +32,7 @@ def shifted(faults: Faults) -> Iterator[Repair]:
 
 
 def step_of(faults: Faults, key: End, places: dict[End, int]) -> int:
-    """Returns the distance in ports from an end to the one that wants its neighbor, or 0."""
+    """Returns the distance in ports from an end to the end that wants its neighbor, else 0."""
     fault = faults.left.get(key)
     meant = faults.meant(fault) if fault is not None else None
     return places[meant] - places[key] if meant in places else 0
@@ -115,7 +115,7 @@ def of_ports(faults: Faults, keys: Sequence[End]) -> str:
 
 
 def lanes(faults: Faults) -> dict[End, list[End]]:
-    """Returns the faulty lanes of each port that is broken out."""
+    """Returns for each port the faulty ends that are named like its lanes."""
     found: dict[End, list[End]] = {}
     for key, _ in faults:
         whole = port_of(key)

@@ -44,7 +44,7 @@ class FaultTexts:
         return f"{text} ({reason})" if reason else text
 
     def of_link(self, fault: Finding, other: Optional[Finding]) -> str:
-        """Returns what is wrong at an end and, if it adds something, what the other end has."""
+        """Returns what is wrong at an end, and what the other end has if that adds something."""
         text = self.text(fault)
         are_alike = other is not None and fault.verdict is other.verdict
         if other is None or are_alike and other.verdict in (Verdict.ONE_SIDED, Verdict.SILENT):
@@ -58,7 +58,7 @@ class FaultTexts:
             f"{text}; {at} hears nobody")
 
     def swapped(self, fault: Finding, partner: End) -> str:
-        """Returns which end an end is swapped with, and any other exchange that would do."""
+        """Returns which end an end is swapped with, and any other exchange that mends the fault."""
         has = self.faults.plan.ends[self.names.end(partner)].wants
         text = f"{self.faults.place(partner)}: wants {fault.wants}, has {has}"
         other = self.exchanges.others.get(self.names.end(fault.end))

@@ -28,8 +28,8 @@ def without_data(faults: Faults) -> Iterator[Repair]:
 
 
 def silent(faults: Faults) -> Iterator[Repair]:
-    """Yields a repair for each host with several links that are all silent. Hosts with most links
-    come first: if a switch is down, its servers need no line."""
+    """Yields a repair for each host that has several links, all of them silent. Hosts with the most
+    links come first: if a switch is down, the servers at it need no line."""
     hosts = {end.host for key, fault in faults if fault.verdict is Verdict.SILENT
              for end in (key, faults.far(key)) if end is not None}
     links = {host: silent_links(faults, host) for host in hosts}
@@ -42,8 +42,8 @@ def silent(faults: Faults) -> Iterator[Repair]:
 
 
 def silent_links(faults: Faults, host: str) -> Sequence[Sequence[End]]:
-    """Returns for each link of a host its ends with data. Returns () if one of them is not silent,
-    if a port of the host is seen elsewhere, or if an audited host has a link without data."""
+    """Returns for each link of a host its ends with data. Returns () if such an end is not silent,
+    if a port of the host is seen elsewhere, or if the host is audited and a link has no data."""
     found: list[Sequence[End]] = []
     tables = faults.tables
     for key in faults.plan.ends_of_hosts.get(host, ()):
@@ -93,7 +93,7 @@ def together(faults: Sequence[Finding], found: Mapping[End, Mismatch], names: Na
              ) -> Iterator[Repair]:
     """Yields a repair for each host with three or more links whose ends differ in the same way, and
     for each other link with a mismatch. A link is reported at one host only: preferably one
-    where at least half of the links differ so, then the one with more such links."""
+    where at least half of the links differ in that way, then the one with more such links."""
     groups: dict[tuple[str, str], list[Finding]] = {}
     for fault in faults:
         for key in keys_of(found[fault.end], names):
@@ -113,7 +113,7 @@ def together(faults: Sequence[Finding], found: Mapping[End, Mismatch], names: Na
 
 
 def keys_of(one: Mismatch, names: Names) -> Iterator[tuple[str, str]]:
-    """Yields each host of a link with how it differs, unless an end also differs from the plan."""
+    """Yields each host of a link with how the host differs, unless an end differs from the plan."""
     if one.by_how_much:
         yield names.host(one.ends[0].host), one.by_how_much
         yield names.host(one.ends[1].host), one.opposite

@@ -1,4 +1,4 @@
-"""Finds the neighbors at the end of captures: an agent receives the captured frames."""
+"""Finds the neighbors at the end of captures, with an agent that receives the captured frames."""
 import os
 from contextlib import suppress
 from itertools import islice
@@ -22,8 +22,8 @@ MOST_UNPACKED = 1 << 27
 
 def read_captures(files: Sequence[str], port: str, program: str) -> Listing:
     """Returns the neighbors of a port from its captures or, if `port` is empty, of each interface
-    that the only capture names. Without packets, the time is that of the first file. Large
-    captures have a longer time limit. Raises ValueError, OSError, and Ended if the agent ends."""
+    that the one capture names. If there are no packets, the time is that of the first file.
+    Large captures get more time. Raises ValueError, OSError, and Ended if the agent ends."""
     stats = [stat_of(file) for file in files]
     seconds = max(SECONDS, sum(one.st_size for one in stats) >> 21)
     try:

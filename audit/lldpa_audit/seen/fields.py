@@ -1,8 +1,8 @@
 """Describes the forms of JSON that list neighbors: where each has ports, neighbors, and fields.
 
-A way is a path of names from object to object; it enters each element of a list. `*` matches each
+A way is a path of names from object to object, through each element of a list. `*` matches each
 name of an object, and `@` yields the name that the last `*` matched. `?NAME` goes on only if NAME
-is true in the object. If commas separate ways, the first that leads to a text counts.
+is true in the object. Commas separate ways. If one text is needed, the first one found counts.
 """
 import re
 from itertools import product
@@ -17,12 +17,11 @@ from .shows import SETTING, settings_of_tlvs
 
 class Form(NamedTuple):
     """A form of JSON: the ways to ports, from a port to its neighbors, and from a neighbor to its
-    fields. JSON in which `sign` leads somewhere has this form. If `port` is empty, the port is
-    the name that `*` matched. A `?` before `neighbors` says that a port may lack neighbors. If
-    `kind` is empty, a Port ID that looks like an interface's name is one. `settings` leads to
-    frame size, PVID, MAU type and aggregate, `protocol` to the protocol. A neighbor needs a
-    chassis ID and a Port ID; with `of_names`, any name of its host and any name of its port are
-    enough."""
+    fields. JSON has this form if `sign` leads somewhere in it. If `port` is empty, the port is
+    the name that `*` matched. If `neighbors` begins with `?`, a port may lack that field. If
+    `kind` is empty, a Port ID that looks like an interface's name counts as one. The `settings`
+    are the ways to frame size, PVID, MAU type and aggregate. A neighbor needs a chassis ID and a
+    Port ID or, with `of_names`, one name of its host and one of its port."""
 
     sign: str
     ports: str
@@ -157,7 +156,7 @@ def listed(node: Any, of: str) -> list[Any]:
 
 
 def read_form(tree: Any, form: Form) -> Listing:
-    """Returns the neighbors in JSON of this form. One that is heard by LLDP and another protocol
+    """Returns the neighbors in JSON of this form. A neighbor heard by LLDP and by another protocol
     counts once, if both entries share a name of the host and of the port. Raises SeenFault."""
     ports: dict[str, list[Seen]] = {}
     others: dict[str, list[Seen]] = {}  # those heard by other protocols

@@ -14,9 +14,9 @@ from ..what import What
 from .forms import is_text, read_list
 from .listing import Listing, SeenFault
 
-# fewer files than this are read by one process, since several need time to start
+# fewer files than this are read by one process, since several processes need time to start
 MANY = 100
-# a process returns at most this many files at once, and sends each name in them only once
+# a process returns the content of at most this many files at once, and each name in it only once
 FILES_AT_A_TIME = 100
 FRONT = 512
 MOST_OCTETS = 32 << 20
@@ -41,7 +41,7 @@ def read_file(what: What) -> Optional[Listing]:
 
 
 def octets_of(file: BinaryIO) -> Optional[bytes]:
-    """Returns the unpacked octets of a text file, else None. Raises BadCapture and SeenFault."""
+    """Returns the unpacked octets of a text file, or None. Raises BadCapture and SeenFault."""
     front = file.read(FRONT)
     source: Readable = file
     if front.startswith(MAGIC):
@@ -65,7 +65,7 @@ def taken(source: Readable, size: int) -> bytes:
 
 
 def placed(listing: Listing, file: str, written: float) -> Listing:
-    """Adds the file's name to the faults of hosts, and its time to a listing without a time."""
+    """Adds the file's name to hosts' faults, and the file's time to listings without a time."""
     hosts = {host: one._replace(time=one.time or written, faults=[
         f"{file}: {shown(host)}: {fault}" for fault in one.faults])
         for host, one in listing.hosts.items()}

@@ -9,8 +9,8 @@ Say = Callable[[str], None]
 
 
 def read_whats(words: Sequence[str], ours: str, say: Say) -> Iterator[What]:
-    """Yields the files that the arguments name, and each file in the folders that they name. Notes
-    what is skipped. Raises OSError, and ValueError if a folder has no files."""
+    """Yields the files that the arguments name, and each file in the folders that the arguments
+    name. Reports what is skipped. Raises OSError, and ValueError if a folder has no files."""
     for word in words:
         what = read_what(word, ours)
         if what.port or not os.path.isdir(what.file):
@@ -24,7 +24,7 @@ def read_whats(words: Sequence[str], ours: str, say: Say) -> Iterator[What]:
 
 
 def of_hosts(folder: str, say: Say) -> Iterator[What]:
-    """Yields the files of a folder. A file's name, or that of its subfolder, is the host's."""
+    """Yields the files of a folder. A file or its subfolder has the name of the host."""
     for entry in entries(folder, say):
         if entry.is_dir():
             yield from of_host(entry.name, entry.path, say)
@@ -45,7 +45,7 @@ def of_host(host: str, folder: str, say: Say) -> Iterator[What]:
 
 
 def entries(folder: str, say: Say) -> Iterator["os.DirEntry[str]"]:
-    """Yields the entries of a folder that are not hidden, sorted by name. Notes what is skipped."""
+    """Yields the entries of a folder that are not hidden, sorted by name. Reports what it skips."""
     with os.scandir(folder) as found:
         there = sorted((one for one in found if not one.name.startswith(".")),
                        key=lambda one: one.name)

@@ -12,7 +12,7 @@ from .trees import last_line, listing_of
 
 TEXT = bytes([*b"\t\r\n\x1b\a\b", *range(0x20, 0x100)])
 UTF_16 = (codecs.BOM_UTF16_LE, codecs.BOM_UTF16_BE)
-# a document type is refused, so no entity can be declared, and none expands
+# XML with a document type does not match, so no entity can be declared or expanded
 XML = re.compile(r"\s*(?:<\?xml[^>]*>\s*)?<(?:rpc-reply|multi-routing|lldp-neighbors)")
 FORMS: tuple[tuple[re.Pattern[str], Callable[[str], Listing]], ...] = (
     # `show neighbors` may be of one port only, so nothing is known of ports that it lacks
@@ -53,7 +53,7 @@ def read_list(octets: bytes) -> Listing:
 
 
 def tree_of_xml(text: str) -> Any:
-    """Returns XML as the tree that Junos' JSON would be. Raises SeenFault."""
+    """Returns XML as a tree like that of Junos' JSON. Raises SeenFault."""
     root = ElementTree.Element("root")
     try:
         root.append(ElementTree.fromstring(text))

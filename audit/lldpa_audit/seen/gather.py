@@ -19,7 +19,7 @@ SECONDS_BETWEEN_LOOKS = 0.5
 
 
 class Gathering:
-    """Puts sources into tables, and reports damaged ones. `status` becomes 1 if a source is
+    """Puts sources into tables, and reports damaged sources. `status` becomes 1 if a source is
     damaged, and 2 if two sources of a host overlap. Methods raise OSError if a file cannot be
     read, ValueError if a capture names no port, and Ended if the agent that reads captures ends."""
 
@@ -34,7 +34,7 @@ class Gathering:
 
     def add_files(self, whats: Sequence[What], files: Iterator[Optional[Listing]]) -> None:
         """Adds the files `whats`. Several captures of a port count as one. `files` yields what is
-        in each file that is not a capture of one port, or None if it is another kind of capture."""
+        in each file that is not a capture of one port, or None for any other capture."""
         for what, listing in zip(of_hosts(whats), files):
             if listing is None:
                 self.add_captures(what.host, "", [what.file])
@@ -53,8 +53,9 @@ class Gathering:
             self.add_captures(end.host, end.port, captures)
 
     def add_captures(self, host: str, port: str, files: Sequence[str]) -> None:
-        """Adds the port of captures or, if no port is named, all ports of one capture. Leaves out
-        frames that a port sent itself. If LLDP frames were skipped, a silent port has no data."""
+        """Adds a port from its captures or, if `port` is empty, all ports of one capture. Frames
+        that a port sent itself do not count. If LLDP frames were skipped, a silent port has no
+        data."""
         found = read_captures(files, port, self.program)
         for note in found.notes:
             self.say(note)
@@ -74,7 +75,7 @@ class Gathering:
 
     def is_usable(self, host: str, port: str, listing: Listing, file: str) -> bool:
         """Returns whether a source can be used. A damaged or old source leaves its port without
-        data or, if no port is named, each port of the host that has no other source."""
+        data or, if `port` is empty, each port of the host that has no other source."""
         for fault in listing.faults:
             self.say(fault)
             self.status = max(self.status, 1)
@@ -95,7 +96,7 @@ class Gathering:
             self.tables.forget(host, why)
 
     def add_live(self, host: str, path: str, plan: Plan, seconds: float) -> None:
-        """Adds the ports of lldpa-live, once each planned one has a neighbor or the time is up."""
+        """Adds the ports of lldpa-live when each planned port has a neighbor or the time is up."""
         end = time.monotonic() + seconds
         with Client(path) as client:
             while True:

@@ -18,8 +18,8 @@ class Twice(ValueError):
 
 
 def tree_of(text: str, begin: int) -> Any:
-    """Returns the tree of the JSON that begins here. Names may have octets that are not UTF-8, or
-    control characters, as lldpcli writes them. Raises SeenFault."""
+    """Returns the tree of the JSON that begins at `begin`. Names may have quotes, backslashes and
+    control characters without escapes, as lldpcli writes them. Raises SeenFault."""
     try:
         return decoded(text, begin)
     except json.JSONDecodeError as fault:

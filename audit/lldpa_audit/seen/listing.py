@@ -14,10 +14,10 @@ class SeenFault(LldpaFault, ValueError):
 
 
 class Listing(NamedTuple):
-    """The neighbors of ports. If it `has_all_heard`, other ports of the host have no neighbor. If a
+    """The neighbors of ports. If `has_all_heard`, the host's other ports have no neighbor. If a
     file is of several hosts, `hosts` has a listing for each. If there are `faults`, nothing is
-    known of the ports. `notes` says what was skipped. `time` is when this was seen, in seconds
-    since 1970; 0 if unknown."""
+    known of the ports. `notes` says what was skipped. `time` is when the neighbors were seen, in
+    seconds since 1970; 0 if unknown."""
 
     ports: Ports
     has_all_heard: bool

@@ -14,8 +14,8 @@ MOST_KEPT = 32768
 def neighbor(chassis: str, kind: str, port_id: str, name: str = "", descr: str = "",
              addresses: Iterable[str] = (), settings: Optional[Settings] = None) -> Seen:
     """Returns a neighbor with all names of its host and port. A field that it does not announce is
-    empty, and `kind` is lldpcli's word for the type of its Port ID. The System Name comes first,
-    and so does the Port Description, unless the Port ID is an interface's name or alias."""
+    empty. `kind` is lldpcli's word for the type of its Port ID. The host's first name is the
+    System Name; the port's is the Port Description, or the Port ID if that names an interface."""
     chassis, port_id = clean(chassis), clean(port_id)
     is_named = kind in ("ifname", "ifalias") and port_id != ""
     ports = texts(port_id, descr) if is_named else texts(descr, port_id)
@@ -24,7 +24,7 @@ def neighbor(chassis: str, kind: str, port_id: str, name: str = "", descr: str =
                 aggregated, settings, is_named)
 
 
-# many neighbors have the same texts: each is kept only once, and sent once between processes
+# many neighbors have the same texts: each text is kept only once, and sent once between processes
 @lru_cache(MOST_KEPT)
 def names_of_host(name: str, chassis: str, *addresses: str) -> tuple[str, ...]:
     """Returns the names of a host. In `show neighbors`, an address ends at the first comma."""

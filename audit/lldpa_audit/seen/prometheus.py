@@ -12,9 +12,9 @@ from .neighbor import neighbor
 from .shows import plain
 
 PORTS, TIMES = "lldpa_too_many", "node_textfile_mtime_seconds"
-# a host in an instance such as leaf1:9100 or [2001:db8::1]:9100
+# the host in a label `instance`, such as leaf1:9100 or [2001:db8::1]:9100
 HOST = re.compile(r"\[(.+)\](?::[0-9]+)?|(.+?)(?::[0-9]+)?")
-EXPORTED = "exported_"  # precedes lldpa's label if the target has one of the same name
+EXPORTED = "exported_"  # precedes lldpa's label if the target has a label of the same name
 
 
 def read_prometheus(tree: Any) -> Listing:

@@ -18,7 +18,7 @@ from .neighbor import MOST_KEPT, neighbor
 TEXT = "[ -~]*"
 PORT = re.compile(rf"lldp\.({NAME})\.neighbors=({DIGITS})\nlldp\.\1\.octets={DIGITS}\n"
                   r"lldp\.\1\.too-many=(yes|no)\n")
-# a neighbor: its port and place, its chassis ID, the kind of its Port ID, that ID, other lines
+# a neighbor: local port, place, chassis ID, kind of Port ID, Port ID, and the other lines
 NEIGHBOR = re.compile(
     rf"lldp\.({NAME})\.({DIGITS})\.chassis\.(?:{'|'.join(sorted(CHASSIS_KINDS))})=({TEXT})\n"
     rf"lldp\.\1\.\2\.port\.({'|'.join(sorted(PORT_KINDS))})=({TEXT})\n"
@@ -55,7 +55,7 @@ def read_ports(text: str) -> Ports:
 
 
 def neighbors_at(text: str, at: int, port: str, most: int) -> tuple[list[Seen], int]:
-    """Returns the neighbors of a port from the lines that begin here, and where these end."""
+    """Returns the neighbors of a port from the lines that begin at `at`, and the lines' end."""
     seen: list[Seen] = []
     while len(seen) < most:
         found = NEIGHBOR.match(text, at)

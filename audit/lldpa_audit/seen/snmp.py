@@ -58,7 +58,7 @@ def rows_of(text: str) -> tuple[dict[str, Row], dict[str, Row]]:
             continue
         try:
             place = (ORDER[name], *map(int, index.split(".")))
-        except ValueError:  # it may have thousands of digits, or two dots
+        except ValueError:  # an index may have thousands of digits, or two dots
             raise SeenFault(f"{name}.{index[:40]} has an invalid index") from None
         if place <= last:
             raise SeenFault(f"{name}.{index} is out of order, as if from another walk: {COMMAND}")
@@ -68,7 +68,7 @@ def rows_of(text: str) -> tuple[dict[str, Row], dict[str, Row]]:
 
 
 def text_of(kind: str, value: str) -> str:
-    """Returns a value as text, and that of an enumeration as its number."""
+    """Returns a value as text. The text of an enumeration is its number."""
     if kind == "INTEGER":
         return value.rpartition("(")[2].rstrip(")")
     if kind == "Hex-STRING":
@@ -82,13 +82,13 @@ def text_of(kind: str, value: str) -> str:
 
 
 def port_name(row: Row) -> str:
-    """Returns the name of a local port: its ID if that names an interface, else its description."""
+    """Returns a local port's name: an ID that names an interface, else its description or ID."""
     subtype, port_id, descr = (row.get(column, "") for column in LOCAL)
     return descr or port_id if kind_of(subtype) == "local" else port_id
 
 
 def seen(row: Row, port: str) -> Seen:
-    """Returns a neighbor. Raises SeenFault if it has no chassis ID or port ID."""
+    """Returns a neighbor. Raises SeenFault without a chassis ID, port ID or port ID subtype."""
     chassis_kind, chassis, kind, port_id, descr, name = (row.get(column, "") for column in REMOTE)
     if not chassis or not port_id or not kind:
         raise SeenFault(f"{port!r} has a neighbor that lacks a chassis ID, port ID or port ID "

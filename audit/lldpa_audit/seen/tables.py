@@ -37,7 +37,7 @@ class Tables:
 
     def add_ports(self, host: str, ports: Mapping[str, Sequence[Seen]], file: str = "",
                   has_all_heard: bool = False) -> str:
-        """Adds a source: the neighbors of a host's ports. If it `has_all_heard`, all other ports of
+        """Adds a source: the neighbors of a host's ports. If `has_all_heard`, all other ports of
         the host have no neighbor. Returns an empty text, or why the host cannot be judged: two
         sources have the same port, or both have all ports."""
         self.add_host(host)

@@ -8,14 +8,14 @@ from .listing import Listing, SeenFault
 from .neighbor import clean
 from .prometheus import read_prometheus
 
-# names under which these put neighbors: NAPALM, salt, Ansible, eAPI, NX-API, Junos, gNMI tools
+# names under which NAPALM, salt, Ansible, eAPI, NX-API, Junos and gNMI tools put neighbors
 GETTERS = [f"{front}lldp_neighbors{detail}" for front in ("", "get_", "napalm_")
            for detail in ("_detail", "")]
 WRAPPERS = (*GETTERS, "out", "ansible_facts", "result", "ins_api", "outputs", "output", "body",
             "rpc-reply", "multi-routing-engine-results", "multi-routing-engine-item", "stdout",
             "parsed", "notification", "update", "updates", "values", "val",
             "openconfig-lldp:lldp", "lldp", "openconfig-lldp:interfaces", "interfaces")
-# JSON that is not a full list of neighbors: a way that leads somewhere in it, and what it is
+# for JSON that is not a full list of neighbors: names that lead somewhere in it, and what it is
 CAUSES = (
     ("lldpNeighbors neighborDevice", "EOS' short list, without chassis IDs: use `show lldp "
                                      "neighbors detail | json`"),
