@@ -1,11 +1,11 @@
 #!/usr/bin/env python3
 """Compares lldpa with plain C that does the same work (tools/bench/yardstick.c), in one run.
 
-Each row runs the programs in turn, several times, on a trace and on the beginning of that trace. It
-shows each program's least processor time for the trace, less that for the beginning, per item. C
-with vector instructions checks no TLVs: it shows what is possible. If valgrind is installed,
-callgrind counts instructions on a shorter trace, in columns that begin with #. Measures tshark and
-tcpdump if installed. Needs a C compiler.
+For each row the programs run in turn, several times, on a trace and on the beginning of that trace.
+The row shows each program's least processor time for the trace, less that for the beginning, per
+item. C with vector instructions checks no TLVs, so it only shows what is possible. If valgrind is
+installed, callgrind counts instructions on a shorter trace, in columns that begin with #. Installed
+readers (tshark, tcpdump) are measured too. Needs a C compiler.
 
 bench_rows.py has the rows, bench_counts.py counts instructions, bench_captures.py measures readers
 of captures, and bench_picture.py draws the picture.
@@ -85,7 +85,7 @@ def compiled(room: Path) -> str:
 
 def table(options: argparse.Namespace, room: Path, saved: dict[str, list[float]],
           count: bool) -> list[dict[str, Any]]:
-    """Measures each row, or uses its saved times, and prints it. Returns all rows."""
+    """Measures each row, or uses its saved times. Prints and returns the rows."""
     heads = HEADS + [f"# {head}" for head in HEADS] if count else HEADS
     print(" " * 48 + "".join(f"{head:>11}" for head in heads))
     yardstick, told = compiled(room), []

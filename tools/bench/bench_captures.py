@@ -63,7 +63,7 @@ def lldp_frames() -> Packets:
 
 
 def other_readers(room: Path, times: int) -> list[str]:
-    """Runs each tool `times` times on typical frames. Returns a line for each tool."""
+    """Runs each installed tool `times` times on typical frames. Returns a line for each tool."""
     frames, capture = mix(992, 32), room / "mix.pcap"
     write_capture(capture, ((octets, 0) for octets in frames * 20))
     lines = []
@@ -83,7 +83,7 @@ CAPTURE_READERS = (("lldpa-capture", [sys.executable, str(TOP / "bin/lldpa-captu
 
 
 def capture_row(title: str, capture: Path, times: int) -> str:
-    """Runs each reader `times` times on a capture, in turn. Returns a line with the results."""
+    """Runs each installed reader `times` times on a capture. Returns a line with the results."""
     readers = [(name, words) for name, words in CAPTURE_READERS if shutil.which(words[0])]
     runs: dict[str, list[tuple[float, float]]] = {name: [] for name, _ in readers}
     for _ in range(times):

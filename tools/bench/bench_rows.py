@@ -19,7 +19,7 @@ def tlv(kind: int, body: bytes) -> bytes:
 
 
 def frame(chassis: bytes, port: bytes, tlvs: list[bytes], ttl: int = 65535) -> bytes:
-    """Returns a frame with a chassis ID, a port ID, a time to live, and these other TLVs."""
+    """Returns a frame with a chassis ID, a port ID, a time to live, and then these TLVs."""
     begin = tlv(1, chassis) + tlv(2, port) + tlv(3, ttl.to_bytes(2, "big"))
     return NEAREST_BRIDGE + b"\x02\0\0\0\0\x99" + LLDP + begin + b"".join(tlvs) + b"\0\0"
 

@@ -4,10 +4,10 @@
     tools/gate/check-links.py [--installed FOLDER]
 
 It checks links and their anchors, and names of files, calls and options. Blocks marked `rust` or
-`antt` must be consecutive lines of one source. On pages about proofs, each clause, definition,
-lemma and large number must occur in the sources. In SECURITY.md, each row of a table with a column
-"Shown by" must name there a law or call of the crates, a test of python/tests or audit/tests, or a
-script. No page may call lldpa-live "the bridge". No line of text may be over 120 columns long.
+`antt` must be consecutive lines of one source. On pages about proofs, each word in backticks and
+each large number must occur in the sources. In SECURITY.md, each cell of a column "Shown by" must
+name existing laws or calls of the crates, tests of python/tests or audit/tests, or scripts. No page
+may call lldpa-live "the bridge". No line of text may be over 120 columns long.
 
 With --installed it checks only the links of the pages in FOLDER, which tools/release/install.sh has
 filled. The last line is `N passed, M failed`.
@@ -69,7 +69,7 @@ def fault_of_link(page, target):
 
 
 def links(text):
-    """Returns the targets of a page's links, except those to other hosts."""
+    """Returns the targets of a page's links, except links to other hosts."""
     found = re.findall(r"\]\(([^)\s]+)\)", text) + re.findall(r"^\[[^]]+\]: (\S+)$", text, re.M)
     return [target for target in found if not re.match(r"[a-z]+://", target)]
 
@@ -84,7 +84,7 @@ def is_there(name):
 
 
 def file_names(text):
-    """Yields the file names in backticks, except those that the reader has to fill in."""
+    """Yields the file names in backticks, except names that the reader has to fill in."""
     tops = {path.name for path in TOP.iterdir()} | set(FOLDERS_OF_A_CRATE) | set(CRATES)
     for name in re.findall(r"`([\w.*/-]+)`", text):
         is_path = "/" in name and name.split("/")[0] in tops and "out" not in name.split("/")
@@ -168,7 +168,7 @@ def is_shown_by(name):
 
 
 def faults_of_security():
-    """Yields each row with a column "Shown by", and each name in it, with its fault or None."""
+    """Yields each row and each name of the columns "Shown by", with its fault or None."""
     is_claimed = False
     for line in (TOP / "SECURITY.md").read_text().splitlines():
         if not line.startswith("|"):

@@ -1,8 +1,8 @@
 #!/bin/sh
 # Builds lldpa-live and checks it with cargo: the format, the warnings of clippy, and the tests.
 #     tools/gate/check-live.sh
-# It links the library in crates/lldpa_c/out/lib. If this is missing, tools/library/library.sh makes
-# it. The last line is `N passed, M failed`. Without cargo the script is skipped, with status 3.
+# cargo links the library in crates/lldpa_c/out/lib, which tools/library/library.sh makes if it is
+# missing. The last line is `N passed, M failed`. Without cargo the status is 3.
 set -u
 cd "$(dirname "$0")/../.." || exit 2
 . tools/gate/parts.sh

@@ -1,16 +1,16 @@
 #!/usr/bin/env python3
 """Checks in the sources what types and contracts do not show.
 
-Memory: only `Room` allocates memory, at opening. In lldp_program and the crates below it, no other
-module names a type that allocates memory. Below lldp_program no other type has a field with an
-allocator, and only opening calls receive one. They pass it only to opening calls, each once and for
-no more room than is needed. Only modules that read the arguments receive the runtime's `Global`.
+Memory: only `Room` allocates memory, at opening. In lldp_program and the crates below, only Room's
+module names a type that allocates memory. Below lldp_program, only `Room` has a field with an
+allocator, and only opening calls receive one. They pass it only to opening calls, to each once, for
+no more room than needed. Only modules that read the arguments receive the runtime's `Global`.
 
 Accesses: `Times` counts each access to a stored time. Only its functions `get`, `set` and `look`
-reach the times, and it cannot be copied. `look` does not count; only `Table::entries` and `entry`
-use it. No tick calls these: `entries` is called only to show neighbors, and `entry` only in tests.
-The types of a table have only known fields, since others could store times too. A proof by hand
-could claim any count. So only two functions of `Count`, and those of a C handle, have such proofs.
+reach the times. A `Times` cannot be copied. `look` does not count, and only `Table::entries` and
+`Table::entry` use it. No tick calls these two: `entries` is called to show neighbors, `entry` only
+in tests. The types of a table have only known fields, since another field could store times. Only
+two functions of `Count` and those of a C handle have proofs by hand, which could claim any count.
 
     tools/gate/check-memory.py
 
@@ -113,7 +113,7 @@ def counts_of(pattern: str, texts: dict[str, str]) -> dict[str, int]:
 
 
 def functions_handed(code: str) -> str:
-    """Returns the functions that have an allocator, with the parameter's name if not `alloc`."""
+    """Returns the functions that take an allocator, and the parameter's name if not `alloc`."""
     heads = re.findall(r"\bfn (\w+)(?:<[^(]*>)?\(([^{;]*?)\)", code)
     taken = [(name, one) for name, all_taken in heads for one in re.findall(ALLOCATOR, all_taken)]
     return "\n".join(name if one == "alloc" else f"{name} ({one})" for name, one in taken)
@@ -125,9 +125,9 @@ def fields(code: str) -> str:
     return "\n".join(bodies)
 
 
-# What code must not contain: the crates, the part of their code that is searched, a pattern that is
-# removed first, the forbidden pattern, the modules that may have it, and the fault. So only `Room`
-# has a field with an allocator; other types may have fields with a `Room`.
+# What code must not contain. Each rule has the crates, the part of their code that is searched, a
+# pattern that is removed first, the forbidden pattern, the modules that may have it, and the fault.
+# Only `Room` may have a field with an allocator, but other types may have fields with a `Room`.
 FORBIDDEN = (
     ((*BELOW_THE_PROGRAM, "lldp_program"), str, None, TAKES_MEMORY, (ROOM,),
      "names a type that allocates memory"),
@@ -184,7 +184,7 @@ def see_reached(sources: Sources) -> None:
 
 
 def see_stores(sources: Sources) -> None:
-    """Checks that the types of a table have only known fields: others could store times too."""
+    """Checks the fields of a table's types, since a further field could store times too."""
     code = "\n".join(sources.code(TABLE).values())
     for name, held in HOLDS.items():
         body = re.search(rf"\bstruct {name}\b[^{{;]*\{{(.*?)\n\}}", code, re.S)
@@ -208,7 +208,7 @@ def see_walks(sources: Sources) -> None:
 
 
 def is_seen(name: str, change: tuple[str, ...]) -> bool:
-    """Returns whether a rule is broken after replacements in a file: old and new texts in turn."""
+    """Returns whether replacements in a file break a rule. `change`: old and new texts in turn."""
     sources = Sources()
     for old, new in zip(change[::2], change[1::2]):
         if sources.texts[name].count(old) != 1:

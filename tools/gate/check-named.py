@@ -1,8 +1,8 @@
 #!/usr/bin/env python3
 """Checks that the gate runs everything that tools/named.txt lists.
 
-A mutant must have an edit, which the prover must refuse. Any other entry must be a transcript, a
-row, a test, or a command or script of tools/gate/check.sh; a theorem alone does not count.
+An entry `body` must have an edit, which the prover must refuse. Each other entry must name what
+tries it: a transcript, a row, a test, a command of tools/gate/words.sh or a script of check.sh.
 
     tools/gate/check-named.py
 

@@ -3,9 +3,9 @@
 
     tools/gate/completions.py
 
-bash is asked for completions. zsh must be able to parse its file, which must have the same
-commands. The help of lldpa is examples/help.txt, which another part of the gate compares with the
-program. What is not installed is skipped. The last line is `N passed, M failed`.
+bash is asked for completions. The file for zsh must have the same commands, and zsh must parse it.
+The help of lldpa is examples/help.txt, which another part of the gate compares with the program.
+What is not installed is skipped. The last line is `N passed, M failed`.
 """
 from __future__ import annotations
 

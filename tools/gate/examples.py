@@ -4,19 +4,19 @@
     python3 tools/gate/examples.py PROGRAM [NAME ...]
     python3 tools/gate/examples.py --as-root
 
-The transcripts are in examples/; the README there describes the files. A filter's texts consist of
-small letters and hyphens, and each must occur in a shown line. Each transcript runs in four ways:
+The transcripts are in examples/; the README there describes the files. The texts of a filter have
+only small letters and hyphens, and must occur in shown lines. Each transcript runs in four ways:
 its first N lines, for each N; without its last LF, which changes nothing; octet by octet; and in
 two pieces, cut at every place (inputs of up to 10,000 octets). A piece is written after the program
 has read the one before. Each run must end with status 0 and write nothing on standard error.
 receive-counters.rows has counters of eth0 that `show statistics` must show after a transcript.
 
-Examples of the pages and the manual page are blocks whose first line begins with `$ `. Each such
-line is a command. If it ends with <<'EOF' or <<EOF, its input follows, up to the line EOF. Its
-output follows, up to the next command. A status other than 0 must be shown by `echo $?`. Standard
-error must be empty. A free port replaces the number after --listen. A block that takes too long
-fails, and its processes are killed. tools/by-hand/try-package.sh runs the blocks whose commands
-begin with sudo; --as-root lists these commands. A block with commands of both kinds fails.
+Examples of the pages and the manual page are blocks whose first line begins with `$ `. Each line
+that begins so is a command. If it ends with <<'EOF' or <<EOF, its input follows, up to a line EOF.
+Then its output follows, up to the next command. A status other than 0 must be shown by `echo $?`.
+Standard error must be empty. A free port replaces the number after --listen. A block that takes too
+long fails, and its processes are killed. tools/by-hand/try-package.sh runs the blocks whose
+commands begin with sudo; --as-root lists these commands. A block with commands of both kinds fails.
 
 If names are given, only those transcripts and their rows are run. The last line counts the ways of
 each transcript, the rows and the blocks.
@@ -134,7 +134,7 @@ def steps_of(trace, shown):
 
 
 def ways(trace, steps):
-    """Yields each way to feed an input: its name, and its runs with pieces and wanted output."""
+    """Yields the name of each way to feed an input, and its runs: pieces and wanted output."""
     fronts, texts = [b""], [b""]
     for line, written in steps:
         fronts.append(trace[:len(fronts[-1]) + len(line) + 1])
@@ -168,7 +168,7 @@ def transcripts(only):
 
 
 def run_transcripts(program, only):
-    """Runs each transcript in each way. Yields a name for each way, and its fault if any."""
+    """Runs each transcript in each way. Yields each way's name, and its fault if it has one."""
     with concurrent.futures.ProcessPoolExecutor() as pool:
         for name, words, texts, trace, steps in transcripts(only):
             if isinstance(steps, str):
@@ -196,7 +196,7 @@ def rows(only):
 
 
 def run_rows(program, only):
-    """Runs the transcript of each row and then a show. Yields the row's name and its fault."""
+    """Runs each row's transcript, then `show statistics`. Yields the row's name and fault."""
     for name, values, found in rows(only):
         fault = found
         if not isinstance(found, str):

@@ -3,10 +3,10 @@
 
     tools/gate/imports.py
 
-The parts of a folder are its files and its subfolders. A part imports another if one of its files
-imports something from the other, anywhere in the file. The parts of each folder must have an order
-in which each imports only earlier ones. Also, lldpa must not import lldpa_audit. The last line is
-`N passed, M failed`, with a check for each folder and one for the last rule.
+The parts of a folder are its files and its subfolders. Part A imports part B if a file of A imports
+something from B, anywhere in the file. The parts of each folder must have an order in which each
+part imports only earlier parts. Also, lldpa must not import lldpa_audit. The last line is `N passed,
+M failed`, with a check for each folder and one for the last rule.
 """
 from __future__ import annotations
 

@@ -1,5 +1,5 @@
 #!/usr/bin/env python3
-"""Runs a part of the gate, or repeats its count if nothing changed since it last passed here.
+"""Runs a part of the gate, or repeats its count if nothing changed since this part last passed.
 
     tools/gate/kept.py NAME COMMAND ..
 
@@ -25,7 +25,7 @@ COMPILERS = (("rt", "version"), ("cc", "--version"), ("cargo", "--version"), ("q
 
 
 def written_by(command: Iterable[str]) -> str:
-    """Returns what a command writes, or nothing if it is not installed."""
+    """Returns what a command writes, or an empty text if the command is not installed."""
     try:
         return subprocess.run([*command], cwd=TOP, stdout=subprocess.PIPE, text=True, check=False).stdout
     except FileNotFoundError:

@@ -1,6 +1,6 @@
 #!/bin/sh
 # Refuses memory to the built program, and checks that it reports this: status 2, `lldpa: no memory`
-# on standard error, and nothing on standard output. Each request for memory of a run is refused
+# on standard error, and nothing on standard output. Each request of a run for memory is refused
 # twice:
 #  - with all later requests; the run must end as above;
 #  - alone; the run may also end with its usual output and status 0: the standard library asks for

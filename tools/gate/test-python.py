@@ -53,7 +53,7 @@ def run_module(name):
 
 
 def run_all(names):
-    """Runs each module in another process, then those that run alone. Yields the results."""
+    """Runs the modules in other processes, at the end those that run alone. Yields the results."""
     beside = [name for name in names if name not in ALONE]
     workers = 2 * len(os.sched_getaffinity(0))
     for workers, some in ((workers, beside), (1, [name for name in names if name in ALONE])):

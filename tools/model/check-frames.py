@@ -3,7 +3,7 @@
 
     tools/model/check-frames.py PROGRAM [SEED]
 
-Each LLDPDU below is received cut after each octet, and with each octet changed to every other
+Each LLDPDU below is received cut after each octet, and with each octet changed to each different
 value: once with an empty table, and once with the neighbor of the first LLDPDU stored, to see which
 neighbor a shutdown frame removes. After each frame the neighbors and counters are compared, and the
 table is emptied. Then eight random traces, with the seeds from SEED (default 1), have more
@@ -46,7 +46,7 @@ LOOK_EACH = 25
 
 
 def altered(frame):
-    """Yields each beginning of a frame, and the frame with each octet changed to other values."""
+    """Yields each beginning of a frame, and all frames that differ from the frame in one octet."""
     for end in range(1, len(frame) + 1):
         yield frame[:end]
     for place, octet in enumerate(frame):

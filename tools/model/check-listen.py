@@ -4,11 +4,11 @@
     tools/model/check-listen.py PROGRAM
 
 A client asks a question whose answer is written in several pieces, and asks again when it has read
-it all. Each answer must come at once: without TCP_NODELAY its last piece would wait about 40
-milliseconds, until the piece before is acknowledged. If too many are late while the machine stands
-still, all are asked again, at most twice. Then clients connect one after another to a program that
-may serve 65,535, the limit. It must answer each and keep running. The last line is `N passed, M
-failed`.
+the answer. Each answer must come at once: without TCP_NODELAY its last piece would wait about 40
+milliseconds, until the piece before is acknowledged. If too many answers are late while the machine
+stands still, all questions are asked again, at most twice. Then clients connect one after another
+to a program that may serve 65,535, the limit. The program must answer each and keep running. The
+last line is `N passed, M failed`.
 """
 import pathlib
 import socket
@@ -27,11 +27,11 @@ from patience import NOTICEABLE, TRIES, Standstill  # noqa: E402
 PORTS = [f"p{place}" for place in range(64)]
 QUESTIONS = 100
 
-# the second line is refused, and this marks the end of an answer
+# the second line is refused, and its refusal marks the end of an answer
 QUESTION = b"show statistics\nx\n"
 END = b"error: unknown command\n"
 
-# The seconds after which an answer is late, and how many may be late: a machine may be busy.
+# An answer is late after this many seconds. Some may be late, since a machine may be busy.
 LATE = 0.02
 MOST_LATE = QUESTIONS // 4
 
@@ -63,7 +63,7 @@ def late_answers(client):
 
 
 def late_by_the_program(client):
-    """Returns how many questions are answered late. Asks again if the machine stood still."""
+    """Returns what `late_answers` does. Asks again if many are late and the machine stood still."""
     for left in reversed(range(TRIES)):
         with Standstill() as standstill:
             late = late_answers(client)

@@ -3,10 +3,10 @@
 
     tools/model/check-ranges.py PROGRAM
 
---listen, --connections and `tick N` accept too many numbers: it tries those near a power of two or
-of ten and near the ends. It also opens agents with a hostname of every length and with every role,
-since the contracts allow any opening to fail for lack of memory. The last line is `N passed, M
-failed`.
+--listen, --connections and `tick N` accept too many numbers: of these, it tries only those near a
+power of two or of ten and near the ends. It also opens agents with a hostname of every length and
+with every role, since the contracts allow any opening to fail for lack of memory. The last line is
+`N passed, M failed`.
 """
 import sys
 from concurrent.futures import ThreadPoolExecutor
@@ -17,7 +17,7 @@ from counts import Counts
 
 SHOWS = [b"show configuration", b"show chassis", b""]
 
-# options with too many numbers; with these port names the program does not listen
+# options with too many numbers to try, and port names with which the program does not listen
 MANY = {"--connections": ["eth0"], "--listen": ["a.b"]}
 
 # the numbers that `configure lldp` sets, with their greatest values

@@ -3,10 +3,10 @@
 
     tools/model/check-words.py PROGRAM
 
-In each valid line, each word in turn is misspelled or replaced by another word of English or
-lldpcli, a word is added or removed, and each octet is put before or after the line. Options and
-roles that are nearly right must be refused. If a line has different answers, it is made as short as
-possible and shown. The last line is `N passed, M failed`, with a check for each valid line.
+In each valid line, each word in turn is misspelled or replaced by a word of English or lldpcli, a
+word is added or removed, and each octet is put before or after the line. Options and roles that are
+nearly right must be refused. If the answers to a line differ, the line is made as short as possible
+and shown. The last line is `N passed, M failed`, with a check for each valid line.
 """
 import string
 import subprocess

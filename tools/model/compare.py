@@ -80,7 +80,7 @@ def number_of_connections(words):
 
 
 def answer_over_connections(program, words, trace):
-    """Returns what the program answers over connections, each with a piece of the trace."""
+    """Returns the program's answers over connections, each of which sends a piece of the trace."""
     number = free_port()
     words = [word.replace(FREE_PORT, number) for word in words]
     ran = subprocess.Popen([program, *words], stdin=subprocess.DEVNULL, stdout=subprocess.PIPE, stderr=subprocess.PIPE)

@@ -5,7 +5,7 @@
 
 For one trace in 20, tools/model/judge.py also checks when frames were sent. Trace K of a run has
 the seed N + K, so `--seed SEED --traces 1` runs that trace alone. The first seed is printed first.
-The first difference ends the run; its trace is made small and printed with its seed. Without
+The first difference ends the run; the trace is made small and printed with its seed. Without
 --seconds and --traces it runs for half a minute. The last line is `N passed, M failed`.
 """
 import argparse
@@ -344,7 +344,7 @@ def altered_example(dice, words, lines):
 
 
 def new_trace(dice):
-    """Returns arguments and lines of all kinds, with shows at the end."""
+    """Returns arguments and lines of all kinds, with three `show` commands at the end."""
     words = words_of(dice)
     ports = [word.encode() for word in words if re.fullmatch("[0-9A-Za-z_/:-]*[0-9]", word)]
     length = dice.choice([10, 20, 30, 40, 50, 60, 150]) if len(ports) < 9 else 10
@@ -370,7 +370,7 @@ def case(seed):
 
 # -------------------------------------------------------------------------------------- reducing a trace
 def without_runs(items, differs):
-    """Removes runs of items, long runs first, while the fault remains."""
+    """Removes slices of the items, long slices first, while the fault remains."""
     size = len(items)
     while size:
         at = 0

@@ -3,9 +3,9 @@
 It reads arguments, a trace, and the frames that the program sent at each event. For each event it
 computes three things from the whole list of events, like the definitions of lldp_transmit and
 lldp_engine: whether a port stops, whether a frame is due, and whether one more frame is within the
-limit. A run of events may have at most as many frames as the greatest credit, plus one for each
-second after its first event. A frame must be sent at an event exactly if it is due and keeps each
-run that ends with this event within the limit. Each question goes over the events again.
+limit. In consecutive events there may be at most as many frames as the greatest credit, plus one
+for each second after the first of these events. A frame must be sent at an event exactly if it is
+due and keeps all sequences that end with this event within the limit.
 """
 import functools
 import re
@@ -18,7 +18,7 @@ import model
 MARK = b"#" * 4097
 MARK_ANSWER = b"error: line too long"
 
-# the most seconds of a trace that is judged, since each question goes over all events
+# the most seconds of a trace that is judged, since judging one event goes over all events
 MOST_TICKS = 300
 
 # events that are not local changes; all other events (settings and updates) are
@@ -106,7 +106,7 @@ class Port:
 
     # ---- receiving
     def learned(self, k):
-        """Returns the LLDPDU that is received at k, or None if there is none or it is refused."""
+        """Returns the LLDPDU that the port receives at k and accepts, or None."""
         event = self.events[k]
         is_heard = event.kind == "frame" and event.port == self.name and self.hears(k - 1) and self.up(k - 1)
         octets = event.value if is_heard else b""
@@ -131,7 +131,7 @@ class Port:
         return heard.name in live or len(live) < limit
 
     def live(self, name, k):
-        """Returns whether the last event about this neighbor stored it, and it is not expired."""
+        """Returns whether the neighbor's last event stored an LLDPDU that has not expired."""
         for p in range(k, -1, -1):
             heard = self.learned(p)
             if self.purges(p) or heard is not None and heard.name == name and heard.ttl == 0:
@@ -201,7 +201,7 @@ class Port:
         return any(self.signal(s) and self.sent_to[k] == self.sent_to[s] for s in range(self.last_start(k), k + 1))
 
     def is_open(self, k):
-        """Returns whether a frame at k keeps each run of events that ends at k within its limit."""
+        """Returns whether a frame at k keeps all sequences of events up to k within the limit."""
         most = self.options.tx_credit_max
         return all(self.sent_to[k] - self.sent_to[i] + 1 <= most + self.ticks(i + 1, k) for i in range(k + 1))
 

@@ -73,8 +73,8 @@ class UnsoundLldpdu(Exception):
     """Raised if an LLDPDU is refused, with the number of the first check that it fails."""
 
 class Lldpdu:
-    """An accepted LLDPDU: its MSAP identifier `name`, its `ttl` and, if that is above 0, `extent`
-    (the TLVs before End), `kept` TLVs, and how many are `unrecognized` and `discarded`."""
+    """An accepted LLDPDU: its MSAP identifier `name` and its `ttl`. If `ttl` is above 0, also
+    `extent` (TLVs before End), the `kept` TLVs, and the counts `unrecognized` and `discarded`."""
 
     def __init__(self, octets):
         tlvs, rest = cut(octets)
@@ -106,7 +106,7 @@ class Lldpdu:
 # ------------------------------------------------------------------------ the neighbors of a port (clause 9)
 class Table:
     """The neighbors of a port by name, oldest first, each with its last LLDPDU and the time when it
-    expires. `too_many_until` is when the last dropped LLDPDU would have expired."""
+    expires. `too_many_until` is the latest expiry time of the dropped LLDPDUs."""
 
     def __init__(self):
         self.held = {}
@@ -373,7 +373,7 @@ def shown_tlv(tlv):
         return f"org.{body[:3].hex()}.{body[3]}={body[4:].hex()}"
     return f"unknown.{kind}={body.hex()}"
 
-# ----------------------------------------------------------------------------------------------------- shows
+# --------------------------------------------------------------------------------------------- show commands
 def show_neighbors(agent):
     """Yields the lines of each port's neighbors, in the order of the table."""
     for port in agent.ports:
@@ -436,7 +436,7 @@ class Words:
             at = word.end()
 
     def next(self, choices=None):
-        """Reads the next word, which must be one of the choices, if there are any."""
+        """Reads the next word. If choices are given, the word must be one of them."""
         if not self.left or choices and self.left[0] not in choices:
             raise RefusedLine("unknown command")
         return self.left.pop(0)
@@ -524,8 +524,8 @@ def answer(agent, line):
 
 # ----------------------------------------------------------------------------------------------- the program
 class NoRun(Exception):
-    """Raised if no trace is run with these arguments: the status, and the line on standard error,
-    or None if lldpa's argument parser writes that line."""
+    """Raised if no trace is run with these arguments. Has the status and the line on
+    standard error, which is None if lldpa's argument parser writes it."""
 
 # the greatest numbers of the agent's options, and of all options with a number
 OPENING = {"max_neighbors": 128, "tx_credit_max": 10, "tx_fast_init": 8, "reinit_delay": 10}

@@ -67,7 +67,7 @@ def misspelled(word):
 
 
 def otherwise_written(word):
-    """Yields a word in upper case (ASCII only), doubled, quoted, and with changed hyphens."""
+    """Yields a word in upper case (ASCII only), doubled, or with changed hyphens or added marks."""
     octets = word.encode("latin-1")
     yield from (octets.upper().decode("latin-1"), octets.capitalize().decode("latin-1"))
     yield from (word + word, word.replace("-", "_"), word.replace("-", ""))
@@ -75,7 +75,7 @@ def otherwise_written(word):
 
 
 def numbers(word):
-    """Yields a number with zeros before or after it, or with a unit, and numbers of nines."""
+    """Yields a number with zeros before or after it, or with a unit, and numbers such as 999."""
     for count in (*range(1, 70), 255, 1000):
         yield "0" * count + word
         yield word + "0" * count
@@ -107,7 +107,7 @@ def near(word):
 
 
 def some_near(dice, word):
-    """Returns a word that is nearly this one: half of the time one of WORDS."""
+    """Returns a word that is nearly this one or, half of the time, one of WORDS."""
     return dice.choice(WORDS if dice.happens(2) else slips(word))
 
 

@@ -1,8 +1,8 @@
-//! Opens the agent, and returns the lines that bring a new agent to its state. When the ports or
-//! the management address change, a new agent is opened while the old one still runs, and is given
-//! these lines: the settings in force, then each neighbor's last LLDPDU and the seconds between
-//! these LLDPDUs. Then the old agent is closed. Each later log file of a session begins with such
-//! lines. A saved state contains only those that rebuild the tables.
+//! Opens agents, and returns lines that bring a new agent to the state of a running one. When the
+//! ports or the management address change, lldpa-live opens a new agent while the old one still
+//! runs, gives these lines to the new one, and then closes the old one. The lines are the settings
+//! in force, then each neighbor's last LLDPDU and the seconds between these LLDPDUs. Each later log
+//! file of a session begins with them. A saved state has only those that rebuild the tables.
 
 use crate::links::Mac;
 use crate::options::AgentOptions;
@@ -51,7 +51,7 @@ pub fn set_status(port: &str, status: Status) -> Line {
     Line::Command(format!("configure ports {port} lldp status {status}"))
 }
 
-/// Returns this status without sending: `RxOnly` for `RxAndTx`, `Disabled` for `TxOnly`.
+/// Returns the status that receives like this one, but does not send.
 fn without_sending(status: Status) -> Status {
     match status {
         Status::RxAndTx => Status::RxOnly,
@@ -67,7 +67,7 @@ pub fn unsent(names: &[String], status: impl Fn(&String) -> Status, lines: Vec<L
     quiet.chain(lines).chain(sends.map(|name| set_status(name, status(name)))).collect()
 }
 
-/// Returns the line that sets the `hostname` or `description` to a text without double quotes.
+/// Returns the line that sets `hostname` or `description`. The text must have no double quotes.
 pub fn set_text(what: &str, text: &str) -> Line {
     Line::Command(format!("configure system {what} \"{text}\""))
 }
@@ -163,9 +163,9 @@ impl Running {
         value.replace("\\\\", "\\")
     }
 
-    /// Returns lines that rebuild the tables of these ports, and the number of seconds in these
-    /// lines. First comes a short LLDPDU of each neighbor, so that the tables keep their order;
-    /// then each neighbor's last LLDPDU, in the order of arrival.
+    /// Returns lines that rebuild the tables of these ports, and how many seconds pass in these
+    /// lines. They begin with a short LLDPDU of each neighbor, so that the tables keep their order.
+    /// Then each neighbor's last LLDPDU follows, in the order of arrival.
     pub fn tables(&self, names: &[String]) -> (Vec<Line>, u32) {
         let (mut lines, mut last) = (Vec::new(), Vec::new());
         for (port, name) in self.names.iter().enumerate().filter(|one| names.contains(one.1)) {
@@ -188,9 +188,9 @@ impl Running {
         (lines, oldest)
     }
 
-    /// Returns the lines that bring an agent of these ports to the state of this one, without
-    /// sending. Ports that this agent lacks get the status `new`. `full` lists the ports in the
-    /// too-many-neighbors condition and the seconds until it ends, `downs` those without a link.
+    /// Returns lines that bring a new agent of these ports to this agent's state. They send no
+    /// frame. Ports that this agent lacks get the status `new`. `full` has the ports in the
+    /// too-many-neighbors condition and the seconds until its end, `downs` those without a link.
     pub fn head(&self, names: &[String], new: Status, full: &[(String, u32)], downs: &[String]) -> Vec<Line> {
         let told = self.agent.configuration();
         let status = |name: &String| self.number(name).map_or(new, |place| told.status[usize::from(place)]);

@@ -1,4 +1,4 @@
-//! Answers questions and applies settings. The agent runs even if some settings are refused.
+//! Answers clients' questions and applies settings. The agent runs even if settings are refused.
 
 use crate::clock::{self, SECOND};
 use crate::control::Control;
@@ -11,7 +11,7 @@ use lldpa::Status;
 
 /// The longest time in which clients are answered before other work continues.
 const MOST_AT_ONCE: i64 = SECOND / 10;
-/// The time between checks for a new host name and a removed socket: some systems report neither.
+/// The time between checks of the host's name and the socket: some systems report no changes.
 const BETWEEN_LOOKS: i64 = 10 * SECOND;
 
 impl Live {
@@ -86,7 +86,7 @@ impl Live {
         text + &since::chassis_lines(self.held().map(|(_, held)| held))
     }
 
-    /// Gives the agent the settings of all files, and reports those that were not applied.
+    /// Gives the agent the settings in the files. Reports refused settings and unreadable files.
     pub fn settle(&mut self, is_first: bool) {
         let (read, unread) = settings::read(&self.given.config);
         unread.iter().for_each(|line| warn(line));
@@ -125,7 +125,7 @@ impl Live {
         }
     }
 
-    /// Applies a setting. Returns why it is refused, unless a pattern may still add its port.
+    /// Applies a setting. Returns why it is refused, but None if a pattern may still add its port.
     fn why_refused(&mut self, setting: &Setting) -> Option<String> {
         if setting.line.len() > LONGEST_LINE {
             return Some("line too long".into());

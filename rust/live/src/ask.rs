@@ -1,4 +1,4 @@
-//! Asks a running lldpa-live, and prints its answer.
+//! Sends a line to a running lldpa-live, and prints the answer.
 
 use crate::clock::{self, MILLISECOND, SECOND};
 use crate::listening::connect;

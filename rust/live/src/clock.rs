@@ -4,7 +4,7 @@ use crate::sys;
 
 pub const SECOND: i64 = 1_000_000_000;
 pub const MILLISECOND: i64 = 1_000_000;
-/// Smaller changes of the wall clock are ignored, so a moment may be wrong by this much.
+/// Changes of the wall clock up to this are ignored, so a moment may be wrong by this much.
 pub const INEXACT: i64 = MILLISECOND;
 
 /// Reads a clock in nanoseconds. Clock 0 counts from 1970, 1 and 7 from boot; 1 stops in suspend.

@@ -1,6 +1,6 @@
-//! The control socket. A question is a line; its answer is `=N` and N lines. The socket's mode
-//! decides who may connect: root and the owner with 0600, also a group with 0660. These may do
-//! everything. With 0666 everybody may ask, but only these may `configure` and `update`.
+//! The control socket. A question is a line; the answer is a line `=N` and N lines. With mode 0600
+//! root and the owner may connect, with 0660 also the group. They may do everything. With 0666
+//! everybody may ask, but only root, owner and group may `configure` and `update`.
 
 use crate::clock::SECOND;
 use crate::listening::{Listening, Peer};
@@ -214,7 +214,7 @@ impl Control {
         self.clients.iter().any(Client::has_line)
     }
 
-    /// While over 64 MiB of answers are unread, ends the connection that was answered longest ago.
+    /// While over 64 MiB of answers are unread, ends the connection with the oldest unread answer.
     fn end_slowest(&mut self) {
         while self.clients.iter().map(|client| client.answer.len()).sum::<usize>() > MOST_UNREAD {
             let waiting = self.clients.iter_mut().filter(|client| !client.answer.is_empty());

@@ -1,6 +1,6 @@
-//! Writes the log's files, one after another. Their total size is limited, and each has only whole
-//! lines. Their folder is the current folder of the process, so it is found even if its path
-//! changes. Each call may take as long as the disk needs.
+//! Writes the log files, one after another. Their total size is limited, and each contains only
+//! whole lines. Their folder is the process's current folder, so lldpa-live finds it even if the
+//! folder is renamed. A call may wait for the disk.
 
 use crate::clock;
 use crate::rights::{at, own_user, User};
@@ -64,7 +64,7 @@ pub fn enter(path: &str, user: Option<User>) -> Result<()> {
     Ok(())
 }
 
-/// Returns an error if this process may not create files here. Does not write: that could hang.
+/// Returns an error if this process may not create files here. Writes nothing: a write could hang.
 pub fn check(path: &str) -> Result<()> {
     sys::may_write(".")
         .map_err(|fault| at(path)(Error::new(fault.kind(), "lldpa-live's user may not create files there")))
@@ -112,7 +112,7 @@ impl Files {
         self.write(octets)
     }
 
-    /// Creates a file named after the present UTC time, and numbers it if that second has others.
+    /// Creates a file named after the UTC time, with a number if that second already has a file.
     fn make(&mut self) -> Result<()> {
         let now = clock::written(clock::wall().div_euclid(clock::SECOND));
         let second = now.replace(&['-', ':'][..], "");

@@ -48,7 +48,7 @@ impl Live {
         gone.chain(self.other_management.map(|other| other.1)).min().map(|since| since + TO_STAY)
     }
 
-    /// Adds ports for interfaces that now match a pattern. Removes ports whose interfaces are gone.
+    /// Adds ports for interfaces that patterns select. Removes them when the interfaces are gone.
     fn follow_ports(&mut self, now: i64) {
         let has_patterns =
             self.given.once.is_none() && self.given.parts.iter().any(|part| patterns::gives(part));
@@ -174,7 +174,7 @@ impl Live {
         self.manager.turned(clock::now());
     }
 
-    /// Returns when the next turn must begin. `due` is when the agent next acts without input.
+    /// Returns when the wait for input must end. `due` is when the agent next acts without input.
     pub fn deadline(&self, now: i64, due: Option<i64>) -> i64 {
         let of_agent = |moment: Option<i64>| moment.filter(|_| self.running.is_some());
         let is_refused = self.ports.all.iter().any(|port| port.is_refused());

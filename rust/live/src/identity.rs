@@ -26,7 +26,7 @@ pub fn management_address(ports: &[String], links: &Links) -> Option<Ipv4Addr> {
         .map(|one| one.1)
 }
 
-/// Returns the interfaces above this one: its bond, team or bridge, the one above that, and so on.
+/// Returns the interfaces above this one: its bond, team or bridge, the interface above that, etc.
 fn above<'a>(one: &'a Link, links: &'a Links) -> impl Iterator<Item = &'a Link> {
     std::iter::successors(Some(one), |one| links.known.get(&one.master).map(|one| &one.0))
         .skip(1)

@@ -1,5 +1,5 @@
-//! Follows the interfaces of this network namespace and their global IPv4 addresses. No right is
-//! needed. Ignores malformed messages. (linux: netlink.h, rtnetlink.h, if_link.h, if_addr.h)
+//! Follows the interfaces of this network namespace and their global IPv4 addresses. Needs no
+//! rights. Ignores malformed messages. (linux: netlink.h, rtnetlink.h, if_link.h, if_addr.h)
 
 use crate::sys;
 use crate::waiting::Awaited;
@@ -76,7 +76,7 @@ impl Links {
         Links { socket, room, known, addresses, changes: 0, list: 0, lists_to_come: 0, is_stale: false }
     }
 
-    /// Requests a list of all interfaces, which arrives as news. A list of addresses follows it.
+    /// Requests a list of all interfaces, to be read like news. A list of addresses follows it.
     fn ask(&mut self) -> Result<()> {
         self.list += 1;
         self.lists_to_come = 2;
@@ -136,7 +136,7 @@ impl Links {
         }
     }
 
-    /// Handles the end of a list: interfaces or addresses that it did not contain are gone.
+    /// Handles the end of a list: interfaces or addresses that the list lacks are gone.
     fn end_list(&mut self, news: &mut Vec<Link>) {
         self.lists_to_come = if self.is_stale { 0 } else { self.lists_to_come.saturating_sub(1) };
         let list = self.list;
@@ -239,7 +239,7 @@ fn link_of(body: &[u8], is_there: bool) -> Option<Link> {
     })
 }
 
-/// Returns the interface's index and the IPv4 address in a message. None if it is not global.
+/// Returns the interface's index and the global IPv4 address in a message. None if it has none.
 fn address_of(body: &[u8]) -> Option<(i32, Ipv4Addr)> {
     let attributes = body.get(8..).filter(|_| body[0] == AF_INET && body[3] == 0)?;
     let octets = attribute(attributes, 2).or_else(|| attribute(attributes, 1))?;

@@ -123,8 +123,8 @@ fn listener(path: &str, group: Option<u32>) -> Result<UnixListener> {
     Ok(socket)
 }
 
-/// Lets a group use the socket at a path. Uses a descriptor, since another user who may write to
-/// the folder could replace the file in between.
+/// Lets a group use the socket at a path. Opens the socket once for all steps, since another user
+/// who may write to the folder could replace it between two steps.
 fn hand_over(path: &str, group: u32) -> Result<()> {
     let place = OpenOptions::new().read(true).custom_flags(O_PATH | O_NOFOLLOW).open(path)?;
     if !place.metadata()?.file_type().is_socket() {

@@ -27,7 +27,7 @@ struct Outgoing {
     frame: Vec<u8>,
 }
 
-/// The moment that a turn reached, and whether signals or clients wait to be handled.
+/// The result of `turn`: the moment reached, and whether signals or clients wait to be handled.
 pub struct Turn {
     /// The agent was given all frames and seconds up to this moment.
     moment: i64,
@@ -52,7 +52,7 @@ pub struct Live {
     /// The announced management address.
     pub management: Option<Ipv4Addr>,
     pub other_management: Option<(Option<Ipv4Addr>, i64)>, // another that was found since, and when
-    /// The port settings in the files, kept for later ports.
+    /// The settings of ports in the files, kept for ports that are added later.
     pub settings: Vec<Setting>,
     pub not_taken: usize, // how many settings were not applied
     pub host_name: String,
@@ -195,7 +195,7 @@ impl Live {
     }
 
     /// Builds these ports' frames from the present configuration, and queues them as due at this
-    /// moment. A queued frame that is a second late is left out when its port queues the next one.
+    /// moment. A queued frame that is a second late is discarded when its port queues the next one.
     pub fn take_sent(&mut self, sent: &[Sent], moment: i64) {
         let now = clock::now();
         for one in sent {

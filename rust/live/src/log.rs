@@ -1,7 +1,7 @@
 //! The log of a session: the lines that the agent is given, with the time in comments. A thread
-//! writes its files; lldpa-live waits for this thread only at the end. If the disk is slow, lines
-//! are kept up to a limit, and further lines are lost and counted. After a loss a new file must
-//! begin, since a trace with a gap would replay differently. The thread also writes the state.
+//! writes the log files and the state; lldpa-live waits for this thread only at the end. If the
+//! disk is slow, lines are kept up to a limit, and further lines are lost and counted. After a loss
+//! the log continues in a new file, since a trace with a gap would replay differently.
 
 use crate::clock::{self, SECOND};
 use crate::files::{self, Files};
@@ -29,7 +29,7 @@ pub struct Log {
     most: u64,
     keep: u64,
     thread: Option<(Sender<Work>, Receiver<Result<String>>)>,
-    /// The octets and lines of each job that the thread has not finished, both 0 for a state.
+    /// How many octets and lines each unfinished job of the thread writes; both are 0 for a state.
     waiting: VecDeque<(usize, u64)>,
     /// How long the thread has worked on its present job.
     waited: i64,
@@ -56,7 +56,7 @@ impl Log {
         Log { path, most: most * MEGABYTE, keep: keep * MEGABYTE, ..Log::default() }
     }
 
-    /// Begins a file with the agent's command line, and lines that bring it to its present state.
+    /// Begins a file: the agent's command line, then lines that lead to the agent's present state.
     pub fn begin(&mut self, words: &str, lines: &str) {
         self.hand_over();
         self.second = None;
@@ -124,8 +124,8 @@ impl Log {
         self.waiting.iter().map(|one| one.0).sum()
     }
 
-    /// Gives the kept lines to the thread, handles its answers, and notes if one is overdue. Time
-    /// in which this process was stopped counts as one second at most.
+    /// Gives the kept lines to the thread, handles its answers, and notes if an answer is overdue.
+    /// Time in which this process was stopped counts as one second at most.
     pub fn turn(&mut self) {
         self.hand_over();
         while let Some(result) = self.thread.as_ref().and_then(|thread| thread.1.try_recv().ok()) {

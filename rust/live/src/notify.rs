@@ -1,5 +1,5 @@
 //! Reports the service's state to systemd, by datagrams to the socket in NOTIFY_SOCKET: see
-//! sd_notify(3). It never waits: a datagram that cannot be sent at once is lost.
+//! sd_notify(3). Never waits: a datagram that cannot be sent at once is lost.
 
 use crate::clock::{self, SECOND};
 use crate::sys;
@@ -18,7 +18,7 @@ pub struct Manager {
     status: String,
 }
 
-/// Returns the time that the watchdog allows between signs of life, in nanoseconds. None if off.
+/// Returns the watchdog's limit between signs of life, in nanoseconds. None without a watchdog.
 fn watchdog_span() -> Option<i64> {
     let is_other = |pid: String| pid != std::process::id().to_string();
     if var("WATCHDOG_PID").map_or(false, is_other) {

@@ -33,7 +33,7 @@ impl Live {
     }
 
     /// Opens the agent, with the neighbors in `past`, if there is a port and a MAC address for the
-    /// chassis ID. Otherwise reports that it waits for an interface.
+    /// chassis ID. Otherwise reports that lldpa-live waits for an interface.
     pub fn open(&mut self, past: Past) -> Result<(), OpenFault> {
         for name in self.ports.more(&self.given.parts, &self.links) {
             self.ports.add(&name);

@@ -1,4 +1,4 @@
-//! Reads the agent's options, which follow `--`: those of lldpa(1).
+//! Reads the agent's options, which follow `--` and are those of lldpa(1).
 
 use crate::links::Mac;
 use crate::words::{number, split};

@@ -24,7 +24,7 @@ pub struct Frame {
 #[derive(Default)]
 pub struct Port {
     pub name: String,
-    /// True if the command line names it, false if only a pattern selects it.
+    /// True if the command line names the port, false if only a pattern selects it.
     pub is_named: bool,
     /// The index of the interface in use.
     pub index: Option<i32>,
@@ -33,7 +33,7 @@ pub struct Port {
     fault: String,
     /// True if the interface was reported as missing, or a pattern added the port later.
     pub is_awaited: bool,
-    /// The state of its link that was last given to the agent.
+    /// The state of the link that was last given to the agent.
     pub is_up: Option<bool>,
     pub gone_since: Option<i64>,
     /// The moment since which the allowance of frames has accumulated.
@@ -117,7 +117,7 @@ impl Port {
         (before != Some(is_up)).then_some(is_up)
     }
 
-    /// At the start, reports a missing interface. Returns the link change for the agent, if any.
+    /// Reports an interface missing at the start. Returns false (down) if this changes the link.
     pub fn await_missing(&mut self) -> Option<bool> {
         if self.index.is_some() {
             return None;
@@ -128,12 +128,12 @@ impl Port {
         self.told_link(false)
     }
 
-    /// True if its interface exists and could not be used, so that it must be tried again.
+    /// True if the port's interface exists but could not be used, and must be tried again.
     pub fn is_refused(&self) -> bool {
         self.index.is_none() && !self.fault.is_empty()
     }
 
-    /// Returns the frame that was read. None if its interface is gone or the frame is only counted.
+    /// Returns the frame that was read. None if the interface is gone or the frame is only counted.
     pub fn take(&mut self, port: usize, octets: &[u8], moment: i64, state: &RandomState) -> Option<Frame> {
         self.read_to = moment;
         self.index?;

@@ -20,7 +20,7 @@ const BETWEEN_REPORTS: i64 = 60 * SECOND;
 
 pub struct Ports {
     pub all: Vec<Port>,
-    /// One socket for each port, in the order of the ports, then those for later ports.
+    /// One socket for each port, in the order of the ports, then sockets for later ports.
     pub sockets: Vec<Awaited<File>>,
     rooms: Box<Rooms>,
     /// Frames that were read but not yet given to the agent, in the order of their moments.
@@ -35,7 +35,7 @@ pub struct Ports {
 }
 
 impl Ports {
-    /// Opens the sockets of these ports and, if `may_grow`, those of ports that may come later.
+    /// Opens a socket for each of these ports and, if `may_grow`, for ports that may come later.
     pub fn open(names: &[String], parts: &[String], may_grow: bool) -> std::io::Result<Ports> {
         let count = if may_grow { MOST_PORTS } else { names.len() };
         let sockets =
@@ -94,7 +94,7 @@ impl Ports {
     }
 
     /// Registers the sockets to wait for. A port is not read while it rests or while frames from it
-    /// are queued, so that few are queued even in a flood.
+    /// are queued, so that few frames are queued even in a flood.
     pub fn await_frames(&mut self, epoll: &File, now: i64) {
         for (place, socket) in self.sockets.iter_mut().enumerate() {
             let port = self.all.get_mut(place).filter(|port| now >= port.rests_until);
@@ -123,7 +123,7 @@ impl Ports {
         self.all.iter().zip(&self.sockets).filter(is_left).map(|(port, _)| port.read_to).min()
     }
 
-    /// Reads about `most` frames of a port. If one was not accepted, the port rests afterwards.
+    /// Reads about `most` frames of a port. If a frame was not accepted, the port rests afterwards.
     fn read_port(&mut self, place: usize, most: usize, clock: &Clock) {
         let (port, mut count) = (&mut self.all[place], 0);
         let before = port.limit_drops + port.other_frames;
@@ -199,8 +199,8 @@ impl Ports {
     }
 }
 
-/// Splits news in two. For each name, the first part has the news up to the last of a running
-/// interface. Both parts keep their order, even if several interfaces had the name in turn.
+/// Splits news of interfaces into two parts, and keeps their order. For each name, the first part
+/// has all news up to the last that says that an interface of this name is running.
 pub fn ran_and_later(news: Vec<Link>) -> (Vec<Link>, Vec<Link>) {
     let last_run = |one: &Link| news.iter().rposition(|other| other.name == one.name && other.is_running);
     let ran: Vec<bool> = news.iter().enumerate().map(|(place, one)| last_run(one) >= Some(place)).collect();

@@ -3,7 +3,7 @@
 use crate::sys;
 use std::io::{Error, Result};
 
-/// The number of the system call keyctl; -1, an invalid number, on all other processors.
+/// The number of the system call keyctl, or -1 (invalid) on a processor that is not listed here.
 const KEYCTL: std::os::raw::c_long = if cfg!(target_arch = "x86_64") {
     250
 } else if cfg!(target_arch = "aarch64") {

@@ -1,4 +1,4 @@
-//! Reads settings: lines `configure ..` in files, which outlive a restart.
+//! Reads the settings, which are `configure` lines in files and so outlive a restart.
 
 use crate::files::{names, O_NONBLOCK};
 use crate::reports::readable;

@@ -32,7 +32,7 @@ impl Held {
     }
 }
 
-/// Returns a digest of a frame's LLDPDU. Its key is secret, so that nobody can cause collisions.
+/// Returns a digest of a frame's LLDPDU. The key is secret, so that nobody can cause collisions.
 pub fn digest(state: &RandomState, frame: &[u8]) -> u64 {
     let mut hasher = state.build_hasher();
     hasher.write(frame.get(14..).unwrap_or(&[]));

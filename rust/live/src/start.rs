@@ -110,7 +110,7 @@ fn work(mut live: Live) -> i32 {
     })
 }
 
-/// Waits for input or a deadline, at most until `last`, and handles it. True at a signal to end.
+/// Waits for input, at most until a deadline or `last`, and handles it. True at a signal to end.
 fn turn(live: &mut Live, last: i64) -> bool {
     let has_more = live.control.as_ref().map_or(false, Control::has_more);
     let turn = live.turn(if has_more { 0 } else { last }, false);
@@ -130,7 +130,7 @@ fn turn(live: &mut Live, last: i64) -> bool {
 }
 
 /// Waits until each port has a neighbor, at most this many seconds, and prints the neighbors.
-/// Returns status 0 if each port has one, else 1. At a signal it prints nothing and returns 0.
+/// Returns 1 if a port has none or printing fails, else 0. At a signal, returns 0 without printing.
 fn once(live: &mut Live, seconds: u64) -> i32 {
     let last = clock::now() + seconds as i64 * SECOND;
     let are_complete =

@@ -1,7 +1,7 @@
-//! The state: a file with the tables, which one lldpa-live leaves to the next. It is a trace of the
-//! neighbors' last frames and the seconds between them. Its comments say when it was written, when
-//! each neighbor came, and where it ends. It is written each minute and at the end, to a new file
-//! that then replaces the old one.
+//! The state: a file with the neighbor tables, which one lldpa-live leaves to the next. It is a
+//! trace that rebuilds the tables. Its comments say when it was written, when each neighbor came,
+//! and where it ends. lldpa-live writes it each minute and at the end, to a new file that then
+//! replaces the old one.
 
 use crate::agent::{lines_text, Line};
 use crate::clock::{self, MILLISECOND};
@@ -85,14 +85,14 @@ pub fn past(octets: &[u8], wall: i64, now: i64) -> Result<Past, String> {
 }
 
 impl Past {
-    /// Adds seconds to the lines. None if their sum is over the longest time to live.
+    /// Adds seconds to the lines. None if all seconds together exceed the longest time to live.
     fn pass(&mut self, seconds: u32) -> Option<()> {
         self.passed = self.passed.checked_add(seconds).filter(|passed| *passed <= MOST_SECONDS)?;
         self.lines.push(Line::Ticks(seconds));
         Some(())
     }
 
-    /// Reads a line, and notes the time to live of a frame's neighbor. None if it is malformed.
+    /// Reads a line. Notes the time to live of a frame's neighbor. None if the line is malformed.
     fn take(&mut self, line: &str, ttls: &mut HashMap<(String, String), u32>) -> Option<()> {
         let words: Vec<&str> = line.split(' ').collect();
         match words[..] {

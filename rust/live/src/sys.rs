@@ -39,12 +39,12 @@ fn opened(fd: c_int) -> Result<File> {
     checked(fd).map(|fd| unsafe { File::from_raw_fd(fd) })
 }
 
-/// Declares functions of the C library. They use borrowed memory only within its type's size.
+/// Declares functions of the C library. They use borrowed memory only within the size of its type.
 macro_rules! calls {
     ($($seen:vis $name:ident = $call:ident($($word:ident: $kind:ty),*);)*) => {
         extern "C" { $(fn $call($($word: $kind),*) -> c_int;)* }
         $($seen fn $name($($word: $kind),*) -> Result<c_int> {
-            // SAFETY: memory is borrowed for the call, which uses no more than its type's size.
+            // SAFETY: the call borrows memory, and uses no more of it than the size of its type.
             checked(unsafe { $call($($word),*) })
         })*
     };
@@ -145,7 +145,7 @@ pub fn block_signals(how: c_int) -> [u64; 16] {
     set
 }
 
-/// Blocks SIGHUP, SIGINT and SIGTERM, and returns a file with 128 octets for each that arrives.
+/// Blocks SIGHUP, SIGINT and SIGTERM. Returns a file that has 128 octets for each that arrives.
 pub fn signals() -> Result<File> {
     opened(new_signals(-1, &block_signals(0), CLOEXEC_NONBLOCK)?)
 }

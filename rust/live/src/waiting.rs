@@ -1,4 +1,4 @@
-//! Waits for files with epoll. A file is registered again only if another event is awaited.
+//! Waits for files with epoll. A file is registered again only if the awaited events change.
 
 use crate::sys::{self, Events, EVENT};
 use std::fs::File;
