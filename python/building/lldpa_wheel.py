@@ -16,7 +16,7 @@ NAME = "lldpa"
 SUMMARY = "An LLDP agent as a library, and programs that use it; this wheel contains "
 WITHOUT = "everything except the program lldpa itself"
 PYTHON = ">=3.9"
-# each package and the folder that contains it; in a source archive that is the top folder
+# each package and the folder that contains it (in a source archive, the top folder does)
 PACKAGES = {"lldpa": "python", "lldpa_audit": "audit"}
 # lldpctl is left out: it would hide lldpd's program of the same name
 PROGRAMS = {"lldpa-ctl": "lldpa.commands.ctl", "lldpa-capture": "lldpa.commands.capture",
@@ -70,7 +70,7 @@ def metadata(platform: str = "any") -> Dict[str, str]:
 
 
 def write_wheel(folder: str, files: Dict[str, bytes], program: Optional[bytes] = None) -> str:
-    """Writes a wheel of these files, and of the program lldpa if it is given. Returns its name."""
+    """Writes a wheel of these files (and `program`, if given). Returns the wheel's name."""
     about, platform = f"{NAME}-{version()}.dist-info", "any"
     if program is not None:
         platform = platform_of(program)
@@ -97,7 +97,7 @@ def sum_of(octets: bytes) -> str:
 
 def build_wheel(wheel_directory: str, config_settings: Optional[Any] = None,
                 metadata_directory: Optional[str] = None) -> str:
-    """Builds a wheel, which includes the program lldpa if the setting `program` is its path."""
+    """Builds a wheel. The setting `program`, if given, is the path of the lldpa to include."""
     program = (config_settings or {}).get("program")
     return write_wheel(wheel_directory, {name: path.read_bytes()
                                          for name, path in package_files().items()},

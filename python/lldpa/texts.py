@@ -1,6 +1,6 @@
 """Converts texts of neighbors to Unicode for programs, and to printable text for people.
 
-A neighbor's text is octets, usually UTF-8. Shows escape them; `shown_octets` returns them.
+A neighbor's text is octets, usually UTF-8. The agent escapes them; `shown_octets` unescapes them.
 """
 import unicodedata
 from functools import lru_cache
@@ -31,8 +31,8 @@ def shown_octet(octet: int) -> str:
 
 
 def text_of(octets: bytes) -> Tuple[str, Optional[str]]:
-    """Returns UTF-8 octets as Unicode, and None. Returns other octets as the agent shows them, and
-    in hexadecimal."""
+    """Returns the text of UTF-8 octets, and None. If the octets are not UTF-8, returns them as the
+    agent shows them, and in hexadecimal."""
     try:
         return octets.decode("utf-8"), None
     except UnicodeDecodeError:
@@ -49,12 +49,12 @@ def with_text(key: str, octets: bytes, told: Dict[str, Any]) -> Dict[str, Any]:
 
 
 def shown_octets(shown: str) -> bytes:
-    """Returns the octets of a text in a show. If the text is not ASCII, returns its UTF-8."""
+    """Returns the octets of a shown text: unescapes it if it is ASCII, else encodes it as UTF-8."""
     return unescaped(shown) if shown.isascii() else shown.encode("utf-8", "surrogateescape")
 
 
 def readable(shown: str) -> str:
-    """Unescapes a text in a show for people, except characters that are unsafe on a terminal."""
+    """Unescapes a shown text for people, except characters that are unsafe on a terminal."""
     return printable(shown_octets(shown).decode("utf-8", "surrogateescape"))
 
 
@@ -119,7 +119,7 @@ def end_of(text: str, begin: int, width: int) -> int:
 
 
 def cut(text: str, width: int) -> str:
-    """Returns the text, or, if it is wider than `width`, its beginning and an ellipsis."""
+    """Returns the text, or its beginning and an ellipsis if the text is wider than `width`."""
     if width_of(text) <= width:
         return text
     return text[:end_of(text, 0, max(width - 1, 0))] + CUT

@@ -20,7 +20,7 @@ MOST_SAID = 64 * 1024  # octets to read from standard error
 
 
 def words_of(ports: Sequence[str], program: str, options: Mapping[str, Option]) -> List[str]:
-    """Returns the command line of an agent: `max_neighbors=4` becomes `--max-neighbors=4`.
+    """Returns an agent's command line. The option `max_neighbors=4` becomes `--max-neighbors=4`.
 
     Raises TypeError if `ports` is a single name instead of a list of names.
     """
@@ -37,9 +37,9 @@ def words_of(ports: Sequence[str], program: str, options: Mapping[str, Option]) 
 
 
 def path_of(program: str) -> str:
-    """Returns the program to run: `lldpa` from the search path or Python's folder, others as given.
+    """Returns `program`, or a path if it is `lldpa` and is found only in Python's folder.
 
-    Raises FileNotFoundError if lldpa is in neither place.
+    Raises FileNotFoundError if `lldpa` is neither there nor on the search path.
     """
     if program != PROGRAM or shutil.which(program):
         return program
@@ -50,7 +50,7 @@ def path_of(program: str) -> str:
 
 
 class Child:
-    """A child process. Ctrl-C does not reach it; it ends when its input ends."""
+    """A child process. Ctrl-C does not reach the process, which ends when its input ends."""
 
     def __init__(self, words: List[str]) -> None:
         """Starts the process. Raises OSError if there is no such program."""
@@ -71,7 +71,7 @@ class Child:
         return self._process.pid
 
     def end(self, patience: float = PATIENCE) -> Ended:
-        """Waits for the process; kills it after `patience` seconds. Returns how it ended."""
+        """Waits up to `patience` seconds for the process, then kills it. Returns how it ended."""
         if self._end is None:
             try:
                 status = self._process.wait(patience)

@@ -18,7 +18,7 @@ Line = Union[bytes, str]
 
 
 class Ended(LldpaFault):
-    """The agent ended or does not answer. `status`: None if unknown, negative after a signal."""
+    """The agent ended or does not answer. `status` is None if unknown, -N if signal N killed it."""
 
     def __init__(self, status: Optional[int], text: str) -> None:
         super().__init__(text)
@@ -71,7 +71,7 @@ def rx(port: str, octets: bytes) -> str:
 
 
 def ticks(seconds: int) -> List[str]:
-    """Returns the `tick` lines for this many seconds. Raises ValueError if they are negative."""
+    """Returns the `tick` lines for this many seconds. Raises ValueError for a negative number."""
     if seconds < 0:
         raise ValueError(f"the number of seconds is negative: {seconds}")
     whole, rest = divmod(seconds, MOST_TICKS)

@@ -1,4 +1,4 @@
-"""Reads the output of lldpa's `show` commands (`read_show`), and writes such lines (`lines_of`).
+"""Reads the output of lldpa's `show` commands (`read_show`), and writes such output (`lines_of`).
 
 Each line is `KEY=VALUE`; the manual page lldpa(1) lists every key.
 """
@@ -37,10 +37,10 @@ def unescaped(text: str) -> bytes:
 
 
 def read_show(lines: Iterable[str]) -> Show:
-    """Reads the lines of one or several shows.
+    """Reads the output of one or several `show` commands.
 
-    The order of shows must be neighbors, statistics, chassis, configuration. A line may end with a
-    line feed. Raises ShowFault, which names the line, if a line is unknown or out of place.
+    Their order must be neighbors, statistics, chassis, configuration. A line may end with a line
+    feed. Raises ShowFault, which names the line, if a line is unknown or out of place.
     """
     return Reader(lines).show()
 
@@ -96,7 +96,7 @@ class Reader:
         return ""
 
     def show(self) -> Show:
-        """Reads all lines, and returns the shows in them."""
+        """Reads all lines, and returns their contents."""
         ports = tuple(self.ports())
         counters = dict(self.counters())
         chassis = self.chassis() if self.next().startswith("local-chassis.") else None
@@ -144,7 +144,7 @@ class Reader:
         return Identifier(kind, text)
 
     def counters(self) -> Iterator[Tuple[str, Counters]]:
-        """Reads the ports of `show statistics`."""
+        """Yields the name and the counters of each port of `show statistics`."""
         names: set[str] = set()
         while name := self.port_of("lldp", "sent"):
             if name in names:
@@ -179,12 +179,12 @@ def is_said(key: str) -> bool:
 
 
 def shown_key(name: str) -> str:
-    """Returns the key of a field in a show: `tlvs_discarded` becomes `tlvs-discarded`."""
+    """Returns a field's key in `show` output: `tlvs_discarded` becomes `tlvs-discarded`."""
     return name.replace("_", "-")
 
 
 def lines_of(show: Show) -> List[str]:
-    """Returns the lines of a show, without line feeds."""
+    """Returns the lines of `show` output with these contents, without line feeds."""
     lines = [line for port in show.ports for line in port_lines(port)]
     for name, counters in show.counters.items():
         lines += [f"lldp.{name}.{shown_key(key)}={number}"

@@ -1,7 +1,7 @@
-"""Defines the contents of lldpa's shows: ports, their neighbors and counters, and the agent itself.
+"""Defines the contents of `show` output: ports, neighbors, counters, this host and the settings.
 
-Texts stay escaped as they are shown, so they are safe to print. `show.unescaped` returns the octets
-of a text.
+Texts stay escaped as the agent shows them, so they are safe to print. `show.unescaped` returns the
+octets of a text.
 """
 # no `from __future__ import annotations`: it would make `typing` compile each field's annotation
 import re
@@ -10,13 +10,13 @@ from typing import Dict, List, Mapping, NamedTuple, Optional, Tuple
 # the keys of a neighbor's optional lines, except the keys that contain the number of a TLV
 SAID_KEYS = ("port.descr", "chassis.name", "chassis.descr", "chassis.caps", "chassis.mgmt")
 
-# FURTHER_KEY matches keys that are unknown here, perhaps of a newer agent. EARLIER matches the keys
-# of the four lines that every neighbor has once.
+# EARLIER matches the keys of the four lines that every neighbor has once. FURTHER_KEY matches other
+# keys, perhaps of a newer agent, unless their first word is `org` or `unknown`.
 EARLIER = (r"(?:ttl|expires|(?:chassis|port)\.(?:mac|ip|ifname|ifalias|local|component|portcomp"
            r"|circuit|unhandled))(?:=|$)")
 FURTHER_KEY = rf"(?!{EARLIER}|(?:org|unknown)(?:\.|=|$))[a-z][a-z0-9-]*(?:\.[a-z0-9-]+)*"
 
-# a key with the number of a TLV, and any key of a neighbor's optional lines
+# patterns for a key with the number of a TLV, and for any key of a neighbor's optional lines
 NUMBERED_KEY = r"(?:unknown\.[1-9][0-9]{0,2}|org\.[0-9a-f]{6}\.(?:0|[1-9][0-9]{0,2}))"
 SAID_KEY = rf"(?:{'|'.join(map(re.escape, SAID_KEYS))}|{NUMBERED_KEY}|{FURTHER_KEY})"
 
@@ -37,11 +37,11 @@ def capabilities_in(text: str) -> Dict[str, bool]:
 
 
 class Neighbor(NamedTuple):
-    """A neighbor of a port. `place` counts from 1 and can change when others leave; `id` does not.
+    """A neighbor of a port. `place` (from 1) can change when another neighbor leaves; `id` cannot.
 
-    `ttl` is the time to live that it sent and `expires` the time left, both in seconds. `said` has
-    the key and the value of each optional line, in the order in which the neighbor sent them.
-    Unknown keys are included.
+    `ttl` is the time to live that the neighbor sent, and `expires` is the time left, both in
+    seconds. `said` has the key and the value of each optional line, in the order of the lines.
+    Lines with unknown keys are included.
     """
     port: str
     place: int
@@ -59,17 +59,17 @@ class Neighbor(NamedTuple):
 
     @property
     def name(self) -> Optional[str]:
-        """Returns the System Name."""
+        """Returns the System Name, or None if none was sent."""
         return self._first("chassis.name")
 
     @property
     def descr(self) -> Optional[str]:
-        """Returns the System Description."""
+        """Returns the System Description, or None if none was sent."""
         return self._first("chassis.descr")
 
     @property
     def port_descr(self) -> Optional[str]:
-        """Returns the Port Description."""
+        """Returns the Port Description, or None if none was sent."""
         return self._first("port.descr")
 
     @property
@@ -85,7 +85,7 @@ class Neighbor(NamedTuple):
 
     @property
     def org(self) -> Tuple[Tuple[str, str], ...]:
-        """Returns organizationally specific TLVs: kinds such as `00120f.1`, and octets in hex."""
+        """Returns each organizationally specific TLV: a kind like `00120f.1`, and octets in hex."""
         return tuple((key[4:], text) for key, text in self.said if key.startswith("org."))
 
     @property
@@ -99,7 +99,7 @@ class Neighbor(NamedTuple):
 
 
 class Port(NamedTuple):
-    """A port and its neighbors, in the order of its table.
+    """A port and its neighbors, in the order of the port's table.
 
     `octets` is the size of all data stored about the neighbors. `too_many` is true while a
     neighbor that was dropped for lack of room would still be present.
@@ -160,7 +160,7 @@ class Configuration(NamedTuple):
 
 
 class Show(NamedTuple):
-    """The contents of one or several shows. Parts that were not shown are empty or None."""
+    """The output of one or several `show` commands. Parts that were not shown are empty or None."""
     ports: Tuple[Port, ...] = ()
     counters: Mapping[str, Counters] = NO_COUNTERS
     chassis: Optional[LocalChassis] = None

@@ -27,9 +27,9 @@ FrameCallback = Callable[[str, bytes], object]
 class Agent:
     """A running agent. Only one thread at a time may use it.
 
-    Frames that its ports send are passed to `on_frame(port, octets)` before the call that caused
-    them returns. Each call raises Closed after `close`. It raises Ended if the agent has ended, has
-    not answered within `timeout` seconds (None: no limit), or answers with more than 64 MB.
+    If a call makes ports send frames, it passes each frame to `on_frame(port, octets)` before it
+    returns. After `close`, each call raises Closed. A call raises Ended if the agent has ended,
+    does not answer within `timeout` seconds (None: no limit), or answers with more than 64 MB.
     """
 
     def __init__(self, connection: socket.socket, child: Optional[Child],
@@ -53,7 +53,7 @@ class Agent:
               **options: Option) -> Agent:
         """Runs an agent with these ports and the program's options, such as `max_neighbors=4`.
 
-        Raises OSError if there is no such program, and Ended if it refuses its arguments.
+        Raises OSError if there is no such program, and Ended if the program refuses its arguments.
         """
         child = Child(words_of(ports, program, options))
         return cls(child.socket, child, on_frame, timeout)
@@ -63,7 +63,7 @@ class Agent:
                 timeout: Optional[float] = PATIENCE) -> Agent:
         """Connects to the agent that listens on this TCP port of 127.0.0.1.
 
-        Raises OSError if none listens, and Ended if it does not answer within `timeout` seconds.
+        Raises OSError if none listens, and Ended if the agent does not answer in `timeout` seconds.
         """
         return cls(socket.create_connection((HOST, number), timeout), None, on_frame, timeout)
 
@@ -112,7 +112,7 @@ class Agent:
         self.ask("update")
 
     def show(self, what: str) -> Show:
-        """Returns a show: `neighbors`, `statistics`, `chassis` or `configuration`."""
+        """Returns the contents of `show neighbors`, `statistics`, `chassis` or `configuration`."""
         return read_show(self.ask(command("show", what)))
 
     def neighbors(self) -> List[Neighbor]:
@@ -148,7 +148,7 @@ class Agent:
 
     def _exchange(self, lines: Iterable[Line], seconds: Optional[float],
                   silence: str = SILENCE) -> List[str]:
-        """Sends lines while it reads, so that neither side blocks. Returns the answer."""
+        """Sends lines while reading, so that neither side blocks. Returns the answer."""
         unsent = memoryview(b"".join(checked(line) + b"\n" for line in lines) + MARK + b"\n")
         if self._over is not None:
             raise self._over

@@ -53,7 +53,7 @@ def packets_of(file: BinaryIO) -> Iterator[Packet]:
 
 def interfaces_of(file: BinaryIO, most_unpacked: Optional[int] = None
                   ) -> List[CaptureInterface]:
-    """Returns the interfaces that a pcapng file describes before any damage; none for pcap."""
+    """Returns the interfaces that a pcapng file describes before any damage; for pcap, none."""
     described: List[CaptureInterface] = []
     with suppress(BadCapture):
         reader = reader_of(file, most_unpacked)

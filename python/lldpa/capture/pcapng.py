@@ -1,4 +1,4 @@
-"""Reads pcapng files: blocks, in sections that have their own byte order and interfaces.
+"""Reads pcapng files: sections of blocks. Each section has its own byte order and interfaces.
 
 See https://datatracker.ietf.org/doc/draft-ietf-opsawg-pcapng/.
 """
@@ -45,7 +45,7 @@ class PcapngReader(Reader):
         return size
 
     def read_record(self, at: int) -> Optional[Look]:
-        """Reads the block at this place of the window. Returns its packet, or None."""
+        """Returns the packet in the block at this place of the window, or None if it has none."""
         octets = self.window.octets
         if octets.startswith(SECTION_HEADER, at):
             self._begin_section(BYTE_ORDERS[octets[at + 8:at + 12]])

@@ -12,7 +12,7 @@ class Reader:
     """Reads the records of one file. Each format of captures has a subclass.
 
     `at` is the place of the next record in the window, and `number` counts the packets before it.
-    `latest` is the last packet's time stamp in the file's own units. If it is UNKNOWN, the next
+    `latest` is the last packet's time stamp in the file's own units. If this is UNKNOWN, the next
     packet is read, not skipped. Most packets have their octets at offset OCTETS_AT of their record.
     """
     HEAD_SIZE = 0
@@ -30,7 +30,7 @@ class Reader:
         raise NotImplementedError
 
     def read_record(self, at: int) -> Optional[Look]:
-        """Reads the complete record at this place. Returns None if it is not a packet."""
+        """Reads the complete record at this place. Returns None if the record is not a packet."""
         raise NotImplementedError
 
     def pass_over(self, stop: int) -> Optional[int]:
@@ -39,8 +39,8 @@ class Reader:
         raise NotImplementedError
 
     def looks(self, prefix: bytes) -> Iterator[Look]:
-        """Yields each packet that begins with these octets, and others to show how time passes: at
-        least the first, the last, and both packets around a time stamp that goes back."""
+        """Yields each packet that begins with these octets, and packets that show how time passes:
+        at least the first, the last, and both packets around a time stamp that goes back."""
         while True:
             size = self._reach_record()
             if not size:
@@ -69,7 +69,7 @@ class Reader:
         return self._found - self.window.begin if self._found >= 0 else -1
 
     def _reach_record(self) -> int:
-        """Reads until the next record is in the window. Returns its size, 0 at the file's end."""
+        """Reads until the next record is in the window. Returns its size; 0 at the file's end."""
         end = len(self.window.octets)
         if self.at + self.HEAD_SIZE <= end:
             size = self.record_size()

@@ -1,4 +1,4 @@
-"""Opens the captures of a trace, and names the ports of their frames."""
+"""Opens captures, and names the ports of their frames."""
 
 import os
 import shutil
@@ -16,8 +16,8 @@ STANDARD_INPUT = "-"
 class Source(NamedTuple):
     """A capture's file (`-`: standard input). If `port` is given, it is the port of all frames.
 
-    Otherwise a port is named like its interface, unless `names` has another name for the interface.
-    A gzip file may unpack to at most `most_unpacked` octets.
+    Otherwise a port has the name that `names` has for its interface, or else the interface's own
+    name (eth0 if it has none). A gzip file may unpack to at most `most_unpacked` octets.
     """
     file: str
     port: Optional[str] = None
@@ -46,7 +46,7 @@ def opened(file: str) -> BinaryIO:
 
 
 def hold(file: str) -> None:
-    """If the file is a pipe, copies it, so that it can be opened several times. Raises OSError."""
+    """Copies the file if it is a stream, so that it can be opened repeatedly. May raise OSError."""
     if file not in HELD and os.path.exists(file) and is_stream(os.stat(file).st_mode):
         copy = tempfile.TemporaryFile(buffering=0)
         with open(file, "rb", buffering=0) as octets:
@@ -55,5 +55,5 @@ def hold(file: str) -> None:
 
 
 def is_stream(mode: int) -> bool:
-    """Returns whether a file of this mode can be read only once: a FIFO, a socket or a terminal."""
+    """Returns whether a file of this mode is a stream: a FIFO, a socket or a character device."""
     return stat.S_ISFIFO(mode) or stat.S_ISSOCK(mode) or stat.S_ISCHR(mode)

@@ -1,5 +1,5 @@
-"""Converts captures to one trace for lldpa: their LLDP frames in the order of their time stamps,
-and the seconds between them."""
+"""Converts captures to one trace for lldpa, which has the LLDP frames in the order of their time
+stamps, and the seconds between the frames."""
 
 import os
 from collections import Counter
@@ -28,8 +28,8 @@ class TooManyPorts(LldpaFault):
     """The captures have frames for more ports than an agent can have."""
 
 class Told(NamedTuple):
-    """Functions that receive notes on the trace (`note`), faults that make it incomplete (`fault`),
-    and the last time stamp of each capture in seconds since 1970 (`end`)."""
+    """Functions that receive notes on the trace (`note`), faults that make the trace incomplete
+    (`fault`), and the last time stamp of each capture in seconds since 1970 (`end`)."""
     note: Tell
     fault: Tell
     end: Callable[[float], None] = lambda _: None
@@ -70,9 +70,9 @@ class Moment(NamedTuple):
 def ports_of(sources: Sequence[Source]) -> List[str]:
     """Returns the ports of captures, in the order of sources and interfaces, each once.
 
-    If there are more than 64, returns only the ports that have LLDP frames, and raises TooManyPorts
-    if more than 64 have some. Standard input and pipes can be read only once, so each counts as one
-    port: the given one, or eth0.
+    If there are more than 64 ports, returns only the ports that have LLDP frames. Raises
+    TooManyPorts if more than 64 ports have LLDP frames. Standard input and pipes can be read only
+    once, so each counts as one port: the port given in its source, or eth0.
     """
     ports: Dict[str, None] = {}
     for source in sources:
@@ -86,7 +86,7 @@ def ports_of(sources: Sequence[Source]) -> List[str]:
 
 
 def names_of(source: Source) -> Sequence[str]:
-    """Returns the port names of a capture's Ethernet interfaces, or one name if none are known."""
+    """Returns a port for each known Ethernet interface of a capture; one port if none is known."""
     interfaces: List[CaptureInterface] = []
     if source.port is None and os.path.isfile(source.file):
         with suppress(OSError), opened(source.file) as file:
@@ -96,7 +96,7 @@ def names_of(source: Source) -> Sequence[str]:
 
 
 def trace_of(sources: Sequence[Source], told: Told, seconds: bool = True) -> Iterator[str]:
-    """Yields the lines of the trace. If `seconds` is false, it has no `tick` lines.
+    """Yields the lines of the trace. If `seconds` is false, the trace has no `tick` lines.
 
     If a capture cannot be read completely, reports a fault that names the file, and continues with
     the other captures. Raises TooManyPorts before the first line.
@@ -169,7 +169,7 @@ class Recording:
                 yield Moment(self._latest, line, self._notes)
 
     def _line(self, number: int, interface: CaptureInterface, octets: bytes, length: int) -> str:
-        """Returns a packet's line, or an empty text if it is not an LLDP frame or is skipped."""
+        """Returns a packet's line, or an empty text if the packet is not LLDP or is skipped."""
         if interface.link_type != ETHERNET or not is_lldp(octets, length):
             return ""
         fault = fault_of(octets, length)
@@ -183,7 +183,7 @@ class Recording:
         return rx(port, octets) if port else ""
 
     def _port(self, interface: CaptureInterface) -> str:
-        """Returns an interface's port. Reports an invalid name and returns an empty text for it."""
+        """Returns an interface's port. Reports a fault and returns an empty text for a bad name."""
         port = port_of(self._source, interface)
         if is_port_name(port):
             return port
@@ -192,7 +192,7 @@ class Recording:
         return ""
 
     def _need_ethernet(self, interface: CaptureInterface) -> None:
-        """Reports once that an interface is skipped because it is not Ethernet."""
+        """If an interface is not Ethernet, reports once that its packets are skipped."""
         if interface.link_type != ETHERNET and interface not in self._ports:
             self._ports[interface] = ""
             name = f" of its interface {interface.name!r}" if interface.name else ""
@@ -205,7 +205,7 @@ class Recording:
 
     def _set_back(self, nanoseconds: int) -> int:
         """Returns how much to add to all later times after a time stamp went back by this much.
-        Ignores less than a second, since packets of several queues may be out of order."""
+        This is 0 for less than a second, since packets of several queues may be out of order."""
         if nanoseconds < SECOND:
             return 0
         self._notes.tell("set back", f"the time stamps go back by {nanoseconds // SECOND} s; "

@@ -25,14 +25,14 @@ class Begun(io.RawIOBase):
 
 
 class Unzipped:
-    """Unpacks up to `most` octets of a file whose first octets were already read."""
+    """Unpacks a file whose first octets were already read. Allows up to `most` unpacked octets."""
 
     def __init__(self, file: Readable, begun: bytes, most: Optional[int] = None) -> None:
         self._file = gzip.GzipFile(fileobj=Begun(file, begun))
         self._left = self._most = most
 
     def read(self, size: int) -> bytes:
-        """Returns up to `size` octets, none at the end. Raises BadCapture if it cannot continue."""
+        """Returns up to `size` octets; none at the end. Raises BadCapture on bad or excess data."""
         try:
             octets = self._file.read1(size)
         except EOFError:

@@ -12,7 +12,7 @@ class BadCapture(LldpaFault):
     """The capture cannot be read further. The message says why and, if known, at which octet."""
 
 class Readable(Protocol):
-    """A source of octets: a file, or an object that unpacks it."""
+    """A source of octets: a file, or an object that unpacks a file."""
 
     def read(self, size: int) -> bytes:
         """Returns at most this many octets; none at the end."""
@@ -29,7 +29,7 @@ class Window:
     def move(self, at: int, count: int) -> bool:
         """Drops the first `at` octets, and reads until there are at least `count` octets.
 
-        Returns False at the file's end. Raises BadCapture if only some of the octets exist.
+        Returns False if no octets are left. Raises BadCapture if some are left, but not `count`.
         """
         if not 0 <= count <= MOST_OCTETS:
             raise self.damage(at, "the length of a record is far too large")

@@ -18,7 +18,7 @@ LATER = {"Client": ".connection", "neighbor_object": ".as_json", "since_of": ".l
 
 
 def __getattr__(name: str) -> object:
-    """Loads a module when its name is first used."""
+    """Loads the module of a name when the name is first used."""
     if name in LATER:
         from importlib import import_module  # seldom needed by lldpa-ctl
         return getattr(import_module(LATER[name], __name__), name)

@@ -15,7 +15,7 @@ NOBODY: Since = {}
 
 
 def show_object(show: Show, since: Since = NOBODY) -> dict[str, Any]:
-    """Returns `ports`, `counters`, `chassis` and `configuration`, if the show has them."""
+    """Returns an object with the parts that the show has, such as `ports` and `counters`."""
     told: dict[str, Any] = {}
     if show.ports:
         told["ports"] = [port_object(port, since) for port in show.ports]

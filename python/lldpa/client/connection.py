@@ -65,9 +65,9 @@ class Client:
     def ask(self, line: str) -> list[str]:
         """Sends a line, and returns the lines of its answer, safe to print on a terminal.
 
-        Raises `Refused` with the text after `error: `, ValueError if `line` has a line feed or is
-        too long, TimeoutError if the answer is not complete after `seconds`, and `Gone` if the
-        connection ends early, or the answer is malformed, over 25 MB, or has a line over 64 kB.
+        Raises Refused if the line is refused, ValueError if it has a line feed or is too long, and
+        TimeoutError if the answer is not complete after `seconds`. Raises Gone if the connection
+        ends early, or the answer is malformed, over 25 MB, or has a line over 64 kB.
         """
         octets = checked(line) + b"\n"
         self.last, self.room = time.monotonic() + self.seconds, MOST_OCTETS

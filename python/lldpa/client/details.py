@@ -1,4 +1,4 @@
-"""Formats everything that a neighbor sent as text for people, in at most 29 lines."""
+"""Formats for people everything that a neighbor sent, in at most 29 lines."""
 
 import time
 from itertools import islice
@@ -17,7 +17,7 @@ Pair = Tuple[str, str]
 
 
 def details(ports: Sequence[Port], since: Since, width: int) -> list[str]:
-    """Returns at most 29 lines for each neighbor of these ports, with empty lines between them.
+    """Returns at most 29 lines for each neighbor of these ports, and empty lines between neighbors.
 
     Texts are wrapped at `width`, and cut if 29 lines are not enough.
     """
@@ -73,7 +73,7 @@ def pairs_of(neighbor: Neighbor, since: Optional[str]) -> Iterator[Pair]:
 
 
 def others_of(neighbor: Neighbor) -> Iterator[Pair]:
-    """Yields a neighbor's other lines: TLVs of reserved types, and keys that are unknown here."""
+    """Yields a neighbor's TLVs of reserved types, and its lines with keys that are unknown here."""
     for key, value in neighbor.said:
         if key not in SAID_KEYS and not key.startswith("org."):
             yield readable(key), readable(value)

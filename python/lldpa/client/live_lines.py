@@ -35,7 +35,7 @@ class LiveLines:
 
     @property
     def is_up(self) -> bool:
-        """Returns whether the agent runs, rather than waits for an interface."""
+        """Returns whether the agent runs. Otherwise it waits for an interface."""
         return self.own.get("agent", "running") == "running"
 
 

@@ -45,7 +45,7 @@ OF_PORTS = (
 
 
 def metrics(show: Show, live: Iterable[str]) -> list[str]:
-    """Returns the metrics of a show of neighbors and counters, and of the answer to `live`."""
+    """Returns metrics from the answers to `show neighbors`, `show statistics` and `live`."""
     return [
         *live_lines(LiveLines(live)),
         *metric_lines("lldpa_neighbors", "gauge", "Neighbors that the port holds.",
@@ -129,7 +129,7 @@ def metric_lines(name: str, kind: str, text: str,
 
 
 def label_list(labels: Labels) -> str:
-    """Returns labels in braces, as they follow a metric's name; an empty text for no labels."""
+    """Returns labels in braces, for use after a metric's name, or an empty text for no labels."""
     listed = ",".join(f'{name}="{escaped(value)}"' for name, value in labels.items())
     return f"{{{listed}}}" if listed else ""
 

@@ -35,7 +35,7 @@ def terminal_width() -> int:
 
 
 def table(ports: Sequence[Port], width: int) -> list[str]:
-    """Returns the neighbors of these ports as a table, at most `width` wide, and their number.
+    """Returns a table of these ports' neighbors, at most `width` wide, and the lines of `count_of`.
 
     The VLAN column is shown only if a neighbor sent a VLAN. If the table is too wide, the column of
     management addresses is left out first.
@@ -58,7 +58,7 @@ def row_of(neighbor: Neighbor) -> Tuple[str, ...]:
 
 
 def port_vlan_of(org: Iterable[Tuple[str, str]]) -> Optional[int]:
-    """Returns the Port VLAN ID (0: no VLAN), or None if there is none or several that differ."""
+    """Returns the Port VLAN ID (0: no VLAN), or None if none was sent or if several differ."""
     vids = {vid_of(digits) for kind, digits in org if kind == PORT_VLAN} - {None}
     return vids.pop() if len(vids) == 1 else None
 

@@ -26,7 +26,7 @@ OF_A_WORD = ("unknown command", "no such port", "not a number", "out of range", 
 
 
 class Question(NamedTuple):
-    """Lines to send, functions that show the answers, and `further` lines to send only for JSON."""
+    """Lines to send (`further` lines only for JSON), and functions that convert the answers."""
 
     lines: Sequence[str]
     text: Callable[[Answers, int], List[str]]
@@ -75,7 +75,7 @@ def ask_details(rest: Sequence[str]) -> Question:
 
 
 def shown_object(answers: Answers, ports: Sequence[str] = ()) -> Any:
-    """Returns these ports of a show as an object, with `since` if `live` was answered too."""
+    """Returns these ports (all if empty) of answers[0] as an object. `since` is from answers[1]."""
     from .as_json import show_object
     since = since_of(answers[1]) if len(answers) > 1 else {}
     return show_object(only(read_show(answers[0]), ports), since)
@@ -95,7 +95,7 @@ def ask_interfaces(rest: Sequence[str]) -> Question:
 
 
 def ask_statistics(rest: Sequence[str]) -> Question:
-    """Returns the question for the counters of ports, or for the sums of all."""
+    """Returns the question for the counters of ports, or for the sums over all ports."""
     is_summary = list(rest) == ["summary"]
     ports = [] if is_summary else listed(rest)
 
@@ -119,7 +119,7 @@ def ask_live(rest: Sequence[str]) -> Question:
 
 
 def ask_show_of(name: str, ports: Sequence[str]) -> Question:
-    """Returns the question for all lines of a show, or for those of some ports."""
+    """Returns the question for all lines of `show NAME`, or for the lines of some ports."""
     def text(answers: Answers, width: int) -> List[str]:
         if not ports:
             return list(answers[0])
@@ -156,7 +156,7 @@ def in_full(words: Sequence[str], commands: Sequence[str]) -> List[str]:
 
 
 def completed(word: str, able: Sequence[str]) -> str:
-    """Returns the only word in `able` that begins with `word`, or `word` if none or several do."""
+    """Returns `word` completed from `able`, or unchanged if it is in `OF_LINES` or not unique."""
     found = [one for one in able if one.startswith(word)] if word else []
     return found[0] if len(found) == 1 and word not in (*able, *OF_LINES) else word
 

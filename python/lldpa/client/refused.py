@@ -63,7 +63,7 @@ def said_of(word: str, said: str) -> str:
 
 
 def fitting(form: Sequence[str], words: Sequence[str], known: Forms) -> int:
-    """Returns how many words match the form, from its first word on."""
+    """Returns how many of the words, from the first on, match the form."""
     count = 0
     for wanted, word in zip(form, words):
         if wanted == STATUS and word not in known[tuple(form)].split(", "):

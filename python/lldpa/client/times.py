@@ -1,4 +1,4 @@
-"""Reads the times that lldpa-live writes. Few commands load this, since `datetime` needs 0.4 MB."""
+"""Reads times that lldpa-live writes. Few commands load this module: `datetime` needs 0.4 MB."""
 
 import re
 from datetime import datetime

@@ -1,4 +1,4 @@
-"""Finds out which neighbors came, changed and left between two shows."""
+"""Finds out and prints which neighbors come, change and leave."""
 
 import json
 import time
@@ -29,13 +29,13 @@ class NeighborNews(NamedTuple):
 
 
 class Watch:
-    """Compares each show of the neighbors with the previous one."""
+    """Compares the state of ports with their previous state."""
 
     def __init__(self, ports: Iterable[Port]) -> None:
         self.known = by_name(ports)
 
     def news(self, ports: Iterable[Port]) -> Iterator[NeighborNews]:
-        """Yields what happened since the previous show, beginning with neighbors that left."""
+        """Yields what happened since the previous state, beginning with neighbors that left."""
         before, self.known = self.known, by_name(ports)
         for name, neighbor in before.items():
             if name not in self.known:

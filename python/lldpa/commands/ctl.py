@@ -14,7 +14,7 @@ from ..agent.show import ShowFault, read_show
 from ..faults import LldpaFault
 from ..texts import printable
 
-# Modules that only some commands need are imported in functions, so that others start quickly.
+# Functions import modules that only some commands need, so that other commands start quickly.
 NO_PORT, UNKNOWN = "no such port", "unknown command"
 ALONE = ("watch", "metrics", "help")  # commands of this program only
 

@@ -80,7 +80,7 @@ def read_words(words: Sequence[str]) -> Given:
 
 
 def show(client: Client, given: Given, question: Question) -> None:
-    """Prints a show. Then raises Refused if a port that was asked for does not exist."""
+    """Prints the answer to a `show` command. Then raises Refused if a given port does not exist."""
     live = client.ask("live")
     told = told_by([client.ask(line) for line in LINES], live, time.time())
     given.write(question.tree(told))
@@ -151,7 +151,7 @@ def console(given: Given) -> int:
 
 
 def obey_in_child(given: Given, words: Sequence[str]) -> int:
-    """Runs a command in a child: only the child gives up root. Returns 1 if its output failed."""
+    """Runs a command in a child process, so that this one stays root. Returns 1 if output fails."""
     child = os.fork()
     if child == 0:
         status = 1
@@ -167,7 +167,7 @@ def obey_in_child(given: Given, words: Sequence[str]) -> int:
 
 
 def answer(name: str, words: Sequence[str]) -> int:
-    """Prints help, the version or an answer. Returns the status."""
+    """Prints help or the version, or runs commands. Returns the status."""
     given = read_words(words)
     if given.is_help:
         print(HELP.replace("NAME", name), end="")

@@ -29,7 +29,7 @@ def local_chassis(chassis: LocalChassis, is_brief: bool) -> Node:
 
 def chassis_node(identifier: Node, said: Iterable[Tuple[str, str]],
                  capabilities: Mapping[str, bool], is_brief: bool) -> Node:
-    """Returns the node of a chassis. If `is_brief`, it has only the identifier and the name."""
+    """Returns a chassis' node. If `is_brief`, the node has only the identifier and the name."""
     said = list(said)
     node = Node("chassis", "Chassis", nodes=[identifier])
     node.add("name", "SysName", first(said, "chassis.name"))
@@ -70,7 +70,7 @@ def first(said: Iterable[Tuple[str, str]], key: str) -> Optional[str]:
 
 
 def managements(said: Iterable[Tuple[str, str]]) -> Iterator[Tuple[str, Optional[str]]]:
-    """Yields the IP management addresses, each with its interface number if it has one."""
+    """Yields the IP management addresses, each with its ifIndex, or with None."""
     for key, text in said:
         if key == "chassis.mgmt" and not text.startswith("af"):
             address, numbering, number, *_ = text.split(",")

@@ -29,8 +29,8 @@ class Depth(Enum):
 
 
 class Told(NamedTuple):
-    """The answers of lldpa-live: its shows, the time when each neighbor appeared, and the number of
-    each chassis. `now` is the current time in seconds since 1970."""
+    """The answers of lldpa-live: the contents of its `show` output, the time when each neighbor
+    appeared, and the number of each chassis. `now` is the current time in seconds since 1970."""
     show: Show
     since: Since
     numbers: Mapping[str, int]
@@ -38,7 +38,7 @@ class Told(NamedTuple):
 
 
 def told_by(answers: Sequence[Sequence[str]], live: Iterable[str], now: float) -> Told:
-    """Reads the answers to `LINES`, and to `live`."""
+    """Reads the answers to some or all of `LINES`, and the answer to `live`."""
     show = read_show([line for answer in answers for line in answer])
     told = LiveLines(live)
     return Told(show, told.since, told.numbers, now)
@@ -129,7 +129,7 @@ def configuration(told: Told, *_: object) -> Node:
 
 
 def statistics(told: Told, ports: Ports, depth: Depth) -> Node:
-    """Returns the tree of `show statistics`, for ports or for their sums."""
+    """Returns the tree of `show statistics`, with the counters of each port or with their sums."""
     found = {name: counters for name, counters in told.show.counters.items()
              if ports is None or name in ports}
     if depth is Depth.SUMMARY:

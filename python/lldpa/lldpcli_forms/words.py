@@ -99,7 +99,7 @@ def number_of(word: str) -> int:
 
 
 def meant(word: str, able: Sequence[str]) -> str:
-    """Returns the only allowed word that begins with this one. Raises Refused otherwise."""
+    """Returns the only word in `able` that begins with `word`, or raises Refused."""
     found = [one for one in able if one.startswith(word)] if word else []
     if len(found) != 1:
         instead = ", ".join(able) if able else "no word is allowed here"

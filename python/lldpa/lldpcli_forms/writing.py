@@ -15,7 +15,7 @@ ENDS = ("Zl", "Zp")  # separators of lines and of paragraphs
 
 
 def plain(root: Node) -> str:
-    """Returns the form for people. Lines of a text are indented, and control characters escaped."""
+    """Returns a tree for people. Lines of a text are indented, and control characters escaped."""
     lines = [LINE, f"{root.label}:", LINE]
     for node in root.nodes:
         lines += [*plain_lines(node, 0), LINE]

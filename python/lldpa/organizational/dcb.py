@@ -56,7 +56,7 @@ class Ets(Tlv):
 
     @classmethod
     def read(cls, octets: bytes) -> Optional[Ets]:
-        """Reads flags with the number of classes (0 means 8), and the tables."""
+        """Reads an octet of flags and the number of classes (0 means 8), and the tables."""
         tables = EtsTables.read(octets[1:])
         return None if tables is None else cls(bool(octets[0] & 0x80), bool(octets[0] & 0x40),
                                                octets[0] & 0x07 or CLASS_COUNT, tables)
@@ -93,7 +93,7 @@ class EtsRecommendation(Tlv):
 @of(DOT1, 11, is_of_lldpd=False)
 @dataclass(frozen=True)
 class Pfc(Tlv):
-    """Priority-based Flow Control, subtype 11: the enabled priorities, and how many are allowed."""
+    """Priority-based Flow Control, subtype 11: enabled priorities, and how many may be enabled."""
     key, heading, group, path = "pfc", "PFC", "Bridging", "dcb.pfc"
     is_willing: bool
     can_bypass_macsec: bool
@@ -102,7 +102,7 @@ class Pfc(Tlv):
 
     @classmethod
     def read(cls, octets: bytes) -> Optional[Pfc]:
-        """Reads flags with the number of classes, and a bit for each priority."""
+        """Reads an octet of flags and the number of classes, and a bit for each priority."""
         if len(octets) != 2:
             return None
         enabled = tuple(priority for priority in range(CLASS_COUNT) if octets[1] >> priority & 1)
@@ -119,7 +119,7 @@ class Pfc(Tlv):
 
 @dataclass(frozen=True)
 class ApplicationPriority:
-    """The priority of an application: a selector (see `SELECTORS`) and a protocol's number."""
+    """The priority of the application with this selector (see `SELECTORS`) and protocol number."""
     priority: int
     selector: int
     protocol: int

@@ -30,7 +30,7 @@ class PortVlan(Tlv):
 
     @classmethod
     def nodes(cls, said: Said) -> List[Node]:
-        """Returns the nodes of named VLANs, and of the port's VLAN if that has no name."""
+        """Returns the nodes of named VLANs, and of the port's VLAN if it is not among them."""
         vlan, names = said.one(PortVlan), said.all(VlanName)
         pvid = vlan.pvid if vlan else 0
         nodes = [vlan_node(one.vid, vlan is not None and one.vid == pvid, lldpcli_text(one.name))

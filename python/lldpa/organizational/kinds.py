@@ -129,8 +129,8 @@ class Tlv(Fields):
 class Said:
     """The organizationally specific TLVs of a neighbor, in the order in which they were sent.
 
-    `rest` has OUI and subtype, and the octets in hexadecimal, of TLVs of unknown kinds, of
-    malformed TLVs, and of different TLVs of a kind that may be sent only once.
+    `rest` has OUI and subtype, and the octets in hexadecimal, of unknown TLVs, of malformed TLVs,
+    and of TLVs that differ although their kind may be sent only once.
     """
     tlvs: Tuple[Tlv, ...] = ()
     rest: Tuple[Tuple[str, str], ...] = ()

@@ -107,11 +107,11 @@ class Coordinates(Location):
 
 
 def fixed(value: int, places: int, resolution: int, whole: int) -> str:
-    """Returns the absolute value of a fixed-point number in lldpd's form. The last `places` bits
-    of `value` are those after the point.
+    """Returns the absolute value of a fixed-point number in lldpd's form. The last `places` bits of
+    `value` are those after the point.
 
-    `resolution` is the number of valid bits, and `whole` the number of bits before the point. They
-    determine how many decimal digits lldpd writes; it cuts off the rest.
+    `resolution` is the number of valid bits, and `whole` the number of bits before the point. The
+    two determine how many digits lldpd writes after the point. Further digits are cut off.
     """
     size = abs(value)
     part = size & ((1 << places) - 1)

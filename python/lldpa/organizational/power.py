@@ -48,7 +48,7 @@ class PowerRequest(Fields):
                 f"requested {watts(self.requested)}, allocated {watts(self.allocated)}")
 
     def value(self) -> Object:
-        """Returns its value in JSON, with the powers in watts."""
+        """Returns the value in JSON, with the powers in watts."""
         sources = PD_SOURCES if self.type & 1 else PSE_SOURCES
         return {"type": POWER_TYPES[self.type], "source": sources[self.source],
                 "priority": PRIORITIES[self.priority], "requested": self.requested / 10,

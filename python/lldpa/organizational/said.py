@@ -34,7 +34,7 @@ def said_by(org: Org) -> Said:
 
 
 def read_shown(kind: str, digits: str) -> Optional[Tlv]:
-    """Reads a TLV from a show: its kind, such as `00120f.1`, and its octets in hexadecimal."""
+    """Reads a TLV as it is shown: a kind such as `00120f.1`, and the octets in hexadecimal."""
     oui, _, subtype = kind.partition(".")
     try:
         return read_tlv(oui, int(subtype), bytes.fromhex(digits))
@@ -43,8 +43,8 @@ def read_shown(kind: str, digits: str) -> Optional[Tlv]:
 
 
 def known_to_lldpd(org: Org) -> Tuple[Said, List[Tuple[str, str]]]:
-    """Returns the contents of the TLVs that lldpd knows, and all other TLVs in their order.
-    Malformed TLVs are among the others."""
+    """Returns the contents of the TLVs that lldpd knows, and all other TLVs in the order in which
+    they were sent. Malformed TLVs are among the other TLVs."""
     kinds.load()
     shown = list(org)
     said = said_by(one for one in shown if one[0] in OF_LLDPD)
