@@ -1,5 +1,5 @@
 #!/usr/bin/env python3
-"""Prints each LLDP neighbor on a Linux interface when it is new, changes, leaves or ages out.
+"""Prints the LLDP neighbors of a Linux interface that are new, change, leave or age out.
 
     LLDPA_LIB_DIR=FOLDER receive.py INTERFACE
 
@@ -24,7 +24,7 @@ REPORTS = {4: "new", 5: "changed", 7: "no room for", 8: "gone"}
 
 
 class Text(Structure):
-    """A text for the library: its octets, without a NUL at the end, and their number."""
+    """A text for the library: the octets, without a NUL at the end, and the number of octets."""
     _fields_ = [("octets", c_char_p), ("length", c_size_t)]
 
 
@@ -37,7 +37,7 @@ class Options(Structure):
 
 
 class Handle(Structure):
-    """A handle of an agent. Only the library reads or changes its fields."""
+    """A handle of an agent. Only the library reads or changes the fields of the handle."""
     _fields_ = [("held", c_void_p), ("open", c_bool)]
 
 
@@ -47,7 +47,7 @@ class News(Structure):
 
 
 class Held(Structure):
-    """A neighbor in a port's table, and the seconds until it ages out."""
+    """A neighbor in a port's table, and the seconds until the neighbor ages out."""
     _fields_ = [("pdu", Examined), ("left", c_uint32)]
 
 
@@ -91,7 +91,7 @@ def give_frame(lldpa: CDLL, agent: Handle, frame: bytes) -> None:
 
 
 def opened(lldpa: CDLL, interface: str) -> Handle:
-    """Opens an agent with one port, which only receives."""
+    """Opens an agent with one port. The port only receives."""
     name, handle = Text(interface.encode(), len(interface.encode())), Handle()
     options = Options(sizeof(Options), pointer(name), 1, receive_only=True, max_neighbors=32, credit_max=5,
                       fast_init=4, reinit=2)
@@ -114,7 +114,7 @@ def main() -> None:
     while True:
         lldpa.lldpa_due(byref(agent), byref(due))
         came = select.select([heard], [], [], min(due.value, 3600))[0]
-        # the seconds passed before the frame arrived, so they are reported first
+        # the seconds passed before the frame arrived, so the agent gets the seconds first
         before, now = now, int(time.monotonic())
         give_seconds(lldpa, agent, now - before)
         if came:

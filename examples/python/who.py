@@ -31,7 +31,7 @@ class Examined(Structure):
 
 
 class Kept(Structure):
-    """The position of a walk over the TLVs that the library keeps, for `lldpa_next_kept`."""
+    """How far `lldpa_next_kept` has walked through an LLDPDU, and the TLV that it found last."""
     _fields_ = [("next", c_size_t), ("body", Place), ("met", c_bool * 4), ("kind", c_uint8)]
 
 
@@ -55,7 +55,7 @@ def shown(octets: bytes, is_address: bool) -> str:
 
 
 def frames(capture: bytes) -> Iterator[bytes]:
-    """Yields the frames of a pcap file."""
+    """Yields the complete frames of a pcap file."""
     length_of = struct.Struct("<I" if capture[3] == 0xa1 else ">I")
     at = 24
     while at + 16 <= len(capture):

@@ -1,10 +1,10 @@
-"""For tests: computes what tshark must show for TLVs from what lldpa reads in them."""
+"""For tests: computes what tshark must show for a TLV from the value that lldpa reads."""
 
 from typing import Any, Callable, Dict, List, Tuple
 
 from lldpa.organizational import LinkAggregation, Tlv
 
-# keys, or parts of keys, of tshark's output that are not compared, for each reason
+# for each reason, the keys of tshark's output (or parts of keys) that are not compared
 LEFT_OUT = {
     "which TLV it is, and its length": (
         "lldp.tlv.", "lldp.orgtlv.oui", "lldp.ieee.802_1.subtype", "lldp.ieee.802_3.subtype",
@@ -25,7 +25,7 @@ Pairs = List[Tuple[str, str]]
 
 
 def compared(pairs: List[Any]) -> Pairs:
-    """Returns tshark's pairs for a TLV, without those that are not compared."""
+    """Returns tshark's pairs for a TLV, without the pairs that are not compared."""
     return [(key, value) for key, value in pairs if not is_left_out(key)]
 
 
@@ -35,7 +35,7 @@ def is_left_out(key: str) -> bool:
 
 
 def expected(front: str, values: Dict[str, Any]) -> Pairs:
-    """Returns the values in tshark's form, each with its key after the prefix `front`."""
+    """Returns pairs of a key with the prefix `front` and its value in tshark's form."""
     return [(front + key, as_shown(value)) for key, value in values.items()]
 
 
@@ -45,8 +45,8 @@ def as_shown(value: Any) -> str:
     return value if isinstance(value, str) else str(int(value))
 
 
-# What tshark shows for each class. FIELDS: the prefix of the keys, then the rest of each key with
-# the field that it shows. SHOWN: a function that returns the pairs. tlvs.py fills both.
+# How tshark shows each class. FIELDS: the prefix of tshark's keys, and the field for the rest of
+# each key. SHOWN: a function that returns tshark's pairs. tlvs.py fills FIELDS and SHOWN.
 FIELDS: Dict[type, Tuple[str, Dict[str, str]]] = {}
 SHOWN: Dict[type, Callable[[Any], Pairs]] = {}
 
@@ -71,5 +71,5 @@ def wanted(kind: Tuple[str, int], tlv: Tlv) -> Pairs:
 
 
 def unknown_octets(pairs: List[Any]) -> Any:
-    """Returns the octets that tshark shows for a TLV that it does not know."""
+    """Returns the octets of a TLV unknown to tshark, or None if tshark shows no such octets."""
     return dict(map(tuple, pairs)).get("lldp.unknown_subtype.content")

@@ -10,7 +10,7 @@ from patience import SECONDS
 
 
 class Heard:
-    """A datagram socket for NOTIFY_SOCKET, and the datagrams that it has received."""
+    """A datagram socket for NOTIFY_SOCKET, and the datagrams received so far."""
 
     def __init__(self, folder: Path) -> None:
         self.path = str(folder / "notify")
@@ -20,7 +20,7 @@ class Heard:
         self.datagrams: list[list[str]] = []
 
     def environment(self, seconds: float = 0) -> dict[str, str]:
-        """Returns the environment of a service. With `seconds`, it sets a watchdog of this time."""
+        """Returns the environment of a service, with a watchdog of this many seconds unless 0."""
         watched = {"WATCHDOG_USEC": str(int(1e6 * seconds))} if seconds else {}
         return {**os.environ, "NOTIFY_SOCKET": self.path, **watched}
 

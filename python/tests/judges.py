@@ -12,10 +12,10 @@ from served import PROGRAM
 import tlvs  # noqa: F401  it fills what `wanted` reads
 
 Pair = Tuple[str, Any]
-# keys of lldpcli about organizationally specific TLVs
+# beginnings of lldpcli's keys about organizationally specific TLVs
 PARTS = ("port.mfs", "port.aggregation", "port.auto-negotiation", "port.power", "vlan", "ppvid",
          "pi", "lldp-med", "unknown-tlvs")
-# lldpcli's values that differ from the standard's, with the reason
+# keys whose values in lldpcli's output differ from the standard, with the reason
 SLIPS = {
     "port.power.source.value": "of a PSE it names the sources of a PD, and of a PD those of a PSE",
     "port.power.power-type-ext.value": "it names other numbers than the standard, and tshark does",
@@ -23,7 +23,7 @@ SLIPS = {
 
 
 class Judged(NamedTuple):
-    """A frame, the keys and values that lldpcli shows for it, and those of tshark for each TLV."""
+    """A frame, lldpcli's keys and values for it, and tshark's for each organizational TLV."""
     name: str
     frame: str
     lldpcli: List[Pair]
@@ -31,7 +31,7 @@ class Judged(NamedTuple):
 
 
 def flat(told: Any, path: str = "") -> Iterator[Pair]:
-    """Yields the keys and values of an object from JSON, with the path of each key."""
+    """Yields the values of an object from JSON, each with the path of keys to the value."""
     if isinstance(told, dict):
         for key, value in told.items():
             yield from flat(value, f"{path}.{key}".lstrip("."))
@@ -43,7 +43,7 @@ def flat(told: Any, path: str = "") -> Iterator[Pair]:
 
 
 def leaves(pairs: List[Pair]) -> Iterator[Pair]:
-    """Yields the keys and values of pairs, and of the pairs inside them."""
+    """Yields the pairs whose values are not lists, also those inside lists at any depth."""
     for key, value in pairs:
         if isinstance(value, list):
             yield from leaves(value)
@@ -52,7 +52,7 @@ def leaves(pairs: List[Pair]) -> Iterator[Pair]:
 
 
 def sender_of_frame(octets: bytes) -> bytes:
-    """Returns a shutdown frame with the identifiers of a frame."""
+    """Returns a shutdown frame of the sender of this frame."""
     rest, kept = octets[14:], octets[:14]
     for _ in range(2):
         length = 2 + int.from_bytes(rest[:2], "big") % 512
@@ -61,7 +61,7 @@ def sender_of_frame(octets: bytes) -> bytes:
 
 
 def compare(judged: Iterable[Judged]) -> Tuple[int, List[str]]:
-    """Returns how many values are equal, and texts about those that are not."""
+    """Returns how many values are equal, and texts about the differences."""
     equal, differences = 0, []
     with Agent.start(["eth0"], PROGRAM, receive_only=True) as agent:
         for one in judged:
@@ -79,7 +79,7 @@ def compare(judged: Iterable[Judged]) -> Tuple[int, List[str]]:
 
 
 def of_frame(one: Judged, neighbor: Neighbor) -> Iterator[Tuple[Any, Any, str]]:
-    """Yields what a program shows for a frame, what it should show, and which program this is."""
+    """Yields what lldpcli or tshark shows, what it should show, and the name of the program."""
     tree = neighbors(Told(Show((Port("eth0", 1, 0, False, (neighbor,)),)), {}, {}, 0), None,
                      Depth.DETAILS)
     yield of_tlvs(one.lldpcli), of_tlvs(flat(whole(tree.nodes[0]))), "lldpcli"
@@ -96,5 +96,5 @@ def of_frame(one: Judged, neighbor: Neighbor) -> Iterator[Tuple[Any, Any, str]]:
 
 
 def of_tlvs(pairs: Iterable[Pair]) -> List[Pair]:
-    """Returns the pairs about organizationally specific TLVs, without those in `SLIPS`."""
+    """Returns the pairs about organizationally specific TLVs, without the keys in `SLIPS`."""
     return [(key, value) for key, value in pairs if key.startswith(PARTS) and key not in SLIPS]

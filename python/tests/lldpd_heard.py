@@ -1,8 +1,8 @@
-"""For tests: frames that a real lldpd received, and lldpcli's output for them in the folder lldpd.
+"""For tests: frames that a real lldpd received, and lldpcli's output for these frames.
 
-`clean.*` show CLEAN, received at swp1, and its first frame also at swp2. `odd.*` show ODD, received
-at swp1. `none.*` show no neighbor. `show neighbors details` of lldpcli 1.0.16 wrote them; it writes
-no XML if a name is not UTF-8.
+lldpcli 1.0.16 wrote the files in the folder lldpd. `clean.*` show CLEAN, received at swp1, and the
+first frame of CLEAN also at swp2. `odd.*` show ODD, received at swp1; odd.xml is empty, since
+lldpcli writes no XML if a name is not UTF-8. `none.*` show no neighbor.
 """
 
 from pathlib import Path
@@ -29,7 +29,7 @@ def org(oui: str, subtype: int, content: bytes) -> bytes:
 
 
 def management(address: bytes) -> bytes:
-    """Returns the TLV of a management address. `address` begins with its subtype."""
+    """Returns a Management Address TLV. `address` begins with the subtype of the address."""
     return tlv(8, bytes([len(address)]) + address + b"\x02\0\0\0\1\0")
 
 
@@ -65,5 +65,5 @@ ODD: list[bytes] = [
 
 
 def sample(named: str, form: str) -> bytes:
-    """Returns the output of lldpcli in this form."""
+    """Returns the output of lldpcli in the file with this name and this form."""
     return (FOLDER / f"{named}.{form}").read_bytes()

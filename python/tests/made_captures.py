@@ -66,14 +66,14 @@ def interface(order: str = "<", name: str = "", resolution: Optional[int] = None
 
 
 def units_of(resolution: Optional[int]) -> int:
-    """Returns how many time units a second has according to an interface's option (or 10**6)."""
+    """Returns how many time units a second has by this interface option, or 10**6 for None."""
     if resolution is None:
         return 10**6
     return 2**(resolution & 127) if resolution & 128 else 10**resolution
 
 
 def packet(frame: Frame, order: str = "<", place: int = 0, units: int = 10**6) -> bytes:
-    """Returns the block of a frame that the interface at this place captured."""
+    """Returns the block of a frame that the interface with the number `place` captured."""
     time, octets, length = frame
     stamp = -(-time * units // SECOND)
     fields = (place, stamp >> 32, stamp & 0xFFFFFFFF, len(octets), length)

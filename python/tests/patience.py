@@ -16,7 +16,7 @@ NAP = 0.01
 
 
 def eventually(holds: Callable[[], Any], seconds: float = SECONDS) -> Any:
-    """Returns the condition's value as soon as it is true, or after this many seconds."""
+    """Calls `holds` until its value is true or this many seconds have passed. Returns the value."""
     last = time.monotonic() + seconds
     while not (found := holds()) and time.monotonic() < last:
         time.sleep(0.02)
@@ -24,20 +24,20 @@ def eventually(holds: Callable[[], Any], seconds: float = SECONDS) -> Any:
 
 
 def mostly(seconds: Sequence[float]) -> float:
-    """Returns the median. One or two standstills change it little; a delay that always occurs shows
-    in it."""
+    """Returns the median. One or two standstills change the median little, but a delay that always
+    occurs changes it."""
     return sorted(seconds)[(len(seconds) - 1) // 2]
 
 
 def stolen() -> float:
-    """Returns how many seconds of processor time a hypervisor gave to others."""
+    """Returns how many seconds of processor time a hypervisor gave to other machines."""
     ticks = Path("/proc/stat").read_text().split("\n", 1)[0].split()[8]
     return int(ticks) / os.sysconf("SC_CLK_TCK")
 
 
 class Standstill:
-    """Measures how long the machine stands still: the stolen processor time, and how much a napping
-    thread oversleeps. A nap that takes up to twice its length is normal."""
+    """Measures how long the machine stands still: adds the stolen processor time and the time that
+    a thread oversleeps its naps. A nap that takes up to twice its length is normal."""
 
     def __enter__(self) -> Standstill:
         self.is_over = threading.Event()
@@ -64,8 +64,8 @@ class Standstill:
 
 
 def by_the_clock(test: Callable[[Any], None]) -> Callable[[Any], None]:
-    """Repeats a test with time limits if it fails while the machine stands still. A fault of the
-    program occurs each time, so the test still fails."""
+    """Repeats a test if it fails and the machine stood still meanwhile, up to TRIES runs in all. A
+    fault of the program occurs in each run, so the test still fails."""
     @functools.wraps(test)
     def tried(case: Any) -> None:
         for left in reversed(range(TRIES)):

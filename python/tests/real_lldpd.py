@@ -32,16 +32,16 @@ class Lldpd:
         return subprocess.run(command, capture_output=True, check=False).stdout
 
     def tell(self, command: str) -> None:
-        """Sends a command. Quotes keep words together."""
+        """Sends a command to lldpd. Words in double quotes stay together."""
         self.ask(*(word.strip('"') for word in re.findall(r'"[^"]*"|\S+', command)))
 
     def neighbors(self) -> list[Any]:
-        """Returns the interfaces that it shows, each with a neighbor."""
+        """Returns lldpcli's entries of interfaces, one entry for each neighbor of lldpd."""
         shown = json.loads(self.ask("-f", "json0", "show", "neighbors", "details") or "{}")
         return [one for part in shown.get("lldp", []) for one in part.get("interface", [])]
 
     def values(self, key: str) -> set[str]:
-        """Returns the values of a key of its neighbors, such as `peer0.chassis.mac`."""
+        """Returns the values that lldpcli shows for a key, such as `peer0.chassis.mac`."""
         shown = self.ask("-f", "keyvalue", "show", "neighbors").decode()
         return set(re.findall(rf"^lldp\.{re.escape(key)}=(.*)$", shown, re.M))
 

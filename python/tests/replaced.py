@@ -33,12 +33,12 @@ class Replaced(OnLinks):
         self.peers = [self.peer("peer0"), self.peer("peer1")]
 
     def can_make(self, name: str, *words: str) -> bool:
-        """Makes an interface. Returns false if this kernel does not support its kind."""
+        """Makes an interface. Returns whether the kernel supports this kind of interface."""
         command = ["ip", "-n", self.wires.here, "link", "add", "name", name, *words]
         return subprocess.run(command, check=False, capture_output=True).returncode == 0
 
     def begun(self, *words: str) -> Live:
-        """Starts an lldpa-live with a log, and adds four neighbors, three in different seconds."""
+        """Starts an lldpa-live with a log. Adds four neighbors, three in different seconds."""
         live = self.live("--log", str(self.log), "--events", *words, "eth0", "eth1")
         for number in (3, 1, 2):
             self.peers[0].send(numbered(number, LONG + number, tlv(5, b"sw%d" % number)))
@@ -55,7 +55,7 @@ class Replaced(OnLinks):
         return read_show(live.ask("show neighbors")).neighbors
 
     def stays(self, before: list[Neighbor], began: float, live: Live) -> None:
-        """Checks that all neighbors are still present, and how much of their time is left."""
+        """Checks that all neighbors are still present, and that their times to live have run on."""
         after, went = self.neighbors(live), time.monotonic() - began
         self.assertEqual([(one.port, one.place, one.id, one.said) for one in after],
                          [(one.port, one.place, one.id, one.said) for one in before])
@@ -63,7 +63,7 @@ class Replaced(OnLinks):
             self.assertAlmostEqual(old.expires - new.expires, went, delta=2)
 
     def hears_address(self, address: Optional[str], peer: int = 0, seconds: float = 8) -> bool:
-        """True if a peer receives this address in time. Fails at a shutdown frame before that."""
+        """True if a peer receives this address in time. Fails if a shutdown frame comes first."""
         last = time.monotonic() + seconds
         while (left := last - time.monotonic()) > 0:
             octets = self.peers[peer].hears(left)

@@ -1,4 +1,4 @@
-"""For tests: checks that replays of logs produce the tables of some moments and the sent frames."""
+"""For tests: replays logs, to compare the tables at some moments, and the sent frames."""
 
 import re
 import shlex
@@ -13,8 +13,8 @@ CLOCK = re.compile("^# [0-9]{4}-", re.M)  # the first one ends the head of a fil
 
 
 class Moments:
-    """Asks an lldpa-live for its tables at some moments, and marks each moment in the log by a
-    command of unique form. (Shows are not in the log.)"""
+    """Asks an lldpa-live for its tables at some moments. Marks each moment in the log by an
+    `update` with a different number of spaces, since the log does not contain show commands."""
 
     def __init__(self, live: Live) -> None:
         self.live = live
@@ -22,7 +22,7 @@ class Moments:
         self.count = 0
 
     def take(self) -> None:
-        """Sends the command, and notes the tables. Does so again if they change meanwhile."""
+        """Marks a moment, and notes the tables. If these change meanwhile, marks another."""
         self.count += 1
         line = f"update{' ' * self.count}"
         before = self.live.ask("show neighbors")
@@ -34,7 +34,7 @@ class Moments:
 
 
 def answers(log: Path, text: str) -> list[str]:
-    """Runs an agent with the options in a log's first line. Returns its answers to a text."""
+    """Runs an agent with the options in a log's first line. Returns the output for a text."""
     first = log.read_text().partition("\n")[0]
     run = subprocess.run([PROGRAM, *shlex.split(first[len("# lldpa "):])], input=text,
                          capture_output=True, text=True, check=True)
@@ -42,8 +42,8 @@ def answers(log: Path, text: str) -> list[str]:
 
 
 def replayed(log: Path, line: str) -> Optional[list[str]]:
-    """Returns the tables at a line of a log, by a replay of this file alone. None if the log does
-    not have the line."""
+    """Replays one log up to a line, and returns the tables there. None if the log does not have the
+    line."""
     lines = log.read_text().split("\n")
     if line not in lines:
         return None
@@ -52,8 +52,8 @@ def replayed(log: Path, line: str) -> Optional[list[str]]:
 
 
 def sent(folder: Path, port: str, source: bytes) -> list[bytes]:
-    """Replays each file of a folder. Returns the frames that a port sends, with their source
-    address replaced by `source`, and without those from the head of a file."""
+    """Replays each log of a folder. Returns the frames that a port sends after the first time of
+    day in each log, with `source` as the source address."""
     frames: list[str] = []
     for log in sorted(folder.iterdir(), key=lambda path: path.stat().st_mtime_ns):
         text = log.read_text()
@@ -65,8 +65,8 @@ def sent(folder: Path, port: str, source: bytes) -> list[bytes]:
 
 
 def differing(folder: Path, moments: Moments) -> list[str]:
-    """Returns what is wrong with the logs of a folder: moments that are not in exactly one file, or
-    whose tables differ."""
+    """Returns a text about each moment that is not in exactly one log of the folder, and about each
+    log whose replay shows other tables at a moment."""
     wrong = []
     for line, answer in moments.answers.items():
         found = {log.name: tables for log in sorted(folder.iterdir())

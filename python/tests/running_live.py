@@ -23,7 +23,7 @@ is_built = unittest.skipUnless(os.access(LIVE, os.X_OK),
 
 NO_ADDRESS = "there is no IPv4 address to announce\n"
 
-# tests under nohup or in the background ignore these, and lldpa-live would inherit that
+# tests under nohup or in the background ignore these signals, and lldpa-live would, too
 signal.signal(signal.SIGINT, signal.default_int_handler)
 signal.signal(signal.SIGHUP, lambda *_: None)
 
@@ -48,17 +48,17 @@ class Live:
             raise AssertionError(f"no lldpa-live: {self.errors()}")
 
     def answers(self) -> bool:
-        """True if its agent runs, or it has ended."""
+        """True if lldpa-live answers that its agent runs, or if lldpa-live has ended."""
         return self.process.poll() is not None or self.ask_quietly()
 
     def has(self, line: str, what: str = "live") -> bool:
-        """True if it answers a question, and the answer has this line."""
+        """True if lldpa-live answers a question, and the answer has this line."""
         with contextlib.suppress(OSError):
             return line in self.ask(what)
         return False
 
     def ask_quietly(self) -> bool:
-        """True if it answers at its control socket that its agent runs."""
+        """True if lldpa-live answers that its agent runs."""
         return self.has("live.agent=running")
 
     def ask(self, line: str) -> list[str]:
@@ -66,7 +66,7 @@ class Live:
             return client.ask(line)
 
     def ask_refused(self, line: str) -> str:
-        """Returns why it refuses a line, or an empty text if it does not."""
+        """Returns why lldpa-live refuses a line, or an empty text if it accepts the line."""
         try:
             self.ask(line)
         except Refused as refused:
@@ -98,27 +98,27 @@ class Live:
             raise AssertionError(f"{what} has no {line}: {self.ask(what)}")
 
     def used(self) -> float:
-        """Returns how many seconds of processor time it has used."""
+        """Returns how many seconds of processor time lldpa-live's main thread has used."""
         return int(Path(f"/proc/{self.process.pid}/schedstat").read_text().split()[0]) / 1e9
 
     def errors(self) -> str:
-        """Returns what it wrote to standard error, without the line about a missing address."""
+        """Returns lldpa-live's standard error, without lines about a missing address."""
         return "".join(line for line in self.said().splitlines(True) if NO_ADDRESS not in line)
 
     def said(self) -> str:
         return self.errors_path.read_text()
 
     def says(self, text: str, seconds: float = SECONDS) -> bool:
-        """True if it writes this text to standard error in time."""
+        """True if lldpa-live writes this text to standard error in time."""
         return bool(eventually(lambda: text in self.errors(), seconds))
 
     def resident(self, kind: str = "VmRSS") -> int:
-        """Returns the size of its resident set in KiB; with VmHWM, the greatest so far."""
+        """Returns the size of lldpa-live's resident memory in KiB, or its peak with VmHWM."""
         status = Path(f"/proc/{self.process.pid}/status").read_text()
         return int(status.split(f"{kind}:")[1].split()[0])
 
     def ended(self, number: int = signal.SIGTERM) -> Optional[int]:
-        """Ends it with a signal, and returns its status."""
+        """Sends a signal. Returns the status, or None if lldpa-live does not end in time."""
         self.signal(number)
         return self.ends()
 
@@ -132,13 +132,13 @@ class Live:
         self.signal(signal.SIGCONT)
 
     def ends(self, seconds: float = SECONDS) -> Optional[int]:
-        """Returns its status, or None if it does not end in time."""
+        """Returns the status, or None if lldpa-live does not end in time."""
         with contextlib.suppress(subprocess.TimeoutExpired):
             return self.process.wait(seconds)
         return None
 
     def close(self) -> None:
-        """Ends it, even if it is stopped or hangs."""
+        """Ends lldpa-live, even if it is stopped or hangs. Fails if it has panicked."""
         if self.process.poll() is None:
             self.signal(signal.SIGCONT)
             if self.ended() is None:
@@ -152,7 +152,7 @@ class Live:
 @unittest.skipUnless(os.geteuid() == 0 and shutil.which("ip") and os.access(LIVE, os.X_OK),
                      "links need root, ip, and lldpa-live, which tools/release/live.sh builds")
 class OnLinks(unittest.TestCase):
-    """A test with links. After it the links are removed, and its programs are ended."""
+    """A test with links. After the test, the links are removed and the programs are ended."""
 
     links = 1
 
@@ -180,7 +180,7 @@ class OnLinks(unittest.TestCase):
 
     def becomes_neighbor(self, live: Live, octets: bytes = numbered(1),
                          peer: Optional[Peer] = None) -> None:
-        """Sends a frame, and waits until its sender is a neighbor of eth0."""
+        """Sends a frame, and waits until eth0 has a neighbor."""
         (peer or self.peer()).send(octets)
         self.assertTrue(eventually(live.neighbors))
 

@@ -1,4 +1,4 @@
-"""For tests: a control socket with a real agent, as lldpa-live has."""
+"""For tests: a control socket that answers like lldpa-live, with a real agent."""
 
 from __future__ import annotations
 
@@ -48,7 +48,7 @@ def tlv(kind: int, body: bytes) -> bytes:
 
 
 def frame(chassis: bytes, port: bytes, ttl: int, *further: bytes) -> bytes:
-    """Returns a frame of a neighbor. The identifiers begin with their subtypes."""
+    """Returns a frame of a neighbor. `chassis` and `port` begin with their subtypes."""
     head = GROUP_ADDRESS + bytes.fromhex("02000000000a") + bytes.fromhex("88cc")
     pdu = tlv(1, chassis) + tlv(2, port) + tlv(3, ttl.to_bytes(2, "big")) + b"".join(further)
     return head + pdu + tlv(0, b"")
@@ -158,7 +158,7 @@ class Program(unittest.TestCase):
         self.addCleanup(self.served.close)
 
     def run_ctl(self, *words: str, status: int = 0, said: str = "", **options: Any) -> str:
-        """Returns the output of lldpa-ctl, and checks its status and its message."""
+        """Runs lldpa-ctl. Returns the output, and checks the status and the message."""
         told = ctl(self.served.path, *words, **options)
         self.assertEqual((told.stderr, told.returncode), (said and f"lldpa-ctl: {said}\n", status))
         return told.stdout

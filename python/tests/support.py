@@ -32,7 +32,7 @@ class FilesCase(unittest.TestCase):
         return str(path)
 
     def ran(self, *words: str, octets: Optional[bytes] = None) -> Tuple[str, str, int]:
-        """Runs lldpa-capture in the folder. Returns its output, its messages and its status."""
+        """Runs lldpa-capture in the folder. Returns the output, the messages and the status."""
         done = run_capture(list(words), octets, self.folder)
         return done.stdout, done.stderr, done.returncode
 

@@ -49,7 +49,7 @@ class AtPeers(Replaced):
         return path
 
     def is_there(self, address: Optional[str]) -> bool:
-        """True if both peers have this address (or none), and it was in this host's last frame."""
+        """True if both peers have this address (or None), and tshark saw it in the last frame."""
         wanted = set() if address is None else {address}
         last = self.captured.read_text().splitlines()[-1]
         return (last == f"121\t{address or ''}"
@@ -88,7 +88,7 @@ class AtPeers(Replaced):
         self.is_followed_at("eth0")
 
     def is_followed_above(self, kind: str) -> None:
-        """Puts an interface of this kind above the first port, and tests its addresses."""
+        """Makes an interface of this kind above the first port, and tests the addresses there."""
         if not self.can_make("above0", "type", kind):
             self.skipTest(f"it needs a kernel with {kind}s")
         for words in ("eth0 down", "eth0 master above0", "eth0 up", "above0 up"):
@@ -111,7 +111,7 @@ class AtPeers(Replaced):
 
 class Addresses(Replaced):
     def add(self, address: str, interface: str = "eth0", word: str = "add") -> None:
-        """Adds an address to this host, or removes it."""
+        """Adds an address to this host, or removes it if `word` is `del`."""
         ip("-n", self.wires.here, "address", word, f"{address}/24", "dev", interface)
 
     def test_an_address_of_a_bridge_is_left_when_the_port_leaves_the_bridge(self) -> None:

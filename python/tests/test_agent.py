@@ -21,7 +21,7 @@ from patience import eventually
 from served import PROGRAM
 from support import FilesCase
 
-# what port eth0 sends without options
+# the frame that port eth0 sends without options
 DEFAULT_FRAME = bytes.fromhex(
     "0180c200000e02000000000188cc02070402000000000104050565746830060200790804657468300a096c6f63"
     "616c686f73740c056c6c6470610e04008000800000")
@@ -202,7 +202,7 @@ class Listening(unittest.TestCase):
         self.addCleanup(self.first.close)
 
     def connected(self) -> Optional[Agent]:
-        """Returns an agent if it listens already."""
+        """Returns a connection to the agent, or None if the agent does not listen yet."""
         try:
             return Agent.connect(self.number)
         except ConnectionRefusedError:

@@ -115,7 +115,7 @@ class Compressed(unittest.TestCase):
 
 
 class InPlace(unittest.TestCase):
-    """Tests that a reader misses no packet with a given beginning, and no decrease of the times."""
+    """Tests that a reader finds packets with a given beginning, and each decrease of the times."""
 
     def random_frames(self, dice: random.Random) -> list[Frame]:
         """Returns frames, some of them LLDP frames, at times that mostly increase."""

@@ -68,7 +68,7 @@ class Clocks(FilesCase):
 
 
 class Ports(FilesCase):
-    """Tests captures of 48 ports, each with a neighbor."""
+    """Tests captures of 48 ports that have one neighbor each."""
 
     def setUp(self) -> None:
         super().setUp()
@@ -76,13 +76,13 @@ class Ports(FilesCase):
                           for number, port in enumerate(PORTS)]
 
     def frames(self, mac: bytes, peer: str, begin: int) -> list[Frame]:
-        """Returns nine frames at a port; every fourth is from its neighbor."""
+        """Returns nine frames at a port. The first, fifth and ninth are from the neighbor."""
         octets = lldp_frame(mac, peer.encode())
         return [whole(OTHER if place % 4 else octets, START + (begin + place * 7) * SECOND)
                 for place in range(9)]
 
     def compare(self, *words: str) -> None:
-        """Checks that an agent finds the neighbors with the trace that lldpa-capture writes."""
+        """Checks that an agent finds all neighbors if it reads the trace from lldpa-capture."""
         trace, *ended = self.ran(*words)
         self.assertEqual(ended, ["", 0])
         shown = subprocess.run([PROGRAM, "--receive-only", *PORTS], text=True, check=True,

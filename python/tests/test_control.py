@@ -34,7 +34,7 @@ class Answered(OnLinks):
         self.served = self.live("eth0", "eth1", "--", "--receive-only", "--max-neighbors", "128")
 
     def raw(self) -> socket.socket:
-        """Opens a connection that may send anything."""
+        """Opens a connection to the control socket."""
         connection = socket.socket(socket.AF_UNIX, socket.SOCK_STREAM)
         self.addCleanup(connection.close)
         connection.settimeout(SECONDS)
@@ -48,7 +48,7 @@ class Answered(OnLinks):
         return rest_of(connection)
 
     def fill(self) -> None:
-        """Adds 128 neighbors to each port. A show of them exceeds the kernel's socket buffer."""
+        """Adds 128 neighbors to each port, so that `show neighbors` exceeds the socket buffer."""
         for port in ("0", "1"):
             peer = self.peer(f"peer{port}")
             for number in range(128):

@@ -41,7 +41,7 @@ class AtAPath(OnLinks):
         return live
 
     def fails(self, text: str, path: str = "") -> None:
-        """Checks that lldpa-live cannot use this path, and says why."""
+        """Checks that lldpa-live cannot use this path, and reports this text."""
         self.refuses(text, "--control", path or self.path, "eth0")
 
 
@@ -106,8 +106,8 @@ class Permission(AtAPath):
     """Tests what the owner, members of the group, and other users may do."""
 
     def asker(self, *groups: int, user: int = STRANGER) -> "subprocess.Popen[str]":
-        """Starts a process as this user. It sends lldpa-live each line that it reads, and prints
-        the answer."""
+        """Starts a process of this user. The process sends lldpa-live each line that it reads, and
+        prints the answer."""
         words = [sys.executable, "-c", ASKER, self.path, str(user), *map(str, groups)]
         asker = subprocess.Popen(words, stdin=subprocess.PIPE, stdout=subprocess.PIPE,
                                  stderr=subprocess.DEVNULL, text=True)
@@ -115,7 +115,7 @@ class Permission(AtAPath):
         return asker
 
     def ask(self, asker: "subprocess.Popen[str]", line: str) -> str:
-        """Returns the answer as the process prints it, or an empty text if it failed."""
+        """Returns what the process prints as the answer, or an empty text if the process failed."""
         assert asker.stdin is not None and asker.stdout is not None
         try:
             asker.stdin.write(line + "\n")

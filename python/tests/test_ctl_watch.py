@@ -20,7 +20,7 @@ class Watching(Program):
         self.times: list[float] = []
 
     def watch(self, *words: str, ports: Sequence[str] = ()) -> subprocess.Popen[str]:
-        """Starts a watch, and waits until it has begun."""
+        """Starts `lldpa-ctl watch`, and waits until it has asked for the neighbors."""
         words = (CTL, "--control", self.served.path, *words, "watch", *ports)
         environment = {key: value for key, value in os.environ.items() if key != "PYTHONUNBUFFERED"}
         child = subprocess.Popen(words, stdout=subprocess.PIPE, stderr=subprocess.PIPE, text=True,
@@ -32,7 +32,7 @@ class Watching(Program):
         return child
 
     def line(self, child: subprocess.Popen[str]) -> str:
-        """Returns its next line, and notes how long it took to arrive."""
+        """Returns the next line of a watch, and notes how long the line took to arrive."""
         assert child.stdout is not None
         began = time.monotonic()
         self.assertTrue(select.select([child.stdout], [], [], SECONDS)[0], "no line")

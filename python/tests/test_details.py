@@ -11,7 +11,7 @@ from tlvs import SAMPLES
 
 ORG = tuple((f"org.{oui}.{sample.kind[1]}", bytes.fromhex(sample.octets).hex())
             for sample in SAMPLES for oui in (sample.kind[0],))
-# all samples, but only one of Link Aggregation, and of Power via MDI the one with all parts
+# all samples except Link Aggregation of IEEE 802.3 and the shorter ones of Power via MDI
 EACH = tuple((key, octets) for key, octets in ORG if key != "org.00120f.3"
              and (key != "org.00120f.2" or len(octets) == 2 * 25))
 SWITCH = Neighbor(

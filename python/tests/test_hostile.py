@@ -1,4 +1,4 @@
-"""Tests that clients withstand a hostile lldpa-live, or a stranger in its place."""
+"""Tests that clients withstand a hostile lldpa-live, or another program in its place."""
 
 import os
 import subprocess
@@ -22,7 +22,7 @@ def rights_of(number: int) -> list[str]:
 
 
 class Hostile(AnsweringCase):
-    """Tests answers of an lldpa-live that was taken over."""
+    """Tests answers of an lldpa-live that an attacker has taken over."""
 
     def test_nothing_raw_is_printed(self) -> None:
         for words in (["show", "chassis"], ["live"], ["configure", "x"], ["update"]):
@@ -56,7 +56,8 @@ class Hostile(AnsweringCase):
         for answer, said in ((b"", "lldpa-live has ended the connection"),
                              (b"=1\n", "lldpa-live has ended the connection"),
                              (b"hello\n", "not an answer of lldpa-live: 'hello'"),
-                             (b"=1\nlive.began=now\n=0\n=0\n", "lldpa-live: not a time such as "),
+                             (b"=1\nlive.began=now\n=0\n=0\n", "not an answer of lldpa-live: not "
+                              "a time such as 2026-11-23T19:40:00Z: 'now'"),
                              (b"=0\n=1\nx\n=0\n", "not an answer of lldpa-live: line 1: ")):
             told = ctl(self.answers(answer), "metrics", "--output", str(file))
             self.assertEqual((told.returncode, file.read_text()), (1, DOWN), answer)

@@ -1,4 +1,4 @@
-"""Tests that nobody gets rights from what root's programs inherit, or from other users' folders."""
+"""Tests what programs inherit, and that they trust no files in other users' folders."""
 
 import os
 import shutil
@@ -27,7 +27,7 @@ print(next(line for line in open("/proc/self/status") if line.startswith("CapEff
 
 
 class OthersFolders(FilesCase):
-    """Tests that a program runs no file of the folder in which it is started, nor of PYTHONPATH."""
+    """Tests that programs run no files of the working folder or of PYTHONPATH."""
 
     def test_no_program_runs_code_of_its_environment(self) -> None:
         mark = self.folder / "mark"
@@ -40,7 +40,7 @@ class OthersFolders(FilesCase):
 
 
 class OfRoot(OnLinks):
-    """Tests programs of root: symbolic links, user namespaces, the keyring, and an empty root."""
+    """Tests symbolic links, user namespaces, the session keyring, and an empty root folder."""
 
     def test_a_link_to_a_folder_is_followed_in_a_folder_of_the_own_user_alone(self) -> None:
         target, theirs = self.folder / "target", self.folder / "theirs"

@@ -21,7 +21,7 @@ class TestFrames(OnLinks):
         self.port = self.live("eth0", "--", "--receive-only")
 
     def takes(self, number: int, octets: bytes) -> bool:
-        """True if a frame adds this neighbor. A frame of neighbor 99 follows, and ends the wait."""
+        """True if a frame adds this neighbor before the next frame adds neighbor 99."""
         self.sender.send(octets)
         self.sender.send(numbered(99))
         name = f"ifname=p{number}"
@@ -74,7 +74,7 @@ class TestFrames(OnLinks):
 
 
 class TestNews(OnLinks):
-    """Tests that news of interfaces is requested again if the kernel lost it."""
+    """Tests that lldpa-live asks for the state of interfaces again if the kernel lost messages."""
 
     links = 2
 

@@ -1,7 +1,7 @@
 """Compares how lldpa reads organizationally specific TLVs with what lldpcli and tshark show.
 
 `judged.json` has frames of real senders and frames made for tests, each with the output of
-lldpcli 1.0.16 and tshark 4.0.17; `tools/by-hand/try-details.py --save` writes it again.
+lldpcli 1.0.16 and tshark 4.0.17. `tools/by-hand/try-details.py --save` writes this file.
 """
 
 import json
@@ -12,7 +12,7 @@ from served import REPOSITORY
 
 
 class BesideOthers(unittest.TestCase):
-    """Tests that all values are equal, and that a changed value is found."""
+    """Tests that all values are equal, and that `compare` reports a changed value."""
 
     def setUp(self) -> None:
         text = (REPOSITORY / "python" / "tests" / "judged.json").read_text()

@@ -1,4 +1,4 @@
-"""Tests the command line of lldpa-live, and what it needs to start."""
+"""Tests the command line of lldpa-live, and what lldpa-live needs to start."""
 
 import os
 import unittest
@@ -65,7 +65,7 @@ class TestStart(OnLinks):
                 (1, "no Ethernet interface is selected", "--once", "1", "lan*"),
                 (1, str(file), "--log", str(file), "eth0"),
                 (1, f"{folder}: {cannot}", "--log", str(folder), "eth0"),
-                # with status 2 systemd does not start it again
+                # after status 2, systemd does not start lldpa-live again
                 (2, "error: user nemo is not in /etc/passwd", "--user", "nemo", "eth0")):
             self.refuses(text, *words, status=status)
 

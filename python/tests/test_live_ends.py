@@ -19,7 +19,7 @@ SO_TIMESTAMPNS = 35  # asm-generic/socket.h
 
 
 class TestEnds(OnLinks):
-    """Tests that it ends soon, after shutdown frames."""
+    """Tests that lldpa-live ends soon, after it has sent shutdown frames."""
 
     @by_the_clock
     def test_each_signal_sends_shutdown_frames(self) -> None:
@@ -67,7 +67,7 @@ class TestEnds(OnLinks):
 
 
 def stamped(peer: Peer) -> Optional[float]:
-    """Returns when a shutdown frame reached a peer, by the kernel's wall clock."""
+    """Returns when a shutdown frame reached a peer (wall clock), or None if none came."""
     peer.socket.settimeout(0.01)
     with contextlib.suppress(OSError):
         while True:
@@ -79,7 +79,7 @@ def stamped(peer: Peer) -> Optional[float]:
 
 
 class TestManyEnds(OnLinks):
-    """Tests the end of 64 ports with full tables, on a busy host."""
+    """Tests how an lldpa-live with 64 ports and full tables ends on a busy host."""
 
     links = 64
 

@@ -21,7 +21,7 @@ MOST_LATE = QUESTIONS // 10
 MOST_KIB = 8_000
 A_SECOND, AT_ONCE = 64, 1024  # limits for frames that may change a port's table
 
-# ten strangers that change their LLDPDU with each frame, 5,000 frames a second together
+# ten neighbors that change their LLDPDU with each frame, and together send 5,000 frames a second
 STRANGERS = """
 import socket, time
 sender = socket.socket(socket.AF_PACKET, socket.SOCK_RAW)
@@ -40,14 +40,14 @@ FRAMES = [numbered(number) for number in range(200)]
 
 
 def numbers(live: Live) -> dict[str, int]:
-    """Returns how many frames were dropped, and how many were received."""
+    """Returns how many frames the kernel dropped, the limit dropped, and the agent received."""
     shown = "\n".join(live.ask("live") + live.ask("show statistics"))
     return {name: int(re.search(rf"[.]{name}=(\d+)$", shown, re.M)[1])
             for name in ("kernel-drops", "limit-drops", "received")}
 
 
 class TestFlood(OnLinks):
-    """Tests neighbors that send as fast as they can."""
+    """Tests that lldpa-live withstands neighbors that send as fast as they can."""
 
     def flooded(self, frames: list[bytes]) -> "tuple[Live, subprocess.Popen[bytes]]":
         """Starts an lldpa-live and an endless flood, and waits for the first frames."""

@@ -19,7 +19,7 @@ CLOCK = re.compile(r"# \d{4}-\d\d-\d\dT\d\d:\d\d:\d\dZ")
 
 class TestLog(OnLinks):
     def logs(self) -> list[Path]:
-        """Returns the files of the folder, oldest first."""
+        """Returns the log files, oldest first."""
         return sorted(self.log.iterdir(), key=lambda path: path.stat().st_mtime_ns)
 
     @by_the_clock
@@ -30,7 +30,7 @@ class TestLog(OnLinks):
         self.assertEqual(live.ended(), 0)
         replayed = sent(self.log, "eth0", self.wires.address("eth0"))
         heard = list(iter(lambda: peer.hears(0.5), None))
-        # frames that were due while the link was down, or lldpa-live was stopped, were not sent
+        # the replay also sends what was due while the link was down or lldpa-live was stopped
         left = iter(replayed)
         self.assertTrue(all(octets in left for octets in heard))
         self.assertEqual(replayed[-1], heard[-1])
@@ -40,7 +40,7 @@ class TestLog(OnLinks):
         self.assertNotIn(b"nonsense", log)
 
     def live_a_little(self, live: Live, peer: Peer) -> None:
-        """Makes frames, questions, refused lines, changes of the link and missed seconds."""
+        """Sends frames and commands, changes the link, and stops lldpa-live for a while."""
         for frame in (numbered(1), numbered(2), numbered(3, ttl=1)):
             peer.send(frame)
         self.assertTrue(eventually(lambda: "lldp.eth0.ageouts=1" in live.ask("show statistics")))
@@ -100,7 +100,7 @@ class TestLog(OnLinks):
 
 
 class TestOnce(OnLinks):
-    """Tests `--once`: lldpa-live ends when each port has a neighbor, or when its time is over."""
+    """Tests `--once`: lldpa-live ends when each port has a neighbor, or when the time is over."""
 
     links = 2
 

@@ -1,4 +1,4 @@
-"""Compares the package's output in lldpcli's forms with lldpcli's own for the same frames."""
+"""Compares the package's output in lldpcli's forms with lldpcli's output for the same frames."""
 
 import json
 import re
@@ -21,7 +21,7 @@ PORTS = ["swp1", "swp2"]
 
 
 def told_of(agent: Agent, frames: Iterable[Tuple[str, bytes]]) -> Told:
-    """Passes frames to the agent, and returns what an lldpa-live would then answer."""
+    """Passes frames to the agent. Returns the neighbors, with made-up times and chassis numbers."""
     since: Dict[Tuple[str, str], str] = {}
     numbers: Dict[str, int] = {}
     for port, octets in frames:
@@ -39,7 +39,7 @@ def tree_of(frames: Iterable[Tuple[str, bytes]]) -> Node:
 
 
 class BesideLldpcli(unittest.TestCase):
-    """Compares the forms for frames that a real lldpd received."""
+    """Compares the output in each form, for frames that a real lldpd received."""
 
     def compare(self, tree: Node, name: str, forms: Iterable[str]) -> None:
         for form in forms:

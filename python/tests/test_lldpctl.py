@@ -26,7 +26,7 @@ class Program(unittest.TestCase):
         self.served.frame("eth1", numbered(7, 120, tlv(5, b"there"), vlan))
 
     def run_it(self, program: str, *words: str, status: int = 0, said: str = "") -> str:
-        """Returns the output of a program, and checks its status and its message."""
+        """Runs a program. Returns the output, and checks the status and the message."""
         told = subprocess.run([program, "-u", self.served.path, *words], check=False,
                               capture_output=True, text=True, timeout=SECONDS)
         name = program.rpartition("/")[2]

@@ -1,4 +1,4 @@
-"""Tests the files of a log: replays, their size, and disks that must not stop lldpa-live."""
+"""Tests the files of a log: replays, sizes, and disks that must not stop lldpa-live."""
 
 import ctypes
 import os
@@ -17,7 +17,7 @@ from wires import flood
 
 PTRACE_DETACH, PTRACE_SEIZE, PTRACE_INTERRUPT = 17, 0x4206, 0x4207  # linux/ptrace.h
 WALL = 0x40000000  # waits for a thread, too
-# 25 neighbors, which change their LLDPDU with each frame
+# frames of 25 neighbors, whose LLDPDU changes with each frame
 LONG = [numbered(number % 25, 600 + number, tlv(5, b"n%d" % number)).ljust(1514, b"\0")
         for number in range(200)]
 
@@ -41,7 +41,7 @@ class StoppedWriter:
         self.trace(PTRACE_DETACH)
 
     def bury(self) -> None:
-        """Reaps the traced thread in the background, since the process cannot end before that."""
+        """Reaps the traced thread in the background, since lldpa-live cannot end before that."""
         threading.Thread(target=os.waitpid, args=[self.thread, WALL], daemon=True).start()
 
 
@@ -192,6 +192,6 @@ class TestFrozenDisk(OnLinks):
 
 
 def is_served(path: str) -> bool:
-    """True if somebody answers at a control socket."""
+    """True if a control socket accepts a connection."""
     with socket.socket(socket.AF_UNIX) as client:
         return client.connect_ex(path) == 0

@@ -25,7 +25,7 @@ def read(value: str) -> str:
 
 
 def series_of(lines: list[str]) -> Series:
-    """Returns the samples by their names and labels, read as Prometheus does."""
+    """Reads samples as Prometheus does. Returns the value for each name with its labels."""
     series: Series = {}
     for line in lines:
         if line.startswith("#"):

@@ -1,4 +1,4 @@
-"""Tests organizationally specific TLVs: valid ones are read completely, and others are not read."""
+"""Tests that valid organizationally specific TLVs are read whole, and invalid TLVs not at all."""
 
 import unittest
 
@@ -20,13 +20,13 @@ class Counted(str):
 
 
 def changed(octets: bytes) -> list[bytes]:
-    """Returns all variants of octets in which one octet has another value."""
+    """Returns all variants of these octets that differ in one octet."""
     return [octets[:at] + bytes([value]) + octets[at + 1:]
             for at in range(len(octets)) for value in range(256) if value != octets[at]]
 
 
 class EachKind(unittest.TestCase):
-    """Tests a sample of each kind, its beginnings, and all changes of one octet."""
+    """Tests samples of each kind, their beginnings, and all changes of one octet in a sample."""
 
     def test_what_is_said(self) -> None:
         for sample in SAMPLES:

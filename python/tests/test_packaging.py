@@ -73,7 +73,7 @@ class Installed(unittest.TestCase):
         return cls.folder / "venv" / "bin" / name
 
     def run_it(self, *words: str) -> str:
-        """Returns the output of a program in the environment."""
+        """Runs a program of the environment, and returns the output."""
         return subprocess.run([str(self.bin(words[0])), *words[1:]], cwd=self.folder,
                               capture_output=True, text=True, check=True).stdout
 

@@ -9,7 +9,7 @@ from served import numbered
 
 
 class TestTime(OnLinks):
-    """Tests that frames and seconds reach the agent in order, even late."""
+    """Tests that frames and seconds reach the agent in order, even if lldpa-live is late."""
 
     @by_the_clock
     def test_stopped_lldpa_live_ages_out_nobody_who_was_heard(self) -> None:
@@ -189,13 +189,13 @@ def now() -> float:
 
 
 def seconds_left(shown: list[str]) -> int:
-    """Returns for how many more seconds the first neighbor in a show is kept."""
+    """Returns the seconds until the first of the shown neighbors ages out."""
     return next(int(line.split("=")[1]) for line in shown if ".expires=" in line)
 
 
 def begins_of_its_seconds(live: Live) -> list[tuple[float, float]]:
-    """Reads lldpa-live's count of seconds for 1.2 seconds. Returns for each reading when the count
-    must have begun. All these intervals overlap if each second is passed on exactly once."""
+    """Reads lldpa-live's count of seconds for 1.2 seconds. Returns for each reading the interval in
+    which the count began. All intervals overlap if lldpa-live counts each second exactly once."""
     last, begins = now() + 1.2, []
     while (before := now()) < last:
         live.ask("show chassis")  # it answers after the seconds up to now

@@ -21,7 +21,7 @@ SYS_PIDFD_OPEN, SYS_PIDFD_GETFD = 434, 438
 
 
 def what_is_refused(packets: socket.socket) -> list[str]:
-    """Returns which of three calls are refused. Each would let a packet socket read more."""
+    """Returns which of three calls the kernel refuses. Each call would let a socket read more."""
     code = array.array("B", struct.pack("HBBI", 6, 0, 0, 0xFFFF))
     program = struct.pack("HP", 1, code.buffer_info()[0])
     refused = []
@@ -36,7 +36,7 @@ def what_is_refused(packets: socket.socket) -> list[str]:
 
 
 def sockets_of(live: Live) -> list[socket.socket]:
-    """Returns the packet sockets of an lldpa-live: duplicates of its own descriptors."""
+    """Returns duplicates of the packet sockets of an lldpa-live."""
     libc = ctypes.CDLL(None, use_errno=True)
     pid = libc.syscall(SYS_PIDFD_OPEN, live.process.pid, 0)
     found = []
@@ -63,7 +63,7 @@ def status_of(pid: int) -> dict[str, str]:
 
 
 class TestFilter(OnLinks):
-    """Tests that nobody can remove the filter of a packet socket."""
+    """Tests the filter of a packet socket, which nobody can remove, and what is still possible."""
 
     links = 2
 
@@ -131,7 +131,7 @@ class TestSets(OnLinks):
         self.keeps_nothing(self.live("--user", "daemon", "eth0").process.pid, "1")
 
     def keeps_nothing(self, thread: int, user: str) -> None:
-        """Checks that a thread has no rights left, and belongs to a user and its group."""
+        """Checks that a thread has no capabilities, and has this user and group."""
         status = status_of(thread)
         for kind in ("CapBnd", "CapInh", "CapPrm", "CapEff", "CapAmb"):
             self.assertEqual(int(status[kind], 16), 0, kind)

@@ -12,7 +12,7 @@ from patience import eventually
 from served import PROGRAM, numbered
 
 
-# lines, the agent's refusals, and the wrong word with what is allowed in its place
+# lines, the agent's refusals, and explanations: the wrong word, and what is allowed instead
 REFUSED = (
     ("configure lldp tx-interval 0", "out of range", "0 (seconds between frames, 1 to 3600)"),
     ("configure lldp tx-hold x", "not a number",

@@ -1,4 +1,4 @@
-"""Tests that shows are read, and that the same lines can be written again."""
+"""Tests that the output of show commands is read, and that the same lines can be written again."""
 
 import subprocess
 import sys
@@ -42,7 +42,7 @@ lldp.p1.octets=0
 lldp.p1.too-many=no
 """.splitlines()
 
-# each counter and each number has a different value
+# each counter, and each number in NUMBERS, has a different value
 COUNTS = {name: number for number, name in enumerate(Counters._fields)}
 STATISTICS = [f"lldp.{port}.{name.replace('_', '-')}={number}"
               for port in ("eth0", "p1") for name, number in COUNTS.items()]
@@ -66,7 +66,7 @@ ALL = NEIGHBORS + STATISTICS + CHASSIS + CONFIGURATION
 
 
 def shows_of_transcript(name: str) -> Iterator[List[str]]:
-    """Yields the output of each show in a transcript, and of all shows after its last line."""
+    """Yields the output of each show command in a transcript, and of every kind at its end."""
     (_, words, _, trace, steps), = transcripts([name])
     assert not isinstance(steps, str), steps
     lines = [line for line, _ in steps] + [b"show " + show.encode() for show in SHOWS]
@@ -78,7 +78,7 @@ def shows_of_transcript(name: str) -> Iterator[List[str]]:
 
 
 def random_show(seed: int) -> List[str]:
-    """Returns the shows at the end of a random trace, or nothing if its command line is refused."""
+    """Returns the shows at the end of a random trace, or nothing if its options are refused."""
     dice = fuzz.Dice(seed)
     words, lines = fuzz.new_trace(dice)
     lines[-3:-3] = [MARK]
@@ -89,7 +89,7 @@ def random_show(seed: int) -> List[str]:
 
 
 class ThereAndBack(unittest.TestCase):
-    """Tests that a show that was read is written as the same lines."""
+    """Tests that lines that are read as a show are written as the same lines."""
 
     def test_each_show_of_the_transcripts(self) -> None:
         count = neighbors = 0
@@ -185,7 +185,7 @@ class WhatIsRead(unittest.TestCase):
 
 
 class Refused(unittest.TestCase):
-    """Tests that lines that are not a show are reported with their number and text."""
+    """Tests that a line that cannot belong to a show is reported with its number and text."""
 
     def changed(self, old: str, new: List[str]) -> Tuple[int, List[str]]:
         """Returns the number of a line of `ALL`, and the lines of `ALL` with `new` in its place."""

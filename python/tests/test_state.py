@@ -1,4 +1,4 @@
-"""Tests that a new lldpa-live continues with the state that the previous one left."""
+"""Tests that a new lldpa-live continues with the state that the previous lldpa-live left."""
 
 import os
 import signal
@@ -21,8 +21,8 @@ class Restarts(Replaced):
         self.state = self.folder / "state"
 
     def ended(self) -> tuple[list[Neighbor], float, dict[tuple[str, str], str]]:
-        """Starts an lldpa-live and ends it. Returns its neighbors, when it was asked for them, and
-        since when it heard each."""
+        """Starts an lldpa-live and ends it. Returns the neighbors, the moment at which they were
+        read, and since when lldpa-live has heard each neighbor."""
         live = self.begun("--state", str(self.state))
         since = since_of(live.ask("live"))
         neighbors, moment = self.neighbors(live), time.monotonic()
@@ -135,7 +135,7 @@ class Restarts(Replaced):
 
 
 def forged(count: int) -> Iterator[str]:
-    """Yields the lines of a state with this many neighbors of eth0."""
+    """Yields the lines of a state file with this many neighbors of eth0."""
     now = time.clock_gettime(time.CLOCK_BOOTTIME)
     yield f"# lldpa-live state 1 {time.time():.3f} {now:.3f}"
     names = [b"\x07n%d" % number for number in range(count)]

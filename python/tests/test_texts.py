@@ -1,4 +1,4 @@
-"""Tests the texts of neighbors as Unicode, and as a terminal may show them."""
+"""Tests how texts of neighbors are read as Unicode, and made safe for a terminal."""
 
 import json
 import unicodedata
@@ -10,8 +10,8 @@ from lldpa.texts import (columns_of, is_shown, printable, readable, shown_octets
                          text_of, width_of, wrapped)
 
 SHOWN = ("a", "é", "ß", "Ω", "ж", "א", "ع", "京", "한", "€", "→", "😀", "½", "\\", "~", "¡")
-# controls, breaks, spaces, marks that change the writing direction, joiners, fillers, selectors,
-# private use and unassigned letters
+# characters that are never shown: controls, breaks, spaces, marks that change the writing
+# direction, joiners, fillers, selectors, private use and unassigned letters
 NEVER = ("\x00", "\x07", "\x1b", "\x7f", "\x80", "\x9b", "\x85", "\xa0", "\xad", "\u034f", "\u061c",
          "\u115f", "\u1160", "\u17b4", "\u180e", "\u2000", "\u200b", "\u200c", "\u200d", "\u200e",
          "\u200f", "\u2028", "\u2029", "\u202a", "\u202b", "\u202c", "\u202d", "\u202e", "\u2060",

@@ -18,8 +18,8 @@ RX = f"rx eth0 {LLDP.hex()}\n"
 
 
 def slow_trace(frames: Sequence[Frame]) -> List[str]:
-    """Returns the trace of a capture by the rules of docs/CAPTURES.md, packet by packet: the
-    seconds before each LLDP frame, and those at the end."""
+    """Computes the trace of a capture packet by packet, by the rules of docs/CAPTURES.md: LLDP
+    frames, the seconds before each of them, and the seconds at the end."""
     lines, passed, set_back, start, latest = [], 0, 0, frames[0][0], frames[0][0]
     for time, octets, length in [*frames, (frames[-1][0], b"", 0)]:
         if latest - (time + set_back) >= SECOND:
@@ -37,7 +37,7 @@ def slow_trace(frames: Sequence[Frame]) -> List[str]:
 
 class Traces(FilesCase):
     def trace(self, *sources: Source, seconds: bool = True) -> List[str]:
-        """Returns the trace. `notes` and `faults` collect what was reported."""
+        """Returns the trace of the sources. `self.notes` and `self.faults` collect the reports."""
         self.notes: List[str] = []
         self.faults: List[str] = []
         return list(trace_of(sources, Told(self.notes.append, self.faults.append), seconds))

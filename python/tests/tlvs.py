@@ -1,4 +1,4 @@
-"""For tests: a sample of each organizationally specific TLV, its octets, and tshark's output."""
+"""For tests: samples of all organizationally specific TLVs, their encoding, and tshark's output."""
 
 from by_tshark import FIELDS, SHOWN, Pairs, by_fields, enumerated, expected
 from encoding import ENCODERS, SAMPLES, Sample, by_layout, counted, encoded
@@ -57,7 +57,7 @@ SAMPLES += [
     Sample(("0012bb", 1), "003f 03", MedCapabilities(63, 3), 3 * 255),
     Sample(("0012bb", 2), "01 43e96e", NetworkPolicy(1, False, True, 500, 5, 46), 4 * 255,
            ignored="00 200000"),
-    # a variant is read if its resolutions are at most 34 and 30, and its degrees are in range
+    # a variant is read if the resolutions are at most 34, 34 and 30, and the degrees are in range
     Sample(("0012bb", 3), "01 48 61000000 48 04800000 12 40 00 2380 01",
            Coordinates(18, 97 << 24, 18, 9 << 23, 1, 9, 0x2380, 1),
            (35 * 2 - 1) + 180 + 3 * 255 + (35 * 3 - 1) + 4 * 255 + (16 * 8 - 1) + 5 * 255),
@@ -94,7 +94,7 @@ ENCODERS.update({
 
 
 def parts_of(tlv: Power) -> list[object]:
-    """Returns the TLV, and the parts that later standards added to it."""
+    """Returns a Power via MDI TLV, and its extensions from later standards."""
     return [part for part in (tlv, tlv.request, tlv.of_pairs) if part]
 
 
@@ -154,7 +154,7 @@ def pfc(tlv: Pfc) -> Pairs:
 
 
 def mac_phy(tlv: MacPhy) -> Pairs:
-    """Returns what tshark shows for MAC/PHY Configuration/Status, the last bit first."""
+    """Returns what tshark shows for MAC/PHY Configuration/Status, with the last bit first."""
     front = "lldp.ieee.802_3.pmd_auto_neg_advertised_caps"
     bits = {name: tlv.advertised >> 15 - place & 1 for place, name in enumerate(ADVERTISED)}
     return [*expected("lldp.ieee.802_3.mac_phy_auto_neg_status.", {
@@ -164,8 +164,8 @@ def mac_phy(tlv: MacPhy) -> Pairs:
 
 
 def coordinates(tlv: Coordinates) -> Pairs:
-    """Returns what tshark shows for coordinates, with the six bits of resolution before latitude
-    and longitude."""
+    """Returns what tshark shows for coordinates. Latitude and longitude include the six bits of
+    resolution before them."""
     latitude = tlv.latitude_resolution << 34 | tlv.latitude % (1 << 34)
     longitude = tlv.longitude_resolution << 34 | tlv.longitude % (1 << 34)
     return expected("lldp.media.loc.", {

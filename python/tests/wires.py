@@ -53,12 +53,12 @@ class Wires:
         eventually(self.all_up)
 
     def add_link(self, i: int) -> None:
-        """Makes another link, and waits until frames pass over it."""
+        """Makes another link, and waits until all links are up."""
         self.make_link(i)
         eventually(self.all_up)
 
     def all_up(self) -> bool:
-        """True if all ends are up. (Until then the kernel drops what is sent.)"""
+        """True if both ends of each link are up. Before that, the kernel drops what is sent."""
         shown = [subprocess.run(["ip", "-n", name, "-br", "link"], capture_output=True, text=True)
                  for name in (self.here, self.there)]
         ends = [line.split() for run in shown for line in run.stdout.splitlines() if "@" in line]
@@ -128,7 +128,7 @@ class Peer:
         self.socket.send(octets)
 
     def hears(self, seconds: float = SECONDS, ttl: Optional[int] = None) -> Optional[bytes]:
-        """Returns the next frame (with this time to live), or None if none comes in time."""
+        """Returns the next frame (with this `ttl`, if given), or None if none comes in time."""
         last = time.monotonic() + seconds
         while (left := last - time.monotonic()) > 0:
             self.socket.settimeout(left)
@@ -143,7 +143,7 @@ class Peer:
 
 
 def tlvs_of(octets: bytes) -> Iterator[Tuple[int, bytes]]:
-    """Yields the type and the body of each TLV, up to the End TLV or an incomplete one."""
+    """Yields the type and the body of each TLV, up to the End TLV or an incomplete TLV."""
     place = 14
     while place + 2 <= len(octets):
         head = int.from_bytes(octets[place:place + 2], "big")

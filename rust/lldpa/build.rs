@@ -1,4 +1,4 @@
-//! Finds liblldpa.a for the linker. If it finds no archive, it says what to do and ends the build.
+//! Finds liblldpa.a for the linker. Ends the build if there is no archive of the right version.
 
 use std::env;
 use std::fs;
@@ -7,13 +7,13 @@ use std::process::Command;
 
 const ARCHIVE: &str = "liblldpa.a";
 
-/// The first two numbers of the crate's version. Those of the archive must be the same.
+/// The first two numbers of the crate's version. The archive must have the same two numbers.
 const WANTED: &str = concat!(env!("CARGO_PKG_VERSION_MAJOR"), ".", env!("CARGO_PKG_VERSION_MINOR"));
 
 /// The octets before the version in the archive. The version is a little-endian u32.
 const BEFORE_VERSION: &[u8] = b"liblldpa version\0\0\0\0";
 
-/// Returns the folder that `LLDPA_LIB_DIR` names, if this variable is set.
+/// Returns the folder in `LLDPA_LIB_DIR`, if set. Ends the build if the folder has no archive.
 fn named() -> Option<PathBuf> {
     let folder = PathBuf::from(env::var_os("LLDPA_LIB_DIR")?);
     if !folder.join(ARCHIVE).is_file() {
@@ -36,7 +36,7 @@ fn installed() -> Option<PathBuf> {
     folder.join(ARCHIVE).is_file().then_some(folder)
 }
 
-/// Returns the first two numbers of the version of an archive.
+/// Returns the first two numbers of an archive's version, or None if it is not found.
 fn version_of(archive: &Path) -> Option<String> {
     let octets = fs::read(archive).ok()?;
     let found = octets.windows(BEFORE_VERSION.len()).position(|octets| octets == BEFORE_VERSION)?;

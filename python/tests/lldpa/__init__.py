@@ -1,6 +1,6 @@
-"""Imports the package `lldpa` in place of this one.
+"""Imports the package `lldpa` in place of this package.
 
-`unittest discover` searches only this folder, so this module adds the package's folder.
+`unittest discover` searches only this folder, so this adds the package's folder to sys.path.
 """
 import importlib
 import sys

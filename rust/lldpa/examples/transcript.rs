@@ -1,5 +1,5 @@
 //! Reads events for an agent, and prints what the program lldpa would print. Arguments and input
-//! are those of tools/library/c/transcript.c. Each show is compared with the agent's structs.
+//! are those of tools/library/c/transcript.c. A show command also compares structs with shows.
 
 use lldpa::{Agent, CommandFault, Neighbor, News, Options, Role, Sent, Show, Statistics};
 use std::io::{stdin, BufRead};
@@ -50,7 +50,7 @@ fn counter_lines(port: &str, told: &Statistics) -> String {
     fields.map(|field| format!("lldp.{port}.{field}\n")).collect()
 }
 
-/// Checks that the agent's structs have the same values as its shows.
+/// Checks that the counters and settings in the agent's structs are those in its shows.
 fn see_structs(agent: &Agent, ports: &[&str]) {
     let mut counters = String::new();
     for (port, name) in ports.iter().enumerate() {
@@ -77,7 +77,7 @@ fn see_structs(agent: &Agent, ports: &[&str]) {
     assert!(agent.statistics(ports.len() as u8).is_err());
 }
 
-/// Runs a command. If it is a show, also compares its lines with the same lines read one by one.
+/// Runs a command, and prints the result. Compares a show with its lines read one by one.
 fn command(agent: &mut Agent, ports: &[&str], line: &[u8]) -> Result<(), CommandFault> {
     let done = agent.command(line)?;
     write(agent, ports, &done.sent);
@@ -90,7 +90,7 @@ fn command(agent: &mut Agent, ports: &[&str], line: &[u8]) -> Result<(), Command
     Ok(())
 }
 
-/// Passes a frame to the agent, and checks that its news agrees with the port's neighbors.
+/// Passes a frame to the agent, and checks that the news agrees with the neighbors.
 fn heard(agent: &mut Agent, port: u8, frame: &[u8]) -> Vec<Sent> {
     let before = agent.neighbors(port).expect("a port").len();
     let (sent, news) = agent.frame_news(port, frame).expect("a port");
@@ -104,7 +104,7 @@ fn heard(agent: &mut Agent, port: u8, frame: &[u8]) -> Vec<Sent> {
     sent
 }
 
-/// Reports to the agent that `left` seconds passed, in as many calls as needed.
+/// Reports to the agent that `left` seconds passed, and prints the frames to send.
 fn tick(agent: &mut Agent, ports: &[&str], mut left: u32) {
     while left > 0 {
         let due = agent.due();

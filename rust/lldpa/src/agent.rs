@@ -12,11 +12,11 @@ use alloc::vec::Vec;
 use core::mem::size_of;
 use core::ptr;
 
-/// An open agent. [`Agent::open`] allocates all its memory. Dropping it frees the memory, but sends
-/// no shutdown frames. Calls also allocate what they return, and fail if their port does not exist.
+/// An open agent, whose memory [`Agent::open`] allocates. Dropping the agent frees the memory, and
+/// sends no shutdown frames. Calls allocate their results, and fail if the port does not exist.
 ///
-/// An agent stays on the thread that opened it, and is neither `Send` nor `Sync`: it owns memory
-/// through a raw pointer, and it is not proved that another thread may use or free this memory.
+/// An agent is neither `Send` nor `Sync`, and stays on the thread that opened it. It owns memory
+/// through a raw pointer, and there is no proof that another thread may use or free this memory.
 ///
 /// ```compile_fail,E0277
 /// fn crosses<T: Send>() {}
@@ -89,14 +89,14 @@ impl Agent {
     }
 
     /// Reports to the agent that one second has passed. Returns the frames to send, by ascending
-    /// port. [`Agent::frame_of`] writes each frame.
+    /// port. [`Agent::frame_of`] returns the octets of a frame.
     #[must_use = "send the frames that it lists"]
     pub fn tick(&mut self) -> Vec<Sent> {
         self.ticks(1).sent
     }
 
     /// Reports that `count` seconds passed. Stops after the first second at which a port sends or a
-    /// neighbor ages out: send the frames, and call this again for the remaining seconds.
+    /// neighbor ages out. Send the frames, and call this again for the remaining seconds.
     #[must_use = "send the frames that it lists"]
     pub fn ticks(&mut self, count: u32) -> Ticks {
         let (mut marks, mut told) = (sys::lldpa_marks::default(), sys::lldpa_ticks_taken::default());
@@ -107,7 +107,7 @@ impl Agent {
 
     /// Returns the seconds until a port sends or a neighbor ages out, if you make no other call.
     /// None if nothing is due. You may sleep that long, and then pass the seconds to
-    /// [`Agent::ticks`]. If a frame comes earlier, report the seconds first, and then the frame.
+    /// [`Agent::ticks`]. If a frame comes earlier, report first the seconds, and then the frame.
     #[must_use]
     pub fn due(&self) -> Option<u32> {
         let mut seconds = sys::LLDPA_NEVER;
@@ -171,7 +171,7 @@ impl Agent {
         Ok(sent(&marks))
     }
 
-    /// Runs a command, `configure ..`, `update` or `show ..`, without a line feed. A show command
+    /// Runs a command (`configure ..`, `update` or `show ..`), without a line feed. A show command
     /// or a command with a fault changes nothing. [`Agent::show`] returns the lines of a show.
     pub fn command(&mut self, line: impl AsRef<[u8]>) -> Result<Commanded, CommandFault> {
         let line = line.as_ref();
@@ -193,7 +193,7 @@ impl Agent {
         sent(&marks)
     }
 
-    /// Returns the frame that a mark asks for, with the current settings: at most 1514 octets.
+    /// Returns a frame of this kind, with the current settings. It has at most 1514 octets.
     pub fn frame_of(&self, port: u8, mark: Mark) -> Result<Vec<u8>, PortFault> {
         let mut frame = vec![0u8; sys::LLDPA_FRAME_ROOM as usize];
         let (at, room, mut length) = (frame.as_mut_ptr(), frame.len(), 0);

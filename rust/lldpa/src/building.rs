@@ -26,8 +26,8 @@ pub struct Builder<'a> {
 }
 
 impl<'a> Builder<'a> {
-    /// Begins an LLDPDU with the bodies of its identifiers (2 to 256 octets, subtype first) and its
-    /// time to live in seconds. A time to live of 0 makes a shutdown LLDPDU without other TLVs.
+    /// Begins an LLDPDU. `chassis` and `port` are the bodies of the identifiers, 2 to 256 octets
+    /// each, subtype first. `ttl` is in seconds; 0 makes a shutdown LLDPDU without other TLVs.
     pub fn new(chassis: &'a [u8], port: &'a [u8], ttl: u16) -> Builder<'a> {
         Builder { chassis, port, ttl, tlvs: Vec::new() }
     }

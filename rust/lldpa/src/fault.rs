@@ -26,7 +26,7 @@ macro_rules! faults {
                 }
             }
 
-            /// Returns the number in `lldpa.h`. Faults that only this crate has are 254 and 255.
+            /// Returns the number in `lldpa.h`, or 254 (`Version`) or 255 (`Unexpected`).
             pub fn number(self) -> u8 {
                 self as u8
             }
@@ -61,11 +61,11 @@ faults! {
 }
 
 faults! {
-    /// Why a TLV is left out of an LLDPDU that is built.
+    /// Why a builder leaves out a TLV.
     BuildFault {
         /// The TLV and the End Of LLDPDU do not fit in 1500 octets.
         Full = 11, "it does not fit in 1500 octets";
-        /// The TLV's type is not 4 to 127, or is 4 to 7 and was put before; or the TTL is 0.
+        /// The type is not 4 to 127, or is 4 to 7 and that of an earlier TLV, or the TTL is 0.
         Kind = 12, "a TLV of its type may not be put";
         /// The TLV's body is over 511 octets, or not well formed for its type.
         Body = 13, "its body is not well formed for its type";
@@ -88,7 +88,7 @@ faults! {
 }
 
 faults! {
-    /// Why a command is refused. The leftmost error in the line counts.
+    /// Why a command is refused. If a line has several faults, this is the leftmost.
     CommandFault {
         /// A word is missing, or is not known at its position.
         Unknown = 31, "unknown command";
@@ -136,7 +136,7 @@ pub fn fault_text(number: u32) -> Option<String> {
 }
 
 faults! {
-    /// Why an LLDPDU is not built, or why a machine refuses its settings or an event.
+    /// Why an LLDPDU is not built, or why a transmit machine refuses its settings or an event.
     RangeFault {
         OutOfRange = 100, "a number or a length is not in its range";
         Version = 254, "the archive is of another version than this crate";
@@ -176,7 +176,7 @@ mod tests {
         fault_text(number).expect("a fault")
     }
 
-    /// Checks that the texts of these faults equal those in the archive.
+    /// Checks that this crate and the archive have the same texts for these faults.
     fn same<F: ToString>(check: fn(u8) -> Result<(), F>, numbers: core::ops::RangeInclusive<u8>) {
         for number in numbers {
             let fault = check(number).expect_err("a fault");

@@ -1,13 +1,13 @@
 //! Safe types for `liblldpa.a`, a formally verified LLDP agent and its parts (IEEE 802.1AB-2009).
 //!
-//! - Reading: [`frame_pdu`], [`examine`], [`Info::kept`], [`caps`], [`mgmt`]. Nothing is copied.
+//! - Reading: [`frame_pdu`], [`examine`], [`Info::kept`], [`caps`], [`mgmt`]. No octets are copied.
 //! - Building: [`Builder`].
 //! - The transmit machine of one port: [`Machine`].
 //! - A whole agent on up to 64 ports: [`Agent`].
 //!
 //! `docs/LIBRARY.md` in lldpa's repository says what is proved. This crate itself is only tested.
-//! `build.rs` searches for the archive in the folder `LLDPA_LIB_DIR`; if that is not set, in the
-//! output folder of `tools/library/library.sh`, and then with pkg-config.
+//! If `LLDPA_LIB_DIR` is set, `build.rs` uses the archive in this folder. If not, it searches the
+//! output folder of `tools/library/library.sh`, and then the folder that pkg-config reports.
 //!
 //! Without the feature `std` the crate needs only `alloc`.
 //!
@@ -54,7 +54,7 @@ pub use sys::Statistics;
 pub use told::{Commanded, Configuration, Sent, Show, Status, Ticks};
 
 /// Returns the version of the archive, major * 10000 + minor * 100 + patch. The build,
-/// [`Agent::open`] and [`Machine::new`] accept only this crate's major and minor version.
+/// [`Agent::open`] and [`Machine::new`] require this crate's major and minor version.
 #[must_use]
 pub fn version() -> u32 {
     // SAFETY: the call has no arguments.

@@ -66,8 +66,8 @@ impl Machine {
         Ok(Machine { held })
     }
 
-    /// Applies an event, and returns which frame to send. `interval` is the tx-interval in force
-    /// after it, 1 to 3600 seconds. If `interval` is out of range, fails and changes nothing.
+    /// Applies an event, and returns which frame to send. `interval` is the tx-interval after the
+    /// event, 1 to 3600 seconds. If `interval` is out of range, the call fails and changes nothing.
     pub fn event(&mut self, cause: Cause, interval: u16) -> Result<Option<Mark>, RangeFault> {
         let mut mark = 0;
         // SAFETY: the pointers are to the machine's own struct and to a local value.

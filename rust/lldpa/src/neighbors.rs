@@ -12,7 +12,7 @@ use alloc::vec::Vec;
 pub enum News<'f> {
     /// The frame is not an LLDP frame.
     NotLldp,
-    /// The port does not receive, or its link is down: the frame is ignored.
+    /// The frame is ignored, since the port does not receive or its link is down.
     Deaf,
     /// The LLDPDU of the frame has a fault.
     Refused(PduFault),
@@ -24,9 +24,9 @@ pub enum News<'f> {
     Same(Msap<'f>),
     /// There is no room for a neighbor that is not held.
     Dropped(Msap<'f>),
-    /// A neighbor that was held leaves.
+    /// A neighbor that was held sent a shutdown frame, and is no longer held.
     Gone(Msap<'f>),
-    /// A neighbor that is not held leaves.
+    /// A neighbor that is not held sent a shutdown frame.
     Unknown(Msap<'f>),
     /// A number unknown to this crate. A matching archive never returns such a number.
     Unexpected,

@@ -1,4 +1,4 @@
-//! Reads frames, LLDPDUs and TLVs. Except for texts, the results are parts of the given octets.
+//! Reads frames, LLDPDUs and TLVs. Copies no octets, except into texts.
 
 use crate::fault::{text_written, PduFault};
 use crate::sys;
@@ -84,7 +84,7 @@ impl<'a> Info<'a> {
         self.unrecognized
     }
 
-    /// Returns the kept TLVs, which are well formed and, for types 4 to 7, the first of their type.
+    /// Returns the kept TLVs: the well-formed ones, but of each type from 4 to 7 only the first.
     pub fn kept(&self) -> Kept<'a> {
         Kept { extent: self.octets, walk: sys::lldpa_kept::default() }
     }
@@ -160,7 +160,7 @@ pub struct Capabilities {
 }
 
 /// Reads the body of a System Capabilities TLV. None if the body is not well formed: it must have
-/// four octets, and each enabled bit must be available.
+/// four octets, and each enabled bit must also be an available bit.
 #[must_use]
 pub fn caps(body: &[u8]) -> Option<Capabilities> {
     let mut told = sys::lldpa_capabilities::default();
@@ -200,7 +200,7 @@ pub fn mgmt(body: &[u8]) -> Option<Management<'_>> {
 }
 
 /// Returns a TLV as text, as `show neighbors` writes it: `chassis.mac=00:11:22:33:44:55`. `kind` is
-/// 1 (Chassis ID), 2 (Port ID), or 4 to 127. None if the body is not well formed for the type.
+/// 1 (Chassis ID), 2 (Port ID), or 4 to 127. None for other types, or if the body is malformed.
 ///
 /// ```
 /// assert_eq!(lldpa::tlv_text(2, b"\x05eth0").as_deref(), Some("port.ifname=eth0"));

@@ -1,4 +1,4 @@
-//! Writes the lines of shows.
+//! Returns the lines of show commands.
 
 use crate::agent::Agent;
 use crate::fault::expect_ok;
@@ -7,7 +7,7 @@ use crate::told::Show;
 use alloc::string::String;
 use alloc::vec;
 
-/// How many octets are enough for most shows without their neighbors, and for most neighbors.
+/// How many octets suffice for most shows without neighbors, and how many more for a neighbor.
 const SHOW_ROOM: usize = 1 << 16;
 const SHOW_ROOM_OF_NEIGHBOR: usize = 1 << 10;
 
@@ -27,13 +27,13 @@ impl Agent {
         while !lines.done {
             lines = self.show_lines(show, lines.next, &mut room);
             text.push_str(&String::from_utf8_lossy(&room[..lines.length]));
-            // Each call goes through all earlier lines again: a larger buffer needs fewer calls.
+            // Each call goes through all earlier lines again. A larger buffer needs fewer calls.
             room.resize(2 * room.len(), 0);
         }
         text
     }
 
-    /// Returns a line of a show, from 0, without its line feed. None if there is no such line.
+    /// Returns a line of a show, without its line feed. Line 0 is the first. None after the last.
     #[must_use]
     pub fn show_line(&self, show: Show, line: u32) -> Option<String> {
         let mut room = [0u8; sys::LLDPA_LINE_ROOM as usize];

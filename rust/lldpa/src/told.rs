@@ -15,7 +15,7 @@ pub struct Sent {
 }
 
 numbered! {
-    /// A show: the lines that a show command asks for.
+    /// Which lines a show command asks for.
     Show {
         /// The neighbors of each port.
         Neighbors = 1,

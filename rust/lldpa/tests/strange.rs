@@ -8,7 +8,7 @@ use lldpa::{
 };
 use std::panic::{catch_unwind, AssertUnwindSafe};
 
-/// Returns whether a call without an error result panics.
+/// True if this call panics.
 fn panics<T>(call: impl FnOnce() -> T) -> bool {
     catch_unwind(AssertUnwindSafe(call)).is_err()
 }
