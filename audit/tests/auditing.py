@@ -1,4 +1,4 @@
-"""For tests of lldpa-audit: runs it in a folder, with the plan of a rack's six ports."""
+"""Runs lldpa-audit for tests, in a folder with the plan of the six ports of rack.py."""
 import json
 import os
 import re
@@ -19,8 +19,8 @@ WITH_AGENT = {**os.environ, "PATH": f"{os.path.dirname(PROGRAM)}:{os.environ['PA
 
 
 class Row(NamedTuple):
-    """An audit in a folder: its files, arguments and status, and the lines that it prints, first
-    those of standard error. The lines lack ages and the plan's further columns."""
+    """An audit in a folder: its files and arguments, the status that it must have, and the lines
+    that it must print (standard error first), without ages and without columns in brackets."""
 
     name: str
     files: Mapping[str, Any]
@@ -30,7 +30,7 @@ class Row(NamedTuple):
 
 
 def audited(row: Row) -> Tuple[int, List[str]]:
-    """Returns the status and the lines of an audit."""
+    """Runs an audit, and returns its status and its lines."""
     with tempfile.TemporaryDirectory() as folder:
         for name, content in row.files.items():
             write(Path(folder, name), content)
@@ -40,7 +40,7 @@ def audited(row: Row) -> Tuple[int, List[str]]:
 
 
 def write(path: Path, content: Any) -> None:
-    """Writes a file from octets, text or JSON, or lets a function make it."""
+    """Writes octets, a text, or a value as JSON to a file. A function writes the file itself."""
     path.parent.mkdir(parents=True, exist_ok=True)
     if callable(content):
         content(path)
@@ -58,7 +58,7 @@ def run(*words: str, folder: Optional[str] = None) -> "subprocess.CompletedProce
 
 
 def without_ages(text: str) -> str:
-    """Returns what an audit prints, without the ages in its count."""
+    """Returns the output of an audit without the ages of its sources."""
     return re.sub(r"; sources [^\n<]* old$", "", text, flags=re.M)
 
 
@@ -80,7 +80,7 @@ def neighbor(port: str, host: str, port_id: str, descr: str = "", kind: str = "i
 
 
 class InAFolder(unittest.TestCase):
-    """Each test has a folder of its own, with the plan of the six ports."""
+    """Gives each test a folder of its own, which has the plan of the six ports."""
 
     def setUp(self) -> None:
         holder = tempfile.TemporaryDirectory()

@@ -1,8 +1,8 @@
 """For tests: a fabric of 2,000 links with panels, trunks, LAGs and breakouts, and 100 faults.
 
-The plugged cables are kept as pairs of ends, and what each end hears follows from them alone. A
-fault changes what is plugged, a host's name, or what a host sends or hears. No end belongs to two
-faults, so each end in the audit's answer belongs to one fault or to none.
+`peer` maps each plugged end to the end that its cable leads to. Each fault changes the plugged
+cables, a host's name, or what a host sends or hears. No end belongs to two faults, so each end in
+the audit's answer belongs to one fault or to none.
 """
 import random
 from collections import defaultdict
@@ -52,7 +52,7 @@ class Fabric:
         self.peer[one], self.peer[other] = other, one
 
     def cut(self, *ends: End) -> List[End]:
-        """Unplugs the cables of these ends. Returns their other ends."""
+        """Unplugs the cables of these ends. Returns the cables' other ends."""
         others = [self.peer.pop(end) for end in ends]
         for other in others:
             del self.peer[other]
@@ -68,7 +68,7 @@ class Fabric:
         return self.server()[0]
 
     def free(self, leaf: str, row: str) -> End:
-        """Returns a port of a leaf that is not planned."""
+        """Returns an unplanned port of a leaf."""
         return leaf, f"swp{row}{len(self.faults):02}"
 
     def told(self, kind: str, ends: Sequence[End], repairs: str, most: int = 1) -> None:
@@ -156,7 +156,7 @@ class Fabric:
                 for end in [*found, *self.beside[end]]]
 
     def said(self, end: End) -> str:
-        """Returns the port that an end announces. Some servers announce the name of their LAG."""
+        """Returns the port name that an end announces: the LAG's name at some servers."""
         is_named = end in self.lags and end[0].startswith("srv") and end[0].endswith("0")
         return self.lags[end][0] if is_named else end[1]
 
@@ -184,8 +184,8 @@ def links() -> Iterator[Tuple[End, End]]:
 
 
 def lags() -> Iterator[Tuple[End, Tuple[str, int]]]:
-    """Yields the ends of LAGs, each with the name and the number that the LAG has at its host.
-    Every fifth server has two LAGs, each of two links to one leaf."""
+    """Yields each end that is in a LAG, with the LAG's name and number at that end. Every fifth
+    server has two LAGs, each of two links to one leaf."""
     for one, other in links():
         if other[0].startswith("srv") and other[0][-1] in "05":
             number, side = int(other[0][3:]), int(other[1][3:]) % 2
@@ -219,14 +219,14 @@ def cables(links: Sequence[Tuple[End, End]]) -> Iterator[Tuple[End, End]]:
 
 
 def csv_plan(links: Sequence[Tuple[End, End]]) -> str:
-    """Returns the plan in our own columns, with labels and racks."""
+    """Returns the plan of these links as CSV, with a label and a rack for each cable."""
     rows = [f"{a},{b},{c},{d},C{number},r{number % 40}\n"
             for number, ((a, b), (c, d)) in enumerate(cables(links))]
     return "host,port,peer,peer_port,label,rack\n" + "".join(rows)
 
 
 def panels() -> str:
-    """Returns the front ports of cassettes with one rear port, as NetBox exports them."""
+    """Returns the panels' front ports as NetBox exports them. Each panel has one rear port."""
     return "device,name,rear_port,rear_port_position\n" + "".join(
         f"{side}-leaf{leaf:02},F{port},R1,{port}\n" for side in ("pn", "pf")
         for leaf in range(1, LEAFS + 1) for port in range(1, CASSETTE + 1))

@@ -1,4 +1,4 @@
-"""For tests: numbered cases of lists of neighbors that were once handled wrongly."""
+"""For tests: lists of neighbors that lldpa-audit once handled wrongly."""
 import gzip
 import json
 import os
@@ -48,7 +48,7 @@ REFUSED: Sequence[Tuple[str, Any, str]] = (
      "it cannot parse the text"),
     ("16: a chassis", {"local-chassis": {}},
      f"it is what lldpcli says of its own host: {USE_JSON}"))
-# what a file of many hosts has in place of leaf2's neighbors, and the message about it
+# what a file about many hosts has instead of leaf2's neighbors, and the audit's message about it
 FAILED: Sequence[Tuple[str, Any, str]] = (
     ("7: salt's host that failed", NO_ROUTE, "the command failed: no route to leaf2"),
     ("10: a traceback", TRACEBACK, "in place of a list it has TimeoutError: timed\\x1b[2J out"),

@@ -1,5 +1,4 @@
-"""For tests: a switch of six ports with known faults, as captures and as `show neighbors` prints
-it."""
+"""For tests: a switch of six ports with known faults, as captures and `show neighbors` output."""
 from functools import partial
 from typing import Dict, List, Sequence
 
@@ -21,7 +20,7 @@ LINES = ["swp2  swapped with swp3: wants host01 eth1, has host02 eth0",
 
 
 def csv_plan() -> str:
-    """Returns the plan in CSV: host01 eth0, host01 eth1, host02 eth0 .."""
+    """Returns the plan in CSV. The peers are host01 eth0, host01 eth1, host02 eth0, and so on."""
     return "host,port,peer,peer_port\n" + "".join(
         f"leaf1,{port},host{at // 2 + 1:02},eth{at % 2}\n" for at, port in enumerate(PORTS))
 
@@ -33,7 +32,7 @@ def lldp_frame(host: str, port: str) -> bytes:
 
 
 def frames(port: str) -> List[bytes]:
-    """Returns what is captured at a port: each neighbor twice, and other frames."""
+    """Returns the frames captured at a port: two of each neighbor, and two that are not LLDP."""
     other = made_captures.OTHER
     return [other, *[lldp_frame(*neighbor) for neighbor in HEARD[port]] * 2, other]
 
@@ -45,7 +44,7 @@ def pcap(packets: Sequence[bytes], start: int = START) -> bytes:
 
 
 def pcapng(packets_of: Dict[str, Sequence[bytes]]) -> bytes:
-    """Returns a pcapng file of named interfaces, whose packets take turns."""
+    """Returns a pcapng file: the first packet of each interface, then the second of each .."""
     file = section() + b"".join(interface(name=name) for name in packets_of)
     for turn in range(max(map(len, packets_of.values()))):
         for place, packets in enumerate(packets_of.values()):

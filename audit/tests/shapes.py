@@ -1,4 +1,4 @@
-"""For tests: files that once took more than 30 seconds or 500 MB, and a way to measure an audit."""
+"""For tests: measures audits, and has files whose audit once took over 30 seconds or 500 MB."""
 import gzip
 import json
 import os
@@ -18,7 +18,7 @@ INTERFACE = rack.block(1, b"\1\0\0\0\0\0\0\0")
 
 
 class Ran(NamedTuple):
-    """The result of an audit: its faults, its output, its processor time and its memory."""
+    """The result of an audit: what is wrong with it, its output, and what it used."""
 
     faults: Sequence[str]
     output: str
@@ -27,7 +27,7 @@ class Ran(NamedTuple):
 
 
 def measured(words: Sequence[str]) -> Ran:
-    """Measures an audit, which must end by itself, with a status and without a traceback."""
+    """Measures an audit. A wrong status, a traceback, much time or much memory is a fault."""
     child = subprocess.Popen(
         ["prlimit", f"--cpu={2 * SECONDS}", sys.executable, AUDIT, *words],
         stdin=subprocess.DEVNULL, stdout=subprocess.PIPE, stderr=subprocess.STDOUT, env=WITH_AGENT)
@@ -46,7 +46,7 @@ def measured(words: Sequence[str]) -> Ran:
 
 def cable_between(number: int, one: Sequence[Any], other: Sequence[Any], kind: str = "interface",
                   status: str = "connected") -> Any:
-    """Returns a cable between some ends as NetBox's API lists it."""
+    """Returns a cable as NetBox's API lists it, with a list of ends at each of its two sides."""
     sides = [[{"object_type": f"dcim.{kind}", "object_id": number, "object": {
         "name": port, "device": {"name": host} if host else None}} for host, port in side]
         for side in (one, other)]
@@ -68,7 +68,7 @@ def audit(folder: Path, plan: str, seen: str, *words: str) -> List[str]:
 
 
 def with_aliases(folder: Path, rows: Iterator[str]) -> List[str]:
-    """Returns the arguments of an audit with aliases."""
+    """Writes a file of aliases, and returns the arguments of an audit that reads it."""
     with (folder / "aliases").open("w") as file:
         file.write("host,port,alias\n")
         file.writelines(rows)
@@ -76,12 +76,12 @@ def with_aliases(folder: Path, rows: Iterator[str]) -> List[str]:
 
 
 def with_blocks(folder: Path) -> List[str]:
-    """Returns the arguments of an audit of a capture with very many interfaces."""
+    """Writes a capture of 6,000,000 interfaces, and returns the arguments of its audit."""
     (folder / "blocks.pcapng").write_bytes(gzip.compress(SECTION + INTERFACE * 6_000_000, 1))
     return [*audit(folder, PLAN, "{}")[:-1], f"leaf1:{folder / 'blocks.pcapng'}"]
 
 
-# each shape writes its files into a folder, and returns the arguments of the audit
+# each function writes the files of a shape into a folder, and returns the arguments of an audit
 SMALL: Mapping[str, Callable[[Path], List[str]]] = {
     "a label of 32,000 letters": lambda folder: audit(
         folder, f"{HEAD[:-1]},label\nleaf1,swp1,host01,eth0,{'a' * 32_000}\n",

@@ -1,6 +1,6 @@
-"""For tests: situations that were once judged wrongly, each with what an audit of it prints.
+"""For tests: situations that were once judged wrongly, each with what its audit prints.
 
-A list of neighbors has a line `PORT HOST PORT` for each, and `PORT` for a port that hears nobody.
+A line of a list of neighbors is `PORT HOST PORT`, or `PORT` if this port hears nobody.
 """
 import json
 from typing import Any, List, Mapping, Sequence
@@ -16,13 +16,13 @@ FIELDS = ("remote_system_name", "remote_port", "remote_chassis_id", "remote_port
 
 def situation(name: str, plan: str, lists: Mapping[str, str], status: int, lines: Sequence[str],
               words: str = "", files: Mapping[str, str] = {}) -> Row:
-    """Returns an audit of a plan and of each host's neighbors, with more arguments and files."""
+    """Returns an audit of a plan and of the hosts' lists, with further arguments and files."""
     seen = {f"lists/{host}": napalm(text) for host, text in lists.items()}
     return Row(name, {"plan": plan, **seen, **files}, f"plan lists {words}", status, lines)
 
 
 def napalm(text: str) -> str:
-    """Returns a list of neighbors in NAPALM's form. A text in another form is kept as it is."""
+    """Converts a list to NAPALM's form. JSON and `show neighbors` output are returned unchanged."""
     if text.startswith(("{", "lldp.")):
         return text
     ports: dict[str, List[Any]] = {}

@@ -1,6 +1,6 @@
 """A slow judge of cabling, which applies the definitions of audit/README.md one after the other.
 
-It shares only the types End and Seen with the package, and searches whole lists each time.
+Of lldpa_audit it uses only the types End and Seen. It searches whole lists each time.
 """
 import re
 from typing import Dict, List, Optional, Sequence, Tuple
@@ -9,7 +9,7 @@ from lldpa_audit.names import End, Seen
 
 
 class SlowJudge:
-    """A plan as pairs of ends, the audited hosts, and the known ports with their neighbors."""
+    """Judges the ends of a plan by the audited hosts and the known ports with their neighbors."""
 
     def __init__(self, pairs: Sequence[Tuple[End, End]], audited: List[str],
                  known: Dict[End, List[Seen]], rules: Sequence[bool]) -> None:
@@ -48,15 +48,15 @@ class SlowJudge:
             is_any_member or any(self.same_port(port, end.port) for port in ports))
 
     def neighbors(self, end: End) -> Optional[List[Seen]]:
-        """Returns the neighbors, or None if the end is not covered."""
+        """Returns the neighbors of an end, or None if the end is not among the known ports."""
         return next((some for port, some in self.known.items() if self.same_end(port, end)), None)
 
     def answering(self, end: End, other: End) -> int:
-        """Returns how many neighbors of an end may be another end."""
+        """Returns how many neighbors of `end` match the end `other`."""
         return sum(self.answers(one, other) for one in self.neighbors(end) or [])
 
     def has_one(self, end: End, answering: int) -> bool:
-        """Returns whether an end has one neighbor: the wanted one if `answering`, else another."""
+        """True if an end has one neighbor: the wanted one (if `answering` is 1) or another (0)."""
         return (len(self.neighbors(end) or []) == 1
                 and self.answering(end, self.wants[end]) == answering)
 
@@ -73,7 +73,7 @@ class SlowJudge:
                                          or self.answering(wanted, end) > 0)
 
     def is_of_several_domains(self, end: End) -> bool:
-        """Returns whether a right end wants a name that hosts of several domains have."""
+        """Returns whether an end is right, but hosts of several domains have its peer's name."""
         if not self.short_names or not self.is_right(end):
             return False
         heard = [name for one in self.wants if self.is_right(one)
@@ -109,6 +109,6 @@ class SlowJudge:
 
 
 def parts(host: str) -> Tuple[str, str]:
-    """Splits a host's name at its first dot. An IPv4 address and `.x` are not split."""
+    """Splits a host's name at its first dot, unless it is an IPv4 address or begins with a dot."""
     found = re.fullmatch(r"(?![0-9]+([.][0-9]+){3}$)([^.]+)([.].*)?", host)
     return (found[2], found[3] or "") if found else (host, "")

@@ -63,7 +63,7 @@ class Case:
         return Seen((end.host,), (end.port,), port_id=end.port)
 
     def like(self, name: str, names: Sequence[str]) -> str:
-        """Returns a name that begins with the same letter."""
+        """Returns one of the names with the same first letter in either case, or else `name`."""
         alike = [one for one in names if one[0].lower() == name[0].lower()]
         return self.rng.choice(alike or [name])
 
@@ -75,7 +75,7 @@ class Case:
                                       aggregated=self.rng.random() < 0.5))
 
     def with_port_id(self, seen: Seen) -> Seen:
-        """Returns a neighbor whose Port ID is its first port (if `is_named`) or its last one."""
+        """Sets `is_named` at random. If set, the Port ID is the first port, else the last one."""
         is_named = self.rng.random() < 0.5
         return seen._replace(port_id=seen.ports[0 if is_named else -1], is_named=is_named)
 
@@ -89,7 +89,7 @@ class Case:
 
 
 class RandomPlans(unittest.TestCase):
-    """The audit and the slow judge agree on random plans and tables."""
+    """Checks that the audit and the slow judge agree on random plans and tables."""
 
     def test_random_plans(self) -> None:
         verdicts = dict.fromkeys(set(Verdict) - {Verdict.KNOWN}, 0)
@@ -126,10 +126,10 @@ class RandomPlans(unittest.TestCase):
 
 
 class Aggregates(unittest.TestCase):
-    """Checks that judging twice as many links of aggregates takes only twice the steps."""
+    """Checks that judging twice as many links of aggregates takes at most 2.2 times the steps."""
 
     def steps(self, links: int, peer: str, numbers: int) -> int:
-        """Returns how many lines of code run to judge the links of a host to a peer."""
+        """Returns how many trace events an audit takes if host a hears `peer` at each port."""
         names, count = Names(vendor_names=True), 0
         plan = Plan("p", [Link(End(one, f"eth{at}"), End(other, f"eth{at}"), None)
                           for one, other in (("a", "b"), ("c", "d")) for at in range(links)], names)

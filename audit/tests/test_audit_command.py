@@ -38,7 +38,7 @@ class Audits(InAFolder):
 
 
 class Forms(Audits):
-    """The same six ports give the same lines in each form."""
+    """Checks that the same six ports give the same lines in each form."""
 
     def test_forms(self) -> None:
         self.plan = self.file("rack.csv", rack.csv_plan())

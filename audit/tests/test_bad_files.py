@@ -17,7 +17,7 @@ from shapes import INTERFACE, SECTION
 from support import run_capture
 
 PCAP = rack.pcap([])
-# far more than linear time takes on a slow machine, far less than quadratic time
+# a limit far above what linear time takes on a slow machine, and far below quadratic time
 SECONDS = 40
 
 
@@ -34,7 +34,7 @@ def captures() -> Iterator[Tuple[bytes, int, int]]:
 
 class Hostile(InAFolder):
     def within(self, body: Callable[[], object], result: object) -> None:
-        """Checks what a function returns, and that it does not take quadratic time."""
+        """Checks what a function returns, and that it takes less than SECONDS of processor time."""
         begin = sum(os.times()[:4])
         self.assertEqual(body(), result)
         self.assertLess(sum(os.times()[:4]) - begin, SECONDS)
@@ -56,7 +56,7 @@ class Captures(Hostile):
         self.assertEqual(ran.returncode, 1)
 
     def test_more_ports_than_an_agent_has(self) -> None:
-        """Checks that a note on a capture is printed once, although several agents read it."""
+        """Checks that a note on a capture that several agents read is printed once."""
         frame = rack.lldp_frame("host01", "eth0")
         tagged = frame[:12] + bytes.fromhex("81000005") + frame[12:]
         ports = {f"swp{at}": [frame] for at in range(1, 70)}
@@ -101,7 +101,7 @@ class Lists(Hostile):
 
 
 class Shapes(InAFolder):
-    """Files that once took too much time or memory. audit/tools/try-damage.py has larger ones."""
+    """Files that once took too much time or memory. audit/tools/try-damage.py tries larger ones."""
 
     def test_small_ones(self) -> None:
         for name, write in shapes.SMALL.items():

@@ -15,7 +15,7 @@ import cabling  # noqa: E402
 
 SEED = int(os.environ.get("LLDPA_SEED") or random.SystemRandom().randrange(10**6))
 MOST_LINES = 160
-# the forms of lldpa and lldpcli, all of which have frame sizes, and those of vendors
+# the forms of lldpa and lldpcli, which all have frame sizes, and the forms of vendors
 FORMS: Dict[str, Any] = {**cabling.FORMS, **vendors.FORMS}
 
 
@@ -33,8 +33,8 @@ class Faults(InAFolder):
         self.write_lists()
 
     def write_lists(self) -> None:
-        """Writes what each host sees, in all forms in turn, but as `show neighbors` if it has a
-        hidden port, and in a form that has frame sizes and LAGs if these matter."""
+        """Writes the list of each host, in all forms in turn. The form has frame sizes and LAGs if
+        these matter to the host. It is `show neighbors` if a port of the host is hidden."""
         self.assertGreater(len(FORMS), 6)
         fabric = self.fabric
         of_shows = {host for host, _ in fabric.hidden}
@@ -68,7 +68,7 @@ class Faults(InAFolder):
         self.need_true_neighbors(told)
 
     def need_each_fault(self, told: Any) -> None:
-        """Checks that each repair is of one fault, and each fault has repairs, but not too many."""
+        """Checks that each repair belongs to one fault, and each fault has 1 to `most` repairs."""
         of_ends = {end: fault for fault in self.fabric.faults for end in fault.ends}
         kinds: Dict[int, List[str]] = {}
         for repair in told["repairs"]:
@@ -84,7 +84,7 @@ class Faults(InAFolder):
             self.assertTrue(0 < count <= fault.most, (fault, kinds.get(id(fault))))
 
     def need_true_neighbors(self, told: Any) -> None:
-        """Checks the neighbors that are reported at each end, and that no fault seems right."""
+        """Checks the reported neighbors of each end, and that each fault has a wrong end."""
         wrong: Set[Tuple[str, str]] = set()
         for one in told["ends"]:
             end = one["host"], one["port"]

@@ -11,7 +11,7 @@ from lldpa_audit.seen.shows import read_ports
 from lldpa_audit.seen.tables import Tables
 from lldpa_audit.link_settings import Settings, settings_of, speed_and_duplex
 
-# autonegotiation, what is advertised, and the type: 1000BASE-T full, 100BASE-TX full and half
+# contents of MAC/PHY TLVs; the types are 1000BASE-T full, 100BASE-TX full and 100BASE-TX half
 TYPES = ("038036001e", "0380360010", "038036000f", "")
 AGGREGATES = ("0300000007", "0100000000", "")
 

@@ -9,7 +9,7 @@ from lldpa_audit.plan import PlanFault
 from lldpa_audit.report.order import natural
 from lldpa_audit.spelling import is_aggregate, plain, plain_port
 
-# each list has one port in all spellings that vendors have for it
+# each list spells one port in all ways that vendors use
 PORTS = [
     ["Gi1/0/1", "GigabitEthernet1/0/1", "gi1/0/1", "Gig1/0/1", "GigabitEthernet 1/0/1", "GE1/0/1"],
     ["XGE1/0/2", "XGigabitEthernet1/0/2", "Ten-GigabitEthernet1/0/2", "Te1/0/2"],
@@ -46,7 +46,7 @@ ADDRESSES = [
 
 
 class Spelling(unittest.TestCase):
-    """All spellings of a name are the same, and other names are not."""
+    """Checks that all spellings of a name are equal, and that different names are not."""
 
     def test_ports_and_addresses(self) -> None:
         for groups, rule in ((PORTS, plain_port), (ADDRESSES, plain), (ADDRESSES, plain_port)):
@@ -63,7 +63,7 @@ class Spelling(unittest.TestCase):
 
 
 class Differences(unittest.TestCase):
-    """Tests which difference alone keeps a neighbor from matching an end."""
+    """Tests which difference is reported if it alone keeps a neighbor from matching an end."""
 
     def test_ports_and_addresses(self) -> None:
         for groups, is_port in ((PORTS, True), (ADDRESSES, True), (ADDRESSES, False)):

@@ -22,7 +22,7 @@ from test_report import report_of
 BROWSER = shutil.which("chromium") or shutil.which("chromium-browser")
 LONG = "a-long-name-of-a-host-as-some-have-them.rack17.row3.dc1.example.net"
 
-# what a browser reports: how wide the page is, how wide its window, and the widest picture
+# a browser reports how wide the page and its window are, and the pictures' right edge and number
 ASKED = """<script>
 const widths = [...document.querySelectorAll('svg')].map(one => one.getBoundingClientRect().right);
 parent.document.documentElement.setAttribute('data-widths', JSON.stringify([
@@ -31,7 +31,7 @@ parent.document.documentElement.setAttribute('data-widths', JSON.stringify([
 
 
 def many_faults(ends: int, hosts: int = 20) -> Report:
-    """Returns a report of this many ends, with faults of several kinds, on this many hosts."""
+    """Returns a report of this many links of this many leafs, with faults of several kinds."""
     known = ["= ", "= other{0} p", "= {1}{0} eth0, other p", "= other{0} p, x 1, x 2, x 3, x 4",
              "= {1}{0} eth0, {1}{0} eth0"]
     return report_of("; ".join(f"leaf{at % hosts} swp{at} - {LONG}{at} eth0" for at in range(ends)),
@@ -89,7 +89,7 @@ class Content(InAFolder):
 
 @unittest.skipUnless(BROWSER, "no chromium is installed")
 class InABrowser(InAFolder):
-    """Nothing is wider than the page, on a wide screen and on a narrow one."""
+    """Checks that the page and its pictures are not wider than a wide or a narrow window."""
 
     def test_thousand_faults(self) -> None:
         page = page_of(many_faults(1000)).decode().replace("</body>", f"{ASKED}</body>")

@@ -102,7 +102,7 @@ class Outputs(InAFolder):
 
 
 class NotLookedAt(InAFolder):
-    """What nobody looked at is skipped, or fails with --all; JSON and metrics count it."""
+    """What is not looked at is skipped in JUnit, or fails with --all. JSON and metrics count it."""
 
     def test_each_form(self) -> None:
         plan = self.file("plan", "host,port,peer,peer_port\na,1,b,1\nc,1,d,1\n")

@@ -109,7 +109,7 @@ class Plans(InAFolder):
 
     def read(self, text: str, columns: Optional[Mapping[str, str]] = None,
              panels: Optional[str] = None, encoding: str = "utf-8") -> Plan:
-        """Returns the plan in a text, with links followed through the panels in another."""
+        """Reads a plan from a text, with the panels of another text if there is one."""
         plan = self.file("plan", text.encode(encoding))
         of_panels = None if panels is None else self.file("panels", panels)
         return read_plan(plan, self.names, columns, of_panels)
@@ -119,11 +119,11 @@ class Plans(InAFolder):
         return [f"{wish.end} - {wish.wants}" for wish in list(plan.ends.values())[::2]]
 
     def notes(self, plan: Plan) -> List[str]:
-        """Returns a plan's notes, without the folder."""
+        """Returns a plan's notes, without the name of the folder."""
         return [note.replace(f"{self.folder}/", "") for note in plan.notes]
 
     def fault(self, text: str, panels: Optional[str] = None, encoding: str = "utf-8") -> str:
-        """Returns the fault of a plan, without the names of files."""
+        """Returns the fault of a wrong plan, without the name of the plan's file."""
         with self.assertRaises(PlanFault) as raised:
             self.read(text, None, panels, encoding)
         return str(raised.exception).replace(f"{self.folder}/plan: ", "")
@@ -168,7 +168,7 @@ class Texts(Plans):
 
 
 class NetBox(Plans):
-    """NetBox's cables: what cannot be judged is left out, counted and reported once."""
+    """Tests NetBox's cables. Cables that cannot be judged are left out and reported once."""
 
     def test_what_is_left_out(self) -> None:
         plan = self.read(NETBOX)
@@ -239,7 +239,7 @@ class Panels(Plans):
             self.assertIn(said, self.fault(plan, panels))
 
     def test_random_chains(self) -> None:
-        """Checks that links are found again after panels have cut them into chains."""
+        """Checks that the links that panels divide into chains of cables are found."""
         for panels in range(6):
             rows, pairs, wanted = [], [HEAD[:-1]], []
             for link in range(20):

@@ -12,7 +12,7 @@ SWAPPED = "l1 p1 = s2 q1; l1 p2 = s1 q1; s1 q1 = l1 p2"
 TWO = "l1 p1 - s1 q1; l1 p2 - s2 q1"
 THREE = "a 1 - b 1; a 2 - b 2; a 3 - b 3"
 NEARLY = "(there is a port P1: only the case differs)"
-# links, what is known, and the lines; a neighbor `?` has no name, and `b 1!` another chassis ID
+# links, known neighbors, and the lines; neighbor `?` has no name, `b 1!` has another chassis ID
 ROWS: Sequence[Tuple[str, str, Sequence[str]]] = (
     ("a swp10 - b 10; a swp9 - b 9; a swp1 - b 1; a swp8 - b 8",
      "a swp10 =; a swp9 =; a swp1 =; a swp8 = b 8",
@@ -75,7 +75,7 @@ def end(text: str) -> End:
 
 
 def seen(text: str) -> Seen:
-    """Returns a neighbor of these names; bars separate several ports."""
+    """Returns a neighbor with the host and port that a text names; bars separate several ports."""
     if text == "?":
         return NAMELESS
     host, port = text.rstrip("!").split()

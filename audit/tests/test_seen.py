@@ -63,7 +63,7 @@ class Neighbors(unittest.TestCase):
         self.assertEqual(read_ports(SHOW + COUNTERS), ports)
 
     def test_faults(self) -> None:
-        """Checks that a fault names the line, and what was expected in its place."""
+        """Checks what the fault of each damaged output says."""
         for text, said in (
                 (SHOW[:-1], "its last line is incomplete: it was cut short"),
                 (LAST_PORT * 2, "line 9: the port c is in it twice, first in line 1"),
@@ -86,7 +86,7 @@ class Neighbors(unittest.TestCase):
             self.assertRaises(ShowFault, read_ports, text)
 
     def test_damaged_shows(self) -> None:
-        """Checks that damaged output is refused or read just as by the package's reader."""
+        """Checks that damaged output is refused, or read as the package lldpa reads it."""
         rng, right = random.Random(30), 0
         for number in range(DAMAGED_SHOWS):
             text = damaged(SHOW.replace("a.neighbors=1", "a"), rng)
@@ -105,7 +105,7 @@ class Neighbors(unittest.TestCase):
 
 
 def neighbor(one: Neighbor) -> Seen:
-    """Converts a neighbor that the package has read."""
+    """Converts a neighbor that the package lldpa has read to one of lldpa_audit."""
     said = "".join(f"\nlldp.{one.port}.1.{key}={value}" for key, value in one.said)
     return seen_neighbor(one.chassis.text, one.port_id.kind, one.port_id.text, SAID.findall(said))
 

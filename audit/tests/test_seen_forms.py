@@ -29,7 +29,7 @@ NEEDED_LINES = re.compile(r"<lldp-(?:local-port-id|remote-chassis-id|remote-port
 
 
 def fault_of(octets: bytes) -> Optional[str]:
-    """Returns the fault of octets, or None. Any other exception fails the test."""
+    """Returns why a list is refused, or None if it is read. Any other exception fails the test."""
     try:
         read_list(octets)
     except (SeenFault, ShowFault) as fault:
@@ -46,7 +46,7 @@ def in_a_file(octets: bytes) -> Optional[Listing]:
 
 
 def without_one(tree: Any) -> Iterator[Any]:
-    """Yields JSON without one of the fields that are needed, each in turn."""
+    """Yields copies of a JSON value, each without one of the fields that are needed."""
     if isinstance(tree, dict):
         for name, inner in tree.items():
             if name in NEEDED:
@@ -60,7 +60,7 @@ def without_one(tree: Any) -> Iterator[Any]:
 
 
 class Faults(unittest.TestCase):
-    """Damage is reported as a fault, and never as another exception."""
+    """Checks that damage is reported as a fault, and never raises another exception."""
 
     def test_of_something_else(self) -> None:
         interface = b'{"lldp":{"interface":{"a":{"status":"RX","chassis":{},"port":{}}}}}'

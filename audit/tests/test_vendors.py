@@ -15,7 +15,7 @@ from lldpa_audit.seen.shows import read_ports
 from served import PROGRAM
 from vendors import PORTS
 
-# the settings that each form has
+# the settings of the first neighbor, for each form that has settings
 SETTINGS = {"eos": Settings(9216, 10), "nxos": Settings(None, 10), "networkctl": Settings(None, 10),
             "textfsm": Settings(None, 10)}
 ROW = {"local_interface": "Gi1/0/1", "neighbor_name": "host01", "neighbor_interface": "eth0"}
@@ -25,7 +25,7 @@ JUNOS_BY_NAME = {"lldp-neighbors-information": [{"lldp-neighbor-information": [{
     "lldp-remote-port-id-subtype": [{"data": "Interface name"}],
     "lldp-remote-port-id": [{"data": "eth0"}]}]}]}
 
-# the names of each neighbor that a real lldpd heard at swp1, worked out by hand from frames
+# the names of each neighbor that a real lldpd heard at swp1, worked out by hand from the frames
 HEARD = [
     (("ho\\01 st\xe9", "02:00:00:00:00:01"), ("eth1", 'to "x" \\ y')),
     (("c", "02:00:00:00:00:03"), ("eth3",)),
@@ -47,13 +47,13 @@ JSON0 = lldpd_heard.sample("clean", "json0").decode()
 
 
 def read(tree: Any) -> Listing:
-    """Reads a file of octets, text or JSON."""
+    """Reads a list of neighbors from octets, a text or a JSON value."""
     text = tree if isinstance(tree, (bytes, str)) else json.dumps(tree)
     return read_list(text if isinstance(text, bytes) else text.encode())
 
 
 def names_of(listing: Listing) -> Dict[str, List[Tuple[str, str]]]:
-    """Returns the first name of each neighbor's host, and that of its port."""
+    """Returns for each port the neighbors, each as its first host name and its first port name."""
     return {port: [(one.hosts[0], one.ports[0]) for one in some]
             for port, some in listing.ports.items()}
 
@@ -117,7 +117,7 @@ class Forms(unittest.TestCase):
 
 
 class Lldpcli(unittest.TestCase):
-    """Checks the output of lldpcli of a real lldpd, and our agent's for the same frames."""
+    """Checks how lldpcli's output for a real lldpd is read, and our agent's for the same frames."""
 
     def check(self, seen: Sequence[Seen], settings: Dict[int, Settings]) -> None:
         self.assertEqual([(set(one.hosts), set(one.ports)) for one in seen],

@@ -1,7 +1,7 @@
-"""For tests: lists of neighbors in each form. Those of vendors are made from their documents, not
-printed by switches. The walk's lines are like those of snmpwalk at a real lldpd (samples).
+"""For tests: writes lists of neighbors in each form. The forms of vendors follow the vendors'
+documents; no switch printed them. `walk` writes lines as snmpwalk printed them for a real lldpd.
 
-Each writer takes a host's ports with their neighbors, as pairs of host and port.
+Each function takes a host's ports. The neighbors of a port are pairs of host and port.
 """
 import json
 import re
@@ -21,7 +21,7 @@ def chassis_of(host: str) -> str:
 
 
 def each(ports: Ports, write: Callable[[str, str, str], Any]) -> list[Any]:
-    """Returns what `write` makes of each neighbor's local port, host and port."""
+    """Calls `write` with the local port, host and port of each neighbor. Returns the results."""
     return [write(port, *one) for port, neighbors in ports.items() for one in neighbors]
 
 
@@ -107,7 +107,7 @@ def textfsm(ports: Ports) -> Any:
 
 
 def openconfig(ports: Ports) -> Any:
-    """Writes OpenConfig's JSON, as a tool of gNMI gets it below /lldp/interfaces."""
+    """Writes OpenConfig's JSON, as a gNMI client gets it for /lldp/interfaces."""
     return {"openconfig-lldp:interface": [{"name": port, "state": {"name": port}, "neighbors": {
         "neighbor": [{"id": str(number), "state": {
             "chassis-id": chassis_of(host), "chassis-id-type": "MAC_ADDRESS", "port-id": at,
@@ -150,7 +150,7 @@ ENGINE = """<multi-routing-engine-results xmlns='http://xml.juniper.net/'>
 """
 ENGINE_END = "</multi-routing-engine-item>\n</multi-routing-engine-results>\n"
 PROMPT = "Last login: Mon Nov 23\n{master:0}\nadmin@leaf1> show lldp neighbors detail | json\n"
-# the same neighbors as programs wrap them, and in other encodings
+# the same neighbors as several programs wrap them, and in other encodings
 LISTS: Mapping[str, Any] = {
     "5, 10: salt": {"comment": "", "result": True, "out": NAPALM},
     "13: rows of TextFSM itself": [{name.upper(): text for name, text in row.items()}

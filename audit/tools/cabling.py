@@ -3,8 +3,8 @@
 
     python3 audit/tools/cabling.py FOLDER [--pods 50] [--form show]
 
-FOLDER gets plan.csv and a file of each leaf and spine below FOLDER/seen. A pod is the fabric of
-audit/tests/fabric.py, of 2,000 links and 40 switches; each has 20 faults.
+FOLDER gets plan.csv and a file of each leaf and spine below FOLDER/seen. Each pod is the fabric of
+audit/tests/fabric.py, with 2,000 links, 40 switches and 20 faults.
 """
 import argparse
 import pathlib
@@ -18,12 +18,12 @@ from lldpa import read_show  # noqa: E402
 from lldpa.lldpcli_forms.shows import Depth, Told, neighbors  # noqa: E402
 from lldpa.lldpcli_forms.writing import FORMS as OF_LLDPCLI  # noqa: E402
 
-# TLVs: a VLAN, a frame size, and the autonegotiation of a copper link
+# TLVs: a PVID, a VLAN name, a frame size, and the autonegotiation of a copper link
 SETTINGS = (("0080c2.1", "000a"), ("0080c2.3", "000a0374656e"), ("00120f.4", "2400"), ("00120f.1", "030001001e"))
 
 
 def write(folder, pods, form="show"):
-    """Writes the plan of some pods and what their switches see. Returns an audit's arguments."""
+    """Writes the plan of the pods and a list of each switch. Returns the arguments of an audit."""
     (folder / "seen").mkdir(exist_ok=True)
     with open(folder / "plan.csv", "w") as plan:
         plan.write("host,port,peer,peer_port\n")
@@ -44,7 +44,7 @@ def show_of(ports, tlvs=lambda neighbor: ()):
 
 
 def tree_of(ports, tlvs=lambda neighbor: SETTINGS):
-    """Returns what lldpcli shows in detail of neighbors that it heard 12 minutes ago."""
+    """Returns the neighbors as lldpcli shows them in detail, all received 12 minutes ago."""
     show = read_show(show_of(ports, tlvs).splitlines())
     since = {(one.port, one.id): "1970-01-01T00:00:00Z" for one in show.neighbors}
     return neighbors(Told(show, since, {}, 725), None, Depth.DETAILS)

@@ -1,6 +1,6 @@
 #!/usr/bin/env python3
-"""Checks the example of audit/worked: audits by plan.csv and plan.dot print expected.txt, and
-audit.svg is the page's picture (--write makes it). The last line is `N passed, M failed`."""
+"""Checks that audits of audit/worked print expected.txt (by plan.dot without columns), and that
+audit.svg is the page's picture, which --write makes. The last line is `N passed, M failed`."""
 import argparse
 import os
 import pathlib
@@ -19,7 +19,7 @@ CAPTURES = [f"swp{number}=swp{number}.pcap" for number in range(1, 9)]
 
 
 def audit(program, plan, *words):
-    """Returns the status and the lines of the example."""
+    """Audits the example. Returns the status and the output, in which the age is `N days`."""
     path = f"{pathlib.Path(program).resolve().parent}:{os.environ['PATH']}"
     ran = subprocess.run([sys.executable, TOP / "bin" / "lldpa-audit", "--host", "leaf1", plan, *CAPTURES, *words],
                          cwd=FOLDER, env={**os.environ, "PATH": path}, capture_output=True, text=True)
@@ -27,7 +27,7 @@ def audit(program, plan, *words):
 
 
 def picture(program):
-    """Returns the picture of the example's page, with its style inside."""
+    """Returns the picture of the example's page as an SVG file that contains its style."""
     with tempfile.TemporaryDirectory() as room:
         audit(program, "plan.csv", "--html", f"{room}/page.html")
         page = pathlib.Path(room, "page.html").read_text()

@@ -1,11 +1,11 @@
 #!/usr/bin/env python3
-"""Runs the audit on damaged plans, lists, captures and aliases, and on pieces of them repeated up to 32 MB; then on the
-shapes of audit/tests/shapes.py.
+"""Runs the audit on damaged files, and on files enlarged to 32 MB: plans, lists and others.
+Then runs it on the files of audit/tests/shapes.py.
 
     audit/tools/try-damage.py [--minutes 10] [--seed N]
 
-Each run must end by itself within 30 seconds of processor time and 500 MB, and write nothing through a link in place
-of its page. LLDPA names the agent. Prints the seed first; the last line is `N passed, M failed`.
+An audit must take less than 30 seconds of processor time and 500 MB, and must not write through a
+symbolic link. LLDPA names the agent. The first line is the seed, the last `N passed, M failed`.
 """
 import argparse
 import gzip
@@ -30,7 +30,7 @@ LARGE = 32 << 20
 
 
 def samples():
-    """Yields files to damage, each with its place among the arguments of an audit."""
+    """Yields files to damage, each with the name of the argument that it replaces in an audit."""
     links = list(fabric.links())[:300]
     yield "plan", fabric.csv_plan(links).encode()
     yield "plan", (b"side_a_device,side_a_type,side_a_name,side_b_device,side_b_type,side_b_name,type,label\n"
@@ -70,7 +70,7 @@ def enlarged(octets, dice):
 
 
 def words_of(room, place, dice):
-    """Returns the arguments of an audit that reads the damaged file in this place."""
+    """Returns the arguments of an audit in which the damaged file replaces the argument `place`."""
     names = {"plan": room / "plan", "leaf01": room / "list", "panels": room / "panels", "aliases": room / "aliases"}
     names[place] = room / "file"
     words = ["--host", "leaf01", str(names["plan"]), f"swp1={names['swp1']}" if place == "swp1" else str(names["leaf01"])]
@@ -91,7 +91,7 @@ class Trial:
             (self.room / name).write_text(octets)
 
     def run(self, name, words):
-        """Runs the audit once, with symbolic links in place of its output files, and checks it."""
+        """Runs the audit once; its output files are symbolic links. Returns whether it passes."""
         for output in ("page", "junit"):
             (self.room / output).unlink(missing_ok=True)
             (self.room / output).symlink_to(self.room / "victim")

@@ -1,12 +1,12 @@
 #!/usr/bin/env python3
-"""Audits two links as a real lldpd sees them, by lldpcli and by snmpwalk of its SNMP agent.
-All forms must give the same verdicts.
+"""Audits two links by what lldpcli and snmpwalk show of a real lldpd.
+The forms json, json0 and snmpwalk must give the same verdicts.
 
     audit/tools/try-lldpd.py
 
-Two links join two namespaces. Each has an lldpd, and that of leaf1 also an snmpd; later a second
-sender joins. It needs Linux, root, and Debian's packages lldpd, snmp, snmpd and iproute2. The last
-line is `N passed, M failed`. If something is missing, it says so, and its status is 77.
+Two links join two namespaces, leaf1 and host01, each with an lldpd. leaf1 also has an snmpd. Later
+a second sender joins. Needs Linux, root, and Debian's packages lldpd, snmp, snmpd and iproute2. The
+last line is `N passed, M failed`. If something is missing, a line says so, and the status is 77.
 """
 import contextlib
 import json
@@ -59,7 +59,7 @@ class Trial:
         return ran.returncode, [(one["host"], one["port"], one["verdict"]) for one in told["ends"]]
 
     def compare(self, state, *names):
-        """Waits until lldpcli and snmpwalk show these names, and audits each plan by each form."""
+        """Waits until lldpcli and snmpwalk show these names. Compares the verdicts of all forms."""
         if not eventually(lambda: all(name in text for name in names for text in (self.lldpcli("json"), self.walk()))):
             sys.exit(f"{names}: not in the data of lldpcli and snmpwalk in time")
         for name, plan in PLANS.items():

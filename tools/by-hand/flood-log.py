@@ -4,15 +4,15 @@
     tools/by-hand/flood-log.py [--frames 3000000] [--minutes 10]
 
 One port receives --frames frames of the greatest length, from 200 neighbors, as fast as possible.
-Another port is quiet: its five neighbors come, change and age out. The log has at most 20
-megabytes, in files of 2. lldpa-live is asked for its tables ten times. It must answer in a second,
-and a replay of the log file of that moment must give the same tables. The folder of the log must
-not exceed its limit, and no frame of the quiet port may be dropped.
+Another port, the quiet one, has five neighbors that come, change and age out. The log has at most
+20 megabytes, in files of 2. The script asks lldpa-live for its tables ten times. Each answer must
+come within a second, and a replay of the log file of that moment must give the same tables. The
+log's folder must not exceed its limit, and no frame of the quiet port may be dropped.
 
-With --minutes, one port receives hostile frames for that time, and another the frames of five quiet
-neighbors; the interface of a third port is removed and added. Settings are reloaded, questions
-asked, addresses changed, and lldpa-live is paused. No frame of the quiet port may be lost, no
-neighbor may be wrong, and memory and descriptors may not grow.
+With --minutes, one port receives hostile frames for that time, and the quiet port the frames of
+five neighbors. Meanwhile the script replaces the interface of a third port, reloads settings, sends
+requests, changes addresses, and pauses lldpa-live. No frame of the quiet port may be lost, no
+neighbor may be wrong, and memory and descriptors may not keep growing.
 
 It needs Linux and root. LLDPA names the program. The last line is `N passed, M failed`.
 """
@@ -45,7 +45,7 @@ def numbers(live):
 
 
 def take(peer, moments, folder, number, sent):
-    """Sends frames of quiet neighbors, and records the tables. Returns `sent` plus their number."""
+    """Sends frames to the quiet port, records the tables, and returns how many were sent so far."""
     for place in range(5):
         if place != number % 5:
             peer.send(numbered(place, 30, tlv(5, b"moment %d" % number)))

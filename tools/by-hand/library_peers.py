@@ -1,4 +1,4 @@
-"""Compares answers of the library and of other decoders, by the rules of docs/STANDARD.md."""
+"""Compares what the model and other decoders read in frames, by the rules of docs/STANDARD.md."""
 from __future__ import annotations
 
 import subprocess
@@ -31,7 +31,7 @@ class Frame:
         return [tlv.body for tlv in self.inside if tlv.kind == kind]
 
     def is_shutdown(self) -> bool:
-        """Returns whether the time to live is 0: then nothing after it matters."""
+        """Returns whether the model accepts the frame with a time to live of 0."""
         return self.told is not None and self.told.ttl == 0
 
 
@@ -96,7 +96,7 @@ def plain(body: bytes) -> bool:
 
 
 def fault_of_texts(frame: Frame, told: Told) -> str | None:
-    """Returns how a peer's text differs, or None. Compares only plain texts that occur once."""
+    """Returns how a peer's text differs, or None. Compares plain texts of TLVs that occur once."""
     for kind, name in TEXTS.items():
         bodies = frame.optional(kind)
         if len(bodies) == 1 and plain(bodies[0]) and told.fields.get(name) != bodies[0].hex():

@@ -1,11 +1,11 @@
 #!/usr/bin/env python3
-"""Runs a command, and freezes all its processes now and then, as on a busy machine.
+"""Runs a command, and freezes all its processes now and then, to imitate a busy machine.
 
     tools/by-hand/standstill.py COMMAND ..
 
-Every 10 to 20 seconds the processes are frozen for 2 to 8 seconds. The parts of the gate, such as
-`tools/gate/test-python.py`, must pass even so. It needs Linux, root, and control groups of either
-version. Its status is that of the command.
+Every 10 to 20 seconds the processes are frozen for 2 to 8 seconds. Checks of the gate, such as
+`tools/gate/test-python.py`, must pass even so. Needs Linux, root, and control groups of either
+version. The status is that of the command.
 """
 import os
 import pathlib

@@ -5,11 +5,11 @@
 
 Some frames are from real senders: lldpd, ladvd and lldpad (saved in python/tests/judged.json), and
 lldpds that this script configures. Others are made up, with a TLV of each kind and each value that
-has a name. Each frame is sent to an lldpd, whose lldpcli shows it (-f json0), and read by tshark.
-Their values must equal those that lldpa reads, except those that python/tests/judges.py and
-by_tshark.py list with a reason. --save writes the frames with both answers, so that
-python/tests/test_judged.py needs no such programs. --octets also compares with tshark, for a TLV
-of each kind, its first N octets for each N, and the TLV with one octet changed to each other value.
+has a name. Each frame is sent to an lldpd, which lldpcli asks (-f json0), and is read by tshark.
+The values of both must equal those that lldpa reads, except the values that judges.py and
+by_tshark.py of python/tests list with a reason. --save writes the frames with both answers to FILE
+for test_judged.py. --octets also compares lldpa and tshark on a TLV of each kind: on its first N
+octets for each N, and on copies with one octet changed to each other value.
 Needs Linux, root, and Debian's lldpd, iproute2 and tshark. The last line is `N passed, M failed`.
 """
 import argparse
@@ -79,7 +79,7 @@ def made():
 
 def with_tlv(body):
     """Returns a frame with this organizationally specific TLV. lldpd ignores a TLV of LLDP-MED
-    unless LLDP-MED Capabilities come first, so these are put before it."""
+    unless an LLDP-MED Capabilities TLV comes first, so the frame has one before such a TLV."""
     is_of_med = body.startswith(bytes.fromhex("0012bb")) and body[3] > 1
     before = [tlv(127, bytes.fromhex("0012bb01003f03"))] if is_of_med else []
     return frame(b"\x04\x02\0\0\0\0\1", b"\x05p1", 120, tlv(5, b"made"), *before, tlv(127, body))
@@ -116,8 +116,8 @@ def shown_by_lldpcli(frames, wires):
 
 def compare_octets(room):
     """Compares how lldpa and tshark read beginnings and changed versions of TLVs. Returns how many
-    are equal, and the differences. Skips TLVs that lldpa shows in hexadecimal, that have reserved
-    bits, or whose text is not UTF-8 or has a NUL, where tshark cuts it."""
+    are equal, and the differences. Skips TLVs that lldpa shows in hexadecimal, that have
+    reserved bits, or that have a text with a NUL (tshark cuts it there) or not in UTF-8."""
     equal, differences = 0, []
     for sample in SAMPLES:
         octets = bytes.fromhex(sample.octets)

@@ -1,17 +1,17 @@
 #!/usr/bin/env python3
 """Compares the library with lldpd's decoder and systemd's sd-lldp: their answers and their times.
-The library must answer like tools/model/model.py. If a peer's answer differs, a rule of
-docs/STANDARD.md must explain this.
+The library must answer like tools/model/model.py. If the answer of a peer (one of the two others)
+differs, a rule of docs/STANDARD.md must explain the difference.
 
     tools/by-hand/try-library-peers.py --peers FOLDER [--library FOLDER] [--frames FILE ..]
         [--count N]
 
---peers names the folder of the programs lldpd_decode and sd_decode, built from the sources of their
-projects. Each accepts `verdict FILE` and `bench FILE N`; FILE has a frame in hexadecimal on each
-line. --library names a folder that tools/library/library.sh wrote; without it that script is run.
---frames adds captures (pcap) and traces to those of docs and examples. The N frames (default
-300,000) are all of these, altered copies of them, and frames made by tools/model/fuzz.py. The last
-line is `N passed, M failed`.
+--peers names the folder of the programs lldpd_decode and sd_decode, built from the sources of lldpd
+and systemd. Each accepts `verdict FILE` and `bench FILE N`; FILE has a frame in hexadecimal on each
+line. --library names a folder that tools/library/library.sh wrote. Without --library that script
+runs. --frames adds captures (pcap) and traces to those of docs and examples. N frames (default
+300,000) are compared: the captured ones, altered copies, and frames made by tools/model/fuzz.py.
+The last line is `N passed, M failed`.
 """
 from __future__ import annotations
 
@@ -92,7 +92,7 @@ def judge(peer: str, frames: list[Frame], told: list[Told], counts: Counts) -> N
 
 
 def judge_library(program: str, frames: list[Frame], room: pathlib.Path, counts: Counts) -> None:
-    """Compares the library's answers about the LLDPDUs of LLDP frames with the model's."""
+    """Compares what the library and the model read in the LLDPDU of each frame that is LLDP."""
     rows = [row_of(frame.pdu) for frame in frames if frame.is_ours]
     for row, found in zip(rows, written_rows([program], rows, room)):
         counts.that(f"the library has the row {row}", row == found)

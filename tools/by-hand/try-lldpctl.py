@@ -93,7 +93,7 @@ class Comparison:
 
 
 def listed_keys(page):
-    """Returns the rows of the page's table of differences, each as a pair of show and key."""
+    """Returns the pairs of a show command and a key in the page's table of differences."""
     table = page.partition(HEADING)[2].partition("\n## ")[0]
     rows = [line.split("|")[1:3] for line in table.splitlines() if line.startswith("|")]
     return [(show, key) for shows, keys in rows for show in re.findall("`([^`]*)`", shows)
@@ -122,7 +122,7 @@ def blocks_of(form, octets):
 
 
 def named(blocks):
-    """Returns the blocks by name: the port and, for a neighbor, its identifiers."""
+    """Returns the blocks by name. A name has the port and, for a neighbor, the identifiers."""
     found = {}
     for port, pairs in blocks:
         of = [one_line(str(value)) for key, value in pairs if IDENTIFIER.fullmatch(key)]
@@ -131,7 +131,7 @@ def named(blocks):
 
 
 def plain_blocks(text):
-    """Yields the blocks of a plain answer. The key of a line is the text before its colon."""
+    """Yields a plain answer's blocks. A line's key is the text before its colon, or `further`."""
     title, *blocks = AGE.sub("Time", text).split(LINE + "\n")[1:]
     yield "title", [("title", title)]
     for block in filter(None, blocks):
@@ -169,7 +169,7 @@ def json_blocks(told):
 
 
 def unnamed(key, names):
-    """Returns a key without the chassis name, which is part of it if the chassis has a name."""
+    """Returns a key without the chassis name. Keys of a chassis with a name contain the name."""
     front = f"chassis.{names[0]}." if names and names != ["id"] else None
     return "chassis." + key[len(front):] if front and key.startswith(front) else key
 

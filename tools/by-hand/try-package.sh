@@ -33,7 +33,7 @@ mkdir "$root/root/packages"
 [ -z "${BEFORE-}" ] || cp "$BEFORE" "$root/root/packages" || exit 1
 python3 "$tools/gate/examples.py" --as-root > "$root/root/commands" || exit 1
 
-# The script that runs in the container. Each check writes `held` or `FAILED`, and its name.
+# The script that runs in the container. Each check writes a line: `held` or `FAILED`, and a name.
 cat > "$root/root/try.sh" <<'EOF'
 #!/bin/bash
 export DEBIAN_FRONTEND=noninteractive
@@ -43,12 +43,12 @@ check() {
     shift
     if "$@" > /root/said 2>&1; then echo "held: $what"; else echo "FAILED: $what: $(tail -n 3 /root/said)"; fi
 }
-# Lists all files, except logs and files that dpkg and systemd write for themselves.
+# Lists the files below /etc, /usr and other folders, except those that dpkg and systemd write.
 listed() {
     find /etc /usr /opt /srv /var/lib /run/lldpa -path /var/lib/dpkg -prune -o -printf '%p %M %u %g %l\n' 2> /dev/null |
         grep -v '^/var/lib/systemd/\(timers\|random-seed\|catalog\)\|^/\(etc\|var/lib\|var/lib/systemd\) ' | sort
 }
-# Runs a command for at most 15 seconds. Succeeds also if it is still running then.
+# Runs a command for at most 15 seconds. Succeeds if the command succeeds or does not end.
 for_a_while() {
     local status
     timeout 15 bash -c "$1" < /dev/null
@@ -67,7 +67,7 @@ reads() { lldpa-capture --show /usr/share/doc/lldpa/docs/lab.pcap | lldpa --rece
 
 notifies() { systemctl show -p Type -p StatusText lldpa | grep -c -x -e Type=notify -e 'StatusText=[0-9no]* neighbors\? on 1 port' | grep -x 2; }
 tells() { journalctl -u lldpa -g 'eth0 came: sender p1'; }
-# refuses UNIT ACTS [LINE ..]: succeeds if UNIT, with these lines added, can do none of the acts.
+# refuses UNIT ACTS [LINE ..]: succeeds if UNIT, with the lines added, can do no act listed here.
 refuses() {
     local unit=$1 acts=$2 status
     shift 2
@@ -117,7 +117,7 @@ confined_live() {
         lambda: connect("/run/systemd/journal/socket", socket.SOCK_DGRAM)' Type=oneshot Restart=no WatchdogSec=0
 }
 published() { eventually grep -x "lldpa_up $1" /var/lib/prometheus/node-exporter/lldpa.prom; }
-# as_member runs a command as a member of the group; as_nobody succeeds if others may not run it.
+# as_member runs a command as a member of group asking. as_nobody succeeds if others cannot run it.
 as_member() { setpriv --reuid=4711 --regid=4711 --groups="$(getent group asking | cut -d: -f3)" "$@"; }
 as_nobody() { ! setpriv --reuid=4711 --regid=4711 --clear-groups "$@"; }
 # Sends the frame of a neighbor once, with a time to live of an hour.

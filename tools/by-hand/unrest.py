@@ -26,7 +26,7 @@ REFUSED = ("rx eth1 00", "tick", "no such command", "configure lldp tx-hold 0", 
 
 
 def hostile_frames(choice: random.Random) -> list[bytes]:
-    """Returns frames of 60 neighbors, many of them cut, altered or too long."""
+    """Returns frames of 60 neighbors, many of them cut, altered or lengthened."""
     frames = []
     for number in range(2000):
         octets = bytearray(numbered(100 + number % 60, 600, tlv(5, b"h%d" % number)))
@@ -52,7 +52,7 @@ def ids_of(frames: list[bytes]) -> set[str]:
 
 
 class Unrest:
-    """An lldpa-live with three ports: hostile, quiet, and with an interface that comes and goes."""
+    """An lldpa-live with a hostile port, a quiet port, and one whose interface comes and goes."""
 
     def __init__(self, wires: Wires) -> None:
         self.wires, self.choice = wires, random.Random(1)
@@ -93,13 +93,13 @@ class Unrest:
         self.quiet.send(octets)
 
     def look(self) -> None:
-        """Checks that the tables show what was sent. A busy kernel may deliver a frame late."""
+        """Checks that the tables soon show what was sent. A busy kernel may deliver frames late."""
         if not eventually(self.is_as_sent, SECONDS_OF_A_WORD):
             seconds = time.monotonic() - self.began
             self.wrong.append(f"{seconds:.0f} s: {self.told}, not {self.expected}")
 
     def is_as_sent(self) -> bool:
-        """Returns whether the tables show what was sent, or lldpa-live refuses the question."""
+        """Returns True if the tables show what was sent, or if lldpa-live refuses to show them."""
         try:
             ports = read_show(self.live.ask("show neighbors")).ports
         except Refused as refused:
@@ -205,7 +205,7 @@ class Unrest:
         return {key: came for key, came in since.items() if key[0] == "eth1"}
 
     def logged(self) -> list[str]:
-        """Returns the quiet port's frames in the log, without repeats at the start of files."""
+        """Returns the log's `rx` lines of the quiet port, without repeats at the start of files."""
         lines: list[str] = []
         for path in sorted(self.log.iterdir(), key=lambda one: one.stat().st_mtime_ns):
             text = path.read_text()

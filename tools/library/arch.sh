@@ -1,7 +1,7 @@
 # Parses the arguments `[--arch amd64|arm64] [FOLDER]` of tools/library/library.sh and
-# tools/release/build.sh. Sets `arch` and `folder`; `target`, the toolchain's options for the
-# architecture; and `tools`, the prefix of the compiler and binutils for another machine. A script
-# that sources this file must have a function `fail`.
+# tools/release/build.sh. Sets `arch` and `folder`. Sets `target` to the toolchain's options for the
+# architecture, and `tools` to the prefix of the compiler and binutils (empty for this machine). A
+# script that sources this file must have a function `fail`.
 here=$(uname -m | sed 's/x86_64/amd64/; s/aarch64/arm64/')
 arch=$here
 folder=

@@ -3,9 +3,9 @@
 
     python3 tools/library/check-arm64.py [FOLDER]
 
-The program runs all transcripts of examples/, and random traces against the model. The library runs
-the transcripts, its rows, and its tests with NULL. Without FOLDER, tools/release/build.sh builds
-both. Without gcc for arm64 or qemu-user the status is 3. The last line is `N passed, M failed`.
+The program's output is compared with the transcripts of examples/, and with the model's output for
+random traces. C programs of tools/library/c test the library. Without FOLDER, build.sh builds both.
+Without gcc for arm64 or qemu-user the status is 3. The last line is `N passed, M failed`.
 """
 from __future__ import annotations
 
@@ -72,7 +72,7 @@ def check_library(folder: pathlib.Path, room: pathlib.Path, counts: Counts) -> N
 
 
 def has_live(folder: pathlib.Path, counts: Counts) -> bool:
-    """Builds lldpa-live. Returns whether this host can: it may lack Rust's library for arm64."""
+    """Builds lldpa-live. Returns False if this host lacks Rust's standard library for arm64."""
     settings = os.environ | {"LLDPA_LIB_DIR": str(folder / "lib")}
     for words in ([], ["--dynamic"]):
         made = ran([TOP / "tools" / "release" / "live.sh", "--arch", "arm64", *words], env=settings)

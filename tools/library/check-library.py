@@ -3,13 +3,13 @@
 
     python3 tools/library/check-library.py [FOLDER]
 
-Programs of tools/library/c run with the library and the compiler's sanitizers. vectors.c runs the
-rows of examples/vectors.rows, and reads cut and altered LLDPDUs. transcript.c runs the transcripts
-of examples/ and whole shows. nulls.c passes NULL for each pointer, and values out of range.
-limits.c tries small buffers and random octets. refused.c refuses memory, under valgrind.
+Programs of tools/library/c run with the library, most with the compiler's sanitizers. vectors.c
+runs the rows of examples/vectors.rows, and reads cut and altered LLDPDUs. transcript.c runs the
+transcripts of examples/ and long shows. nulls.c passes NULL for each pointer, and values out of
+range. limits.c tries small buffers and random octets. refused.c refuses memory to the library.
 
-FOLDER has liblldpa.a, liblldpa.so.1 and lldpa.h. Without it tools/library/library.sh makes them.
-Checks that need something missing, such as cargo or valgrind, are reported and not counted. Without
+FOLDER has liblldpa.a, liblldpa.so.1 and lldpa.h. Without FOLDER tools/library/library.sh makes
+them. Checks that need a missing program, such as cargo, are reported and not counted. Without
 a C compiler or a library the status is 3. The last line is `N passed, M failed`.
 """
 from __future__ import annotations
@@ -65,7 +65,7 @@ def check_functions(library: Library, counts: Counts) -> None:
 
 
 def check_plug_in(library: Library, counts: Counts) -> None:
-    """Checks that a shared object that contains the archive exports none of its functions."""
+    """Checks that a shared object that contains the archive exports no function of the archive."""
     plug_in = library.room / "plug-in.so"
     (library.room / "plug-in.c").write_text("#include <lldpa.h>\nunsigned plug_in(void) { return lldpa_version(); }\n")
     fault = fault_of(["cc", "-shared", "-fPIC", f"-I{library.folder}", library.room / "plug-in.c",
@@ -154,7 +154,7 @@ CHECKS = (check_programs, check_rust, check_front, check_refused, check_receive,
 
 def in_own_room(check: Callable[[Library, Counts], None], folder: pathlib.Path,
                 room: pathlib.Path) -> Callable[[Counts], None]:
-    """Returns the check of the library in `folder`, with a new folder for its files."""
+    """Makes a folder for the files of a check. Returns the check for the library in `folder`."""
     own = Library(folder, room / check.__name__)
     own.room.mkdir()
     return lambda counts: check(own, counts)

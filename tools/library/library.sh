@@ -7,9 +7,9 @@
 #
 # `rt lib` builds an archive, whose functions get the prefix `proved_`. Programs call the functions
 # of crates/lldpa_c/front. These check for NULL, then call malloc and the proved functions. Each
-# group of calls below is one object of liblldpa.a, with all that it uses. The archive's only global
-# names are those of lldpa.h. `rt lib` runs if a source, a definition, a proof, crates.txt or the
-# toolchain has changed since it last ran for this architecture. Prints the name of the folder.
+# group of functions below is one object of liblldpa.a, with what they use. The archive's global
+# names are the functions of lldpa.h. `rt lib` runs if a source, a definition, a proof, crates.txt
+# or the toolchain has changed since the last `rt lib` for this architecture. Prints FOLDER.
 set -eu
 cd "$(dirname "$0")/../.."
 front=crates/lldpa_c/front
@@ -20,7 +20,7 @@ fail() {
     exit 1
 }
 
-# Prints the name of each object of the archive, and the calls in it.
+# Prints the name of each object of the archive, and the functions that the object exports.
 groups() {
     echo "version lldpa_version"
     echo "reading lldpa_frame_pdu lldpa_examine lldpa_next_kept lldpa_caps lldpa_mgmt"
@@ -65,7 +65,7 @@ fi
 compile() {
     "${tools}gcc" -std=gnu99 -O2 -fPIC -ffunction-sections -Wall -Wextra -Werror -I"$header" -c "$@"
 }
-# A shared object that contains the archive does not export its functions: they are hidden.
+# The archive's functions are hidden, so a shared object that contains them does not export them.
 compile -fvisibility=hidden $front/lldpa.c -o "$room/front.o"
 compile $front/lldpa.c -o "$room/exported.o"
 compile $front/memory.c -o "$room/memory.o"

@@ -3,8 +3,8 @@
 
     python3 tools/library/library_examples.py --hear PROGRAM [WORD ..]
 
-With --hear, which needs its own network namespace, it runs a receive loop of examples/ at one end
-of a link. At the other end it sends frames until the loop has reported each change of the sender.
+With --hear, which needs a network namespace of its own, it runs a receive loop of examples/ at one
+end of a link. At the other end it sends frames until the loop has reported each change.
 """
 from __future__ import annotations
 
@@ -72,7 +72,7 @@ def check_page(library: Library, counts: Counts) -> None:
 
 
 def follow(heard: subprocess.Popen[bytes], send: Callable[[bytes], object]) -> bool:
-    """Sends the frames of a neighbor. Returns whether a receive loop reports each change."""
+    """Sends frames until a receive loop reports each change or ends. Returns False if too late."""
     told, end = b"", time.monotonic() + SECONDS
     assert heard.stdout is not None
     os.set_blocking(heard.stdout.fileno(), False)
@@ -105,7 +105,7 @@ def hear(command: list[str]) -> int:
 
 
 def check_sd_lldp_rx(library: Library, counts: Counts) -> None:
-    """Checks that the sketch of sd_lldp_rx reports each event, and when the next is due."""
+    """Checks that sd_lldp_rx.c reports each event, and in how many seconds something is due."""
     source = EXAMPLES / "c" / "sd_lldp_rx.c"
     counts.judge(library.compiled(source, "sd_lldp_rx"), "building examples/c/sd_lldp_rx.c")
     lines = [given if " " in given else f"rx {frame_of(given).hex()}" for given, _, _ in PLAYED]
@@ -131,7 +131,7 @@ def check_receive(library: Library, counts: Counts) -> None:
 
 
 def check_who(library: Library, counts: Counts) -> None:
-    """Checks that the C and Python examples print the same for a capture."""
+    """Checks that who.c and who.py print who.expect for a capture."""
     wanted = (EXAMPLES / "c" / "who.expect").read_text()
     counts.judge(library.compiled(EXAMPLES / "c" / "who.c", "who"), "building examples/c/who.c")
     check_example("examples/c/who.c", [library.room / "who", CAPTURE], wanted, counts)

@@ -37,7 +37,7 @@ EDITS = (
 
 
 def fault_of_edit(library: Library, old: str, new: str) -> str | None:
-    """Returns why a wrong front is not noticed, or None."""
+    """Returns None if nulls.c fails with a wrong front, or else what went wrong."""
     text = FRONT.read_text()
     if text.count(old) != 1:
         return f"{old!r} does not occur once in {FRONT.name}"

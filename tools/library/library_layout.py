@@ -1,7 +1,7 @@
 """Compares the structs and functions of lldpa.h with those of crates/lldpa_c.
 
 It compares the names, types and order of fields, the types of parameters, and which pointers are
-const. The front asserts the size of each struct, so it does not compile with sizes that differ. In
+const. The front asserts the size of each struct, so the front does not compile with other sizes. In
 C, a slice of Rattle is a pointer and a length, and a handle's memory is an opaque pointer.
 """
 from __future__ import annotations
@@ -14,7 +14,7 @@ CRATE = TOP / "crates" / "lldpa_c" / "src"
 FRONT = TOP / "crates" / "lldpa_c" / "front" / "lldpa.c"
 PARTS = TOP / "crates" / "lldp_transmit" / "src" / "parts.rt"
 
-# The common name of a C or Rattle type. Others keep their name, in lower case without prefix.
+# The common names of C and Rattle types. Other types keep their name, in lower case without prefix.
 TYPES = {"uint8_t": "u8", "uint16_t": "u16", "uint32_t": "u32", "size_t": "usize", "bool": "bool", "void": "()",
          "ticks_taken": "ticks", "parts": "machine", "statistics_told": "statistics",
          "configuration_told": "configuration"}

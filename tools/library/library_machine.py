@@ -1,5 +1,5 @@
-"""Checks the machine code of the archive: no function branches before the loop that touches the
-pages of a large stack frame. A compiler that moves a branch there spoils the loop's register."""
+"""Checks the machine code of the archive. No function may branch before the loop that touches the
+pages of a large stack frame: a branch before the loop would spoil the loop's register."""
 from __future__ import annotations
 
 import re
@@ -26,7 +26,7 @@ def branched_before(code: str) -> list[str]:
 
 
 def check_machine(library: Library, counts: Counts) -> None:
-    """Checks that no function branches before it touches the pages, and that the check works."""
+    """Checks that no function branches before touching the pages, and that a branch is noticed."""
     code = ran(["objdump", "-d", "--no-show-raw-insn", library.folder / "liblldpa.a"]).stdout
     found = branched_before(code)
     counts.judge(f"{found} branch before they probe" if found else None, "the machine code of the archive")

@@ -1,4 +1,4 @@
-"""Runs commands, adds up their counts, and builds programs with the library, for its checks."""
+"""For checks of the library: runs commands, adds up counts, and builds programs."""
 from __future__ import annotations
 
 import concurrent.futures
@@ -14,7 +14,7 @@ from counts import Counts  # noqa: E402
 
 WARNINGS = ["-pedantic", "-Wall", "-Wextra", "-Werror"]
 
-# The most seconds that a command may take: the longest proves the library on a slow machine.
+# The most seconds that a command may take. The longest one proves the library on a slow machine.
 SECONDS = 1800
 
 
@@ -31,7 +31,7 @@ def ran(command: Sequence[object], cwd: pathlib.Path | None = None,
 
 
 def fault_of(command: Sequence[object]) -> str | None:
-    """Runs a command. Returns what it writes if its status is not 0, or else None."""
+    """Runs a command. Returns None if the status is 0, or else the status and what was written."""
     ended = ran(command)
     if ended.returncode == 0:
         return None
@@ -39,7 +39,7 @@ def fault_of(command: Sequence[object]) -> str | None:
 
 
 def count_of(command: Sequence[object], what: str, counts: Counts) -> None:
-    """Runs a program, and adds the counts of its last line."""
+    """Runs a program, and adds the counts of its last line. An unexpected end is one failure."""
     ended = ran(command)
     *lines, last = ended.stdout.splitlines() or [""]
     found = re.fullmatch(r"(\d+) passed, (\d+) failed", last)
@@ -66,7 +66,7 @@ def side_by_side(checks: Iterable[Callable[[Counts], None]], counts: Counts) -> 
 
 
 class Library:
-    """The library in its folder, and programs built with it in another folder."""
+    """The library in `folder`, and a folder `room` for programs that are built with the library."""
 
     def __init__(self, folder: pathlib.Path, room: pathlib.Path):
         self.folder, self.room = folder, room

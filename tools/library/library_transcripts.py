@@ -18,8 +18,8 @@ import model  # noqa: E402
 FRAMES = importlib.import_module("check-frames")
 ROWS = TOP / "examples" / "vectors.rows"
 HEADER = TOP / "crates" / "lldpa_c" / "include" / "lldpa.h"
-# Causes in order, how often each occurs, and the frame that it must send. The frames were worked
-# out by hand for a credit of 5, bursts of 4, a wait of 2 and the greatest interval.
+# Causes in order, each with how often it occurs, and the frame to send. The frames were worked out
+# by hand for a credit of 5, bursts of 4, a wait of 2 and the greatest interval.
 CAUSES = """CHANGE:1:QUIET TICK:1:ORDINARY CHANGE:1:ORDINARY NEIGHBOR:1:ORDINARY TICK:3:ORDINARY
 TICK:1:QUIET NOTHING:1:QUIET DOWN:1:QUIET TICK:1:QUIET CHANGE:1:QUIET UP:1:QUIET TICK:1:ORDINARY
 TICK:3599:QUIET TICK:1:ORDINARY STOP:1:SHUTDOWN STOP:1:QUIET ALLOW:1:QUIET TICK:1:QUIET
@@ -29,7 +29,7 @@ Steps = Sequence[Tuple[bytes, List[bytes]]]  # input lines, each with its output
 
 
 def words_of(agent: model.Agent) -> list[str]:
-    """Returns the arguments with which transcript.c opens the same agent."""
+    """Returns the arguments with which transcript.c opens an agent with the same options."""
     options = agent.options
     address = agent.management()[2:6].hex() if options.management else ""
     numbers = (ROLES.index(options.role), options.max_neighbors, options.tx_credit_max,
@@ -61,7 +61,7 @@ def event_of(agent: model.Agent, line: bytes, is_refused: bool) -> bytes | None:
 
 def fault_of_events(command: Sequence[str], words: Sequence[str], steps: Steps,
                     texts: Sequence[str] = ()) -> str | None:
-    """Returns how the output differs, or None. Compares only lines with these texts, if any."""
+    """Returns how the output differs, or None. With `texts`, compares only lines that have one."""
     agent = model.opened(words)
     given = [(event_of(agent, line, b"".join(written).startswith(b"error: ")), written)
              for line, written in steps]
@@ -82,7 +82,7 @@ def written_by(agent: model.Agent, line: bytes) -> list[bytes]:
 
 
 def leaving(agent: model.Agent, lines: Iterable[bytes]) -> Steps:
-    """Returns the events after these lines: leaving twice, then a show of the configuration."""
+    """Returns steps to add after these lines: leaving twice, then a show of the configuration."""
     for line in lines:
         written_by(agent, line)
     disable = [f"configure ports {port.name} lldp status disabled" for port in agent.ports]

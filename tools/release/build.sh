@@ -2,14 +2,14 @@
 # Builds the program and the library for an architecture, in a folder.
 #     tools/release/build.sh [--arch amd64|arm64] [FOLDER]
 # By default FOLDER is crates/lldpa/out/ARCH and the architecture is that of this machine. Another
-# one needs its gcc and binutils, such as the package gcc-aarch64-linux-gnu. Programs for amd64 run
-# on every amd64 processor. Prints the name of FOLDER, which then has
+# architecture needs a gcc and binutils, such as the package gcc-aarch64-linux-gnu. Programs for
+# amd64 run on every amd64 processor. Prints the name of FOLDER, which then has
 #     lldpa          the program, linked to the GNU C library of the system, 2.34 or later
 #     lldpa-static   the same, linked statically: it runs on any Linux, also in an empty folder. The
 #                    licence of the GNU C library in it (LGPL) requires lldpa.o, to link it again
 #     lldpa.o        the program before it is linked
 #     lib            what tools/library/library.sh makes
-# `lldpa` and `lldpa_c` are proved for that architecture, the crates below them for all.
+# `lldpa` and `lldpa_c` are proved for this architecture, and the crates that they use for all.
 set -eu
 cd "$(dirname "$0")/../.."
 fail() {
@@ -27,7 +27,7 @@ mkdir -p "$folder"
 room=$(mktemp -d)
 trap 'rm -rf "$room"' EXIT
 
-# named_by CRATE prints the crates that crates.txt lists for it; below CRATE prints all below it.
+# named_by CRATE prints what crates.txt lists for CRATE; below CRATE adds what these crates need.
 named_by() {
     sed -n "s/^$1\( [a-z]*\)*: *//p" crates.txt
 }
@@ -60,7 +60,7 @@ compile_program() {
     (cd crates/lldpa && "$kit/bin/rattle" build "$@" --target $target)
 }
 
-# The library is built at the same time. If that fails, its script reports why.
+# The library is built at the same time. If its build fails, library.sh reports why.
 tools/library/library.sh --arch "$arch" "$folder/lib" > /dev/null &
 library=$!
 compile_program > "$room/said" 2>&1 || {

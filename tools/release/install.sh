@@ -7,9 +7,9 @@
 # installed: mode, name and source of each file, and the target of each link. --uninstall removes
 # what was installed, except a configuration that was changed. `import lldpa` works for a python3
 # that searches FOLDER (default: the first folder below the prefix that python3 searches). DESTDIR,
-# if set, is put before all paths. LLDPA names the program (default crates/lldpa/out/lldpa),
-# LLDPA_LIVE lldpa-live (default rust/live/out/lldpa-live). --library installs the library for C
-# instead: the header, the archive, the shared object and their file for pkg-config. LLDPA_LIB_DIR
+# if set, is put before all paths. LLDPA names the program (default crates/lldpa/out/lldpa);
+# LLDPA_LIVE names lldpa-live (default rust/live/out/lldpa-live). --library installs only the C
+# library: the header, the archive, the shared object and their file for pkg-config. LLDPA_LIB_DIR
 # names the folder that tools/library/library.sh made (default crates/lldpa_c/out/lib).
 # tools/release/package.sh packs what this installs under /usr.
 set -eu
@@ -53,7 +53,7 @@ case $prefix in
     *) etc=$prefix/etc zsh=site-functions interpreter='/usr/bin/env -S python3 -I' ;;
 esac
 
-# The folder of the library: below /usr it is that of the architecture.
+# The folder of the library: PREFIX/lib, or for /usr the architecture's folder in /usr/lib.
 archives=$prefix/lib
 [ "$prefix" != /usr ] || archives=$prefix/lib/$(dpkg-architecture -qDEB_HOST_MULTIARCH 2> /dev/null || true)
 archives=${archives%/}

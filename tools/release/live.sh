@@ -4,7 +4,7 @@
 # The program is rust/live/out/lldpa-live for this machine, rust/live/out/ARCH/lldpa-live for
 # another architecture. It is linked statically. With --dynamic it uses the GNU C library of the
 # system, and is written to a subfolder `dynamic`, where tools/release/package.sh looks for it.
-# LLDPA_LIB_DIR names the folder of liblldpa.a if that is elsewhere. Needs cargo, but no network.
+# LLDPA_LIB_DIR can name another folder of liblldpa.a. Needs cargo, but no network.
 # Another architecture needs its gcc and its standard library of Rust, such as libstd-rust-dev:arm64
 # for Debian's cargo. Without such a library the status is 3.
 set -eu

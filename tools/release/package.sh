@@ -1,7 +1,7 @@
 #!/bin/sh
 # Makes a Debian package, lldpa_VERSION-REVISION_ARCH.deb, of what tools/release/install.sh installs
-# under /usr. --shared and --library pack the library that install.sh --library installs: its shared
-# object as lldpa1, and its other files as lldpa-dev.
+# under /usr. Of what install.sh --library installs, --shared packs the shared object (lldpa1), and
+# --library packs the other files (lldpa-dev).
 #     tools/release/package.sh [--library | --shared] [--arch ARCH] [--revision N] [FOLDER]
 # It writes the package to FOLDER (default: the current one) and prints its name. VERSION is the
 # newest in CHANGELOG.md, which the program must report too. N is the Debian revision (default 1).
@@ -137,7 +137,7 @@ if [ "$name" = lldpa ]; then
     for file in lldpa lldpa-live; do
         "${tools}strip" --remove-section=.comment --remove-section=.note "$tree/usr/bin/$file"
     done
-    # dpkg may ask about a conffile. So postinst installs /etc/default/lldpa if it is missing.
+    # dpkg may ask about a conffile. So the package has no /etc/default/lldpa: postinst installs it.
     mv "$tree/etc/default/lldpa" "$tree/usr/share/lldpa/default"
     rmdir "$tree/etc/default"
 else

@@ -1,6 +1,6 @@
 /*
- * C functions that the program needs on a platform for which the toolchain has no archive: they
- * return its arguments, and read and set the number of the last error.
+ * C functions that the program needs on a platform for which the toolchain has no archive. They
+ * return the program's arguments, and get and set errno.
  */
 #include <errno.h>
 #include <string.h>

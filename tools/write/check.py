@@ -3,7 +3,7 @@
 
     tools/write/check.py
 
-The last line is `N passed, M failed`, counted by file.
+The last line is `N passed, M failed`, with one check for each file.
 """
 from __future__ import annotations
 

@@ -3,12 +3,12 @@
 
     python3 tools/write/transcripts.py [FILE]
 
-One theorem states which options a transcript's arguments mean, another its output, or the lines of
-the output that pass its filter. Each row of receive-counters.rows becomes a theorem too: it states
-the values of the row's counters in `show statistics` after the transcript's input.
+One theorem states which options a transcript's arguments mean. Another one states its output, or
+the lines of the output that pass its filter. Each row of receive-counters.rows becomes a theorem
+too: it states the row's counters in `show statistics` after the transcript's input.
 
 FILE is crates/lldpa/proofs/Transcripts.antt by default. A transcript of more than MOST_TICKS ticks
-is left out: for each moment the definitions look at all earlier moments.
+is left out, because for each moment the definitions look at all earlier moments.
 """
 import pathlib
 import re
@@ -191,7 +191,7 @@ FIELDS = {
 
 
 def options(words):
-    """Returns the options as a term, `usual` or a change of it, and the --management address."""
+    """Returns the options as a term, and the parts of the --management address or None."""
     given, names = model.read_words(words)
     fields = [FIELDS[name](value) if name in FIELDS
               else f"{name.removeprefix('tx_').removesuffix('_delay')} = {value}" for name, value in given.items()]

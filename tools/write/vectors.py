@@ -1,10 +1,10 @@
 #!/usr/bin/env python3
-"""Writes rows of examples/vectors.rows as theorems of lldp_pdu, or all as a table of lldp_tests.
+"""Writes the rows of examples/vectors.rows about LLDPDUs as theorems, or all rows as a table.
 
     tools/write/vectors.py [--table] [FILE]
 
-The rows about LLDPDUs become theorems. FILE is crates/lldp_pdu/proofs/Vectors/Rows.antt by default,
-and with --table crates/lldp_tests/src/rows.rt.
+FILE of the theorems is crates/lldp_pdu/proofs/Vectors/Rows.antt by default, and FILE of the table
+(--table) is crates/lldp_tests/src/rows.rt.
 """
 from __future__ import annotations
 
@@ -76,8 +76,8 @@ def name_of(prefix: str, name: str) -> str:
 
 
 def table_of(name: str, function: str, rows: list[tuple[str, str, str]]) -> str:
-    """Returns a theorem `name`: `function` has these values. A row has a name, an argument, a
-    value."""
+    """Returns a theorem `name`, which states the values of a function. A row has a name, an
+    argument and the value."""
     lines = [f"({given}, {gives})  -- {row}" for row, given, gives in rows]
     return f"\n{name} : Gives {function}\n    (" + "\n    ∷ ".join(lines) + "\n    ∷ [])\n"
 

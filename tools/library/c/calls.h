@@ -1,4 +1,4 @@
-/* Calls each function of the library once, for the programs stack.c and refused.c. */
+/* Calls of most functions of the library, for the programs stack.c and refused.c. */
 #ifndef CALLS_H
 #define CALLS_H
 
@@ -40,7 +40,7 @@ static uint8_t open_agent(void)
     return lldpa_open(&options, &agent);
 }
 
-/* Each call that needs no agent, with a name and the most octets of stack that it may use. */
+/* Calls that need no agent, each with a name and the most octets of stack that it may use. */
 #define PLAIN_CALLS(CALL)                                                                                              \
     CALL(lldpa_examine, 1024, lldpa_examine(pdu, pdu_length, &examined))                                               \
     CALL(lldpa_next_kept, 1024, lldpa_next_kept(pdu, pdu_length, &walk))                                               \
@@ -53,7 +53,7 @@ static uint8_t open_agent(void)
     CALL(lldpa_escape, 12288, lldpa_escape(frame, 9, room, sizeof room, &length))                                      \
     CALL(lldpa_fault_text, 1024, lldpa_fault_text(LLDPA_MEMORY, room, sizeof room, &length))
 
-/* Each call on an open agent, except lldpa_leave and lldpa_close. */
+/* Calls on an open agent, except lldpa_leave and lldpa_close. */
 #define AGENT_CALLS(CALL)                                                                                              \
     CALL(lldpa_ticks, 12288, lldpa_ticks(&agent, 1, &marks, &ticks))                                                   \
     CALL(lldpa_frame, 12288, lldpa_frame(&agent, 0, frame, sizeof frame - 1, &marks, &news))                           \

@@ -1,6 +1,6 @@
 /*
- * Tries what the rows and transcripts of examples/ do not: the texts of faults, TLVs and texts in
- * buffers that are just large enough, and octets that are not an LLDPDU, a frame or a command.
+ * Tests what the rows and transcripts of examples/ do not: the texts of faults, TLVs and texts in
+ * buffers that are just too small, and octets that are not an LLDPDU, a frame or a command.
  *     limits
  * Failed checks are reported; the last line is `N passed, M failed`.
  */
@@ -31,7 +31,7 @@ static uint8_t value_of(uint32_t kind, octets body, uint8_t *room, size_t room_l
                      : lldpa_tlv_text(kind, body.at, body.length, room, room_length, length);
 }
 
-/* Tries TLVs and texts. The output was worked out by hand; NULL means that the call refuses it. */
+/* Tests TLVs and texts. The output was worked out by hand; NULL means that the TLV is refused. */
 static void try_values(void)
 {
     static const struct {
@@ -95,7 +95,7 @@ static octets odd_octets(size_t length)
     return block;
 }
 
-/* Checks that a walk over any octets, from any start, ends and returns only bodies in them. */
+/* Checks that a walk over random octets, from any start, ends and returns bodies within them. */
 static void try_odd_walks(void)
 {
     for (unsigned done = 0; done < 500; done++) {

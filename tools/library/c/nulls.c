@@ -1,5 +1,5 @@
 /*
- * Calls each function of the library with NULL for each of its pointers, with handles that are not
+ * Calls each function of the library with NULL for each pointer, with handles that are not
  * open, and with numbers, ports and buffers that are out of range. A call must report this and
  * write nothing. NULL with a length of 0 means no octets, no TLVs, no ports or no buffer.
  *     nulls

@@ -1,7 +1,7 @@
 /*
  * Refuses memory to the library: each allocation of an opening in turn, and then all allocations.
- * An opening without memory must report this and keep none. An open agent must request none. A
- * close must free all.
+ * An opening without memory must report this and keep no memory. An open agent must request no
+ * memory. A close must free all memory.
  *     refused
  * It is linked with --wrap=malloc, --wrap=realloc and --wrap=free, to see each call of the library.
  * The last line is `N passed, M failed`.
@@ -12,7 +12,7 @@ void *__real_malloc(size_t size);
 void *__real_realloc(void *block, size_t size);
 void __real_free(void *block);
 
-/* The requests so far, the request to refuse (0: none, ALL: each), and the allocated blocks. */
+/* The number of requests, the one to refuse (0: none, ALL: each), and the number of blocks. */
 #define ALL (~0ul)
 static unsigned long asked;
 static unsigned long refused;

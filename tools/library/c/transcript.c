@@ -3,8 +3,8 @@
  *     transcript MAC ADDRESS HOSTNAME ROLE MAX-NEIGHBORS CREDIT-MAX FAST-INIT REINIT RECEIVE-ONLY PORT ..
  * MAC and ADDRESS are hexadecimal, ADDRESS may be empty, ROLE and RECEIVE-ONLY are numbers. A line
  * of standard input is an event: `tick SECONDS`, `rx PORT FRAME`, `link PORT UP`, `leave` or
- * `command LINE`, with port numbers and hexadecimal octets. library_transcripts.py writes them. At
- * each show the agent's structs are compared with the lines. If a check fails, the status is 2.
+ * `command LINE`, with port numbers and hexadecimal octets. At each show, the structs of statistics
+ * and of the configuration are compared with the agent's lines. If a check fails, the status is 2.
  */
 #define _POSIX_C_SOURCE 200809L
 #include "checks.h"
@@ -128,7 +128,7 @@ static void see_configuration(void)
     }
 }
 
-/* Writes a show, each time with as many lines as fit into a buffer. */
+/* Writes a show, in parts of as many lines as fit into a buffer. Checks each line alone. */
 static void write_show(uint32_t show)
 {
     static uint8_t room[LLDPA_LINE_ROOM];
@@ -145,7 +145,7 @@ static void write_show(uint32_t show)
     }
 }
 
-/* Lets seconds pass, one at a time or many. Checks that a call stops when something is due. */
+/* Lets seconds pass, one or more in each call. Checks that a call stops when something is due. */
 static void tick(uint32_t seconds)
 {
     lldpa_ticks_taken done = {0, 0};
