@@ -1,4 +1,4 @@
-"""Finds settings in which the ends of right links differ from each other or from the plan."""
+"""Finds settings of links with the verdict right that differ at the ends or from the plan."""
 from itertools import combinations
 from typing import Iterable, Iterator, Mapping, NamedTuple, Optional, Union
 

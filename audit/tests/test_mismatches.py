@@ -1,4 +1,4 @@
-"""Tests settings of both ends of right links: each mismatch is reported, and nothing else."""
+"""Tests settings of links with the verdict right: each mismatch is reported, and nothing else."""
 import unittest
 from typing import List, Sequence
 
