@@ -22,7 +22,7 @@ class Differences:
             key = rule.end(end)
             if rule.answers(neighbor, key):
                 is_so = self._names.vendor_names or key in rule.ends(neighbor)
-                return words_of(differences) if is_so else "it names its aggregate"
+                return words_of(differences) if is_so else "the neighbor announces its aggregate"
         return None
 
     def of_ends(self, one: End, other: End) -> Optional[str]:

@@ -39,7 +39,7 @@ def edges_of(text: str, faults: Faults) -> Iterator[Cable]:
             names = [name[1:-1].replace('\\"', '"') if name.startswith('"') else name
                      for name in found.groups()]
             if not all(names):
-                faults.add(line, "the edge has an empty name")
+                faults.add(line, "a host or port of the edge has an empty name")
             yield Cable((names,), line)
         else:
             found = OTHER.match(text, at)

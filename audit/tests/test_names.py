@@ -93,7 +93,7 @@ class Differences(unittest.TestCase):
         names = Names(vendor_names=True)
         self.assertTrue(names.answers(bond, end) and names.answers(bond, End("b", "eth2")))
         self.assertEqual(differs.Differences(Names()).of_neighbor(bond, end),
-                         "it names its aggregate")
+                         "the neighbor announces its aggregate")
         for one in (bond._replace(aggregated=False), bond._replace(ports=("eth9",))):
             self.assertFalse(names.answers(one, end))
         self.assertFalse(names.answers(bond, End("c", "eth1")))

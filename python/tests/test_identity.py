@@ -3,6 +3,7 @@
 import os
 import signal
 import subprocess
+import sys
 import time
 
 from running_live import Live, OnLinks
@@ -98,11 +99,13 @@ class TestAnnounced(OnLinks):
 
     def test_name_of_the_host_is_followed(self) -> None:
         def rename(live: Live, name: str) -> None:
-            words = ["nsenter", f"--uts=/proc/{live.process.pid}/ns/uts", "hostname", name]
-            subprocess.run(words, check=True)
+            words = ["nsenter", f"--uts=/proc/{live.process.pid}/ns/uts", sys.executable, "-c"]
+            subprocess.run([*words, f"import socket; socket.sethostname({name!r})"], check=True)
 
         live = self.live("eth0", before=["unshare", "--uts"])
         given = self.live("eth0", "--", "--hostname", "given", before=["unshare", "--uts"])
+        rename(live, "büro")
+        self.assertTrue(live.says("the host name büro cannot be announced, so the old one stays"))
         rename(live, "renamed-1")
         rename(given, "renamed-1")
         self.assertTrue(eventually(lambda: "local-chassis.name=renamed-1"

@@ -150,12 +150,14 @@ impl Live {
         if name == self.host_name || self.given.agent.hostname.is_some() {
             return;
         }
-        let before = std::mem::replace(&mut self.host_name, name.clone());
-        if self.running.as_ref().map(|running| running.chassis("name")) != Some(before) {
+        self.host_name = name.clone();
+        if self.running.as_ref().map_or(true, |running| running.chassis("name") != self.announced_name) {
             return;
         }
         let is_able = is_text(&name) && !name.contains('"');
-        if !is_able || self.command(set_text("hostname", &name).to_string()).is_err() {
+        if is_able && self.command(set_text("hostname", &name).to_string()).is_ok() {
+            self.announced_name = name;
+        } else {
             notice(&format!("the host name {name} cannot be announced, so the old one stays"));
         }
     }

@@ -56,6 +56,8 @@ pub struct Live {
     pub settings: Vec<Setting>,
     pub not_taken: usize, // how many settings were not applied
     pub host_name: String,
+    /// The host's name as last given to the agent, or empty.
+    pub announced_name: String,
     /// Becomes ready when the host's name has changed.
     name_file: Option<Awaited<File>>,
     /// The value of `links.changes` when the ports were last matched with the interfaces.
@@ -92,6 +94,7 @@ impl Live {
             settings: Vec::new(),
             not_taken: 0,
             host_name: sys::host_name(),
+            announced_name: String::new(),
             name_file: File::open("/proc/sys/kernel/hostname").ok().map(Awaited::new),
             followed: 0,
             next_state: 0,

@@ -51,6 +51,7 @@ impl Live {
         self.management = self.present_address();
         let hostname = self.given.agent.hostname.clone().unwrap_or_else(|| self.host_name.clone());
         let hostname = if is_text(&hostname) { hostname } else { String::new() };
+        self.announced_name = hostname.clone();
         let running = Running::open(&self.given.agent, names, mac, hostname, self.management, &[])?;
         self.log.begin(&running.words(&self.given.agent), "");
         self.running = Some(running);
