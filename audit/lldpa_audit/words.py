@@ -71,7 +71,7 @@ def add_words_of_input(parser: argparse.ArgumentParser) -> None:
     add("--host", metavar="NAME", default=socket.gethostname(),
         help="this host's name in the plan (default: the system's name)")
     add("--settings", action="store_true",
-        help="compare frame size, PVID, speed, duplex, aggregation of the ends of links judged right")
+        help="at links with the verdict right, compare MTU, PVID, speed, duplex and aggregation")
     add("--ignore-case", action="store_true", help="ignore case when comparing names")
     add("--short-names", action="store_true",
         help="compare hosts' domains only if both names have one")

@@ -1,7 +1,7 @@
 #!/bin/sh
 # Makes a Debian package, lldpa_VERSION-REVISION_ARCH.deb, of what tools/release/install.sh installs
-# under /usr. Of what install.sh --library installs, --shared packs the shared object (lldpa1), and
-# --library packs the other files (lldpa-dev).
+# under /usr. With --shared it packs the shared object that `install.sh --library` installs (lldpa1),
+# with --library the other files that it installs (lldpa-dev).
 #     tools/release/package.sh [--library | --shared] [--arch ARCH] [--revision N] [FOLDER]
 # It writes the package to FOLDER (default: the current one) and prints its name. VERSION is the
 # newest in CHANGELOG.md, which the program must report too. N is the Debian revision (default 1).

@@ -49,8 +49,8 @@ extern "C" {
 uint32_t lldpa_version(void);
 
 /*
- * ---- Return values. 0 means success. Other numbers are the errors below, and the faults that are listed before the
- * functions that return them: 1 to 8 for reading, 11 to 13 for building, 21 to 26 for opening, 31 to 38 for commands.
+ * ---- Return values. 0 means success. Other numbers are the errors below, and the faults listed before the functions
+ * that return them: 1 to 8 for reading, 21 to 26 for opening, 31 to 38 for commands. lldpa_build writes its 11 to 13.
  */
 
 #define LLDPA_OK 0
@@ -94,7 +94,7 @@ typedef struct lldpa_place {
  */
 bool lldpa_frame_pdu(const uint8_t *frame, size_t length, lldpa_place *pdu);
 
-/* The faults of an LLDPDU, in the order of the checks. */
+/* The faults of an LLDPDU, in the order of the checks; LLDPA_TRUNCATED is checked before each mandatory TLV. */
 #define LLDPA_TRUNCATED 1      /* no complete TLV where a mandatory one belongs */
 #define LLDPA_NO_CHASSIS 2     /* the first TLV is not a Chassis ID */
 #define LLDPA_CHASSIS_LENGTH 3 /* the Chassis ID does not have 2 to 256 octets */
@@ -253,7 +253,7 @@ typedef struct lldpa_machine {
 
 /* Which frame to send. */
 #define LLDPA_QUIET 0    /* none */
-#define LLDPA_ORDINARY 1 /* a frame with the whole configuration */
+#define LLDPA_ORDINARY 1 /* a frame with all that the port announces */
 #define LLDPA_SHUTDOWN 2 /* a frame with a time to live of 0 */
 
 /*
@@ -363,7 +363,7 @@ typedef struct lldpa_ticks_taken {
  *   count  the seconds that passed; do not pass LLDPA_NEVER, which could take minutes
  *   marks  the frames to send at the last second counted, on success
  *   told   written on success. Send the frames of marks; then, if told->taken is less than count, call lldpa_ticks
- *          again for the remaining seconds. The neighbors that aged out had told->taken seconds left.
+ *          again for the remaining seconds. The neighbors that aged out had told->taken seconds left before the call.
  */
 uint8_t lldpa_ticks(lldpa_agent *agent, uint32_t count, lldpa_marks *marks, lldpa_ticks_taken *told);
 

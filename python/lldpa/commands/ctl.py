@@ -48,7 +48,7 @@ commands (without a command, a table of all neighbors is printed):
   metrics                  print metrics for Prometheus
   help                     print this help
 Separate ports with spaces or commas. You may shorten a
-word if no other word begins with the same letters.
+word, but not summary, if no other word begins with the same letters.
 
 example: lldpa-ctl --json show neighbors eth0,eth1
 lldpa-ctl(8) lists the metrics, and describes JSON and the control socket.

@@ -28,7 +28,7 @@ pub enum Cause {
 numbered! {
     /// Which frame to send.
     Mark {
-        /// A frame with the whole configuration.
+        /// A frame with all that the port announces.
         Ordinary = 1,
         /// A frame with a time to live of 0.
         Shutdown = 2,

@@ -434,7 +434,7 @@ extern "C" {
     #[doc = "   count  the seconds that passed; do not pass LLDPA_NEVER, which could take minutes"]
     #[doc = "   marks  the frames to send at the last second counted, on success"]
     #[doc = "   told   written on success. Send the frames of marks; then, if told->taken is less than count, call lldpa_ticks"]
-    #[doc = "          again for the remaining seconds. The neighbors that aged out had told->taken seconds left."]
+    #[doc = "          again for the remaining seconds. The neighbors that aged out had told->taken seconds left before the call."]
     pub fn lldpa_ticks(
         agent: *mut lldpa_agent,
         count: u32,
