@@ -90,7 +90,7 @@ class Panels:
         path: list[End] = []
         positions: list[str] = []
         while self.has(cable.end):
-            is_endless = len(path) > 2 * MOST_PANELS
+            is_endless = len(path) == 2 * MOST_PANELS
             side = ENDLESS if is_endless else self._other_side(cable, positions)
             further = None if isinstance(side, str) else self._cables.get(self._names.end(side))
             if isinstance(side, str) or further is None:
