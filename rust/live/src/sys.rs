@@ -182,9 +182,8 @@ pub fn host_name() -> String {
     String::from_utf8_lossy(room.split(|octet| *octet == 0).next().unwrap_or(&[])).into_owned()
 }
 
-/// Drops all capabilities, groups and session keys for good, and becomes a user with its group if
-/// one is given. Other processes of the user cannot inspect this process. (Groups stay if it has no
-/// right to drop them.)
+/// Drops all capabilities, groups and session keys, and becomes a user with its group, if given.
+/// No other process of this user can inspect this one. Groups stay without the right to drop them.
 pub fn keep_no_right(user: Option<(c_uint, c_uint)>, keyctl: c_long) -> Result<()> {
     // SAFETY: these options take only numbers, and keyctl reads no memory.
     let option = |name: c_int, value: u64| checked(unsafe { prctl(name, value, 0u64, 0u64, 0u64) });
