@@ -104,7 +104,8 @@ class Installed(unittest.TestCase):
         alone = subprocess.run([str(self.bin("python")), "-c", start], capture_output=True,
                                env={"PATH": "/nonexistent"}, text=True, check=False)
         self.assertIn("not found on the path: 'lldpa'", alone.stderr)
-        self.assertIn("contains everything except the program lldpa", self.run_it("pip", "show", "lldpa"))
+        self.assertIn("contains everything except the program lldpa",
+                      self.run_it("pip", "show", "lldpa"))
         name = subprocess.run([WHEEL, str(self.folder)], capture_output=True, text=True, check=True,
                               env={**os.environ, "LLDPA": PROGRAM}).stdout.strip()
         self.assertRegex(name, "^lldpa-.*-py3-none-linux_(x86_64|aarch64).whl$")
