@@ -50,7 +50,7 @@ uint32_t lldpa_version(void);
 
 /*
  * ---- Return values. 0 means success. Other numbers are the errors below, and the faults listed before the functions
- * that return them: 1 to 8 for reading, 21 to 26 for opening, 31 to 38 for commands. lldpa_build writes its 11 to 13.
+ * that return them: 1 to 8 for reading, 21 to 26 for opening, 31 to 38 for commands. (11 to 13: see lldpa_build.)
  */
 
 #define LLDPA_OK 0

@@ -47,8 +47,8 @@ commands (without a command, a table of all neighbors is printed):
   watch [PORT..]           print a line when a neighbor comes, changes or goes
   metrics                  print metrics for Prometheus
   help                     print this help
-Separate ports with spaces or commas. You may shorten a
-word, but not summary, if no other word begins with the same letters.
+Separate ports with spaces or commas. You may shorten any
+word except summary, if no other word begins with the same letters.
 
 example: lldpa-ctl --json show neighbors eth0,eth1
 lldpa-ctl(8) lists the metrics, and describes JSON and the control socket.
