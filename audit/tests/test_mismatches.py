@@ -42,7 +42,8 @@ class Mismatches(unittest.TestCase):
                 (tlvs(aggregate=AGGREGATES[0]), tlvs(aggregate=AGGREGATES[1]),
                  "aggregation yes, host1 p0 says no"),
                 (tlvs("2400", "000a"), tlvs("05dc", "0014"),
-                 "MTU 9216 and PVID 10, host1 p0 says 1500 and 20")):
+                 "MTU 9216 and PVID 10, host1 p0 says 1500 and 20"),
+                (tlvs("2400", "000a"), tlvs("05dc"), "MTU 9216, host1 p0 says 1500")):
             self.assertEqual(found(said, its), [f"mismatch: host0 p0 says {text}"])
 
     def test_what_one_end_does_not_say(self) -> None:

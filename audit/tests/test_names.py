@@ -134,7 +134,7 @@ class FurtherNames(InAFolder):
     def test_faults(self) -> None:
         for text, said in (("host,port\n", "line 1: the header must be host,port,alias"),
                            ("host,port,alias\n,,x\n", "line 2: it must be host,port,alias; "),
-                           ("host,port,alias\na,1,\n", "line 2: it must be host"),
+                           ("host,port,alias\na,1,\n", "line 2: it must be host,port,alias; "),
                            ("host,port,alias\na,,x\nb,,x\n", "line 3: x is an alias of two hosts"),
                            ("host,port,alias\na,,b\nb,,c\n", "b is an alias itself, so it cannot")):
             with self.assertRaisesRegex(PlanFault, said):
@@ -143,6 +143,7 @@ class FurtherNames(InAFolder):
     def test_program(self) -> None:
         for port, port_id, aliases, words, said in (
                 ("Gi0/1", "GigabitEthernet0/1", "host01,,srv-17", "--vendor-names", "1 right"),
+                ("Gi0/1", "GigabitEthernet0/1", "host01,,srv-17", "", "only the spelling differs"),
                 ("ETH0", "eth0", "host01,,srv-17", "--ignore-case", "1 right"),
                 ("ETH0", "eth0", "host01,,srv-17", "--ignore-case --vendor-names", "1 right"),
                 ("ETH0", "Ethernet0", "host01,,srv-17", "--ignore-case --vendor-names", " wrong: "),

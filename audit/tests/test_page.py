@@ -71,6 +71,7 @@ class Content(InAFolder):
         elements = Elements(page)
         self.assertFalse({"i", "script"} & set(elements.tags))
         self.assertIn("<i>\\xff\\x1b </svg>", elements.texts)
+        self.assertNotIn("\x1b", page)
 
     def test_pictures_are_whole_and_narrow(self) -> None:
         page = page_of(many_faults(1000, 7)).decode()

@@ -39,6 +39,13 @@ ROWS: Sequence[Tuple[str, str, Sequence[str]]] = (
     ("a 1 - b 1; a 2 - b 2", "a 1 = b 1, b 1!; a 2 = b 2, x 0, x 1, x 2, x 3, x 4, ?",
      ["1  doubled: wants b 1, has b 1 (chassis c, port 1) and b 1 (chassis c!, port 1)",
       "2  extra: x 0, x 1, x 2 and 3 more besides b 2", "2 cables: 0 right, 2 wrong"]),
+    ("a 1 - b 1", "a 1 = b 1, ?",
+     ["1  extra: a neighbor that did not fit in the table besides b 1",
+      "1 cable: 0 right, 1 wrong"]),
+    *[("a 1 - b.x 1", f"a 1 = {host} 1",
+       [f"1  wrong: wants b.x 1, has {host} 1 (only {differs})", "1 cable: 0 right, 1 wrong"])
+      for host, differs in (("B.x", "the case differs"), ("b", "the domain differs"),
+                            ("B.y", "case and domain differ"))],
     ("a p1 - b 1", "a P1 = b 1",
      ["P1  unplanned: has b 1 (planned at p1)", f"p1  no data: wants b 1 (seen at P1) {NEARLY}",
       "1 cable: 0 right, 0 wrong, 1 not looked at (b); 1 unplanned port"]),

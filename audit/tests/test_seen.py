@@ -74,8 +74,8 @@ class Neighbors(unittest.TestCase):
                  "and a number, but found 'lldp.ge-0/0/1.2.ttl=x'"),
                 (SHOW.replace("neighbors=2", "neighbors=3"), "line 20: expected "
                  "lldp.ge-0/0/1.3.chassis.KIND=, but found 'lldp.b.neighbors=0'"),
-                (SHOW.replace(LAST_PORT, COUNTERS + LAST_PORT), "line 32: expected shows in the "
-                 "order neighbors, statistics, chassis, configuration, but found 'lldp.c.")):
+                (SHOW.replace(LAST_PORT, COUNTERS + LAST_PORT), "expected shows in the order "
+                 "neighbors, statistics, chassis, configuration, but found 'lldp.c.neighbors=1'")):
             with self.subTest(said), self.assertRaises(ShowFault) as raised:
                 read_ports(text)
             self.assertIn(said, str(raised.exception))

@@ -153,7 +153,8 @@ class Faults(Program):
 
     def test_bad_words(self) -> None:
         for word in ('a"b', "中"):
-            self.run_ctl(word, status=2, said=f"a word must be ASCII without double quotes: {word}")
+            self.run_ctl("configure", word, status=2,
+                         said=f"a word must be ASCII without double quotes: {word}")
         self.run_ctl("a\nb", status=2, said="a line contains a line feed")
         for words in (["metrics", "x"], ["--json", "metrics"], ["--jso"],
                       ["--output", "x", "show", "neighbors"], ["--output", "x"],

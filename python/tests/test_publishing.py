@@ -54,7 +54,7 @@ class Publishing(Program):
 
     def test_an_agent_that_waits_for_an_interface_is_not_asked(self) -> None:
         self.served.live_lines = [*LIVE_LINES, b"live.agent=waiting"]
-        printed = self.ctl(said="the agent is waiting for an interface", status=1)
+        printed = self.ctl(said="the agent is waiting", status=1)
         self.assertEqual(self.served.asked, [b"live"])
         self.assertIn("\nlldpa_up 0\n", printed)
         self.assertIn('\nlldpa_agent_state{state="waiting"} 1\n', printed)
@@ -63,7 +63,7 @@ class Publishing(Program):
 
     def test_an_agent_that_waits_after_the_first_question_is_told_with_the_rest(self) -> None:
         self.served.waits = True
-        printed = self.ctl(said="the agent is waiting for an interface", status=1)
+        printed = self.ctl(said="the agent is waiting", status=1)
         self.assertIn("\nlldpa_up 0\n", printed)
         self.assertIn('\nlldpa_agent_state{state="waiting"} 1\n', printed)
         self.assertIn('\nlldpa_link_up{port="eth0"} 1\n', printed)

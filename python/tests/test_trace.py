@@ -183,11 +183,12 @@ class Program(FilesCase):
 
     def test_words_that_are_wrong(self) -> None:
         self.file(pcap([whole(LLDP)]), "a")
-        for words, text in ((["--port", "eth0.10", "a"], "'eth0.10' cannot be a port: a port"),
-                            (["eth0.10=a"], "'eth0.10' cannot be a port: a port's name"),
-                            (["--port", "x" * 16, "a"], "a port's name has 1 to 15"),
-                            ([f"p{i}=a" for i in range(65)], "65 ports have LLDP frames;"),
-                            ([], "FILE"), (["--por", "x", "a"], "--por")):
+        for words, text in (
+                (["--port", "eth0.10", "a"], "'eth0.10' cannot be a port: a port's name"),
+                (["eth0.10=a"], "'eth0.10' cannot be a port: a port's name has 1 to 15"),
+                (["--port", "x" * 16, "a"], "a port's name has 1 to 15"),
+                ([f"p{i}=a" for i in range(65)], "65 ports have LLDP frames; the limit is 64"),
+                ([], "FILE"), (["--por", "x", "a"], "--por")):
             written, said, status = self.ran(*words)
             with self.subTest(words[:2]):
                 self.assertEqual((written, status), ("", 2))

@@ -155,7 +155,7 @@ library_packages() {
         told_by_pkg_config liblldpa.so.1
         told_by_pkg_config -l:liblldpa.a
     else
-        echo "skipped: a program built with pkg-config, since there is no pkg-config or no cc"
+        echo "skipped: a program built with pkg-config, since pkg-config or cc is missing"
     fi
 }
 

@@ -9,7 +9,7 @@ class Counts:
         self.passed = self.failed = 0
 
     def judge(self, fault: object, what: object) -> None:
-        """Counts a check as passed if there is no fault; otherwise counts and reports the fault."""
+        """Counts a check as passed if the fault is None; otherwise counts and reports the fault."""
         self.passed += fault is None
         self.failed += fault is not None
         if fault is not None:

@@ -106,9 +106,9 @@ Depends: libc6-dev, lldpa1 (= $version)
 Section: libdevel
 Description: agent for the Link Layer Discovery Protocol (LLDP) - library for C
  With these files a program in C, or in a language that calls C, can read and
- build LLDPDUs and run an agent of its own. Each function of the library is
- formally verified, except how it answers a NULL pointer. The package has a
- header, a static archive, a file for pkg-config and examples.
+ build LLDPDUs and run an agent of its own. The functions are formally
+ verified; a thin layer of C for NULL pointers and memory is tested. The
+ package has a header, a static archive, a file for pkg-config and examples.
 END
         lldpa1) cat << END ;;
 Multi-Arch: same
@@ -116,8 +116,8 @@ Depends: libc6 (>= $(c_library "$(find "$tree" -name liblldpa.so.1)"))
 Section: libs
 Description: agent for the Link Layer Discovery Protocol (LLDP) - shared library
  Programs that are linked with the library of lldpa load it from this package.
- They read and build LLDPDUs, or run an agent of their own. Each function
- of the library is formally verified, except how it answers a NULL pointer.
+ They read and build LLDPDUs, or run an agent of their own. The functions are
+ formally verified; a thin layer of C for NULL pointers and memory is tested.
 END
     esac
 }

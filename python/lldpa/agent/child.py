@@ -53,7 +53,7 @@ class Child:
     """A child process. Ctrl-C does not reach the process, which ends when its input ends."""
 
     def __init__(self, words: List[str]) -> None:
-        """Starts the process. Raises OSError if there is no such program."""
+        """Starts the process. Raises OSError if the program does not exist."""
         self.socket, theirs = socket.socketpair()
         try:
             with theirs:

@@ -53,7 +53,7 @@ class Agent:
               **options: Option) -> Agent:
         """Runs an agent with these ports and the program's options, such as `max_neighbors=4`.
 
-        Raises OSError if there is no such program, and Ended if the program refuses its arguments.
+        Raises OSError if the program does not exist, and Ended if it refuses its arguments.
         """
         child = Child(words_of(ports, program, options))
         return cls(child.socket, child, on_frame, timeout)

@@ -35,7 +35,7 @@ def publish(path: str, file: Optional[str]) -> None:
         raise Gone(f"not an answer of lldpa-live: {fault}") from None
     write(lines, file)
     if not told.is_up:
-        raise Refused(f"the agent is {told.own['agent']} for an interface")
+        raise Refused(f"the agent is {told.own['agent']}")
 
 
 def asked(path: str, is_printed: bool) -> tuple[LiveLines, list[str]]:
