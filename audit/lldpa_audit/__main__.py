@@ -1,6 +1,4 @@
 """Runs lldpa-audit, as `python3 -m lldpa_audit`."""
-import sys
+from .command import end
 
-from .command import main
-
-sys.exit(main())
+end()

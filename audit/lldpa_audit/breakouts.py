@@ -1,6 +1,6 @@
 """Plans NetBox's breakout cables. Each joins one port to several ends, one for each lane."""
 import re
-from typing import Iterator, Optional, Sequence
+from typing import Container, Iterator, Optional, Sequence
 
 from .names import End
 from .plan import Link, Plan
@@ -10,84 +10,112 @@ LANE = re.compile(r"[s:/.][0-9]")
 
 
 def join_lanes(plan: Plan, tables: Tables) -> None:
-    """Plans each link of a breakout cable at a lane of its own. A lane that hears the link's far
-    end is preferred, then one that has no data but is heard by the far end, then any other."""
-    of_hosts: dict[str, list[End]] = {whole.host: [] for whole in plan.breakouts}
-    for key in tables.ends if plan.breakouts else ():
-        if key.host in of_hosts:
-            of_hosts[key.host].append(key)
+    """Plans each link of a breakout cable at a lane of its own. A far end may hear the lane or the
+    whole port, so the lanes share the whole port's name."""
+    if not plan.breakouts:
+        return
+    names, planned = tables.names, plan.planned(tables.names)
+    listed: dict[End, list[End]] = {}
+    for key in tables.ends:
+        whole = key if key in plan.breakouts else whole_of(key)
+        if whole in plan.breakouts and (key == whole or key not in planned):
+            listed.setdefault(whole, []).append(key)
+    shared: dict[End, tuple[str, ...]] = {}
     for whole, links in plan.breakouts.items():
-        lanes = [key for key in of_hosts[whole.host] if is_lane(key.port, whole.port)]
-        if lanes == [whole]:
-            lanes = split(tables, whole)
-        elif len(lanes) > len(links) and whole in lanes and not tables.ends[whole].neighbors:
-            lanes.remove(whole)
-        for lane, link in joined(lanes, links, whole, tables):
-            is_whole = lane_heard(tables, link.other, whole) == whole
-            plan.add_lane(lane, link, tables.names, whole if is_whole else None)
-    if plan.breakouts:
-        tables.complete(plan)
+        lanes = Lanes(tables, whole, sorted(listed.get(whole, ())), planned)
+        for lane, link in lanes.joined(links):
+            plan.add_lane(lane, link, names)
+            shared[whole] = (*shared.get(whole, ()), names.end(lane).port)
+    names.share(shared)
+    names.planned = plan.planned(names)
+    names.planned_ports = {key.port for key in names.planned}
+    tables.complete(plan)
 
 
-def is_lane(port: str, whole: str) -> bool:
-    """Returns whether a port is `whole` or one of its lanes: swp1s0 of swp1, et-0/0/0:0 of
-    et-0/0/0, Ethernet1/2 of Ethernet1 or of Ethernet1/1."""
-    if port.startswith(whole):
-        rest = port[len(whole):]
-        return not rest or LANE.fullmatch(rest) is not None
-    return whole.endswith("/1") and port[:-1] == whole[:-1] and port[-1:].isdecimal()
+def whole_of(lane: End) -> Optional[End]:
+    """Returns the port of which this port is a lane by its name: swp1 for swp1s0, et-0/0/0 for
+    et-0/0/0:0, Ethernet1/1 for Ethernet1/1/2. Returns None if the name is not that of a lane."""
+    is_lane = LANE.fullmatch(lane.port[-2:]) is not None
+    return End(lane.host, lane.port[:-2]) if is_lane else None
 
 
-def split(tables: Tables, whole: End) -> list[End]:
-    """Splits a port with several neighbors. Returns a lane for each neighbor, or else the port."""
-    known = tables.ends[whole]
-    if len(known.neighbors) < 2:
-        return [whole]
-    del tables.ends[whole]
-    lanes = [numbered(known.end, number) for number in range(1, len(known.neighbors) + 1)]
-    for lane, neighbor in zip(lanes, known.neighbors):
-        tables.ends[tables.names.end(lane)] = KnownPort(lane, [neighbor])
-    return [tables.names.end(lane) for lane in lanes]
+class Lanes:
+    """The lanes of a port, `whole`, for the links of a breakout cable. `free` has those in the
+    lists that have no link yet. A port in `planned` is not a lane. All of them are normalized."""
 
+    def __init__(self, tables: Tables, whole: End, listed: Sequence[End],
+                 planned: Container[End]) -> None:
+        self._tables = tables
+        self._whole = whole
+        self._planned = planned
+        self._taken: set[End] = set()
+        self._invented = 0
+        lanes = [lane for lane in listed if lane != whole]
+        if whole in listed and (not lanes or tables.ends[whole].neighbors):
+            lanes = [*self._split(), *lanes]
+        self.free = lanes
 
-def joined(lanes: Sequence[End], links: Sequence[Link], whole: End, tables: Tables
-           ) -> Iterator[tuple[End, Link]]:
-    """Yields each link with its lane. Lanes that nobody saw are named by a number."""
-    left = list(links)
-    unheard: list[End] = []
-    for lane in lanes:
-        link = next((one for one in left if hears(tables, lane, one.other)), None)
-        if link is None:
-            unheard.append(lane)
-        else:
-            left.remove(link)
-            yield tables.ends[lane].end, link
-    for link in list(left):
-        heard = lane_heard(tables, link.other, whole)
-        if heard is not None and heard not in lanes:
-            lanes = [*lanes, heard]
-            left.remove(link)
-            yield heard, link
-    ends = [tables.ends[lane].end for lane in unheard]
-    numbers = range(len(links) - len(left) + len(ends) + 1, len(links) + 1)
-    ends += [numbered(links[0].one, number) for number in numbers]
-    yield from zip(ends, left)
+    def joined(self, links: Sequence[Link]) -> Iterator[tuple[End, Link]]:
+        """Yields each link with its lane. A lane that hears the link's far end is preferred, then
+        one that the far end hears, then one that hears somebody, then any other one."""
+        left = {self._tables.names.end(link.other): link for link in links}
+        heard = {lane: [far for far in left if self._hears(lane, far)] for lane in self.free}
+        for lane in sorted(self.free, key=lambda lane: len(heard[lane])):
+            far = next((one for one in heard[lane] if one in left), None)
+            if far is not None:
+                yield self._take(lane), left.pop(far)
+        for far in list(left):
+            found = self._heard_by(far)
+            if found is not None:
+                yield found, left.pop(far)
+        self.free.sort(key=lambda lane: not self._tables.ends[lane].neighbors)
+        for link in left.values():
+            yield self._take(self.free[0]) if self.free else self._new(links[0].one), link
 
+    def _take(self, lane: End) -> End:
+        """Takes a free lane. Returns it as its list writes it."""
+        self.free.remove(lane)
+        self._taken.add(lane)
+        return self._tables.ends[lane].end
 
-def hears(tables: Tables, lane: End, end: End) -> bool:
-    """Returns whether a lane has a neighbor that may be this end."""
-    key = tables.names.end(end)
-    return any(tables.names.answers(one, key) for one in tables.ends[lane].neighbors)
+    def _hears(self, lane: End, far: End) -> bool:
+        """Returns whether a lane has a neighbor that may be this end."""
+        names = self._tables.names
+        return any(names.answers(one, far) for one in self._tables.ends[lane].neighbors)
 
+    def _heard_by(self, far: End) -> Optional[End]:
+        """Takes the lane that an end hears, unless it is taken already."""
+        known, names = self._tables.ends.get(far), self._tables.names
+        for neighbor in known.neighbors if known is not None else ():
+            for port in names.heeded(neighbor):
+                lane = End(self._whole.host, port)
+                key = names.end(lane)
+                if (self._whole.host in names.hosts_of(neighbor) and whole_of(key) == self._whole
+                        and key not in self._planned and key not in self._taken):
+                    self._taken.add(key)
+                    if key in self.free:
+                        self.free.remove(key)
+                    return lane
+        return None
 
-def lane_heard(tables: Tables, end: End, whole: End) -> Optional[End]:
-    """Returns the lane of `whole`, or `whole` itself, that an end hears, normalized; or None."""
-    known = tables.ends.get(tables.names.end(end))
-    heard = [key for one in (known.neighbors if known else ()) for key in tables.names.ends(one)]
-    return next((key for key in heard if key.host == whole.host
-                 and is_lane(key.port, whole.port)), None)
+    def _split(self) -> Sequence[End]:
+        """Splits the whole port if it has several neighbors: each becomes that of a new lane."""
+        ends, whole = self._tables.ends, self._whole
+        if len(ends[whole].neighbors) < 2:
+            return [whole]
+        known = ends.pop(whole)
+        lanes = []
+        for neighbor in known.neighbors:
+            lane = self._new(known.end)
+            lanes.append(self._tables.names.end(lane))
+            ends[lanes[-1]] = KnownPort(lane, [neighbor])
+        return lanes
 
-
-def numbered(whole: End, number: int) -> End:
-    """Returns a lane that is named by its number, since its real name is not known."""
-    return End(whole.host, f"{whole.port}:{number}")
+    def _new(self, whole: End) -> End:
+        """Returns a lane that no list names. Its name is that of no other port."""
+        while True:
+            self._invented += 1
+            lane = End(whole.host, f"{whole.port}:?{self._invented}")
+            key = self._tables.names.end(lane)
+            if key not in self._tables.ends and key not in self._planned:
+                return lane

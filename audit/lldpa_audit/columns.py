@@ -2,7 +2,7 @@
 import re
 from typing import Mapping, Optional, Sequence, Union
 
-from .netbox import AT_NO_PANEL, Cable, Pair, Side, between
+from .netbox import Cable, Pair, Side, between
 from .plan import FIRST, Faults
 
 COLUMNS = ("host", "port", "peer", "peer_port")
@@ -22,7 +22,8 @@ PANELS = (("panel", "front", "panel", "rear"), ("device", "name", "device", "rea
 
 class Columns:
     """Reads the rows of a CSV file by its header, and adds a fault for each error. `others` names
-    the further columns, and `can_read` says whether the header names both ends of a link."""
+    the further columns, and `can_read` says whether the header names both ends of a link. If
+    `is_untyped`, it is NetBox's, but lacks the types of ends."""
 
     def __init__(self, header: Sequence[str], line: int, faults: Faults,
                  given: Optional[Mapping[str, str]] = None) -> None:
@@ -33,6 +34,7 @@ class Columns:
         self._places = [self._names.index(name) for name in self._columns if self.can_read]
         self._sides = [self._place_of(f"side_{side}_type", f"termination_{side}_type")
                        for side in "ab"]
+        self.is_untyped = self._is_of_netbox and self._sides == [None, None]
         self._type, self._status = self._place_of("type"), self._place_of("status")
         self._position = self._place_of("rear_port_position", "position")
         self._others = [at for at, name in enumerate(header) if at not in self._places and name]
@@ -75,8 +77,9 @@ class Columns:
             self._faults.add(line, f"its {self._columns[row.index('')]} is missing")
             return None
         texts = self._texts(fields) if self.others else ()
-        position = "" if self._position is None else fields[self._position].strip()
-        return Cable((row,), line, texts, AT_NO_PANEL, position or FIRST)
+        if self._position is None:
+            return Cable((row,), line, texts)
+        return Cable((row,), line, texts, position=fields[self._position].strip() or FIRST)
 
     def _of_netbox(self, line: int, fields: Sequence[str], row: Sequence[str]
                    ) -> Union[Cable, str, None]:

@@ -1,4 +1,6 @@
-"""Finds whether names differ only in case, domain or spelling."""
+"""Finds whether names differ only in case, domain, spelling, or in letters of other alphabets."""
+import unicodedata
+from itertools import product
 from typing import Optional
 
 from .names import End, Names, Seen
@@ -23,6 +25,20 @@ class Differences:
             if rule.answers(neighbor, key):
                 is_so = self._names.vendor_names or key in rule.ends(neighbor)
                 return words_of(differences) if is_so else "the neighbor announces its aggregate"
+        return self._look_alike(neighbor, end)
+
+    def _look_alike(self, neighbor: Seen, end: End) -> Optional[str]:
+        """Returns which letters of a neighbor's names differ from an end's, if they are not ASCII
+        and all others are equal: a letter of another alphabet may look alike."""
+        host, port = self._names.whole_host(end.host), self._names.plain_port(end.port)
+        for its_host, its_port in product(neighbor.hosts, neighbor.ports):
+            pairs = [(self._names.whole_host(its_host), host),
+                     (self._names.plain_port(its_port), port)]
+            letters = [letters_of(one, other) for one, other in pairs]
+            if any(letters) and all(found or one == other
+                                    for found, (one, other) in zip(letters, pairs)):
+                return ", ".join(f"{letter} is {unicodedata.name(letter, 'without a name')}"
+                                 for letter in dict.fromkeys("".join(letters)))
         return None
 
     def of_ends(self, one: End, other: End) -> Optional[str]:
@@ -35,6 +51,16 @@ class Differences:
     def loosest(self, end: End) -> End:
         """Returns an end, normalized so that case, domain and spelling do not count."""
         return self._looser[-1][1].end(end)
+
+
+def letters_of(one: str, other: str) -> str:
+    """Returns the letters that differ in two names, except those in ASCII. Returns an empty text if
+    the names are equal, or differ in length or in letters that are in ASCII both."""
+    if one.isascii() and other.isascii() or len(one) != len(other):
+        return ""
+    pairs = [pair for pair in zip(one, other) if pair[0] != pair[1]]
+    return "".join(letter for pair in pairs for letter in pair if not letter.isascii()
+                   ) if not any("".join(pair).isascii() for pair in pairs) else ""
 
 
 def words_of(differences: tuple[str, ...]) -> str:

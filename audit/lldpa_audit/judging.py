@@ -1,4 +1,4 @@
-"""Compares what is seen at the ports of hosts with a plan. audit/README.md defines each verdict."""
+"""Judges the ends of planned links by what is seen. audit/README.md defines each verdict."""
 from collections import defaultdict
 from enum import Enum
 from functools import cached_property
@@ -19,6 +19,7 @@ class Verdict(Enum):
     WRONG = "wrong"
     SWAPPED = "swapped"
     SILENT = "silent"
+    MOVED = "moved"
     EXTRA = "extra"
     DOUBLED = "doubled"
     ONE_SIDED = "one-sided"
@@ -31,7 +32,8 @@ class Verdict(Enum):
 
 class Finding(NamedTuple):
     """The verdict on `end`. `wants` is the end it should see, None if `end` is unplanned. `has`
-    lists its neighbors, `partner` is the end it is swapped with, and `reason` excuses its fault."""
+    lists its neighbors, `partner` is the end it is swapped with, and `reason` excuses its fault.
+    If its cable was moved, `moved_to` is the unplanned port where the cable is."""
 
     end: End
     verdict: Verdict
@@ -39,16 +41,7 @@ class Finding(NamedTuple):
     has: Sequence[Seen] = ()
     partner: Optional[End] = None
     reason: str = ""
-
-
-def audit(plan: Plan, tables: Tables, planned_only: bool = False) -> list[Finding]:
-    """Returns findings on planned ends of audited hosts and on ends of links that nobody looked at,
-    in the plan's order. Unplanned ports with a neighbor follow, unless `planned_only`."""
-    judge = Judge(plan, tables)
-    findings = list(judge.planned())
-    if judge.names.short_names:
-        findings = list(judge.of_several_domains(findings))
-    return findings if planned_only else [*findings, *judge.unplanned()]
+    moved_to: Optional[End] = None
 
 
 class Judge:
@@ -59,37 +52,31 @@ class Judge:
         self.tables = tables
         self.names = tables.names
         self._bundles = Bundles(plan, tables) if self.names.vendor_names else None
+        self._chassis: dict[str, str] = {}  # the first chassis ID of each host
+        self._planned_ports = 0  # how many planned ends have data
 
     def planned(self) -> Iterator[Finding]:
         """Yields a finding for each planned end of an audited host or of a link not looked at."""
         hosts, ends, items = self.tables.hosts, self.tables.ends, iter(self.plan.ends.items())
         for (one, wish), (other, other_wish) in zip(items, items):  # the two ends of a link
-            told, other_told = ends.get(one), ends.get(other)
+            told = ends.get(one) or self.tables.told(one, wish.end)
+            other_told = ends.get(other) or self.tables.told(other, other_wish.end)
+            self._planned_ports += (told is not None) + (other_told is not None)
             is_right = ((told is None or self.has_only(told, wish.wanted))
                         and (other_told is None or self.has_only(other_told, other_wish.wanted)))
-            for end, its_wish, here, there in ((one, wish, told, other_told),
-                                               (other, other_wish, other_told, told)):
-                if end.host in hosts:
-                    yield self.finding(end, its_wish, here, is_right)
-                elif there is None:
-                    yield Finding(its_wish.end, Verdict.NOT_LOOKED_AT, its_wish.wants)
-
-    def of_several_domains(self, findings: Sequence[Finding]) -> Iterator[Finding]:
-        """Yields the findings; a right end is `doubled` if it wants a host heard in two domains."""
-        heard: dict[str, set[str]] = defaultdict(set)
-        names, right = self.names, Verdict.RIGHT
-        for one in findings:
-            if one.wants is not None and one.verdict is right:
-                heard[names.host(one.wants.host)].update(names.domain(name)
-                                                         for name in one.has[0].hosts)
-        apart = {host for host, domains in heard.items() if len(domains - {""}) > 1}
-        for one in findings:
-            is_apart = one.wants is not None and names.host(one.wants.host) in apart
-            is_apart = is_apart and one.verdict is right
-            yield one._replace(verdict=Verdict.DOUBLED) if is_apart else one
+            if one.host in hosts:
+                yield self.finding(one, wish, told, is_right)
+            elif other_told is None:
+                yield Finding(wish.end, Verdict.NOT_LOOKED_AT, wish.wants)
+            if other.host in hosts:
+                yield self.finding(other, other_wish, other_told, is_right)
+            elif told is None:
+                yield Finding(other_wish.end, Verdict.NOT_LOOKED_AT, other_wish.wants)
 
     def unplanned(self) -> Iterator[Finding]:
-        """Yields a finding for each unplanned port with a neighbor."""
+        """Yields a finding for each unplanned port with a neighbor. `planned` comes before it."""
+        if self._planned_ports == len(self.tables.ends):
+            return  # a large network need not be searched
         for end in self.tables.beside(self.plan):
             told = self.tables.ends[end]
             if told.neighbors and end not in self.plan.unknown:
@@ -101,10 +88,14 @@ class Judge:
             return Finding(wish.end, Verdict.NO_DATA, wish.wants)
         if self._bundles is not None and self.is_of_another_bundle(end, wish.wanted, told):
             return Finding(wish.end, Verdict.WRONG, wish.wants, told.neighbors)
-        if is_right:
-            return Finding(wish.end, Verdict.RIGHT, wish.wants, told.neighbors)
-        verdict, partner = self.verdict(end, wish.wanted, told.neighbors), None
-        if verdict is Verdict.WRONG:
+        verdict, partner = Verdict.RIGHT, None
+        if not is_right:
+            verdict = self.verdict(end, wish.wanted, told.neighbors)
+        if verdict is Verdict.RIGHT:
+            host, chassis = wish.wants.host, told.neighbors[0].chassis
+            if chassis and self._chassis.setdefault(host, chassis) != chassis:
+                self.tables.several.add(host)
+        elif verdict is Verdict.WRONG:
             partner = self.partner(end, wish.wanted, told.neighbors[0])
         return Finding(wish.end, Verdict.SWAPPED if partner else verdict, wish.wants,
                        told.neighbors, partner)

@@ -39,11 +39,15 @@ class Known(NamedTuple):
 
     def applied(self, one: Finding, names: Names) -> Finding:
         """Returns a finding, with the verdict `known` if a row excuses its verdict at either end of
-        the link. If nobody looked at the link, rows must excuse the verdict at both ends."""
+        the link. An end without data must be excused itself, since the other end is not the reason.
+        If nobody looked at the link, rows must excuse the verdict at both ends."""
         if one.verdict is Verdict.RIGHT:
             return one
         ours, theirs = (self.reason(names, end, one.verdict) for end in (one.end, one.wants))
-        reason = ours and theirs if one.verdict is Verdict.NOT_LOOKED_AT else ours or theirs
+        if one.verdict is Verdict.NO_DATA:
+            reason = ours
+        else:
+            reason = ours and theirs if one.verdict is Verdict.NOT_LOOKED_AT else ours or theirs
         return one._replace(verdict=Verdict.KNOWN, reason=reason) if reason else one
 
     def unplanned(self, plan: Plan) -> list[str]:

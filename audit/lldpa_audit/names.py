@@ -3,12 +3,12 @@ from __future__ import annotations
 
 import ipaddress
 from contextlib import suppress
-from typing import Container, Iterable, NamedTuple, Optional, Sequence
+from typing import Collection, Container, Iterable, Mapping, NamedTuple, Optional, Sequence
 
 from lldpa.texts import CUT, printable
 
 from .link_settings import Settings
-from .spelling import is_aggregate, plain, plain_port
+from .spelling import MAC, is_aggregate, plain, plain_port
 
 LONGEST = 255  # the longest name that LLDP can send
 MOST_NAMED = 3  # hosts, ends or neighbors in one line
@@ -52,7 +52,7 @@ class Aliases(NamedTuple):
     ports that share the alias. All these names are normalized."""
 
     hosts: dict[str, str]
-    ports: dict[End, list[str]]
+    ports: dict[End, tuple[str, ...]]
 
 
 NO_ALIASES = Aliases({}, {})
@@ -69,7 +69,7 @@ class Names:
         self.short_names = short_names
         self.vendor_names = vendor_names
         self.aliases = aliases
-        self.planned: Container[End] = ()
+        self.planned: Collection[End] = ()
         self.planned_ports: Container[str] = ()
         self.domains: dict[str, set[str]] = {}
         self._rules = self
@@ -130,10 +130,14 @@ class Names:
 
     def plain_port(self, name: str) -> str:
         """Returns a port's name, normalized except for aliases."""
+        if not self.vendor_names and not self.ignore_case:
+            return name
         key = self._ports.get(name)
         if key is None:
-            key = name.casefold() if self.ignore_case else name
-            key = self._ports[name] = plain_port(key) if self.vendor_names else key
+            key = plain_port(name) if self.vendor_names else name
+            if self.ignore_case:  # before and after, since Linux has no name `Eth1`
+                key = plain_port(key.casefold()) if self.vendor_names else key.casefold()
+            self._ports[name] = key
         return key
 
     def ports(self, host: str, name: str) -> Sequence[str]:
@@ -195,6 +199,11 @@ class Names:
         for host in self.hosts_of(neighbor):
             yield from (End(host, key) for port in ports for key in self.ports(host, port))
 
+    def share(self, shared: Mapping[End, tuple[str, ...]]) -> None:
+        """Gives each of these normalized ports' names to the ports that share it, as an alias."""
+        self.aliases = Aliases(self.aliases.hosts, {**self.aliases.ports, **shared})
+        self._is_strict = False
+
     def looser(self, *differences: str) -> Names:
         """Returns rules that also ignore these differences: case, domain or spelling."""
         looser = Names(self.ignore_case or "case" in differences,
@@ -212,7 +221,9 @@ class Names:
 
 
 def without_domain(name: str) -> str:
-    """Returns a host's name up to its first dot, or an IP address as it is."""
+    """Returns a host's name up to its first dot, or an IP or MAC address as it is."""
+    if MAC.fullmatch(name):
+        return name
     with suppress(ValueError):
         ipaddress.ip_address(name)
         return name

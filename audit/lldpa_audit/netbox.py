@@ -13,15 +13,15 @@ DETAILS = ("id", "label", "type", "color", "length", "length_unit", "status", "d
 OF_PANELS = ("frontport", "rearport")
 PORTS = ("interface", *OF_PANELS)
 CIRCUIT = "circuittermination"
+GET_ALL = "ask NetBox with ?limit=0, or put all pages into one list"
 # names of power and console ports, for exports with NetBox's table headings, which lack the types
 OTHER_PORT = re.compile(r"(?:(?:rj45|(?:mini-?)?usb)[ _-]?)?"
                         r"(?:psu?|pem|pwr|power|outlet|inlet|con|console|serial|tty[a-z]?|aux)"
                         r"(?:[ _-]?(?:supply|feed|port))?[ _:/.-]?[a-z]?[0-9]{0,3}", re.I)
 
 # reasons to leave out a cable of NetBox
-POWER, ABSENT, FREE, UNPAIRED = (
-    "for power or consoles", "with the status planned or decommissioning",
-    "with an end that is not a port of a device", "with ends that cannot be paired")
+POWER, ABSENT, FREE = ("for power or consoles", "with the status planned or decommissioning",
+                       "with an end that is not a port of a device")
 
 # the host and the port of an end
 Pair = tuple[str, str]
@@ -31,13 +31,15 @@ AT_NO_PANEL = (False, False)
 class Cable(NamedTuple):
     """A cable of a plan, or a panel's pair of ports with the `position` at the rear port. `rows`
     has host, port, peer and peer's port of each link in the cable, `line` is its line in the
-    file, and `texts` are its further columns. `at_panels` says which sides are at a panel."""
+    file, and `texts` are its further columns. `at_panels` says which sides are at a panel. If
+    its ends cannot be paired, `rows` is empty, and `unpaired` has them."""
 
     rows: Sequence[Sequence[str]]
     line: Optional[int] = None
     texts: Sequence[str] = ()
     at_panels: tuple[bool, bool] = AT_NO_PANEL
     position: str = FIRST
+    unpaired: Sequence[Pair] = ()
 
 
 class Side(NamedTuple):
@@ -70,7 +72,7 @@ def between(one: Side, other: Side, kind: str, status: str, line: Optional[int],
         pairs = zip(one.ends, other.ends) if len(one.ends) == len(other.ends) else ()
     rows = [(*near, *far) for near, far in pairs]
     at_panels = one.is_at_panel, other.is_at_panel
-    return Cable(rows, line, texts, at_panels) if rows else UNPAIRED
+    return Cable(rows, line, texts, at_panels, unpaired=() if rows else ends)
 
 
 def cables_of(text: str, faults: Faults) -> Iterator[Union[Cable, str]]:
@@ -81,15 +83,22 @@ def cables_of(text: str, faults: Faults) -> Iterator[Union[Cable, str]]:
         faults.add(None, f"it cannot be read as JSON: {fault}")
         return
     pages = tree if isinstance(tree, list) else [tree]
+    rows: set[object] = set()
     for page in pages:
         found = page.get("results") if isinstance(page, dict) else None
         if not isinstance(found, list):
             faults.add(None, "it is JSON, but not an answer of NetBox's /api/dcim/cables/")
             return
         if page.get("next") and page is pages[-1]:
-            faults.add(None, "its last page names a next one: ask NetBox with ?limit=0, or put all "
-                             "pages into one list")
-        yield from map(cable_of, found)
+            faults.add(None, f"its last page names a next one: {GET_ALL}")
+        for number, node in enumerate(found):
+            key = node.get("id") if isinstance(node, dict) else None
+            rows.add(key if isinstance(key, int) else (id(page), number))
+            yield cable_of(node)
+    counts = [page.get("count") for page in pages]
+    count = max((one for one in counts if isinstance(one, int)), default=len(rows))
+    if count != len(rows):
+        faults.add(None, f"it has {len(rows)} of {count} cables: {GET_ALL}")
 
 
 def cable_of(node: Any) -> Union[Cable, str]:

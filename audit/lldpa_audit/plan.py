@@ -9,6 +9,7 @@ from .names import End, Names, shown
 
 MOST_TOLD = 20
 MOST_COUNTED = 10_000
+MOST_LANES = 16  # no port has more
 
 
 class PlanFault(LldpaFault):
@@ -91,7 +92,8 @@ class Plan:
     """`ends` has the planned ends by normalized name, in the plan's order, with the two ends of a
     link adjacent. `breakouts` has a breakout cable's links by the end in `whole` that they
     share. `columns` names the texts of a detail, `notes` says what is left out, `not_judged`
-    counts the links that cannot be followed, and `unknown` has their ends. Raises PlanFault."""
+    counts the links that cannot be judged, and `unknown` has their ends. If `is_untyped`, nothing
+    says which hosts are patch panels. Raises PlanFault."""
 
     def __init__(self, file: str, links: Iterable[Link], names: Names,
                  faults: Optional[Faults] = None, whole: Optional[Set[End]] = None) -> None:
@@ -102,24 +104,30 @@ class Plan:
         self.notes: Sequence[str] = ()
         self.not_judged = 0
         self.unknown: Set[End] = set()
+        self.is_untyped = False
         faults = faults or Faults(file)
         if names.short_names:
             links = list(links)
             names.learn_domains(end.host for link in links for end in link[:2])
         for link in links:
             if whole and not whole.isdisjoint(link[:2]):
-                self._add_lane(link, whole, names, faults)
+                self._add_breakout(link, whole, names, faults)
             else:
                 self._add(link, names, faults)
-        if not self.ends and not self.breakouts and not faults.count:
-            faults.add(None, "it has no link to judge; for cables at patch panels, give --panels")
+        self._need_breakouts_apart(names, faults)
         self.hosts = {key.host: wish.end.host for key, wish in self.ends.items()}
         for key, some in self.breakouts.items():
             self.hosts.update((names.host(end.host), end.host) for link in some for end in link[:2])
         if names.short_names:
             self._need_hosts_apart(names.with_domains(), faults)
         faults.end()
-        names.planned, names.planned_ports = self.ends, {key.port for key in self.ends}
+        names.planned = self.planned(names) if self.breakouts else self.ends
+        names.planned_ports = {key.port for key in names.planned}
+
+    def planned(self, names: Names) -> Set[End]:
+        """Returns the planned ends, and all ends of breakout cables, normalized."""
+        far = (names.end(link.other) for some in self.breakouts.values() for link in some)
+        return {*self.ends, *self.breakouts, *far}
 
     def _need_hosts_apart(self, whole: Names, faults: Faults) -> None:
         """Refuses two planned hosts that --short-names would make one."""
@@ -143,7 +151,7 @@ class Plan:
             first = (before or other_before or NOT_PLANNED).line
             faults.add(line, planned_twice(one if before else other, first, line))
 
-    def _add_lane(self, link: Link, whole: Set[End], names: Names, faults: Faults) -> None:
+    def _add_breakout(self, link: Link, whole: Set[End], names: Names, faults: Faults) -> None:
         """Adds a link of a breakout cable: its end in `whole` has several links."""
         if link.one not in whole:
             link = Link(link.other, link.one, link.line, link.other_line, link.detail,
@@ -151,13 +159,25 @@ class Plan:
         some = self.breakouts.setdefault(names.end(link.one), [])
         if some and (some[0].line, some[0].detail) != (link.line, link.detail):
             faults.add(link.line, planned_twice(link.one, None, None))
+        if len(some) == MOST_LANES:
+            faults.add(link.line, f"{link.one} has more than {MOST_LANES} lanes")
         some.append(link)
 
-    def add_lane(self, lane: End, link: Link, names: Names, wanted: Optional[End]) -> None:
-        """Plans a breakout cable's link at a lane. The far end wants `wanted`, or else the lane."""
+    def _need_breakouts_apart(self, names: Names, faults: Faults) -> None:
+        """Refuses ends of breakout cables that are planned twice."""
+        ends: dict[End, Optional[int]] = {}
+        for key, links in self.breakouts.items():
+            pairs = [(key, links[0].one), *((names.end(one.other), one.other) for one in links)]
+            for one, end in pairs:
+                before = self.ends.get(one)
+                if before is not None or one in ends:
+                    line = before.line if before is not None else ends[one]
+                    faults.add(links[0].line, planned_twice(end, line, links[0].line))
+                ends[one] = links[0].line
+
+    def add_lane(self, lane: End, link: Link, names: Names) -> None:
+        """Plans a breakout cable's link at a lane, which must not be planned."""
         self._add(link._replace(one=lane), names, Faults(self.file))
-        other = names.end(link.other)
-        self.ends[other] = self.ends[other]._replace(wanted=wanted or names.end(lane))
 
     @cached_property
     def ends_of_hosts(self) -> Mapping[str, Sequence[End]]:

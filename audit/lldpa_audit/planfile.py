@@ -1,7 +1,6 @@
 """Reads plans: links in DOT, CSV or NetBox's JSON, followed through patch panels."""
 from collections import Counter
 from itertools import starmap
-from sys import intern
 from typing import Iterable, Iterator, Mapping, Optional, Sequence, Union
 
 from .columns import Columns
@@ -16,8 +15,9 @@ from .rows import rows_of, text_of
 
 class PlanFile:
     """Reads the links of a file. `left_out` counts the cables that are left out, by reason.
-    `at_panels` maps each end that the file calls a panel's port to the cable's other end, and
-    `breakouts` has the ends with several links."""
+    `at_panels` maps each end that the file calls a panel's port to the cable's other end,
+    `breakouts` has the ends with several links, and `unpaired` the ends of each cable whose ends
+    cannot be paired."""
 
     def __init__(self, file: str, columns: Optional[Mapping[str, str]] = None,
                  has_panels: bool = True) -> None:
@@ -27,7 +27,10 @@ class PlanFile:
         self.others: Sequence[str] = ()
         self.at_panels: dict[End, End] = {}
         self.breakouts: set[End] = set()
+        self.unpaired: list[Sequence[End]] = []
+        self.is_untyped = False
         self._given = columns
+        self._names: dict[str, str] = {}
         self._has_panels = has_panels
 
     def links(self) -> Iterator[Link]:
@@ -54,32 +57,40 @@ class PlanFile:
         rows = rows_of(self.text, self.faults)
         line, header = next(rows, (1, []))
         columns = Columns(header, line, self.faults, self._given)
-        self.others = columns.others
+        self.others, self.is_untyped = columns.others, columns.is_untyped
         if columns.can_read:
             yield from (cable for cable in starmap(columns.cable, rows) if cable)
 
     def _links_of(self, cable: Cable) -> Sequence[Link]:
         """Returns the links of a cable. Remembers ends at panels and ends with several links."""
-        rows, line, texts, at_panels, position = cable
+        rows, line, texts, at_panels, position, unpaired = cable
+        if unpaired:
+            self.unpaired.append([End(*pair) for pair in unpaired])
         detail = Detail(texts) if texts else NO_DETAIL
-        links = []
+        links, kept = [], self._names
         for row in rows:
-            longest = max(map(len, row))
-            if longest > LONGEST:
-                self.faults.add(line, f"a name in it has {longest} characters, but LLDP can send "
-                                      f"only {LONGEST}")
-            host, port, peer, peer_port = map(intern, row)  # names are in many rows
+            host, port, peer, peer_port = [kept.get(name) or self._kept(name, line) for name in row]
             links.append(Link(End(host, port), End(peer, peer_port), line, None, detail, None,
                               position))
         if at_panels[0]:
             self.at_panels.update((link.one, link.other) for link in links)
         if at_panels[1]:
             self.at_panels.update((link.other, link.one) for link in links)
-        if len(links) > 1 and links[0].one == links[1].one:
-            self.breakouts.add(links[0].one)
-        elif len(links) > 1 and links[0].other == links[1].other:
-            self.breakouts.add(links[0].other)
+        if len(links) > 1:
+            if links[0].one == links[1].one:
+                self.breakouts.add(links[0].one)
+            elif links[0].other == links[1].other:
+                self.breakouts.add(links[0].other)
         return links
+
+    def _kept(self, name: str, line: Optional[int]) -> str:
+        """Returns a name. Each is kept only once, since many rows have it."""
+        if len(name) > LONGEST:
+            self.faults.add(line, f"a name in it has {len(name)} characters, but LLDP can send "
+                                  f"only {LONGEST}")
+        else:
+            self._names[name] = name
+        return name
 
 
 def read_plan(file: str, names: Names, columns: Optional[Mapping[str, str]] = None,
@@ -96,12 +107,17 @@ def read_plan(file: str, names: Names, columns: Optional[Mapping[str, str]] = No
         of_panels.faults.end()
         links = followed.through(links)
     plan = Plan(file, links, names, read.faults, read.breakouts)
+    if not plan.ends and not plan.breakouts:
+        read.faults.add(None, "it has no link to judge; for cables at patch panels, give --panels")
+        read.faults.end()
     begins = ([begin for begin, _ in followed.dead_ends] if followed else
               [end for end in read.at_panels.values() if end not in read.at_panels])
-    plan.not_judged = fewest_links([names.end(end) for end in begins])
-    plan.unknown = {names.end(end) for end in (*begins, *(() if followed else read.at_panels))}
-    plan.columns = read.others
-    plan.notes = [*notes_of(file, read), *notes_of_panels(file, read, followed)]
+    plan.not_judged = fewest_links([names.end(end) for end in begins]) + len(read.unpaired)
+    unknown = (begins, () if followed else read.at_panels, *read.unpaired)
+    plan.unknown = {names.end(end) for some in unknown for end in some}
+    plan.columns, plan.is_untyped = read.others, read.is_untyped and followed is None
+    plan.notes = [*notes_of(file, read), *notes_of_unpaired(file, read),
+                  *notes_of_panels(file, read, followed)]
     return plan
 
 
@@ -112,6 +128,14 @@ def notes_of(file: str, read: PlanFile) -> list[str]:
         return []
     reasons = ", ".join(f"{times} {reason}" for reason, times in read.left_out.most_common())
     return [f"{file}: {count} {'cable is' if count == 1 else 'cables are'} left out: {reasons}"]
+
+
+def notes_of_unpaired(file: str, read: PlanFile) -> list[str]:
+    """Returns a note on the cables whose ends cannot be paired, if there are any."""
+    count = len(read.unpaired)
+    some = ", ".join(map(str, read.unpaired[0][:MOST_NAMED])) if count else ""
+    return [f"{file}: {count} {'cable' if count == 1 else 'cables'} cannot be judged, since the "
+            f"ends cannot be paired; the first ends are {some}"] if count else []
 
 
 def notes_of_panels(file: str, read: PlanFile, followed: Optional[Panels]) -> list[str]:

@@ -6,6 +6,7 @@ from contextlib import suppress
 
 MAC = re.compile(r"[0-9a-f]{2}(?P<mark>[:-])(?:[0-9a-f]{2}(?P=mark)){4}[0-9a-f]{2}"
                  r"|[0-9a-f]{4}[.][0-9a-f]{4}[.][0-9a-f]{4}|[0-9a-f]{12}", re.I)
+DIGITS = re.compile(r"[0-9a-f]{12}")
 IP_ADDRESS = re.compile(r"[0-9a-f.:]+", re.I)
 LONGEST_ADDRESS = 45
 
@@ -44,6 +45,7 @@ KINDS = {
     "mgmteth": "mg",
     "m-gigabitethernet": "mge",
 }
+LINUX = ("eth", "ETH")  # `ETH0` may be eth0, for people who ignore case
 KIND_OF = {form: kind for kind, forms in KINDS.items() for form in [kind, *forms.split()]}
 
 # names of aggregates: of Cisco, Arista, Junos, HPE, Huawei, Linux and BSD
@@ -75,9 +77,16 @@ def plain_port(name: str) -> str:
         return "ethernet-" + "/".join(part for part in short.groups() if part)
     found = PORT.fullmatch(name)
     kind = KIND_OF.get(found[1].lower()) if found else None
-    if found is None or kind is None or (found[1] == "eth" and "/" not in found[2]):
+    if found is None or kind is None or (found[1] in LINUX and "/" not in found[2]):
         return plain(name)
     return kind + found[2]
+
+
+def plain_chassis(name: str) -> str:
+    """Returns a chassis ID in one spelling: Cisco's, Windows' and NX-API's of a MAC address are
+    equal, and upper and lower case."""
+    digits = re.sub("[:. -]", "", name.lower().removeprefix("0x"))
+    return plain(digits if DIGITS.fullmatch(digits) else name).casefold()
 
 
 def is_aggregate(port: str) -> bool:

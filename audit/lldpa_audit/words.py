@@ -1,15 +1,22 @@
 """Defines the command line of lldpa-audit."""
 import argparse
 import socket
+import sys
 from math import inf
-from typing import Optional, Sequence
+from typing import NoReturn, Optional, Sequence
 
 from lldpa.client.connection import DEFAULT_PATH
+from lldpa.texts import printable
 from lldpa.version import add_version
 
 from .ages import seconds_of
 from .columns import COLUMNS
+from .names import text_of
 
+# options for an audit by a plan
+OF_PLANS = ("columns", "panels", "wait", "settings", "all", "known", "planned_only", "by", "junit",
+            "metrics", "html")
+LIVE = "--live"
 WORDS = """\
 PLAN is CSV, the cables that NetBox exports or its API returns, or a topology in DOT. Each WHAT is:
   FOLDER          files of many hosts, each named after its host: leaf1.json, or files in leaf1/
@@ -22,35 +29,63 @@ PLAN is CSV, the cables that NetBox exports or its API returns, or a topology in
   PORT=FILE       a capture taken at a port of this host; HOST:PORT=FILE for another host
 
 The exit status is 0 if everything that was looked at is right or known, 1 for a fault, a mismatch,
-a damaged file or, with --all, a cable that was not looked at or cannot be judged, and 2 for a wrong
-argument or plan, two lists of one host, or a file that cannot be read.
+a change, a damaged file or, with --all, a cable that was not looked at or cannot be judged, and 2
+for a wrong argument or plan, two lists of one host, or a file that cannot be read or written.
 
 examples:
   lldpa-audit --all --vendor-names cables.csv lists/
   lldpa-audit --live --wait 60 wiring.csv
+  lldpa-audit --write-plan plan.csv lists/
+  lldpa-audit --since lists-of-yesterday/ lists/
 
 The manual page lldpa-audit(1) describes the verdicts.
 """
 
 
+class Parser(argparse.ArgumentParser):
+    """Reports wrong arguments with invisible letters escaped."""
+
+    def error(self, message: str) -> NoReturn:
+        super().error(printable(text_of(message)))
+
+
 def read_words(words: Optional[Sequence[str]]) -> argparse.Namespace:
     """Reads the command line. If it is wrong, ends the program with status 2."""
-    parser = argparse.ArgumentParser(
+    parser = Parser(
         prog="lldpa-audit", allow_abbrev=False, epilog=WORDS,
-        usage="lldpa-audit [OPTION ..] PLAN [WHAT ..]",
+        usage="lldpa-audit [OPTION ..] PLAN [WHAT ..]\n"
+              "       lldpa-audit --write-plan FILE [OPTION ..] WHAT ..\n"
+              "       lldpa-audit --since OLD [OPTION ..] WHAT ..",
         description="Compares a plan of the cabling with the neighbors seen at each port, and "
                     "prints one line for each repair.",
         formatter_class=argparse.RawDescriptionHelpFormatter)
-    parser.add_argument("plan", metavar="PLAN", help="the planned cables, see below")
+    parser.add_argument("plan", metavar="PLAN", nargs="?", help="the planned cables, see below")
     parser.add_argument("what", metavar="WHAT", nargs="*", help="what was seen, see below; "
                         "may be omitted with --live")
     add_words_of_input(parser)
     add_words_of_report(parser)
     add_version(parser)
-    given = parser.parse_intermixed_args(words)
+    words = sys.argv[1:] if words is None else words
+    given = parser.parse_intermixed_args([f"{LIVE}={DEFAULT_PATH}" if word == LIVE else word
+                                          for word in words])
+    if given.write_plan or given.since:
+        need_no_plan(parser, given)
+    elif given.plan is None:
+        parser.error("the following arguments are required: PLAN")
     if not given.what and not given.live:
         parser.error("nothing to audit: give captures, lists of neighbors, or --live")
     return given
+
+
+def need_no_plan(parser: argparse.ArgumentParser, given: argparse.Namespace) -> None:
+    """Takes all arguments for what was seen. Refuses options that are of use with a plan only."""
+    option = "--write-plan" if given.write_plan else "--since"
+    given.what = [word for word in (given.plan, *given.what) if word is not None]
+    given.plan = None
+    others = [*OF_PLANS, "json", "since"] if given.write_plan else OF_PLANS
+    for name in others:
+        if getattr(given, name) != parser.get_default(name):
+            parser.error(f"{option} cannot be given with --{name.replace('_', '-')}")
 
 
 def add_words_of_input(parser: argparse.ArgumentParser) -> None:
@@ -61,9 +96,12 @@ def add_words_of_input(parser: argparse.ArgumentParser) -> None:
              "host=device,port=interface,peer=to,peer_port=to_port")
     add("--panels", metavar="FILE",
         help="the pairs of ports that panels join, such as NetBox's export of front ports")
-    add("--live", action="store_true", help="read this host's neighbors from lldpa-live")
-    add("--control", metavar="PATH", default=DEFAULT_PATH,
-        help=f"the control socket of lldpa-live (default: {DEFAULT_PATH})")
+    add("--platform", metavar="NAME", default="",
+        help="read the text of switches by ntc-templates' template for NAME, such as cisco_ios "
+             "or \"cisco_ios=show lldp neighbors detail\"")
+    add(LIVE, metavar="[=PATH]", type=not_empty,
+        help="read this host's neighbors from lldpa-live, perhaps at another control socket than "
+             f"{DEFAULT_PATH}")
     add("--wait", metavar="TIME", type=seconds_of, default=0.0,
         help="with --live, wait up to TIME until each planned port has a neighbor")
     add("--stale-after", metavar="TIME", type=seconds_of, default=inf,
@@ -83,6 +121,11 @@ def add_words_of_input(parser: argparse.ArgumentParser) -> None:
 
 def add_words_of_report(parser: argparse.ArgumentParser) -> None:
     add = parser.add_argument
+    add("--write-plan", metavar="FILE", type=not_empty,
+        help="write a plan of the links that are seen, instead of an audit by a PLAN")
+    add("--since", metavar="OLD", type=not_empty,
+        help="report the links that changed since OLD, such as a FOLDER with earlier lists, "
+             "instead of an audit by a PLAN")
     add("--all", action="store_true",
         help="count cables that were not looked at, or cannot be judged, as faults")
     add("--known", metavar="FILE",
@@ -95,6 +138,13 @@ def add_words_of_report(parser: argparse.ArgumentParser) -> None:
         help="write a JUnit report with a test case for each port that has a verdict")
     add("--metrics", metavar="FILE", help="write metrics for node_exporter's textfile collector")
     add("--html", metavar="FILE", help="write a page with the repairs and pictures of faulty hosts")
+
+
+def not_empty(text: str) -> str:
+    """Returns the name of a file. Raises ArgumentTypeError if it is empty."""
+    if not text:
+        raise argparse.ArgumentTypeError("the name of a file is missing")
+    return text
 
 
 def columns(text: str) -> "dict[str, str]":

@@ -100,7 +100,7 @@ class Fabric:
         leaf, = self.cut(end)
         free = self.free(leaf[0], "9")
         self.join(end, free)
-        self.told("moved", [end, free], "wrong")
+        self.told("moved", [end, free], "moved")
         leaf_name = self.leafs.pop()
         ports = [(leaf_name, f"swp{number}") for number in range(52, 57)]
         for port, peer in zip(ports, self.cut(*ports)[1:]):

@@ -33,10 +33,13 @@ REFUSED: Sequence[Tuple[str, Any, str]] = (
         one for ports in (RIGHT, {"swp1": [("x", "y")]})
         for one in vendors.openconfig(ports)["openconfig-lldp:interface"]]},
      "the port 'swp1' is in it twice: as entries 1 and 3"),
+    ("a port without a name", {"": [{"hostname": "x", "port": "y"}]},
+     "an entry has no name: was it shown without `detail`?"),
     ("14: EOS' short list", {"lldpNeighbors": [
         {"port": "swp1", "neighborDevice": "host01", "neighborPort": "eth0", "ttl": 120}]},
      "it is EOS' short list, without chassis IDs: use `show lldp neighbors detail | json`"),
-    ("16: IOS", IOS, "it looks like a switch's plain text: use its JSON, or rows of ntc-templates"),
+    ("16: IOS", IOS, "it looks like a switch's plain text: use its JSON, or --platform (see "
+                     "lldpa-audit(1))"),
     ("16: keyvalue", "lldp.swp1.via=LLDP\n", f"it is in lldpcli's keyvalue format: {USE_JSON}"),
     ("16: XML", '<?xml version="1.0"?>\n<lldp/>', f"it is lldpcli's XML: {USE_JSON}"),
     ("16: a page", "<!DOCTYPE html><p>Log in", "it is a web page, such as a login page"),
@@ -48,6 +51,8 @@ REFUSED: Sequence[Tuple[str, Any, str]] = (
      "it cannot parse the text"),
     ("16: a chassis", {"local-chassis": {}},
      f"it is what lldpcli says of its own host: {USE_JSON}"))
+OTHERS = "use `snmpwalk -v2c -c COMMUNITY HOST 1.0.8802.1.1.2.1`"
+STOPPED = f"l: the walk stopped before it had read all of some ports' neighbors: {OTHERS}"
 # what a file about many hosts has instead of leaf2's neighbors, and the audit's message about it
 FAILED: Sequence[Tuple[str, Any, str]] = (
     ("7: salt's host that failed", NO_ROUTE, "the command failed: no route to leaf2"),
@@ -87,6 +92,26 @@ PARTS = (
           (rack.section(), (), "it has no Ethernet interface"),
           ({"leafX": {"swp1": []}}, ("leafX",), "it has lists of other hosts only"),
           ({"swp1": {}, "swp2": {}}, ("swp1", "swp2"), "it has lists of other hosts only"))),
+    Row("two lists in one file", {"l": [vendors.eos(RIGHT), vendors.eos(OF_LEAF2)]}, "leaf1:l", 1, [
+        "l: it has 2 lists of neighbors, as entries 1 and 2: give only one",
+        "leaf1  no data at 2 of 2 ports (l: it has 2 lists of neighbors, as entries 1 and 2: give "
+        "only one)", NOT_LOOKED_AT]),
+    *(Row(f"gnmic of {source} in a file of leaf1", {"l": [{"source": source, "updates": [
+        {"Path": "a", "values": {"a": vendors.openconfig(RIGHT)}}]}]}, "leaf1:l", 1, [
+            f"l: it is of {name}, not of leaf1",
+            f"leaf1  no data at 2 of 2 ports (l: it is of {name}, not of leaf1)", NOT_LOOKED_AT])
+      for source, name in (("leaf2:57400", "leaf2"), ("leaf2.lab", "leaf2.lab"),
+                           ("LEAF2.other:9339", "LEAF2.other"))),
+    *(Row(f"gnmic of {source} in a file of leaf1", {"l": [{"source": source, "updates": [
+        {"Path": "a", "values": {"a": vendors.openconfig(RIGHT)}}]}]}, "leaf1:l", 0, [
+            "3 cables: 2 right, 0 wrong, 1 not looked at (host04, leaf2.lab)"])
+      for source in ("leaf1:57400", "leaf1.lab", "192.0.2.1:57400", "[2001:db8::1]:57400", "sw1")),
+    Row("a walk that stopped", {"l": vendors.walk(RIGHT).rpartition("iso.")[0]}, "leaf1:l", 1, [
+        STOPPED, f"swp2  no data: wants host02 eth0 ({STOPPED})",
+        "3 cables: 1 right, 0 wrong, 2 not looked at (host02, host04, leaf2.lab)"]),
+    Row("rows with a column for the host", {"l": [
+        {"host": host, **row} for host, ports in (("leaf1", RIGHT), ("leaf2.lab", OF_LEAF2))
+        for row in vendors.textfsm(ports)]}, "l", 0, ALL_RIGHT),
     Row("13: rows as nornir has them", {
         "l": {"leaf1": vendors.textfsm(RIGHT), "leaf2.lab": vendors.textfsm(OF_LEAF2)}}, "l", 0,
         ALL_RIGHT),

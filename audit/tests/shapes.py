@@ -1,9 +1,9 @@
 """For tests: measures audits, and has files whose audit once took over 30 seconds or 500 MB."""
 import gzip
 import json
-import os
 import subprocess
 import sys
+import tempfile
 from pathlib import Path
 from typing import Any, Callable, Iterator, List, Mapping, NamedTuple, Sequence
 
@@ -26,18 +26,29 @@ class Ran(NamedTuple):
     megabytes: int
 
 
+# Runs a program, and writes its seconds, its kilobytes and its status to a file. The kernel counts
+# at least the memory of the process that started a program. So a small one starts it.
+MEASURE = """
+import os, subprocess, sys
+child = subprocess.Popen(sys.argv[2:])
+_, status, used = os.wait4(child.pid, 0)
+told = [used.ru_utime + used.ru_stime, used.ru_maxrss, os.waitstatus_to_exitcode(status)]
+with open(sys.argv[1], "w") as file:
+    print(*told, file=file)
+"""
+
+
 def measured(words: Sequence[str]) -> Ran:
     """Measures an audit. A wrong status, a traceback, much time or much memory is a fault."""
-    child = subprocess.Popen(
-        ["prlimit", f"--cpu={2 * SECONDS}", sys.executable, AUDIT, *words],
-        stdin=subprocess.DEVNULL, stdout=subprocess.PIPE, stderr=subprocess.STDOUT, env=WITH_AGENT)
-    assert child.stdout is not None
-    with child.stdout:
-        output = child.stdout.read().decode(errors="replace")
-    _, status, usage = os.wait4(child.pid, 0)
-    child.returncode = os.waitstatus_to_exitcode(status)
-    used, megabytes = usage.ru_utime + usage.ru_stime, usage.ru_maxrss >> 10
-    faults = [f"status {child.returncode}"] if child.returncode not in (0, 1, 2) else []
+    limited = ["prlimit", f"--cpu={2 * SECONDS}", sys.executable, AUDIT, *words]
+    with tempfile.NamedTemporaryFile("r") as told:
+        output = subprocess.run(
+            [sys.executable, "-c", MEASURE, told.name, *limited], stdin=subprocess.DEVNULL,
+            stdout=subprocess.PIPE, stderr=subprocess.STDOUT, env=WITH_AGENT, check=False,
+            text=True, errors="replace").stdout
+        seconds, kilobytes, status = told.read().split()
+    used, megabytes = float(seconds), int(kilobytes) >> 10
+    faults = [f"status {status}"] if status not in ("0", "1", "2") else []
     faults += [f"{used:.0f} s"] if used > SECONDS else []
     faults += [f"{megabytes} MB"] if megabytes > MEGABYTES else []
     faults += ["a traceback"] if "Traceback" in output else []

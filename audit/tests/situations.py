@@ -74,8 +74,8 @@ KNOWN_FAULTS = [
          ["known: line 2: nas9 has no link that can be judged", "known: line 3: leaf1 swp9 has "
           "no link that can be judged", "2 cables: 2 right, 0 wrong"]),
         ("a bad verdict", "swp1 nas1 e0", KNOWN_VERDICT + "nas1,,x,,quiet\n", 2,
-         ["known: line 2: 'quiet' cannot be excused, only wrong, swapped, silent, extra, "
-          "doubled, one-sided, disagrees, unplanned, no data"]))]
+         ["known: line 2: 'quiet' cannot be excused, only wrong, swapped, silent, moved, "
+          "extra, doubled, one-sided, disagrees, unplanned, no data"]))]
 PANELED = HEAD + "".join(f"leaf1,swp{at},pp1,F{at}\npp1,R{at},pp2,R{at}\npp2,F{at},srv{at},e0\n"
                          for at in range(1, 5))
 TRUNK = HEAD + "pp1,R1,pp2,R1\nleaf1,swp5,pp1,F5\npp2,F1,srv1,e0\nleaf1,swp6,srv6,e0\n"
@@ -185,14 +185,14 @@ NETBOX = (
         ["4 cables: 4 right, 0 wrong"]),
     situation("a breakout of which two lanes are heard", CABLES + FOUR,
               {"a": "1s1 b 3\n1s0 b 4"}, 1, [
-        "1:3  silent: wants b 1", "1:4  silent: wants b 2", "4 cables: 2 right, 2 wrong"]),
+        "1:?1  silent: wants b 1", "1:?2  silent: wants b 2", "4 cables: 2 right, 2 wrong"]),
     situation("a breakout with a stranger, and one that comes twice", CABLES + FOUR, {
         "a": "1s0 b 2\n1s1 x 1\n1s2 b 2\n1s3 b 4"}, 1, [
             "1s1  wrong: wants b 1, has x 1", "1s2  wrong: wants b 3, has b 2 (planned at 1s0)",
             "4 cables: 2 right, 2 wrong"]),
     situation("a breakout that is seen from the lanes' side", CABLES + FOUR, {
         "b": "1 a 1/1\n2 a 1/2\n3 a 1/4\n4 x y"}, 1, [
-            "4  wrong: wants a 1:4, has x y", "4 cables: 3 right, 1 wrong"]),
+            "4  wrong: wants a 1:?1, has x y", "4 cables: 3 right, 1 wrong"]),
     situation("a breakout that is listed as one port", CABLES + FOUR, {
         "a": "1 b 4\n1 b 3\n1 b 2\n1 b 1", "b": "1 a 1\n2 a 1\n3 a 1\n4 a 1"}, 0,
         ["4 cables: 4 right, 0 wrong"]),
@@ -200,9 +200,10 @@ NETBOX = (
         "a,2,,,cat6,connected\n,,b,2,cat6,connected\na,PSU1,pdu1,Outlet 3,,connected\n"
         "a,con 0,cs1,1,cat5,connected\na,5,b,5,cat6,Planned\na,6,b,6,cat6,decommissioning\n"
         'a,7,b,"7,8,9",cat6,connected\n').replace("a,7,b", 'a,"7,8",b'), {"a": "1 b 1"}, 0, [
-            "plan: 7 cables are left out: 2 with an end that is not a port of a device, 2 for "
-            "power or consoles, 2 with the status planned or decommissioning, 1 with ends that "
-            "cannot be paired", "1 cable: 1 right, 0 wrong"]),
+            "plan: 6 cables are left out: 2 with an end that is not a port of a device, 2 for "
+            "power or consoles, 2 with the status planned or decommissioning",
+            "plan: 1 cable cannot be judged, since the ends cannot be paired; the first ends are "
+            "a 7, a 8, b 7", "2 cables: 1 right, 0 wrong, 1 not judged"]),
     situation("several ends at both sides", CABLES + 'a,"1,2",b,"1, 2",dac,connected\n',
               {"a": "1 b 2\n2 b 1"}, 1, ["1  swapped with 2: wants b 1, has b 2",
                                          "2 cables: 0 right, 2 wrong"]),

@@ -37,15 +37,22 @@ class SlowJudge:
     def is_one_of(self, hosts: Sequence[str], host: str) -> bool:
         return any(self.same_host(one, host) for one in hosts)
 
+    def heeded(self, neighbor: Seen) -> Sequence[str]:
+        """Returns the names of a neighbor's port that count."""
+        is_planned = any(self.same_port(neighbor.port_id, planned.port)
+                         and (neighbor.is_named or self.is_one_of(neighbor.hosts, planned.host))
+                         for planned in self.wants)
+        return (neighbor.port_id,) if is_planned else neighbor.ports
+
+    def is_named(self, neighbor: Seen, end: End) -> bool:
+        return self.is_one_of(neighbor.hosts, end.host) and any(
+            self.same_port(port, end.port) for port in self.heeded(neighbor))
+
     def answers(self, neighbor: Seen, end: End) -> bool:
-        ports = neighbor.ports
-        if any(self.same_port(neighbor.port_id, planned.port)
-               and (neighbor.is_named or self.is_one_of(neighbor.hosts, planned.host))
-               for planned in self.wants):
-            ports = (neighbor.port_id,)
-        is_any_member = self.vendor_names and neighbor.aggregated and "bond0" in ports
-        return self.is_one_of(neighbor.hosts, end.host) and (
-            is_any_member or any(self.same_port(port, end.port) for port in ports))
+        is_any_member = (self.vendor_names and neighbor.aggregated
+                         and "bond0" in self.heeded(neighbor))
+        return self.is_named(neighbor, end) or (
+            is_any_member and self.is_one_of(neighbor.hosts, end.host))
 
     def neighbors(self, end: End) -> Optional[List[Seen]]:
         """Returns the neighbors of an end, or None if the end is not among the known ports."""
@@ -73,14 +80,48 @@ class SlowJudge:
                                          or self.answering(wanted, end) > 0)
 
     def is_of_several_domains(self, end: End) -> bool:
-        """Returns whether an end is right, but hosts of several domains have its peer's name."""
+        """Returns whether an end is right, but hosts of several domains have its peer's name, or
+        its neighbor's name is heard for planned hosts of several domains."""
         if not self.short_names or not self.is_right(end):
             return False
-        heard = [name for one in self.wants if self.is_right(one)
-                 and self.same_host(self.wants[one].host, self.wants[end].host)
-                 for name in (self.neighbors(one) or [])[0].hosts]
-        domains = {parts(name.lower() if self.ignore_case else name)[1] for name in heard}
-        return len(domains - {""}) > 1
+        heard = [(self.wants[one].host, (self.neighbors(one) or [])[0].hosts[0])
+                 for one in self.wants if self.is_right(one)]
+        wanted, name = self.wants[end].host, (self.neighbors(end) or [])[0].hosts[0]
+        domains = {parts(its.lower() if self.ignore_case else its)[1] for host, its in heard
+                   if self.same_host(host, wanted)}
+        hosts = [host for host, its in heard if self.same_text(its, name)
+                 and not self.same_host(host, wanted)
+                 and self.same_text(parts(host)[0], parts(wanted)[0])]
+        return len(domains - {""}) > 1 or hosts != []
+
+    def moved_to(self, end: End) -> Optional[End]:
+        """Returns the unplanned port to which the cable of a silent end was moved, or None."""
+        wanted = self.wants[end]
+        if self.neighbors(end) != [] or self.answering(wanted, end):
+            return None
+        places = [port for port in self.unplanned() if len(self.known[port]) == 1
+                  and (self.is_the_only_name(port, wanted) or self.hear_each_other(port, wanted))
+                  and loosest(port) != loosest(end)
+                  and not self.same_host(port.host, wanted.host)]
+        others = [port for port, some in self.known.items() if port not in places
+                  and any(self.is_named(one, wanted) for one in some)]
+        return places[0] if len(places) == 1 and not others else None
+
+    def is_the_only_name(self, port: End, wanted: End) -> bool:
+        """Returns whether a port's neighbor names this planned end, and no other one."""
+        return [one for one in self.wants if self.is_named(self.known[port][0], one)] == [wanted]
+
+    def hear_each_other(self, port: End, end: End) -> bool:
+        """Returns whether an unplanned port's neighbor may be an end whose only neighbor names no
+        other unplanned port with one neighbor."""
+        named = [one for one in self.unplanned() if len(self.known[one]) == 1
+                 and self.has_one(end, 0) and self.is_named((self.neighbors(end) or [])[0], one)]
+        return named == [port] and self.answers(self.known[port][0], end)
+
+    def is_at_a_moved_cable(self, end: End) -> bool:
+        """Returns whether an end hears only the port to which its cable was moved."""
+        place = self.moved_to(self.wants[end])
+        return self.has_one(end, 0) and place is not None and self.answering(end, place) > 0
 
     def verdicts(self, end: End) -> List[str]:
         """Returns each verdict whose definition fits; audit/README.md promises exactly one."""
@@ -92,20 +133,29 @@ class SlowJudge:
         if self.is_of_several_domains(end):
             return ["doubled"]
         number, answering = len(neighbors), self.answering(end, wanted)
+        is_moved = self.moved_to(end) is not None or (
+            not self.partners(end) and self.is_at_a_moved_cable(end))
         fits = {
-            "silent": number == 0 and not is_seen,
+            "moved": is_moved,
+            "silent": number == 0 and not is_seen and not is_moved,
             "one-sided": is_seen if number == 0 else self.has_one(end, 1) and others == [],
             "right": self.is_right(end),
             "disagrees": self.has_one(end, 1) and bool(others) and not is_seen,
             "swapped": bool(self.partners(end)),
-            "wrong": self.has_one(end, 0) and not self.partners(end),
+            "wrong": self.has_one(end, 0) and not self.partners(end) and not is_moved,
             "extra": number > 1 and answering == 1,
             "doubled": number > 1 and answering != 1}
         return [verdict for verdict, is_so in fits.items() if is_so]
 
     def unplanned(self) -> List[End]:
+        """Returns the ports that are not planned and have neighbors."""
         return [port for port, neighbors in self.known.items()
                 if neighbors and not any(self.same_end(port, end) for end in self.wants)]
+
+
+def loosest(end: End) -> Tuple[str, str]:
+    """Returns an end without regard to case, domain and spelling."""
+    return parts(end.host)[0].lower(), end.port.lower().replace("ethernet", "et")
 
 
 def parts(host: str) -> Tuple[str, str]:

@@ -5,7 +5,8 @@ import sys
 import unittest
 from typing import List, Sequence
 
-from lldpa_audit.judging import Finding, Verdict, audit
+from lldpa_audit.comparing import audit
+from lldpa_audit.judging import Finding, Verdict
 from lldpa_audit.link_settings import Settings
 from lldpa_audit.names import NAMELESS, End, Names, Seen
 from lldpa_audit.plan import Link, Plan, PlanFault
@@ -121,8 +122,11 @@ class RandomPlans(unittest.TestCase):
             self.assertEqual(len(finding.has), len(judge.neighbors(end) or []))
             if finding.verdict is Verdict.SWAPPED:
                 self.assertEqual(finding.partner, judge.partners(end)[0])
+            self.assertEqual(finding.moved_to, judge.moved_to(end) or (
+                judge.moved_to(finding.wants) if finding.verdict is Verdict.MOVED else None))
         beside = [one.end for one in findings if one.verdict is Verdict.UNPLANNED]
-        self.assertEqual(sorted(beside), sorted(judge.unplanned()))
+        moved = {one.moved_to for one in findings}
+        self.assertEqual(sorted(beside), sorted(set(judge.unplanned()) - moved))
 
 
 class Aggregates(unittest.TestCase):

@@ -50,25 +50,25 @@ class Forms(Audits):
             for port in rack.PORTS:
                 for octets in rack.frames(port):
                     served.frame(port, octets)
-            asked = [sys.executable, f"{REPOSITORY}/bin/lldpa-ctl", "--control", served.path,
+            asked = [sys.executable, f"{REPOSITORY}/bin/lldpa-details", "--control", served.path,
                      "--json"]
             told = subprocess.run(asked, capture_output=True, text=True, check=True).stdout
             ours = f"leaf1:{self.file('ours.json', told)}"
             for words in (captures, [whole], [show], [f"leaf1:{show}"], [ours],
-                          ["--live", "--control", served.path]):
+                          [f"--live={served.path}"]):
                 status, out, err = self.audit(*words)
                 self.assertEqual((status, out.splitlines(), err), (1, rack.LINES, ""))
 
     def test_wait(self) -> None:
-        words = ["--live", "--planned-only", "--control"]
         with Served(rack.PORTS) as served:
+            words = [f"--live={served.path}", "--planned-only", "--wait"]
             begin = time.monotonic()
-            self.assertEqual(self.audit(*words, served.path, "--wait", "1")[1],
+            self.assertEqual(self.audit(*words, "1")[1],
                              "swp1  silent: wants host01 eth0\n1 cable: 0 right, 1 wrong\n")
             self.assertGreater(time.monotonic() - begin, 1)
             heard = threading.Timer(1, served.frame, ["swp1", rack.lldp_frame("host01", "eth0")])
             heard.start()
-            self.assertEqual(self.audit(*words, served.path, "--wait", "50")[:2], (0, RIGHT))
+            self.assertEqual(self.audit(*words, "50")[:2], (0, RIGHT))
             heard.join()
 
     def test_what_is_read_once(self) -> None:
@@ -101,7 +101,9 @@ class Words(Audits):
                 (f"swp1={self.folder}", "Is a directory"),
                 ("--wait x swp1=a", "'x' is not a time such as 90, 15m, 12h or 1d"),
                 ("--columns from swp1=a", "'from' is not like host=NAME,port=NAME"),
-                (f"--live --control {none}", "none: No such file or directory"),
+                (f"--live={none}", "none: No such file or directory"),
+                ("--live", "lldpa-audit: /run/lldpa/control: "),
+                ("--live=", "the name of a file is missing"),
                 ("--liv", "unrecognized arguments: --liv"),
                 (capture[5:], "it does not name the port of its frames: write PORT="),
                 (f"--by row {capture}", "has no column row"),

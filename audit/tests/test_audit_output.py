@@ -31,7 +31,7 @@ class Output(InAFolder):
         page, other = self.folder / "page.html", self.file("other", "theirs")
         (self.folder / f".page.html.{os.getpid()}").symlink_to(other)
         page.symlink_to(other)
-        write(str(page), b"ours")
+        write(str(page), ["ours"])
         self.assertEqual((page.read_text(), Path(other).read_text()), ("ours", "theirs"))
         self.assertEqual(page.lstat().st_mode & 0o777, 0o644)
 
@@ -40,7 +40,7 @@ class Output(InAFolder):
         page = self.folder / "page.html"
         page.symlink_to(os.devnull)
         os.lchown(page, 65534, -1)
-        write(str(page), b"ours")
+        write(str(page), ["ours"])
         self.assertEqual(page.read_text(), "ours")
 
     def test_who_reads_it_has_gone(self) -> None:

@@ -3,15 +3,19 @@ import gzip
 import io
 import json
 import os
+import random
 import struct
+import subprocess
+import sys
 import tracemalloc
 from pathlib import Path
 from typing import Callable, Iterator, Tuple
 
 import rack
 import shapes
-from auditing import HEAD, InAFolder, run
+from auditing import AUDIT, HEAD, InAFolder, run
 from lldpa.capture.packets import interfaces_of, packets_of
+from lldpa.capture.pcapng import MOST_INTERFACES
 from lldpa_audit.seen.forms import read_list
 from shapes import INTERFACE, SECTION
 from support import run_capture
@@ -19,6 +23,26 @@ from support import run_capture
 PCAP = rack.pcap([])
 # a limit far above what linear time takes on a slow machine, and far below quadratic time
 SECONDS = 40
+TEN = 10  # seconds for any one file
+PATIENCE = 600  # seconds until an audit hangs
+# runs the program at sys.argv[1], but little memory is warranted, and a plan is read only after any
+# process that reads lists has ended
+SLOW_PLAN = """
+import multiprocessing, sys, time
+sys.path[:0] = [sys.argv[1].replace("bin/lldpa-audit", part) for part in ("audit", "python")]
+from lldpa_audit import command, limits
+read_plan, limits.LEAST = command.read_plan, 8
+def slowly(*words):
+    while multiprocessing.active_children():
+        time.sleep(0.1)
+    end = time.process_time() + 10 * limits.BETWEEN
+    while time.process_time() < end:  # until its memory is looked at
+        pass
+    return read_plan(*words)
+command.read_plan = slowly
+sys.argv.pop(0)
+sys.exit(command.main())
+"""
 
 
 def captures() -> Iterator[Tuple[bytes, int, int]]:
@@ -76,7 +100,50 @@ class Captures(Hostile):
         self.assertIn("port '--listen' looks like an option", ran.stderr)
 
 
+    def test_too_many_interfaces(self) -> None:
+        """Checks that interfaces are counted over all sections, and that so many are refused."""
+        named = rack.block(1, struct.pack("<HxxIHH4sI", 1, 0, 2, 4, b"swp1", 0))
+        half = SECTION + named * (MOST_INTERFACES // 2)
+        for octets, lines in ((half * 2, 1), (half * 2 + SECTION + named * 10**6, 2)):
+            path = self.file("wide", gzip.compress(octets, 1))
+            ran = shapes.measured(["--host", "leaf1", self.plan, f"leaf1:{path}"])
+            said = f"lldpa-audit: {path}: it describes more than 262,144 interfaces\n"
+            self.assertEqual((ran.faults, ran.output.count(said)), ([], lines - 1), ran)
+            self.assertLess(ran.seconds, TEN)
+
+
 class Lists(Hostile):
+    def test_gzip_that_unpacks_to_very_much(self) -> None:
+        """Checks that a small file may unpack to 4 MB, and any file to 128 times its size."""
+        for text, octets in (("[" + "{}," * 10**6 + "{}]", 0),
+                             ("[" + "{}," * 10**7 + "{}]", 4 << 20)):
+            packed = gzip.compress(text.encode(), 9)
+            ran = run(self.plan, f"leaf1:{self.file('leaf1.gz', packed)}")
+            said = f"its gzip data unpacks to more than {octets:,} octets"
+            self.assertEqual(said in ran.stderr, octets > 0, ran.stderr)
+        rng = random.Random(5)
+        noise = "".join(rng.choices("abcdefgh", k=200_000))
+        for times, is_read in ((40, True), (400, False)):
+            heard = [{"hostname": noise, "port": "p" * 75_000 * times}]
+            text = json.dumps({"swp1": [], "x": heard})
+            packed = gzip.compress(text.encode(), 9)
+            self.assertEqual(len(text) < 128 * len(packed), is_read)
+            ran = run(self.plan, f"leaf1:{self.file('leaf1.gz', packed)}")
+            self.assertEqual(f"more than {128 * len(packed):,} octets" in ran.stderr, not is_read)
+
+    def test_what_a_size_warrants(self) -> None:
+        """Checks that a list that needs much for its size is refused in one line."""
+        for name, text in (("xml", f"<rpc-reply>{'<a/>' * 10**6}</rpc-reply>"),
+                           ("json", "[" + "[]," * 5 * 10**6 + "[]]")):
+            path = self.file(name, text)
+            most = 64 + 10 * (len(text) >> 20)
+            ran = shapes.measured([self.plan, f"leaf1:{path}"])
+            self.assertEqual(ran.faults, [])
+            self.assertIn(f"lldpa-audit: {path}: it needs more than {most} MB of memory\n",
+                          ran.output)
+            self.assertLess(ran.seconds, TEN)
+            self.assertLess(ran.megabytes, 300)
+
     def test_two_protocols_at_one_port(self) -> None:
         heard = [{"name": "eth0", "via": "LLDP" if at % 2 else "CDPv2",
                   "chassis": {"id": {"type": "local", "value": f"c{at}"}},
@@ -108,6 +175,15 @@ class Shapes(InAFolder):
             with self.subTest(shape=name):
                 self.assertEqual(shapes.measured(write(self.folder)).faults, [])
 
+    def test_large_ones(self) -> None:
+        """Checks that large files are read, or refused in one line, in TEN seconds and 300 MB."""
+        for name in ("1,000,000 aliases", "6,000,000 interface blocks"):
+            with self.subTest(shape=name):
+                ran = shapes.measured(shapes.LARGE[name](self.folder))
+                self.assertEqual((ran.faults, ran.output.count("\n")), ([], 1))
+                self.assertLess(ran.seconds, TEN)
+                self.assertLess(ran.megabytes, 300)
+
     def test_limits_name_the_file(self) -> None:
         """Checks that a file that needs too much memory is reported in one line."""
         leaf1 = self.file("leaf1", "[" + "[]," * 10_000_000 + "[]]")
@@ -115,8 +191,42 @@ class Shapes(InAFolder):
         plan = self.file("plan", shapes.PLAN + "leaf2,swp1,host02,eth0\n")
         ran = shapes.measured([plan, leaf1, leaf2])
         self.assertEqual(ran.faults, [])
-        self.assertIn(f"lldpa-audit: {leaf1}: it needs more than 450 MB of memory\n", ran.output)
+        self.assertIn(f"lldpa-audit: {leaf1}: it needs more than 344 MB of memory\n", ran.output)
         self.assertIn("1 right", ran.output)
+
+    def test_memory_that_the_machine_lacks(self) -> None:
+        """Checks that an audit with too little memory says so in one line, wherever that ends."""
+        said = set()
+        for hosts in (99, 120):  # several processes read 120 lists
+            rows = [f"s{at % hosts},p{at},h{at},e\n" for at in range(60_000)]
+            plan = self.file("plan", HEAD + "".join(rows))
+            for host in range(hosts):
+                self.file(f"seen{hosts}/s{host}", shapes.napalm("".join(
+                    f"p{at} h{at} e\n" for at in range(host, 60_000, hosts))))
+            for megabytes in range(40, 130, 15):
+                ran = subprocess.run(
+                    ["prlimit", f"--data={megabytes << 20}", sys.executable, AUDIT, plan,
+                     f"{self.folder}/seen{hosts}", "--json"],
+                    capture_output=True, text=True, check=False, timeout=PATIENCE)
+                with self.subTest(megabytes=megabytes, hosts=hosts):
+                    self.assertNotIn("Traceback", ran.stderr)
+                    self.assertIn((ran.returncode, len(ran.stderr.splitlines())),
+                                  [(0, 0), (2, 1)])
+                said.add(ran.stderr.rpartition(": ")[2])
+        self.assertIn("there is not enough memory for it\n", said)
+
+    def test_memory_that_lists_take(self) -> None:
+        """Checks that a plan, whose size warrants 8 MB, is not refused for what lists take."""
+        rows = "".join(f"s{at},p0,h,{at}\n" for at in range(120))
+        plan = self.file("plan", HEAD + rows)
+        for at in range(120):
+            ports = "".join(f"p{port} h {at if port == 0 else (at, port)}\n".replace(", ", ".")
+                            for port in range(500))
+            self.file(f"seen/s{at}", shapes.napalm(ports))
+        ran = subprocess.run([sys.executable, "-c", SLOW_PLAN, AUDIT, plan, f"{self.folder}/seen",
+                              "--planned-only"], capture_output=True, text=True, check=False)
+        self.assertEqual((ran.returncode, ran.stderr), (0, ""))
+        self.assertIn("120 cables: 120 right, 0 wrong", ran.stdout)
 
 
 class Texts(Hostile):

@@ -3,7 +3,7 @@ import unittest
 from typing import List, Sequence
 
 from auditing import neighbor
-from lldpa_audit.judging import audit
+from lldpa_audit.comparing import audit
 from lldpa_audit.mismatches import mismatches
 from lldpa_audit.names import End, Names
 from lldpa_audit.plan import Link, Plan

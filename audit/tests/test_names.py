@@ -6,7 +6,7 @@ from lldpa_audit import differs
 from lldpa_audit.aliases import read_aliases
 from lldpa_audit.names import Aliases, End, Names, Seen, shown, text_of, without_domain
 from lldpa_audit.plan import PlanFault
-from lldpa_audit.report.order import natural
+from lldpa_audit.order import natural
 from lldpa_audit.spelling import is_aggregate, plain, plain_port
 
 # each list spells one port in all ways that vendors use

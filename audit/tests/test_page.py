@@ -12,7 +12,8 @@ from collections import Counter
 from xml.etree import ElementTree
 
 import rack
-from auditing import AUDIT, InAFolder, run
+import shapes
+from auditing import AUDIT, HEAD, InAFolder, run
 from lldpa_audit.progress import Progress
 from lldpa_audit.report.drawing import ENDS_OF_A_PICTURE
 from lldpa_audit.report.page import page_of
@@ -66,15 +67,34 @@ class Content(InAFolder):
         repairs = [f"#r{number}" for number in (1, 1, 2, 3, 4)]
         self.assertEqual(elements.addresses, ["#h0", *repairs])
 
+    def test_moved_cable(self) -> None:
+        """Checks that a moved cable is one line of the output, the page and the JSON, although both
+        its ends see that it was moved."""
+        plan = self.file("moves", f"{HEAD}leaf1,swp7,host07,eth0\nleaf1,swp8,host08,eth0\n")
+        leaf1 = self.file("l", shapes.napalm("swp17 host07 eth0\nswp8 host08 eth0\n"))
+        host07 = self.file("h", shapes.napalm("eth0 leaf1 swp17\n"))
+        lists = [f"leaf1:{leaf1}", f"host07:{host07}"]
+        text = "moved: host07 eth0 is at leaf1 swp17, wants leaf1 swp7"
+        page = self.folder / "page.html"
+        ran = run(plan, *lists, "--html", str(page))
+        self.assertEqual(ran.stdout.splitlines()[:-1], [f"leaf1 swp7  {text}"])
+        self.assertEqual(len(re.findall('<tr id="r', page.read_text())), 1)
+        self.assertIn(text, Elements(page.read_text()).texts)
+        found = json.loads(run(plan, *lists, "--json").stdout)
+        self.assertEqual([one["text"] for one in found["repairs"]], [text])
+        self.assertEqual([(one["port"], one["moved_to"]["port"], one["repair"])
+                          for one in found["ends"] if one["verdict"] != "right"],
+                         [("eth0", "swp17", 1), ("swp7", "swp17", 1)])
+
     def test_names_that_would_be_markup(self) -> None:
-        page = page_of(report_of("<b>a 1& - \"' <", "<b>a 1& = <i>\udcff\x1b </svg>")).decode()
+        page = "".join(page_of(report_of("<b>a 1& - \"' <", "<b>a 1& = <i>\udcff\x1b </svg>")))
         elements = Elements(page)
         self.assertFalse({"i", "script"} & set(elements.tags))
         self.assertIn("<i>\\xff\\x1b </svg>", elements.texts)
         self.assertNotIn("\x1b", page)
 
     def test_pictures_are_whole_and_narrow(self) -> None:
-        page = page_of(many_faults(1000, 7)).decode()
+        page = "".join(page_of(many_faults(1000, 7)))
         pictures = re.findall(r"<svg.*?</svg>", page)
         self.assertEqual(len(pictures), 7 * -(-1000 // 7 // ENDS_OF_A_PICTURE))
         for picture in pictures:
@@ -87,13 +107,26 @@ class Content(InAFolder):
                 bottom = int(one.get("y", "")) + int(one.get("height", ""))
                 self.assertTrue(right <= width and bottom <= height)
 
+    def test_names_are_whole(self) -> None:
+        """Checks that the lines of each box have the whole name, in letters that fit into it."""
+        ports = [f"TwentyFiveGigE1/0/{at}" for at in (1, 2)]
+        page = "".join(page_of(report_of(f"leaf1 {ports[0]} - {LONG} eno12399np0",
+                                         f"leaf1 {ports[0]} = {LONG} eno12399np1")))
+        boxes = [["".join(part for part in one.itertext()), float(one[0].get("width", "")) - 8,
+                  max(len(text.text or "") for text in one if text.tag == "text")]
+                 for one in ElementTree.fromstring(re.findall(r"<svg.*?</svg>", page)[0])
+                 if one.tag == "g"]
+        self.assertEqual([text for text, _, _ in boxes],
+                         [ports[0], f"{LONG}eno12399np1", f"{LONG}eno12399np0"])
+        self.assertTrue(all(letters * 6.6 <= width for _, width, letters in boxes), boxes)
+
 
 @unittest.skipUnless(BROWSER, "no chromium is installed")
 class InABrowser(InAFolder):
     """Checks that the page and its pictures are not wider than a wide or a narrow window."""
 
     def test_thousand_faults(self) -> None:
-        page = page_of(many_faults(1000)).decode().replace("</body>", f"{ASKED}</body>")
+        page = "".join(page_of(many_faults(1000))).replace("</body>", f"{ASKED}</body>")
         for width in (1280, 400):  # in a frame, since a browser's window has a minimum width
             frame = f'<iframe width={width} height=900 srcdoc="{html.escape(page)}"></iframe>'
             file = self.file("page.html", f"<!DOCTYPE html><html><body>{frame}</body></html>")

@@ -2,6 +2,7 @@
 import json
 import shutil
 import subprocess
+import sys
 import unittest
 from pathlib import Path
 from typing import Any
@@ -12,7 +13,8 @@ try:
 except ImportError:  # Debian: python3-jsonschema
     jsonschema = None
 
-from auditing import InAFolder, neighbor, run
+import situations
+from auditing import AUDIT, InAFolder, neighbor, run
 
 SCHEMA = json.loads((Path(__file__).parents[1] / "lldpa-audit.schema.json").read_text())
 PLAN = """\
@@ -101,6 +103,53 @@ class Outputs(InAFolder):
             self.assertEqual(run(*self.words, "--known", self.file("bad", bad)).returncode, 2)
 
 
+class NotJudged(InAFolder):
+    """JUnit has one more case, which is skipped or fails, for the cables that are not judged."""
+
+    def test_counts(self) -> None:
+        plan = self.file("plan", f"{situations.TYPED}a,dcim.interface,1,b,dcim.interface,1\n"
+                                 "a,dcim.interface,2,pp1,dcim.frontport,F1\n")
+        junit = self.folder / "junit.xml"
+        for words, kind in (([], "skipped"), (["--all"], "failure")):
+            run(plan, "--host", "a", self.file("a.json", {"1": [{"hostname": "b", "port": "1"}]}),
+                "--junit", str(junit), *words)
+            root = ElementTree.parse(junit).getroot()
+            cases = [(one.get("classname"), [inner.tag for inner in one])
+                     for one in root.iter("testcase")]
+            self.assertEqual(cases, [("a", []), ("not judged", [kind])])
+            for suite in (root, root[0]):
+                self.assertEqual([suite.get(name) for name in ("tests", "failures", "skipped")],
+                                 ["2", *(["0", "1"] if kind == "skipped" else ["1", "0"])])
+
+
+class Moved(InAFolder):
+    """A cable at swp17 instead of swp7 is one repair in each form."""
+
+    def test_each_form(self) -> None:
+        plan = self.file("plan", "host,port,peer,peer_port\nleaf1,swp7,host07,eth0\n")
+        silent = "lldp.swp7.neighbors=0\nlldp.swp7.octets=0\nlldp.swp7.too-many=no\n"
+        page, junit, metrics = (self.folder / name for name in ("page", "junit", "metrics"))
+        words = [plan, "--host", "leaf1", "--html", str(page), "--junit", str(junit), "--metrics",
+                 str(metrics), self.file("leaf1", silent + neighbor("swp17", "host07", "eth0"))]
+        text = "moved: host07 eth0 is at swp17, wants swp7"
+        self.assertEqual(run(*words).stdout, f"swp7  {text}\n1 cable: 0 right, 1 wrong\n")
+        told = json.loads(run(*words, "--json").stdout)
+        if jsonschema is not None:
+            jsonschema.validate(told, SCHEMA)
+        self.assertEqual([(one["kind"], one["do"], one["text"], one["mends"])
+                          for one in told["repairs"]],
+                         [("moved", "move the cable to its planned port", text,
+                           [{"host": "leaf1", "port": "swp7"}])])
+        self.assertEqual([(one["verdict"], one["port"], one["moved_to"], one["repair"])
+                          for one in told["ends"]],
+                         [("moved", "swp7", {"host": "leaf1", "port": "swp17"}, 1)])
+        self.assertEqual(told["unplanned"], 0)
+        self.assertEqual(page.read_text().count("<tr id="), 1)
+        self.assertIn(f"<td>{text}<td>move the cable to its planned port<td>", page.read_text())
+        self.assertEqual(junit.read_text().count("<failure"), 1)
+        self.assertIn('lldpa_audit_repairs{kind="moved"} 1\n', metrics.read_text())
+
+
 class NotLookedAt(InAFolder):
     """What is not looked at is skipped in JUnit, or fails with --all. JSON and metrics count it."""
 
@@ -120,3 +169,52 @@ class NotLookedAt(InAFolder):
             self.assertEqual([one["verdict"] for one in told["ends"]],
                              ["right", "not looked at", "not looked at"])
             self.assertIn('lldpa_audit_cables{state="not looked at"} 1\n', metrics.read_text())
+
+
+class Failing(InAFolder):
+    """An audit whose output cannot be written says so in one line, and ends with status 2."""
+
+    def setUp(self) -> None:
+        super().setUp()
+        rows = [f"leaf1,swp{at},host{at},eth0\n" for at in range(2000)]
+        self.plan = self.file("plan.csv", "".join(["host,port,peer,peer_port\n", *rows]))
+        heard = {f"swp{at}": [{"hostname": f"host{at}", "port": "eth0"}] for at in range(2000)}
+        self.words = [self.plan, "--host", "leaf1", self.file("leaf1.json", heard)]
+
+    def test_standard_output(self) -> None:
+        """Checks that the page is written even if nobody reads the lines or the JSON."""
+        page = self.folder / "page.html"
+        full = "lldpa-audit: standard output: No space left on device\n"
+        closed = "lldpa-audit: standard output: it is closed\n"
+        for option, end, said in (("", ">/dev/full", full), ("--json", ">/dev/full", full),
+                                  ("", ">&-", closed), ("--json", ">&-", closed),
+                                  ("--json", "| head -c 9", "")):
+            words = ["bash", "-c", f'set -o pipefail; "$0" "$@" {option} {end}', sys.executable,
+                     AUDIT, *self.words, "--html", str(page)]
+            ran = subprocess.run(words, capture_output=True, text=True, check=False)
+            self.assertEqual((ran.returncode, ran.stderr), (2, said), words[2])
+            self.assertTrue(page.read_text().endswith("</html>\n"))
+            page.unlink()
+
+    def test_files(self) -> None:
+        for option in ("--html", "--junit", "--metrics"):
+            for file, why in (("/dev/full", "No space left on device"),
+                              (f"{self.folder}/none/file", "No such file or directory"),
+                              (str(self.folder), "Is a directory")):
+                ran = run(*self.words, option, file)
+                self.assertEqual((ran.returncode, ran.stdout, ran.stderr),
+                                 (2, "2000 cables: 2000 right, 0 wrong\n",
+                                  f"lldpa-audit: {file}: {why}\n"))
+        self.assertEqual(sorted(one.name for one in self.folder.iterdir()),
+                         ["leaf1.json", "plan.csv"])
+
+    def test_what_is_replaced_is_whole(self) -> None:
+        """Checks that a file that cannot be written whole is left as it was, and nothing beside."""
+        page = self.file("page.html", "yesterday's")
+        whole = ["bash", "-c", 'ulimit -f 8; "$0" "$@" | cat', sys.executable, AUDIT, *self.words,
+                 "--junit", page]
+        ran = subprocess.run(whole, capture_output=True, text=True, check=False)
+        self.assertEqual(ran.stderr, f"lldpa-audit: {page}: File too large\n")
+        self.assertEqual((self.folder / "page.html").read_text(), "yesterday's")
+        self.assertEqual(sorted(one.name for one in self.folder.iterdir()),
+                         ["leaf1.json", "page.html", "plan.csv"])

@@ -201,9 +201,10 @@ class NetBox(Plans):
             plan = self.read(text)
             self.assertEqual(self.links(plan), ["a 1 - b 1", "a 2 - b 2", "a 3 - b 3"])
             self.assertEqual(self.notes(plan), [
-                "plan: 6 cables are left out: 3 with an end that is not a port of a device, 1 for "
-                "power or consoles, 1 with the status planned or decommissioning, 1 with ends "
-                "that cannot be paired"])
+                "plan: 5 cables are left out: 3 with an end that is not a port of a device, 1 for "
+                "power or consoles, 1 with the status planned or decommissioning",
+                "plan: 1 cable cannot be judged, since the ends cannot be paired; the first ends "
+                "are a 7, a 7, b 7"])
         nameless = cable_between(1, [("a", "1")], [("b", "1")])
         nameless["b_terminations"][0]["object"]["device"] = {"name": None, "display": "EX (7)"}
         self.assertEqual(self.links(self.read(json.dumps({"results": [nameless]}))),

@@ -2,7 +2,7 @@
 import unittest
 from typing import Sequence, Tuple
 
-from lldpa_audit.judging import audit
+from lldpa_audit.comparing import audit
 from lldpa_audit.names import NAMELESS, End, Names, Seen
 from lldpa_audit.plan import Link, Plan
 from lldpa_audit.report.report import Report
@@ -18,6 +18,8 @@ ROWS: Sequence[Tuple[str, str, Sequence[str]]] = (
      "a swp10 =; a swp9 =; a swp1 =; a swp8 = b 8",
      ["swp1   silent: wants b 1", "swp9   silent: wants b 9", "swp10  silent: wants b 10",
       "4 cables: 1 right, 3 wrong"]),
+    ("h10 1 - b 1; h9 1 - c 2", "h10 1 =; h9 1 =",
+     ["h9 1   silent: wants c 2", "h10 1  silent: wants b 1", "2 cables: 0 right, 2 wrong"]),
     ("a 1 - b 1", "a 1 = x y; b 1 = a 1",
      ["a 1  wrong: wants b 1, has x y; b 1 hears it", "1 cable: 0 right, 1 wrong"]),
     (THREE, "a 1 = b 2; a 2 =; a 3 = b 3; a 4 = b 1",

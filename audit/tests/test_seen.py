@@ -61,6 +61,10 @@ class Neighbors(unittest.TestCase):
         self.assertEqual(list(ports["b"]), [])
         self.assertEqual(ports["c"][0].ports, ("eth1", "uplink = 7"))
         self.assertEqual(read_ports(SHOW + COUNTERS), ports)
+        twice = "".join(f"lldp.c.1.{key}={value}\n" for value in ("first", "last")
+                        for key in ("port.descr", "chassis.name"))
+        last = read_ports(LAST_PORT.replace("lldp.c.1.port.descr=uplink = 7\n", twice))["c"][0]
+        self.assertEqual((last.hosts[0], last.ports), ("last", ("eth1", "last")))
 
     def test_faults(self) -> None:
         """Checks what the fault of each damaged output says."""

@@ -29,12 +29,12 @@ NEEDED_LINES = re.compile(r"<lldp-(?:local-port-id|remote-chassis-id|remote-port
 
 
 def fault_of(octets: bytes) -> Optional[str]:
-    """Returns why a list is refused, or None if it is read. Any other exception fails the test."""
+    """Returns why a list, or one of its ports, is refused, or None if all is read. Any other
+    exception fails the test."""
     try:
-        read_list(octets)
+        return next(iter(read_list(octets).reasons.values()), None)
     except (SeenFault, ShowFault) as fault:
         return str(fault)
-    return None
 
 
 def in_a_file(octets: bytes) -> Optional[Listing]:

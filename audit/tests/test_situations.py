@@ -2,6 +2,7 @@
 import unittest
 from concurrent.futures import ThreadPoolExecutor
 
+import judged
 import list_points
 import situations
 from auditing import audited
@@ -9,7 +10,7 @@ from auditing import audited
 
 class Situations(unittest.TestCase):
     def test_each(self) -> None:
-        rows = [*situations.ROWS, *list_points.ROWS]
+        rows = [*situations.ROWS, *list_points.ROWS, *judged.ROWS]
         with ThreadPoolExecutor() as pool:
             for row, found in zip(rows, pool.map(audited, rows)):
                 with self.subTest(name=row.name):

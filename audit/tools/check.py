@@ -26,13 +26,21 @@ def audit(program, plan, *words):
     return ran.returncode, re.sub("sources .* old", "sources N days old", ran.stdout)
 
 
+def style():
+    """Returns the page's style with its colors for light screens: few viewers know CSS variables."""
+    colors = dict(re.findall(r"(--\w+): (#\w+);", PICTURES.partition("@media")[0]))
+    rules = re.findall("^svg .*$", PICTURES, re.M)
+    return re.sub(r"var\((--\w+)\)", lambda found: colors[found[1]], "\n".join(rules))
+
+
 def picture(program):
     """Returns the picture of the example's page as an SVG file that contains its style."""
     with tempfile.TemporaryDirectory() as room:
         audit(program, "plan.csv", "--html", f"{room}/page.html")
         page = pathlib.Path(room, "page.html").read_text()
     svg = re.search("<svg.*?</svg>", page)[0].replace(" role=", ' xmlns="http://www.w3.org/2000/svg" role=', 1)
-    svg = svg.replace(">", f">\n<style>{PICTURES}</style>\n", 1).replace("</g><g", "</g>\n<g").replace("/><", "/>\n<")
+    paper = '<rect width="100%" height="100%" style="fill: white; stroke: none"/>'
+    svg = svg.replace(">", f">\n<style>\n{style()}\n</style>\n{paper}\n", 1).replace("</g><g", "</g>\n<g").replace("/><", "/>\n<")
     return svg + "\n"
 
 

@@ -78,9 +78,11 @@ static void sd_lldp_rx_receive(sd_lldp_rx *rx, const uint8_t *frame, size_t leng
 static void print_event(sd_lldp_rx_event event, const sd_lldp_neighbor *neighbor, void *userdata)
 {
     static const char *const words[] = {"added", "updated", "refreshed", "removed"};
+    uint8_t text[4 * 255]; /* escaped, since a stranger chose it */
+    size_t length = 0;
     (void)userdata;
-    printf("%s %.*s\n", words[event], (int)neighbor->port.length - 1,
-           (const char *)neighbor->octets + neighbor->port.start + 1);
+    lldpa_escape(neighbor->octets + neighbor->port.start + 1, neighbor->port.length - 1, text, sizeof text, &length);
+    printf("%s %.*s\n", words[event], (int)length, (const char *)text);
 }
 
 int main(void)

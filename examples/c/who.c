@@ -17,13 +17,13 @@ static uint32_t number(const uint8_t *at, int is_little)
                      : at[3] | at[2] << 8 | at[1] << 16 | (uint32_t)at[0] << 24;
 }
 
-/* Prints an address in hexadecimal, and other identifiers and texts as characters. */
-static void print_octets(const uint8_t *octets, size_t length, int is_address)
+/* Prints a TLV as text. The library escapes what a stranger chose. */
+static void print_tlv(uint32_t kind, const uint8_t *body, size_t length)
 {
-    for (size_t at = 0; at < length; at++) {
-        int is_letter = octets[at] > ' ' && octets[at] <= '~';
-        printf(is_address ? "%s%02x" : is_letter ? "%s%c" : "%s\\x%02x", is_address && at > 0 ? ":" : "", octets[at]);
-    }
+    uint8_t text[LLDPA_VALUE_ROOM];
+    size_t used = 0;
+    lldpa_tlv_text(kind, body, length, text, sizeof text, &used);
+    printf("%.*s", (int)used, (const char *)text);
 }
 
 /* True if no earlier LLDPDU began with these `length` octets, which identify the sender. */
@@ -49,15 +49,14 @@ static void print_neighbor(const uint8_t *pdu, size_t length)
         !is_new(pdu, told.port.start + told.port.length)) {
         return;
     }
-    const uint8_t *chassis = pdu + told.chassis.start, *port = pdu + told.port.start;
-    print_octets(chassis + 1, told.chassis.length - 1, chassis[0] == 4 || chassis[0] == 5);
+    print_tlv(1, pdu + told.chassis.start, told.chassis.length);
     putchar(' ');
-    print_octets(port + 1, told.port.length - 1, port[0] == 3 || port[0] == 4);
+    print_tlv(2, pdu + told.port.start, told.port.length);
     printf(" %u", told.ttl);
     while (lldpa_next_kept(pdu, told.extent, &walk)) {
         if (walk.kind == 5) {
             putchar(' ');
-            print_octets(pdu + walk.body.start, walk.body.length, 0);
+            print_tlv(walk.kind, pdu + walk.body.start, walk.body.length);
         }
     }
     putchar('\n');

@@ -11,7 +11,7 @@ import ctypes
 import os
 import struct
 import sys
-from ctypes import POINTER, Structure, byref, c_bool, c_char_p, c_size_t, c_uint8, c_uint16
+from ctypes import POINTER, Structure, byref, c_bool, c_char_p, c_size_t, c_uint8, c_uint16, c_uint32
 from typing import Iterator
 
 
@@ -44,14 +44,15 @@ def library() -> ctypes.CDLL:
                                ("lldpa_next_kept", c_bool, Kept)):
         function = getattr(found, name)
         function.restype, function.argtypes = answer, [c_char_p, c_size_t, POINTER(told)]
+    found.lldpa_tlv_text.argtypes = [c_uint32, c_char_p, c_size_t, c_char_p, c_size_t, POINTER(c_size_t)]
     return found
 
 
-def shown(octets: bytes, is_address: bool) -> str:
-    """Returns an address in hexadecimal, and any other identifier or text as escaped ASCII."""
-    if is_address:
-        return octets.hex(":")
-    return "".join(chr(octet) if 0x20 < octet < 0x7f else f"\\x{octet:02x}" for octet in octets)
+def shown(lldpa: ctypes.CDLL, kind: int, body: bytes) -> str:
+    """Returns a TLV as text. The library escapes what a stranger chose."""
+    room, length = ctypes.create_string_buffer(1058), c_size_t()
+    lldpa.lldpa_tlv_text(kind, body, len(body), room, len(room), byref(length))
+    return room.raw[:length.value].decode()
 
 
 def frames(capture: bytes) -> Iterator[bytes]:
@@ -68,12 +69,11 @@ def frames(capture: bytes) -> Iterator[bytes]:
 
 def line_of(lldpa: ctypes.CDLL, pdu: bytes, told: Examined) -> str:
     """Returns the line to print for a neighbor."""
-    chassis, port, walk = told.chassis.of(pdu), told.port.of(pdu), Kept()
-    words = [shown(chassis[1:], chassis[0] in (4, 5)), shown(port[1:], port[0] in (3, 4))]
-    words.append(str(told.ttl))
+    walk = Kept()
+    words = [shown(lldpa, 1, told.chassis.of(pdu)), shown(lldpa, 2, told.port.of(pdu)), str(told.ttl)]
     while lldpa.lldpa_next_kept(pdu, told.extent, byref(walk)):
         if walk.kind == 5:
-            words.append(shown(walk.body.of(pdu), False))
+            words.append(shown(lldpa, walk.kind, walk.body.of(pdu)))
     return " ".join(words)
 
 

@@ -9,7 +9,11 @@
     ...         print(neighbor.port, neighbor.id, neighbor.expires)
     eth0 mac=00:11:22:33:44:55 ifname=eth0 100
 """
+import sys
 from typing import TYPE_CHECKING
+
+if sys.version_info < (3, 9):
+    raise ImportError("lldpa: Python 3.9 or later is needed")
 
 from .agent.show import Counters, Neighbor, Port, Show, ShowFault, lines_of, read_show, unescaped
 from .faults import LldpaFault

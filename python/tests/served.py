@@ -18,9 +18,11 @@ from lldpa.client import Client
 
 REPOSITORY = Path(__file__).resolve().parents[2]
 PROGRAM = os.environ.get("LLDPA") or str(REPOSITORY / "crates" / "lldpa" / "out" / "lldpa")
-# lldpa-ctl runs `lldpa --help`, and finds lldpa by PATH
-os.environ["PATH"] = os.path.dirname(PROGRAM) + os.pathsep + os.environ.get("PATH", os.defpath)
-CTL = str(REPOSITORY / "bin" / "lldpa-ctl")
+BIN = REPOSITORY / "bin"
+# lldpctl runs `lldpa --help`, and lldpa-ctl runs lldpa-details; both find it by PATH
+os.environ["PATH"] = os.pathsep.join(  # lldpd's lldpcli comes before ours
+    [os.path.dirname(PROGRAM), os.environ.get("PATH", os.defpath), str(BIN)])
+CTL = str(BIN / "lldpa-ctl")
 GROUP_ADDRESS = bytes.fromhex("0180c200000e")
 HOSTILE = b"\x1b[31m\r\n\x9b2J\x07"
 LIVE_LINES = b"""\

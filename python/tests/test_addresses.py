@@ -145,6 +145,55 @@ class Addresses(Replaced):
         self.assertTrue(self.hears_address(None))
         self.assertTrue(eventually(lambda: live.said().count(NO_ADDRESS) == 2))
 
+    def vlan_and_docker(self) -> None:
+        """Makes docker0 with an address, and then a VLAN of a port with another."""
+        here = self.wires.here
+        ip("-n", here, "link", "add", "docker0", "up", "type", "bridge")
+        self.add("172.17.0.1", "docker0")
+        if not self.can_make("eth1.10", "link", "eth1", "type", "vlan", "id", "10"):
+            self.skipTest("it needs a kernel with VLANs")
+        ip("-n", here, "link", "set", "eth1.10", "up")
+        self.add("192.0.2.10", "eth1.10")
+
+    def test_an_address_of_a_vlan_of_a_port_comes_before_one_of_docker(self) -> None:
+        self.vlan_and_docker()
+        live = self.live("eth0", "eth1")
+        self.assertIn("local-chassis.mgmt=192.0.2.10,1,0,", live.ask("show chassis"))
+        self.add("192.0.2.10", "eth1.10", "del")
+        self.assertTrue(self.hears_address("172.17.0.1"))
+        self.add("192.0.2.10", "eth1.10")
+        self.assertTrue(self.hears_address("192.0.2.10"))
+
+    def test_an_address_of_a_vlan_of_another_interface_does_not(self) -> None:
+        self.vlan_and_docker()
+        live = self.live("eth0")
+        self.assertIn("local-chassis.mgmt=172.17.0.1,1,0,", live.ask("show chassis"))
+
+    def test_patterns_choose_among_the_addresses(self) -> None:
+        self.vlan_and_docker()
+        self.add("198.51.100.7", "eth0")
+        self.add("203.0.113.9", "lo")
+        for patterns, address in (("172.17.*", "172.17.0.1"), ("!198.51.*", "192.0.2.10"),
+                                  ("192.0.2.*,!172.17.*", "192.0.2.10"), ("203.*", "203.0.113.9"),
+                                  ("*,!198.51.100.?,!192.*", "172.17.0.1"), ("10.*", None),
+                                  ("!*,!!203.*", "203.0.113.9"), ("*", "198.51.100.7")):
+            live = self.live("--management-pattern", patterns, "eth0", "eth1")
+            found = [line for line in live.ask("show chassis") if ".mgmt=" in line]
+            self.assertEqual(found, [f"local-chassis.mgmt={address},1,0,"] if address else [],
+                             patterns)
+            live.close()
+
+    def test_patterns_hold_for_addresses_that_come_later(self) -> None:
+        live = self.live("--management-pattern", "192.0.2.*", "eth0", "eth1")
+        self.add("172.17.0.1")
+        live.spend(4)
+        self.assertFalse(any("mgmt" in line for line in live.ask("show chassis")))
+        self.add("192.0.2.7", "lo")
+        self.assertTrue(self.hears_address("192.0.2.7"))
+        given = self.live("--management-pattern", "192.0.2.*", "eth0", "--", "--management",
+                          "10.0.0.1")
+        self.assertIn("local-chassis.mgmt=10.0.0.1,1,0,", given.ask("show chassis"))
+
     def test_an_address_that_goes_again_within_two_seconds_changes_nothing(self) -> None:
         live = self.begun()
         self.add("192.0.2.7")

@@ -1,13 +1,17 @@
 """Tests `lldpa-live --ask`, for hosts without Python."""
 
+import os
 import socket
 import subprocess
 import time
 
-from running_live import OnLinks, is_built, run_live
-from patience import SECONDS, by_the_clock, mostly
+from loads import figure
+from running_live import LIVE, OnLinks, is_built, run_live
+from patience import SECONDS, by_the_clock, eventually, mostly
 from served import numbered
 from support import AnsweringCase
+
+MOST_KIB = 140 * 1024  # an answer of 128 MB, and the program itself
 
 
 def asked(path: str, line: str) -> "subprocess.CompletedProcess[str]":
@@ -26,6 +30,16 @@ class Asked(OnLinks):
         told = asked(live.control, "configure lldp tx-hold 5")
         self.assertEqual((told.returncode, told.stdout, told.stderr), (0, "", ""))
         self.assertIn("configuration.tx-hold=5", live.ask("show configuration"))
+
+    def test_tables_and_metrics_are_those_of_lldpa_ctl(self) -> None:
+        live = self.live("eth0", "--", "--receive-only")
+        self.peer().send(numbered(1, 60_000))
+        self.assertTrue(eventually(lambda: live.neighbors("eth0")))
+        lines = asked(live.control, "table").stdout.splitlines()
+        self.assertRegex(lines[1], "^eth0  02:00:00:00:00:01  p1 +[0-9]+ s$")
+        self.assertEqual(lines[2:], ["1 neighbor on 1 port."])
+        self.assertEqual(asked(live.control, "table eth7").returncode, 1)
+        self.assertIn('lldpa_neighbors{port="eth0"} 1\n', asked(live.control, "metrics").stdout)
 
     def test_a_refusal_is_told(self) -> None:
         live = self.live("eth0")
@@ -74,6 +88,19 @@ class Unanswered(AnsweringCase):
             began = time.monotonic()
             self.assertEqual(asked(path, "live").returncode, 1)
             self.assertLess(time.monotonic() - began, 12)
+
+    def test_a_hostile_answer_costs_no_more_than_it_may_have(self) -> None:
+        line = b"\x1b" * 999_999 + b"\n"
+        for answer in ([b"=120\n", *[line] * 120], [b"=9\n", *[line[:-1]] * 300],
+                       [b"=60000000\n", *[b"\n" * 1_000_000] * 60]):
+            path = self.answers(*answer)
+            with open(os.devnull, "wb") as none:
+                asking = subprocess.Popen([LIVE, "--control", path, "--ask", "live"], stdout=none,
+                                          stderr=none)
+                _, _, used = os.wait4(asking.pid, 0)
+            figure(self, f"{used.ru_maxrss / 1024:.0f} MB for {sum(map(len, answer)) >> 20} MB")
+            self.assertLess(used.ru_maxrss, MOST_KIB)
+            asking.returncode = 0  # it was waited for above
 
     def test_no_control_sequence_is_printed(self) -> None:
         told = asked(self.answers(b"=1\nx=\x1b]0;x\x07\x9b\n", pause=SECONDS), "live")

@@ -102,8 +102,8 @@ class Paths(AtAPath):
         self.fails(IN_USE)
 
 
-class Permission(AtAPath):
-    """Tests what the owner, members of the group, and other users may do."""
+class Asking(AtAPath):
+    """Tests with processes of other users that ask."""
 
     def asker(self, *groups: int, user: int = STRANGER) -> "subprocess.Popen[str]":
         """Starts a process of this user. The process sends lldpa-live each line that it reads, and
@@ -123,6 +123,10 @@ class Permission(AtAPath):
         except BrokenPipeError:
             return ""
         return asker.stdout.readline().strip()
+
+
+class Permission(Asking):
+    """Tests what the owner, members of the group, and other users may do."""
 
     def test_only_root_and_the_owner_connect_without_a_group(self) -> None:
         self.at_path()

@@ -12,7 +12,6 @@ import sys
 import termios
 import threading
 from contextlib import ExitStack
-from typing import Sequence
 
 from lldpa.client import Client
 from lldpa.client.people import port_vlan_of
@@ -112,12 +111,11 @@ class Answers(Program):
         self.assertEqual(max(map(len, lines)), max(len(lines[0]), len(lines[1])))
         self.assertTrue(55 < len(lines[1]) <= 60 and "…" in lines[1], lines[1])
 
-    def on_a_terminal(self, width: int, *words: str, before: Sequence[str] = ()) -> bytes:
+    def on_a_terminal(self, width: int, *words: str) -> bytes:
         """Returns what lldpa-ctl writes to a terminal of this width."""
         ours, theirs = pty.openpty()
         fcntl.ioctl(theirs, termios.TIOCSWINSZ, struct.pack("HHHH", 24, width, 0, 0))
-        command = [*before, CTL, "--control", self.served.path, *words]
-        child = subprocess.Popen(command, stdout=theirs)
+        child = subprocess.Popen([CTL, "--control", self.served.path, *words], stdout=theirs)
         os.close(theirs)
         octets = b""
         while True:
@@ -131,10 +129,10 @@ class Answers(Program):
 
     def test_a_terminal_without_the_mark_gets_another(self) -> None:
         self.served.frame("eth0", numbered(1, 120, tlv(5, b"n" * 255)))
-        environment = {"LC_ALL": "C", "PYTHONCOERCECLOCALE": "0", "PYTHONUTF8": "0"}
+        environment = {"LC_ALL": "de_DE.ISO-8859-1", "PYTHONCOERCECLOCALE": "0", "PYTHONUTF8": "0"}
         os.environ.update(environment)
         self.addCleanup(lambda: [os.environ.pop(name) for name in environment])
-        self.assertIn(b"nnn?  p1", self.on_a_terminal(60, before=[sys.executable]))
+        self.assertIn(b"nnn?  p1", self.on_a_terminal(60))
 
 
 class Faults(Program):

@@ -11,10 +11,6 @@ class TestWords(unittest.TestCase):
     def test_words_that_are_refused(self) -> None:
         for words, text in (
                 ([], "PORT"),
-                (["eth0.5"], "a VLAN interface cannot be a port"),
-                (["0123456789abcdef"], "1 to 15"),
-                (["eth0", "eth0"], "port eth0 is given twice"),
-                ([f"p{number}" for number in range(65)], "an agent has at most 64"),
                 (["--log-most", "0", "eth0"], "not a number from 1"),
                 (["--log-most", "1e3", "eth0"], "not a number from 1"),
                 (["--once", "-1", "eth0"], "--once"),
@@ -22,7 +18,6 @@ class TestWords(unittest.TestCase):
                 (["--connect", "4711", "eth0"], "--connect"),
                 (["--nonsense", "eth0"], "--nonsense"),
                 (["--con", "4711", "eth0"], "--con"),
-                (["--control-group", "lldpa-none", "eth0"], "lldpa-none is not in /etc/group"),
                 (["eth0", "--", "eth1"], "only long options of lldpa may follow --"),
                 (["eth0", "--", "--hostname", "a", "b"], "b: only long options of lldpa"),
                 (["eth0", "--", "--hostname", "a", "--hostname=b"], "--hostname is given twice"),
@@ -59,7 +54,6 @@ class TestStart(OnLinks):
         cannot = "lldpa-live's user may not create files there"
         for status, text, *words in (
                 (1, "eth5: there is no such interface", "--only-existing", "eth0", "eth5"),
-                (1, "lo: not an Ethernet interface", "lo"),
                 (1, "no Ethernet interface is selected", "--only-existing", "lan*", "!lan3"),
                 (1, "no Ethernet interface is selected", "!eth*"),
                 (1, "no Ethernet interface is selected", "--once", "1", "lan*"),

@@ -20,6 +20,7 @@ LATE = 0.1
 MOST_LATE = QUESTIONS // 10
 MOST_KIB = 8_000
 A_SECOND, AT_ONCE = 64, 1024  # limits for frames that may change a port's table
+A_STOP = 150_000  # frames, more than a socket of 64 MB has room for
 
 # ten neighbors that change their LLDPDU with each frame, and together send 5,000 frames a second
 STRANGERS = """
@@ -84,9 +85,9 @@ class TestFlood(OnLinks):
 
     def test_what_the_kernel_dropped_is_told_once_a_minute(self) -> None:
         live = self.live("eth0", "--", "--receive-only")
-        for count in (20_000, 40_000):
+        for count in (A_STOP, 2 * A_STOP):
             with live.stopped():
-                flood(self.wires, "peer0", FRAMES, 20_000).wait()
+                flood(self.wires, "peer0", FRAMES, A_STOP).wait()
             self.assertTrue(live.says("the kernel has dropped"))
             eventually(lambda: sum(numbers(live).values()) == count)
             told = numbers(live)
@@ -105,7 +106,8 @@ class TestFlood(OnLinks):
                 peer.send(octets)
             time.sleep(0.02)
         self.assertTrue(eventually(lambda: sum(numbers(live).values()) == 5000))
-        most = AT_ONCE + A_SECOND * (time.monotonic() - began + 1)
+        a_second = A_SECOND + live.neighbors()  # one more frame of each neighbor in the table
+        most = AT_ONCE + a_second * (time.monotonic() - began + 1)
         self.assertLessEqual(numbers(live)["received"], most)
 
     def test_a_real_neighbor_outlives_strangers_that_change_all_the_time(self) -> None:
@@ -127,11 +129,11 @@ class TestFlood(OnLinks):
         self.assertGreater(numbers(live)["limit-drops"] + numbers(live)["kernel-drops"], 200_000)
 
     @by_the_clock
-    def test_line_rate_costs_less_than_a_tenth_of_a_processor(self) -> None:
+    def test_line_rate_costs_less_than_a_third_of_a_processor(self) -> None:
         live, _ = self.flooded(FRAMES)
         began, before = time.monotonic(), live.used()
         time.sleep(10)
-        self.assertLess((live.used() - before) / (time.monotonic() - began), 0.1)
+        self.assertLess((live.used() - before) / (time.monotonic() - began), 1 / 3)
 
 
 class TestManyPorts(OnLinks):

@@ -11,11 +11,12 @@ from support import CAPTURE, FilesCase
 
 CLOSED = "standard output: it is closed\n"
 FULL = "standard output: No space left on device\n"
+BY_PYTHON = [sys.executable, CAPTURE]
 
 
 def run_with(output: str, words: Sequence[str]) -> Tuple[int, str]:
     """Returns the status and the messages of a program with this redirection of standard output."""
-    ran = subprocess.run(["bash", "-c", f'"$@" {output}', "bash", sys.executable, *words],
+    ran = subprocess.run(["bash", "-c", f'"$@" {output}', "bash", *words],
                          stderr=subprocess.PIPE, stdin=subprocess.DEVNULL, check=False, timeout=60)
     return ran.returncode, ran.stderr.decode()
 
@@ -25,7 +26,7 @@ def unread(words: Sequence[str]) -> Tuple[int, str]:
     messages have no traceback, and nothing about the output."""
     reader, writer = os.pipe()
     os.close(reader)
-    ran = subprocess.run([sys.executable, *words], stdout=writer, stderr=subprocess.PIPE,
+    ran = subprocess.run(words, stdout=writer, stderr=subprocess.PIPE,
                          check=False, timeout=60)
     os.close(writer)
     said = ran.stderr.decode()
@@ -39,10 +40,10 @@ class Output(FilesCase):
         self.capture = self.file(pcap([whole(LLDP)] * 5000))
 
     def test_capture(self) -> None:
-        for words in ([CAPTURE, self.capture], [CAPTURE, "--ports", self.capture],
-                      [CAPTURE, "--help"]):
+        for words in ([self.capture], ["--ports", self.capture], ["--help"]):
             for output, told in ((">&-", CLOSED), (">/dev/full", FULL)):
-                self.assertEqual(run_with(output, words), (1, f"lldpa-capture: {told}"))
+                said = run_with(output, [*BY_PYTHON, *words])
+                self.assertEqual(said, (1, f"lldpa-capture: {told}"))
 
     def test_ctl(self) -> None:
         with Served() as served:
@@ -53,10 +54,10 @@ class Output(FilesCase):
                 self.assertEqual(unread([CTL, "--control", served.path, *words])[0], 1)
 
     def test_who_reads_it_has_gone(self) -> None:
-        self.assertEqual(unread([CAPTURE, self.capture])[0], 1)
+        self.assertEqual(unread([*BY_PYTHON, self.capture])[0], 1)
 
     def test_errors_that_nobody_takes(self) -> None:
         for errors in ("2>&-", "2>/dev/full"):
             for output in (">&-", ">/dev/full"):
-                self.assertEqual(run_with(f"{output} {errors}", [CAPTURE, self.capture]), (1, ""))
-        self.assertEqual(run_with(">/dev/null <&-", [CAPTURE, self.capture]), (0, ""))
+                self.assertEqual(run_with(f"{output} {errors}", [*BY_PYTHON, self.capture]), (1, ""))
+        self.assertEqual(run_with(">/dev/null <&-", [*BY_PYTHON, self.capture]), (0, ""))

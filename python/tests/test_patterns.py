@@ -4,7 +4,7 @@ from lldpa.client import since_of
 from patience import eventually
 from running_live import OnLinks
 from served import numbered
-from wires import Peer, ip
+from wires import Peer
 
 MOST = 64  # ports
 
@@ -14,9 +14,7 @@ class TestLaterPorts(OnLinks):
 
     def made(self, number: int, name: str = "vnet") -> Peer:
         """Makes a link with this name and number, and opens a sender at its far end."""
-        ip("link", "add", f"{name}{number}", "up", "netns", self.wires.here, "type", "veth",
-           "peer", "name", f"far{number}", "netns", self.wires.there)
-        ip("-n", self.wires.there, "link", "set", f"far{number}", "up")
+        self.wires.add_guest(f"{name}{number}", f"far{number}")
         return self.peer(f"far{number}")
 
     def test_a_pattern_waits_and_takes_what_comes_later(self) -> None:
@@ -51,17 +49,19 @@ class TestLaterPorts(OnLinks):
 
     def test_guests_that_came_and_went_leave_room_for_the_next(self) -> None:
         live = self.live("eth0", "vnet*", "--", "--receive-only")
-        for number in range(69):
-            guest = self.made(number)
-            live.comes_to(f"live.vnet{number}.link=up")
-            if number < 68:
-                self.wires.remove_link(f"vnet{number}")
-                self.assertTrue(eventually(lambda: f"live.vnet{number}." not in
-                                           "\n".join(live.ask("live"))), number)
+        for numbers in (range(30), range(30, 60), range(60, 69)):
+            guests = [self.made(number) for number in numbers]  # changes at once are one new agent
+            for number in numbers:
+                live.comes_to(f"live.vnet{number}.link=up")
+            if 68 not in numbers:
+                for number in numbers:
+                    self.wires.remove_link(f"vnet{number}")
+                self.assertTrue(eventually(lambda: "vnet" not in "\n".join(live.ask("live"))))
+        guest = guests[-1]
         guest.send(numbered(1))
         self.assertTrue(eventually(lambda: live.neighbors("vnet68") == 1))
         ports = [line for line in live.ask("show neighbors") if line.endswith("too-many=no")]
-        self.assertEqual(len(ports), 2)
+        self.assertEqual(len(ports), 1 + 9)  # eth0, and the guests that are there
 
     def test_one_that_finds_no_place_is_told_and_taken_when_another_goes(self) -> None:
         guests = [self.made(number) for number in range(MOST - 1)]

@@ -94,9 +94,14 @@ class TestLinks(OnLinks):
             self.assertEqual(live.neighbors(), 0)
             self.assertIn(f"configuration.eth0.status={status}", live.ask("show configuration"))
             self.assertIn(f"lldp.eth0.shutdowns={shutdowns}", live.ask("show statistics"))
+            before = live.told("show statistics", "lldp.eth0.sent")
             self.wires.set_link("eth0", "up")
             live.comes_to("live.eth0.link=up")
             self.assertTrue(eventually(self.wires.all_up))
+            if status == "rx-and-tx":  # a port sends a shutdown frame only after another frame
+                self.assertTrue(eventually(
+                    # pylint: disable-next=cell-var-from-loop
+                    lambda: live.told("show statistics", "lldp.eth0.sent") != before))
 
     def test_interface_that_goes_and_comes_back(self) -> None:
         live = self.live("eth0", "--", "--receive-only")
@@ -142,6 +147,14 @@ class TestLinks(OnLinks):
 
 
 class TestSending(OnLinks):
+    def test_a_port_that_a_command_disables_says_goodbye(self) -> None:
+        live, peer = self.live("eth0"), self.peer()
+        for status in ("rx-only", "disabled"):
+            live.ask("configure ports eth0 lldp status rx-and-tx")
+            self.assertIsNotNone(peer.hears(ttl=121))
+            live.ask(f"configure ports eth0 lldp status {status}")
+            self.assertIsNotNone(peer.hears(ttl=0), status)
+
     @by_the_clock
     def test_fast_start(self) -> None:
         peer = self.peer()

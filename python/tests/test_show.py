@@ -3,7 +3,8 @@
 import subprocess
 import sys
 import unittest
-from typing import Iterator, List, Tuple
+from typing import Iterator, List, NamedTuple, Tuple
+from unittest import mock
 
 from lldpa.agent.framing import MARK, MARK_ANSWER
 from lldpa.agent.show import (Configuration, Counters, Identifier, Neighbor, Show, ShowFault,
@@ -46,6 +47,21 @@ lldp.p1.too-many=no
 COUNTS = {name: number for number, name in enumerate(Counters._fields)}
 STATISTICS = [f"lldp.{port}.{name.replace('_', '-')}={number}"
               for port in ("eth0", "p1") for name, number in COUNTS.items()]
+
+
+class NewerCounters(NamedTuple):
+    """The counters of a later version, which has one more."""
+    sent: int
+    shutdowns: int
+    received: int
+    discarded: int
+    errors: int
+    tlvs_discarded: int
+    unrecognized: int
+    ageouts: int
+    drops: int
+    early_frames: int = 0
+
 
 CHASSIS = """\
 local-chassis.mac=02:00:00:00:00:01
@@ -225,6 +241,22 @@ class Refused(unittest.TestCase):
             told = str(fault.exception)
             self.assertTrue(told.startswith(f"line {number}: "), told)
             self.assertIn(repr(lines[number - 1]), told)
+
+    def test_counters_of_a_newer_agent_are_skipped(self) -> None:
+        end = len(COUNTS)
+        newer = [*STATISTICS[:end], "lldp.eth0.early-frames=3", *STATISTICS[end:], "lldp.p1.x=0"]
+        self.assertEqual(read_show(newer), read_show(STATISTICS))
+        for wrong in ("lldp.eth1.early=3", "lldp.eth0.early=x", "lldp.eth0.sent=0", "eth0.early=3"):
+            with self.subTest(wrong), self.assertRaises(ShowFault) as fault:
+                read_show([*STATISTICS[:end], wrong, *STATISTICS[end:]])
+            self.assertIn(repr(wrong), str(fault.exception))
+
+    def test_a_counter_with_a_default_may_be_missing_at_an_older_agent(self) -> None:
+        with mock.patch("lldpa.agent.show.Counters", NewerCounters):
+            counters = read_show(STATISTICS).counters["p1"]
+            self.assertEqual(counters, (*COUNTS.values(), 0))
+            counters = read_show([*STATISTICS, "lldp.p1.early-frames=7"]).counters["p1"]
+            self.assertEqual(counters, (*COUNTS.values(), 7))
 
     def test_a_status_too_many_and_too_few(self) -> None:
         for lines in (CONFIGURATION[:-1], CONFIGURATION + ["configuration.p2.status=rx-only"]):

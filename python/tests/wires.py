@@ -71,6 +71,12 @@ class Wires:
         for name, end in ((self.here, f"eth{i}"), (self.there, f"peer{i}")):
             ip("-n", name, "link", "set", end, "up")
 
+    def add_guest(self, name: str, far: str) -> None:
+        """Makes a further link, of other names, as a virtual machine does. Sets both ends up."""
+        ip("link", "add", name, "up", "netns", self.here, "type", "veth", "peer", "name", far,
+           "netns", self.there)
+        ip("-n", self.there, "link", "set", far, "up")
+
     def side(self, end: str) -> str:
         return self.there if end.startswith(("peer", "far")) else self.here
 

@@ -7,8 +7,9 @@ use std::process::Command;
 
 const ARCHIVE: &str = "liblldpa.a";
 
-/// The first two numbers of the crate's version. The archive must have the same two numbers.
-const WANTED: &str = concat!(env!("CARGO_PKG_VERSION_MAJOR"), ".", env!("CARGO_PKG_VERSION_MINOR"));
+/// The first two numbers of the crate's version. The archive must have the same first number, and a
+/// second one that is not smaller.
+const WANTED: (&str, &str) = (env!("CARGO_PKG_VERSION_MAJOR"), env!("CARGO_PKG_VERSION_MINOR"));
 
 /// The octets before the version in the archive. The version is a little-endian u32.
 const BEFORE_VERSION: &[u8] = b"liblldpa version\0\0\0\0";
@@ -37,18 +38,23 @@ fn installed() -> Option<PathBuf> {
 }
 
 /// Returns the first two numbers of an archive's version, or None if it is not found.
-fn version_of(archive: &Path) -> Option<String> {
+fn version_of(archive: &Path) -> Option<(u32, u32)> {
     let octets = fs::read(archive).ok()?;
     let found = octets.windows(BEFORE_VERSION.len()).position(|octets| octets == BEFORE_VERSION)?;
     let number = octets.get(found + BEFORE_VERSION.len()..)?.get(..4)?;
     let number = u32::from_le_bytes(number.try_into().ok()?);
-    Some(format!("{}.{}", number / 10000, number / 100 % 100))
+    Some((number / 10000, number / 100 % 100))
+}
+
+/// True if this crate can use an archive of this version.
+fn fits(major: u32, minor: u32) -> bool {
+    WANTED.0.parse() == Ok(major) && WANTED.1.parse().map_or(false, |least: u32| least <= minor)
 }
 
 /// Ends the build, and says what to do.
 fn missing(what: &str) -> ! {
     eprintln!("lldpa: {what}.");
-    eprintln!("lldpa: tools/library/library.sh of lldpa's repository builds {ARCHIVE}, and the package lldpa-dev has it.");
+    eprintln!("lldpa: tools/library/library.sh of lldpa's repository builds {ARCHIVE}, and the package liblldpa-dev has it.");
     eprintln!("lldpa: Set LLDPA_LIB_DIR to the folder that has it.");
     std::process::exit(1);
 }
@@ -62,8 +68,11 @@ fn main() {
     let archive = folder.join(ARCHIVE);
     let name = archive.display();
     match version_of(&archive) {
-        Some(version) if version == WANTED => (),
-        Some(version) => missing(&format!("{name} is of version {version}, and this crate needs {WANTED}")),
+        Some((major, minor)) if fits(major, minor) => (),
+        Some((major, minor)) => missing(&format!(
+            "{name} is of version {major}.{minor}, and this crate needs {}.{} or a later {0}.x",
+            WANTED.0, WANTED.1
+        )),
         None => missing(&format!("{name} does not say its version")),
     }
     println!("cargo:rerun-if-changed={}", archive.display());

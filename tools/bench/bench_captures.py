@@ -1,4 +1,8 @@
-"""Measures other programs that read frames and captures, and lldpa's Python programs."""
+"""Measures other programs that read frames and captures, and lldpa's Python programs.
+
+    python3 tools/bench/bench_captures.py [AUDIT ..]
+
+Measures audits of networks of 100,000 and 200,000 links by each AUDIT in turn, a path of lldpa-audit."""
 from __future__ import annotations
 
 import os
@@ -8,6 +12,7 @@ import shutil
 import struct
 import subprocess
 import sys
+import tempfile
 import time
 from pathlib import Path
 from typing import Callable, Iterator, Tuple
@@ -15,9 +20,14 @@ from typing import Callable, Iterator, Tuple
 TOP = Path(__file__).resolve().parents[2]
 sys.path.append(str(TOP / "audit" / "tools"))
 import cabling  # noqa: E402
+import vendors  # noqa: E402
 from bench_rows import mix  # noqa: E402
 
 AUDIT = "an audit of 100,000 links from neighbor lists of 2,000 hosts"
+# the forms of the lists of larger networks, and what their audits write
+FORMS = {"show": cabling.show_of, "napalm": vendors.FORMS["napalm"]}
+OUTPUTS = ([], ["--json"], ["--junit"], ["--html"])
+SWITCHES = 10_000
 Packets = Iterator[Tuple[bytes, int]]  # each with its time in milliseconds
 PCAP = bytes.fromhex("d4c3b2a1020004000000000000000000ffff000001000000")
 
@@ -107,3 +117,53 @@ def audit_of_cabling(room: Path) -> list[str]:
     words = cabling.write(room, 50)
     ran = min((cabling.shapes.measured(words) for _ in range(3)), key=lambda ran: ran.seconds)
     return [f"{AUDIT}: {ran.seconds:.1f} s, {ran.megabytes} MB"]
+
+
+def write_network(room: Path, links: int, form: str) -> list[str]:
+    """Writes the plan of a network of SWITCHES switches, and a list of each, in a folder. One cable of
+    a hundred is exchanged. Returns the arguments of an audit."""
+    dice = random.Random(links)
+    ends = [(f"sw{host}", f"swp{port}") for host in range(SWITCHES) for port in range(2 * links // SWITCHES)]
+    dice.shuffle(ends)
+    planned = list(zip(ends[::2], ends[1::2]))
+    plan, seen = room / f"{form}{links}.csv", room / f"{form}{links}"
+    plan.write_text("host,port,peer,peer_port\n" + "".join(f"{a},{b},{c},{d}\n" for (a, b), (c, d) in planned))
+    for at in range(0, links // 100, 2):
+        (one, other), (third, fourth) = planned[at:at + 2]
+        planned[at:at + 2] = (one, fourth), (third, other)
+    heard: dict[str, dict[str, list[tuple[str, str]]]] = {}
+    for one, other in [*planned, *[pair[::-1] for pair in planned]]:
+        heard.setdefault(one[0], {})[one[1]] = [other]
+    seen.mkdir()
+    for host, ports in heard.items():
+        (seen / f"{host}.json").write_text(FORMS[form](ports))
+    return [str(plan), str(seen)]
+
+
+def audited(program: str, words: list[str]) -> tuple[float, int]:
+    """Returns the processor time (in seconds) and the peak memory (in MB) of an audit with faults."""
+    child = subprocess.Popen([sys.executable, program, *words], stdout=subprocess.DEVNULL)
+    _, status, usage = os.wait4(child.pid, 0)
+    child.returncode = os.waitstatus_to_exitcode(status)
+    if child.returncode != 1:
+        sys.exit(f"{program} {' '.join(words)} ended with {child.returncode}")
+    return usage.ru_utime + usage.ru_stime, usage.ru_maxrss >> 10
+
+
+def audits_of_networks(room: Path, programs: list[str], times: int) -> Iterator[str]:
+    """Audits networks by each program in turn. Yields a line for each network and output, with the
+    least time and the greatest memory of each program."""
+    for links in (100_000, 200_000):
+        for form in FORMS:
+            network = write_network(room, links, form)
+            for output in OUTPUTS:
+                file = [str(room / "file")] if output not in ([], ["--json"]) else []
+                runs = [[audited(program, [*output, *file, *network]) for program in programs] for _ in range(times)]
+                told = [f"{min(ran)[0]:.1f} s and {max(mb for _, mb in ran)} MB" for ran in zip(*runs)]
+                yield f"an audit of {links:,} links, {' '.join([form, *output])}: {', '.join(told)}"
+
+
+if __name__ == "__main__":  # the paths of lldpa-audit programs, such as one of an earlier version
+    with tempfile.TemporaryDirectory() as folder:
+        for line in audits_of_networks(Path(folder), sys.argv[1:] or [str(TOP / "bin" / "lldpa-audit")], 3):
+            print(line, flush=True)

@@ -1,5 +1,6 @@
 #!/usr/bin/env python3
 """Counts the instructions of eight rows of the benchmark, and compares them with docs/bench.json.
+bench_calls.py does the same for calls of the library.
 
     python3 tools/bench/bench_counts.py [--program PROGRAM]
 
@@ -20,6 +21,7 @@ import sys
 import tempfile
 from pathlib import Path
 
+from bench_calls import judge_calls
 from bench_rows import MANY, PORTS, Row, rows
 
 TOP = Path(__file__).resolve().parents[2]
@@ -89,6 +91,8 @@ def main() -> int:
     for title, count in now.items():
         print(f"{title}: {count:.0f} instructions, {saved[title]:.0f} before")
         judged.that(f"{title} is as fast as before", count <= most * saved[title])
+    with tempfile.TemporaryDirectory() as folder:
+        judge_calls(Path(folder), most, judged)
     return judged.end()
 
 

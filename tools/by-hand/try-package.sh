@@ -1,11 +1,12 @@
 #!/bin/sh
-# Boots a new Debian in a container. Installs the package there, runs each command of the pages that
-# needs root and the service, upgrades and purges the package, and checks that no file is left.
+# Boots a new Debian in a container. Installs the packages there, runs each command of the pages that
+# needs root and the service, upgrades and purges the packages, and checks that no file is left. Then
+# removes Python, and tries the package lldpa alone.
 #     tools/by-hand/try-package.sh [ROOT]
 # ROOT is a folder with a Debian that has python3, systemd-sysv, dbus and iproute2; it is not
 # changed. Without it debootstrap gets one from the network. Needs Linux, root, and Debian's
-# packages systemd-container and, without ROOT, debootstrap. LLDPA and LLDPA_LIVE name the programs,
-# as for tools/release/package.sh. If BEFORE names a package of revision 0, upgrades from it first.
+# packages systemd-container and, without ROOT, debootstrap. LLDPA_BUILT names what was built, as for
+# tools/release/package.sh. If BEFORE names a package lldpa of revision 1, upgrades from it first.
 # The last line is `N passed, M failed`. If something is missing, the status is 77.
 set -u
 skip() {
@@ -27,10 +28,13 @@ if [ -n "$given" ]; then
 else
     debootstrap --variant=minbase --include=python3,systemd-sysv,dbus,iproute2 bookworm "$root" > "$room/said" || exit 1
 fi
-mkdir "$root/root/packages"
 "$tools/release/package.sh" "$root/root/packages" || exit 1
-"$tools/release/package.sh" --revision 2 "$root/root/packages" || exit 1
+# A package of the next revision, with the same files.
+dpkg-deb -R "$root"/root/packages/lldpa_*-2_*.deb "$room/next" || exit 1
+sed -i 's/^\(Version: .*\)-2$/\1-3/' "$room/next/DEBIAN/control"
+dpkg-deb -b "$room/next" "$root/root/packages" || exit 1
 [ -z "${BEFORE-}" ] || cp "$BEFORE" "$root/root/packages" || exit 1
+cp "$tools/../debian/tests/service" "$root/root/service"
 python3 "$tools/gate/examples.py" --as-root > "$root/root/commands" || exit 1
 
 # The script that runs in the container. Each check writes a line: `held` or `FAILED`, and a name.
@@ -43,9 +47,9 @@ check() {
     shift
     if "$@" > /root/said 2>&1; then echo "held: $what"; else echo "FAILED: $what: $(tail -n 3 /root/said)"; fi
 }
-# Lists the files below /etc, /usr and other folders, except those that dpkg and systemd write.
+# Lists the files below /etc, /usr and other folders, except those that apt, dpkg and systemd write.
 listed() {
-    find /etc /usr /opt /srv /var/lib /run/lldpa -path /var/lib/dpkg -prune -o -printf '%p %M %u %g %l\n' 2> /dev/null |
+    find /etc /usr /opt /srv /var/lib /run/lldpa -path /var/lib/dpkg -prune -o -path /var/lib/apt -prune -o -printf '%p %M %u %g %l\n' 2> /dev/null |
         grep -v '^/var/lib/systemd/\(timers\|random-seed\|catalog\)\|^/\(etc\|var/lib\|var/lib/systemd\) ' | sort
 }
 # Runs a command for at most 15 seconds. Succeeds if the command succeeds or does not end.
@@ -56,6 +60,7 @@ for_a_while() {
     [ "$status" -eq 0 ] || [ "$status" -eq 124 ]
 }
 inactive() { ! systemctl is-active lldpa; }
+install_all() { apt-get install -y ./lldpa-tools_*-2_*.deb ./lldpa_*-2_*.deb; }
 process() { systemctl show -p MainPID --value lldpa; }
 is_another() { [ "$old" != "$(process)" ]; }
 # Runs a command until it succeeds, for a minute at most.
@@ -130,6 +135,9 @@ sender.send(bytes.fromhex("0180c200000e02000000000b88cc02070402000000000b0403057
 keeps() { eventually sh -c 'lldpa-ctl neighbors | grep keeper'; }
 is_another_active() { is_another && systemctl is-active lldpa; }
 starts_anew() { eventually is_another_active; }
+is_timed() { systemctl is-enabled lldpa-metrics.timer && systemctl is-active lldpa-metrics.timer; }
+without_python() { apt-get purge -y --auto-remove 'python3*' 'libpython3*' && ! ls /usr/bin/python3*; }
+tells_alone() { lldpa-live --ask "$1" | grep "$2"; }
 # Sends a neighbor's frame each second, at the other end of the link.
 neighbor() {
     python3 -c 'import socket, time
@@ -143,25 +151,40 @@ while True:
 ip link add eth0 type veth peer name far && ip link set eth0 up && ip link set far up
 neighbor &
 listed > /root/before
-if [ -e lldpa_*-0_*.deb ]; then
-    check "the earlier version installs" dpkg -i lldpa_*-0_*.deb
-    sed -i 's/--role station/--role bridge/' /etc/default/lldpa
+if [ -e lldpa_*-1_*.deb ]; then
+    check "the earlier version installs" dpkg -i lldpa_*-1_*.deb
+    sed -i 's/^AGENT_OPTIONS=.*/AGENT_OPTIONS="--role bridge"/' /etc/default/lldpa
     echo 'configure system description "of the folder"' > /etc/lldpa.d/a.conf
     systemctl enable --now lldpa
     eventually answers Bridge:on
     say_once
     check "the earlier version sees a neighbor" keeps
     ls /var/lib/lldpa/*.trace > /root/logs
-    check "an upgrade from it asks nothing" dpkg -i lldpa_*-1_*.deb
+    mkdir -p /var/lib/prometheus/node-exporter
+    systemctl enable --now lldpa-metrics.timer
+    old=$(process)
+    check "an upgrade from it asks nothing" install_all
+    check "it runs the new program" is_another
     check "it keeps the table" keeps
+    check "it keeps the timer of the metrics" is_timed
+    rm -f /var/lib/prometheus/node-exporter/lldpa.prom
+    check "the metrics are still written" published 1
+    check "all files are there after the upgrade" bash -c '! dpkg --verify lldpa lldpa-tools | grep .'
     check "it keeps the configuration" shows Bridge:on
     check "it keeps the settings" shows 'descr=of the folder'
     check "it keeps the logs" xargs ls < /root/logs
-    check "its package is purged" dpkg -P lldpa
+    check "its packages are purged" dpkg -P lldpa lldpa-tools
+    rm -r /var/lib/prometheus
     listed > /root/after
     check "the earlier version leaves no file" diff /root/before /root/after
+    check "the earlier version installs again" dpkg -i lldpa_*-1_*.deb
+    systemctl enable --now lldpa-metrics.timer
+    check "an upgrade without lldpa-tools asks nothing" dpkg -i lldpa_*-2_*.deb
+    check "its package is purged" dpkg -P lldpa
+    listed > /root/after
+    check "the upgraded version leaves no file" diff /root/before /root/after
 fi
-check "it installs" dpkg -i lldpa_*-1_*.deb
+check "it installs" install_all
 check "it does not run before it is enabled" inactive
 check "its programs run" reads
 check "import lldpa finds the package" finds
@@ -215,19 +238,31 @@ rm /etc/lldpa.d/a.conf
 check "the service keeps no capability" grep -q '^CapEff:\s*0*$' "/proc/$(process)/status"
 sed -i 's/^AGENT_OPTIONS=.*/AGENT_OPTIONS="--role bridge"/' /etc/default/lldpa
 old=$(process)
-check "it upgrades" dpkg -i lldpa_*-2_*.deb
+check "it upgrades" dpkg -i lldpa_*-3_*.deb
 check "the upgrade restarts the service" is_another
 check "an upgrade keeps the table" keeps
 check "a changed configuration stays" shows Bridge:on
 check "all files are as the package has them" \
-    bash -c '! dpkg --verify lldpa | grep .'
+    bash -c '! dpkg --verify lldpa lldpa-tools | grep .'
 check "lldpa-live may read, write and connect no more than it needs" confined_live
-check "it is removed" dpkg -r lldpa
+check "it is removed" dpkg -r lldpa lldpa-tools
 check "the service has ended" inactive
-check "it installs again" dpkg -i lldpa_*-2_*.deb
-check "it is purged" dpkg -P lldpa
+check "it installs again" install_all
+check "it is purged" dpkg -P lldpa lldpa-tools
 listed > /root/after
 check "no file is left" diff /root/before /root/after
+check "it installs without lldpa-tools" dpkg -i lldpa_*-2_*.deb
+check "the test of debian/tests" /root/service
+check "it is purged after the test" dpkg -P lldpa
+ip link del lldpa0
+check "Python is removed" without_python
+check "it installs without Python" dpkg -i lldpa_*-2_*.deb
+check "it starts without Python" systemctl enable --now lldpa
+check "it tells the neighbor without Python" eventually tells_alone 'show neighbors' chassis.name=sender
+echo 'configure system description "of the folder"' > /etc/lldpa.d/a.conf
+check "it reloads without Python" systemctl reload lldpa
+check "it has the settings without Python" eventually tells_alone 'show chassis' 'descr=of the folder'
+check "it is purged without Python" dpkg -P lldpa
 poweroff
 EOF
 chmod 755 "$root/root/try.sh"
@@ -252,7 +287,7 @@ fi
 cat "$root/root/tried"
 passed=$(grep -c '^held: ' "$root/root/tried")
 failed=$(grep -c '^FAILED: ' "$root/root/tried")
-wanted=$((32 + ${BEFORE:+9} + $(wc -l < "$root/root/commands")))
+wanted=$((42 + ${BEFORE:+17} + $(wc -l < "$root/root/commands")))
 [ $((passed + failed)) -eq "$wanted" ] || failed=$((failed + 1))
 echo "$passed passed, $failed failed"
 [ "$failed" -eq 0 ]

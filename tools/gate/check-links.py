@@ -130,6 +130,11 @@ def large_numbers(text):
             yield number.replace(",", "")
 
 
+def without_counts(text):
+    """Returns a page without the sections that tools/gate/artefacts.py compares."""
+    return re.sub(r"^#+ (?:What you run|The axioms).*?(?=^#|\Z)", "", text, flags=re.M | re.S)
+
+
 def faults_of_page(page):
     """Yields what a page names, and what it must not contain, each with its fault or None."""
     text = without_code(page.read_text())
@@ -146,9 +151,9 @@ def faults_of_page(page):
         known = {owner, call} <= FUNCTIONS | {"default"} or owner not in SOURCE
         yield f"{owner}::{call}", None if known else "no such call"
     if page.name in ABOUT_PROOFS:
-        for word in re.findall(r"`([A-Za-z]\w*(?:-\w+)*)`", text):
+        for word in re.findall(r"`([A-Za-z]\w*(?:-\w+)*)`", without_counts(text)):
             yield word, None if word in NAMES else "no such name in the sources"
-        for number in large_numbers(text):
+        for number in large_numbers(without_counts(text)):
             yield number, None if number in NUMBERS_OF_SOURCES else "no such number in the sources"
     for option in re.findall(r"(?<![\w-])--[a-z][a-z-]*[a-z]", page.read_text()):
         yield option, None if option in OPTIONS else "no such option"

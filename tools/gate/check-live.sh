@@ -15,10 +15,12 @@ for words in "" --dynamic; do
     # shellcheck disable=SC2086
     check "tools/release/live.sh $words" tools/release/live.sh $words
 done
+. tools/release/crates.sh
 cd rust/live || exit 2
 export CARGO_TARGET_DIR=out/target
-for words in "fmt --check" "clippy --offline --all-targets --quiet -- -D warnings" "test --offline --quiet"; do
+check "cargo fmt --check" cargo fmt --check
+for words in "clippy --locked --all-targets --quiet -- -D warnings" "test --locked --quiet"; do
     # shellcheck disable=SC2086
-    check "cargo $words" cargo $words
+    check "cargo $words" cargo_with_crates $words
 done
 finish

@@ -44,6 +44,7 @@ HANDED_ON = {
     "Port::open(alloc.clone()?, name.as_bytes(), options)": "lldp_engine/src/agent/ports.rt",
     "open_ports(alloc, options)": "lldp_engine/src/agent.rt",
     "Agent::open(alloc, &options)": "lldp_program/src/program.rt",
+    "run_words(rt, alloc, words,": "lldp_program/src/program.rt",
     "run_matches(rt, alloc, &matches,": "lldp_program/src/program.rt",
     "parse(alloc, words)": "lldp_program/src/program.rt",
     "Agent::open(alloc, &given)": LIBRARY_OPENS,

@@ -16,8 +16,12 @@ cheap() {
     part "imports of the Python packages" python3 tools/gate/imports.py
     part "generated files" python3 tools/write/check.py
     part "numbers of docs/TESTING.md" python3 tools/write/numbers.py --check
+    part "what is claimed for each program" python3 tools/gate/artefacts.py --check
     part "links of the pages" python3 tools/gate/check-links.py
+    part "statements of the pages" python3 tools/gate/statements.py
+    part "pictures of the pages" python3 tools/gate/pictures.py
     part "names of tools/named.txt" python3 tools/gate/check-named.py
+    part "definitions that a second statement reaches" python3 tools/gate/reach.py
     part "manual pages and units" tools/gate/manuals-and-units.sh
     part "completions" python3 tools/gate/completions.py
     part "memory and accesses, in the sources" python3 tools/gate/check-memory.py
@@ -29,8 +33,10 @@ built() {
         judge 1 "no program at $program: rt run in crates/lldpa builds it"
         return
     fi
+    part "rust/people" tools/gate/check-people.sh
     part "lldpa-live" tools/gate/check-live.sh
     part "transcripts, and examples of the pages" python3 tools/gate/examples.py "$program"
+    part "statements of the pages, by the programs" python3 tools/gate/statements.py --built "$program"
     part "arguments and streams" tools/gate/words.sh "$program"
     part "tests of the Python package" python3 tools/gate/test-python.py "$program"
     part "audit of eight ports" python3 audit/tools/check.py --program "$program"
@@ -55,9 +61,12 @@ case $stage in
     gate)
         command -v cc > /dev/null
         judge $? "there is no C compiler (cc), which the gate needs"
+        python3 -c 'import sys; sys.exit(sys.version_info < (3, 9))'
+        judge $? "python3 is older than 3.9, which the gate needs"
         cheap
         if [ "$failed" -eq 0 ]; then
             part "proofs, mutants and tests (rt ci)" rt ci
+            part "axioms" python3 tools/gate/artefacts.py --axioms
             built
         else
             echo "nothing is proved or built, since a cheap part failed"

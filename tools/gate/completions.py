@@ -1,5 +1,5 @@
 #!/usr/bin/env python3
-"""Compares the completions of each program with its --help.
+"""Compares the completions and the manual page of each program with its --help.
 
     tools/gate/completions.py
 
@@ -51,6 +51,17 @@ def offered(program: str, begun: str) -> set[str]:
     return set(written("bash", "-c", COMPLETE, "bash", program, begun).split())
 
 
+def options_of(program: str) -> set[str]:
+    return set(re.findall(r"^  +(?:-\w, )?(--[a-z-]+)", help_of(program), re.M))
+
+
+def is_in_manual(program: str, option: str) -> bool:
+    """Returns whether the manual page of a program lists an option."""
+    pages = [*TOP.glob(f"man/{program}.[1-8]"), *TOP.glob(f"audit/{program}.1")]
+    item = re.compile(rf"^\.It .* {option[1:]}(?![\w-])", re.M)
+    return any(item.search(page.read_text().replace("\\-", "-")) for page in pages)
+
+
 def main() -> int:
     counts = Counts()
     os.environ["PATH"] = f"{TOP / 'bin'}{os.pathsep}{os.environ['PATH']}"
@@ -58,11 +69,14 @@ def main() -> int:
     programs = [one for one in PROGRAMS if one != "lldpa-live" or LIVE.exists()]
     if programs != [*PROGRAMS]:
         print("skipped: completions for lldpa-live, which tools/release/live.sh builds")
+    for program in programs:
+        missing = [one for one in sorted(options_of(program)) if not is_in_manual(program, one)]
+        counts.judge(f"it lacks {missing}" if missing else None, f"the manual page of {program}")
     commands = {program: set(re.findall(pattern, help_of(program).partition("ommands")[2], re.M))
                 for program, pattern in COMMANDS.items()}
     if LIBRARY.exists():
         for program in programs:
-            options = set(re.findall(r"^  +(?:-\w, )?(--[a-z-]+)", help_of(program), re.M))
+            options = options_of(program)
             counts.that(f"the options of {program} in bash", offered(program, "--") >= options > set())
         for program in COMMANDS:
             counts.that(f"the commands of {program} in bash", offered(program, "") == commands[program] | links)

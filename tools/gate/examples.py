@@ -14,9 +14,10 @@ receive-counters.rows has counters of eth0 that `show statistics` must show afte
 Examples of the pages and the manual page are blocks whose first line begins with `$ `. Each line
 that begins so is a command. If it ends with <<'EOF' or <<EOF, its input follows, up to a line EOF.
 Then its output follows, up to the next command. A status other than 0 must be shown by `echo $?`.
-Standard error must be empty. A free port replaces the number after --listen. A block that takes too
-long fails, and its processes are killed. tools/by-hand/try-package.sh runs the blocks whose
-commands begin with sudo; --as-root lists these commands. A block with commands of both kinds fails.
+Standard error must be empty. A free port replaces the number after --listen, and ages of sources
+may differ. A block that takes too long fails, and its processes are killed.
+tools/by-hand/try-package.sh runs the blocks whose commands begin with sudo; --as-root lists these
+commands. A block with commands of both kinds fails.
 
 If names are given, only those transcripts and their rows are run. The last line counts the ways of
 each transcript, the rows and the blocks.
@@ -47,6 +48,9 @@ AS_ROOT = "$ sudo "
 # the file with the rows of counters, and the command that shows counters
 ROWS = TOP / "examples" / "receive-counters.rows"
 SHOW = b"show statistics\n"
+
+# the ages of sources in an audit's last line
+AGES = re.compile(r"\d+ (second|minute|hour|day)s?( to \d+ \w+)? old")
 
 # how many seconds a run may take
 SECONDS = 60
@@ -272,6 +276,7 @@ def fault_of_block(lines, folder):
     written, told = found
     if told:
         return f"standard error {told[:300]!r}"
+    written, wanted = (AGES.sub("N seconds old", text) for text in (written, wanted))
     if written != wanted:
         return difference(written, wanted)
     if ran.returncode != 0:

@@ -19,8 +19,8 @@ from collections.abc import Iterable
 TOP = pathlib.Path(__file__).resolve().parents[2]
 KEPT = TOP / "out" / "passed"
 # the files that tools/library/check-library.py and check-arm64.py read
-READ = ("crates", "crates.txt", "rust", "examples", "docs/LIBRARY.md", "docs/lab.pcap", "tools/library", "tools/release",
-        "tools/model", "tools/gate/examples.py", "tools/gate/counts.py")
+READ = ("crates", "crates.txt", "debian", "rust", "examples", "docs/LIBRARY.md", "docs/lab.pcap", "tools/library",
+        "tools/release", "tools/model", "tools/gate/examples.py", "tools/gate/counts.py")
 COMPILERS = (("rt", "version"), ("cc", "--version"), ("cargo", "--version"), ("qemu-aarch64", "--version"))
 
 

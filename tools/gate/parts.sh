@@ -5,6 +5,7 @@ trap 'rm -rf "$room"' EXIT
 passed=0
 failed=0
 kept=0
+skipped=0
 export PYTHONDONTWRITEBYTECODE=1
 : > "$room/seconds"
 
@@ -45,6 +46,7 @@ part() {
     took=$(($(date +%s) - began))
     printf '%6d s  %s\n' "$took" "$part_name" >> "$room/seconds"
     echo "   $took s"
+    skipped=$((skipped + $(grep -c "^skipped: " "$room/part")))
     last=$(tail -n 1 "$room/part")
     counted=$(expr "$last" : '\([0-9]*\) passed, [0-9]* failed$')
     uncounted=$(expr "$last" : '[0-9]* passed, \([0-9]*\) failed$')
@@ -67,6 +69,7 @@ finish() {
         echo "== seconds of each part"
         sort -rn "$room/seconds"
         echo "kept from an earlier run: $kept of $passed"
+        echo "lines above that begin with 'skipped: ': $skipped (tools/gate/install.sh installs what they need)"
     fi
     echo "$passed passed, $failed failed"
     [ "$failed" -eq 0 ]

@@ -18,11 +18,13 @@ from typing import NamedTuple
 TOP = pathlib.Path(__file__).resolve().parents[2]
 TESTS = [TOP / "python" / "tests", TOP / "audit" / "tests"]
 # These modules take longest, so they begin first: otherwise the gate would wait for them.
-LONGEST = ("test_service", "test_state", "test_control_paths", "test_addresses", "test_log_files", "test_relay",
+LONGEST = ("test_scarce", "test_any_interface", "test_guards", "test_churn", "test_replacing", "test_moments",
+           "test_service", "test_state", "test_control_paths", "test_addresses", "test_log_files", "test_relay",
            "test_patterns", "test_control", "test_live_ends", "test_bad_files", "test_live_log", "test_packaging",
-           "test_settings", "test_ctl_live", "test_audit_command", "test_identity", "test_ask")
-# modules that run alone, since their tests need an answer within a tenth of a second
-ALONE = ("test_live_flood",)
+           "test_settings", "test_ctl_live", "test_audit_command", "test_identity", "test_ask", "test_audit",
+           "test_random_networks", "test_write_plan", "test_situations")
+# modules that run alone, since they load the machine, or need an answer within a tenth of a second
+ALONE = ("test_live_flood", "test_load_dear", "test_load_floods", "test_load_tables")
 
 
 class Ran(NamedTuple):
@@ -65,7 +67,11 @@ def main():
     if len(sys.argv) > 1:
         os.environ["LLDPA"] = str(pathlib.Path(sys.argv[1]).resolve())
     passed = failed = 0
-    others = sorted(path.stem for folder in TESTS for path in folder.glob("test_*.py") if path.stem not in LONGEST)
+    names = sorted(path.stem for folder in TESTS for path in folder.glob("test_*.py"))
+    for name in sorted({name for name in names if names.count(name) > 1}):
+        print(f"FAILED: {name} is in two folders, and only one of them would run")
+        failed += 1
+    others = [name for name in names if name not in LONGEST]
     for ran in run_all([*LONGEST, *others]):
         print(ran.said, flush=True)
         passed += max(ran.tests - ran.skipped - ran.failed, 0)

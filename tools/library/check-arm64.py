@@ -61,7 +61,8 @@ def check_program(program: pathlib.Path, counts: Counts) -> None:
 def check_library(folder: pathlib.Path, room: pathlib.Path, counts: Counts) -> None:
     """Runs the C programs with the archive, and one of them with the shared object."""
     for name, linked in (("vectors", "liblldpa.a"), ("vectors", "liblldpa.so.1"), ("nulls", "liblldpa.a"),
-                         ("limits", "liblldpa.a"), ("refused", "liblldpa.a"), ("transcript", "liblldpa.a")):
+                         ("limits", "liblldpa.a"), ("ranges", "liblldpa.a"), ("refused", "liblldpa.a"),
+                         ("transcript", "liblldpa.a")):
         more = NATIVE.WRAPPED if name == "refused" else []
         fault = fault_of([COMPILER, "-std=c99", "-O2", *WARNINGS, *more, f"-I{folder}", TOOLS / f"{name}.c",
                           folder / linked, "-o", room / name])
@@ -77,7 +78,7 @@ def has_live(folder: pathlib.Path, counts: Counts) -> bool:
     for words in ([], ["--dynamic"]):
         made = ran([TOP / "tools" / "release" / "live.sh", "--arch", "arm64", *words], env=settings)
         if made.returncode == 3:
-            skip(f"lldpa-live and the package lldpa for arm64: {made.stderr.strip()}")
+            skip(f"lldpa-live and the packages of the programs for arm64: {made.stderr.strip()}")
             return False
         said = ran([*QEMU, made.stdout.strip(), "--version"])
         is_right = said.stdout.startswith("lldpa-live ")
@@ -86,19 +87,21 @@ def has_live(folder: pathlib.Path, counts: Counts) -> bool:
 
 
 def check_packages(folder: pathlib.Path, room: pathlib.Path, counts: Counts) -> None:
-    """Checks that each Debian package can be made, and that its compiled files are for arm64."""
-    for command in ("dpkg-deb", "dpkg-architecture"):
+    """Builds the Debian packages, and checks that their compiled files are for arm64."""
+    is_whole = has_live(folder, counts)
+    for command in ("dpkg-buildpackage", "dh", "dh_python3"):
         if shutil.which(command) is None:
             skip(f"the packages for arm64, since there is no {command}")
             return
-    settings = os.environ | {"LLDPA": str(folder / "lldpa"), "LLDPA_LIB_DIR": str(folder / "lib")}
-    of_the_program = [("lldpa", [])] if has_live(folder, counts) else []
-    for name, words in (*of_the_program, ("lldpa-dev", ["--library"]), ("lldpa1", ["--shared"])):
-        made = ran([TOP / "tools" / "release" / "package.sh", *words, "--arch", "arm64", room], env=settings)
-        package, tree = made.stdout.strip(), room / f"{name}.tree"
-        is_named = made.returncode == 0 and package.startswith(f"{room}/{name}_") and package.endswith("_arm64.deb")
-        counts.judge(None if is_named else made.stderr, f"the package {name} for arm64")
-        ran(["dpkg-deb", "-x", package, tree])
+    names = ["lldpa", "liblldpa1", "liblldpa-dev"] if is_whole else ["liblldpa1", "liblldpa-dev"]
+    options = ["-a", "arm64"] if is_whole else ["-a", "arm64", "-Ppkg.lldpa.library"]
+    settings = os.environ | {"LLDPA_BUILT": str(folder)}
+    made = ran([TOP / "tools" / "release" / "package.sh", room / "packages", *options], env=settings)
+    counts.judge(None if made.returncode == 0 else made.stderr, "tools/release/package.sh -a arm64")
+    for name in names:
+        package, tree = next((room / "packages").glob(f"{name}_*_arm64.deb"), None), room / f"{name}.tree"
+        counts.judge("it is not made" if package is None else None, f"the package {name} for arm64")
+        ran(["dpkg-deb", "-x", package or "", tree])
         begins = [path.read_bytes()[:20] for path in tree.rglob("*") if path.is_file()]
         machines = {octets[18] for octets in begins if octets.startswith(b"\x7fELF")}
         counts.judge(None if machines <= {EM_AARCH64} else machines, f"the compiled files of {name} for arm64")

@@ -6,7 +6,8 @@
 Programs of tools/library/c run with the library, most with the compiler's sanitizers. vectors.c
 runs the rows of examples/vectors.rows, and reads cut and altered LLDPDUs. transcript.c runs the
 transcripts of examples/ and long shows. nulls.c passes NULL for each pointer, and values out of
-range. limits.c tries small buffers and random octets. refused.c refuses memory to the library.
+range. limits.c tries small buffers and random octets, and ranges.c the ends of ranges and calls with
+two wrong arguments. refused.c refuses memory to the library.
 
 FOLDER has liblldpa.a, liblldpa.so.1 and lldpa.h. Without FOLDER tools/library/library.sh makes
 them. Checks that need a missing program, such as cargo, are reported and not counted. Without
@@ -22,6 +23,7 @@ import sys
 import tempfile
 from typing import Callable
 
+from library_abi import check_abi
 from library_examples import check_page, check_receive, check_sd_lldp_rx, check_who
 from library_front import check_front
 from library_layout import check_layout
@@ -99,7 +101,7 @@ def check_programs(library: Library, counts: Counts) -> None:
     flags = SANITIZERS if has_sanitizers(library.room) else []
     if not flags:
         skip("the sanitizers, which the compiler does not have")
-    for name in ("vectors", "transcript", "nulls", "limits"):
+    for name in ("vectors", "transcript", "nulls", "limits", "ranges"):
         fault = library.compiled(TOOLS / f"{name}.c", name, *flags)
         counts.judge(fault, f"building {name}")
         if fault is None:
@@ -140,7 +142,8 @@ def check_processor(library: Library, counts: Counts) -> None:
 
 def check_stack(library: Library, counts: Counts) -> None:
     """Checks that no call uses more stack than the header says. Prints what each call uses."""
-    fault = library.compiled(TOOLS / "stack.c", "stack", "-std=gnu99")
+    # Symbols are bound at the start, so that no call uses the loader's stack.
+    fault = library.compiled(TOOLS / "stack.c", "stack", "-std=gnu99", "-Wl,-z,now")
     counts.judge(fault, "building stack")
     if fault is None:
         count_of([library.room / "stack"], "stack", counts)
@@ -148,8 +151,8 @@ def check_stack(library: Library, counts: Counts) -> None:
 
 # The checks that take longest come first.
 CHECKS = (check_programs, check_rust, check_front, check_refused, check_receive, check_layout, check_header,
-          check_processor, check_functions, check_plug_in, check_bindings, check_size, check_machine, check_stack,
-          check_page, check_who, check_sd_lldp_rx)
+          check_processor, check_functions, check_abi, check_plug_in, check_bindings, check_size,
+          check_machine, check_stack, check_page, check_who, check_sd_lldp_rx)
 
 
 def in_own_room(check: Callable[[Library, Counts], None], folder: pathlib.Path,

@@ -1,10 +1,11 @@
 #!/usr/bin/env python3
 """Runs the examples of docs/LIBRARY.md and of examples/ with the library, for check-library.py.
 
-    python3 tools/library/library_examples.py --hear PROGRAM [WORD ..]
+    python3 tools/library/library_examples.py --hear|--meet PROGRAM [WORD ..]
 
-With --hear, which needs a network namespace of its own, it runs a receive loop of examples/ at one
-end of a link. At the other end it sends frames until the loop has reported each change.
+Both need a network namespace of their own. With --hear it runs a receive loop of examples/ at one
+end of a link. At the other end it sends frames until the loop has reported each change. With --meet
+it runs an agent at each end, and then ends one of them.
 """
 from __future__ import annotations
 
@@ -104,6 +105,39 @@ def hear(command: list[str]) -> int:
     return 0 if is_told and heard.returncode == 0 else 1
 
 
+def next_line(heard: subprocess.Popen[bytes]) -> str:
+    """Returns the next line of a program, or an empty text if none comes in time."""
+    assert heard.stdout is not None
+    is_there = select.select([heard.stdout], [], [], SECONDS)[0]
+    return heard.stdout.readline().decode().rstrip() if is_there else ""
+
+
+def met(here: subprocess.Popen[bytes], there: subprocess.Popen[bytes], end: Callable[[], object],
+        names: tuple[str, str]) -> str | None:
+    """Returns None if two agents report each other, and one the other's goodbye. Otherwise, what
+    they said."""
+    told = [next_line(here), next_line(there)]
+    end()
+    told += [next_line(here), str(there.wait(SECONDS))]
+    neighbor = r"(\w+ )?{} chassis\.mac=\S+ port\.ifname={}"
+    words = (("new", names[1]), ("new", names[0]), ("gone", names[1]))
+    wanted = [*(neighbor.format(*pair) for pair in words), "0"]
+    return None if all(map(re.fullmatch, wanted, told)) else f"{told}"
+
+
+def meet(command: list[str]) -> int:
+    """Returns 0 if two agents at the ends of a link report each other, and one the other's goodbye."""
+    for words in LINK:
+        subprocess.run(["ip", *words.split()], check=True)
+    with subprocess.Popen([*command, "here"], stdout=subprocess.PIPE) as here, \
+            subprocess.Popen([*command, "there"], stdout=subprocess.PIPE) as there:
+        fault = met(here, there, there.terminate, ("here", "there"))
+        here.terminate()
+    if fault is not None:
+        sys.stderr.write(fault)
+    return 0 if fault is None and here.returncode == 0 else 1
+
+
 def check_sd_lldp_rx(library: Library, counts: Counts) -> None:
     """Checks that sd_lldp_rx.c reports each event, and in how many seconds something is due."""
     source = EXAMPLES / "c" / "sd_lldp_rx.c"
@@ -116,16 +150,18 @@ def check_sd_lldp_rx(library: Library, counts: Counts) -> None:
 
 
 def check_receive(library: Library, counts: Counts) -> None:
-    """Checks that the receive loops see a neighbor on a link, if a namespace can be made."""
-    fault = library.compiled(EXAMPLES / "c" / "receive.c", "receive")
-    counts.judge(fault, "building examples/c/receive.c")
+    """Checks that the receive loops see a neighbor on a link, and that agents see each other, if a
+    namespace can be made."""
+    for name in ("receive", "agent"):
+        counts.judge(library.compiled(EXAMPLES / "c" / f"{name}.c", name), f"building examples/c/{name}.c")
     if shutil.which("ip") is None or fault_of(["unshare", "--net", "true"]) is not None:
         skip("receiving on a link, which needs root, ip and unshare")
         return
     python = [sys.executable, EXAMPLES / "python" / "receive.py"]
-    for name, example in (("c/receive.c", [library.room / "receive"]),
-                          *([("python/receive.py", python)] if library.shared() else [])):
-        command = ["unshare", "--net", sys.executable, __file__, "--hear", *example]
+    for name, how, example in (("c/receive.c", "--hear", [library.room / "receive"]),
+                               ("c/agent.c", "--meet", [library.room / "agent"]),
+                               *([("python/receive.py", "--hear", python)] if library.shared() else [])):
+        command = ["unshare", "--net", sys.executable, __file__, how, *example]
         ended = ran(command, env=loading(library))
         counts.judge(ended.stderr[-1500:] + ended.stdout if ended.returncode else None, f"examples/{name} on a link")
 
@@ -143,4 +179,5 @@ def check_who(library: Library, counts: Counts) -> None:
 
 
 if __name__ == "__main__":
-    sys.exit(hear(sys.argv[2:]) if sys.argv[1:2] == ["--hear"] else 2)
+    parts = {"--hear": hear, "--meet": meet}
+    sys.exit(parts[sys.argv[1]](sys.argv[2:]) if sys.argv[1:2] and sys.argv[1] in parts else 2)

@@ -1,11 +1,11 @@
 """Makes wrong versions of the library's front, crates/lldpa_c/front/lldpa.c, which checks for NULL.
-tools/library/c/nulls.c must fail with each of them."""
+tools/library/c/nulls.c or ranges.c must fail with each of them."""
 from __future__ import annotations
 
 from library_parts import TOP, Counts, Library, fault_of, ran
 
 FRONT = TOP / "crates" / "lldpa_c" / "front" / "lldpa.c"
-NULLS = TOP / "tools" / "library" / "c" / "nulls.c"
+PROGRAMS = [TOP / "tools" / "library" / "c" / f"{name}.c" for name in ("nulls", "ranges")]
 
 # Each edit of the front: its fault, a text that occurs once there, and the wrong text for it.
 EDITS = (
@@ -33,21 +33,42 @@ EDITS = (
     ("lldpa_close does not check the agent", "if (agent != NULL)", "if (true)"),
     ("NULL with a length of 0 is refused", "return at == NULL && count > 0;",
      "return at == NULL;"),
+    ("lldpa_open accepts options of a later library", "if (options->size != sizeof *options)",
+     "if (options->size < sizeof *options)"),
+    ("lldpa_escape refuses more than 255 octets", "(octets(text), text_length, room_at(room)",
+     "(octets(text), text_length > 255 ? 512 : text_length, room_at(room)"),
+    ("lldpa_build leaves out TLVs after the 64th", "tlvs != NULL ? tlvs : &nowhere, tlv_count,",
+     "tlvs != NULL ? tlvs : &nowhere, tlv_count > 64 ? 64 : tlv_count,"),
+    ("lldpa_ticks counts seconds modulo 65,536", "(agent, count, marks, told))",
+     "(agent, (uint16_t)count, marks, told))"),
+    ("lldpa_command leaves the show as it was", "(agent, octets(line), length, show, marks))",
+     "(agent, octets(line), length, &(uint32_t){0}, marks))"),
+    ("lldpa_link checks the port first", "agent == NULL || marks == NULL, LLDPA_NULL, (agent, port, up",
+     "port > 63, LLDPA_NO_PORT, (agent, port, up"),
+    ("lldpa_show_lines checks the handle first", "(COPY(agent), show, from,",
+     "(COPY(agent), agent->open ? show : 1, from,"),
+    ("lldpa_frame_of checks the room before the port", "(COPY(agent), port, mark, room_at",
+     "(COPY(agent), room_length > 0 ? port : 0, mark, room_at"),
+    ("lldpa_neighbor_count counts those of the first port", "(COPY(agent), port, count))",
+     "(COPY(agent), port < 2 ? 0 : port, count))"),
 )
 
 
 def fault_of_edit(library: Library, old: str, new: str) -> str | None:
-    """Returns None if nulls.c fails with a wrong front, or else what went wrong."""
+    """Returns None if a program fails with a wrong front, or else what went wrong."""
     text = FRONT.read_text()
     if text.count(old) != 1:
         return f"{old!r} does not occur once in {FRONT.name}"
-    source, program = library.room / "front.c", library.room / "front"
+    source, built = library.room / "front.c", library.room / "front"
     source.write_text(text.replace(old, new))
-    fault = fault_of(["cc", "-std=gnu99", f"-I{library.folder}", source, NULLS,
-                      library.folder / "proved.a", "-o", program])
-    if fault is not None:
-        return fault
-    return None if ran([program]).returncode != 0 else "it is not noticed"
+    for program in PROGRAMS:
+        fault = fault_of(["cc", "-std=gnu99", f"-I{library.folder}", source, program,
+                          library.folder / "proved.a", "-o", built])
+        if fault is not None:
+            return fault
+        if ran([built]).returncode != 0:
+            return None
+    return "it is not noticed"
 
 
 def check_front(library: Library, counts: Counts) -> None:

@@ -17,7 +17,7 @@ PARTS = TOP / "crates" / "lldp_transmit" / "src" / "parts.rt"
 # The common names of C and Rattle types. Other types keep their name, in lower case without prefix.
 TYPES = {"uint8_t": "u8", "uint16_t": "u16", "uint32_t": "u32", "size_t": "usize", "bool": "bool", "void": "()",
          "ticks_taken": "ticks", "parts": "machine", "statistics_told": "statistics",
-         "configuration_told": "configuration"}
+         "configuration_told": "configuration", "chassis_told": "chassis"}
 STRUCT = re.compile(r"typedef struct lldpa_\w+ \{(.*?)\} lldpa_(\w+);", re.S)
 LENGTH = "usize after a pointer"
 Lists = dict[str, list[str]]

@@ -5,9 +5,10 @@ import os
 import pathlib
 import re
 import shutil
+import socket
 import subprocess
 
-from library_examples import follow
+from library_examples import follow, met
 from library_parts import TOP, Counts, Library, fault_of, ran, skip
 from library_transcripts import check_transcripts
 
@@ -32,11 +33,11 @@ def strange_archive(library: Library) -> pathlib.Path:
 
 
 def cargo(words: list[str], folder: pathlib.Path, library: Library, program: str = "cargo",
-          **more: str) -> subprocess.CompletedProcess[str]:
+          crate: pathlib.Path = CRATE, **more: str) -> subprocess.CompletedProcess[str]:
     """Runs cargo in the crate, with the archive of a folder. A warning is an error."""
     settings = os.environ | {"LLDPA_LIB_DIR": str(folder), "RUSTFLAGS": "-D warnings",
                              "CARGO_TARGET_DIR": str(library.room / "target"), **more}
-    return ran([program, words[0], "--offline", "--locked", "--quiet", *words[1:]], CRATE, settings)
+    return ran([program, words[0], "--offline", "--locked", "--quiet", *words[1:]], crate, settings)
 
 
 def check_crate(words: list[str], folder: pathlib.Path, library: Library, counts: Counts) -> None:
@@ -49,9 +50,9 @@ def check_crate(words: list[str], folder: pathlib.Path, library: Library, counts
 
 
 def check_versions(library: Library, counts: Counts) -> None:
-    """Checks that the crate accepts an archive of another patch release, and no other version."""
+    """Checks that the crate accepts an archive of its release and of later ones of 1.x, and no other."""
     octets, at = (library.folder / "liblldpa.a").read_bytes(), b"liblldpa version\0\0\0\0"
-    for number, fits in ((10000, True), (10042, True), (10100, False), (20000, False)):
+    for number, fits in ((10000, True), (10042, True), (10100, True), (19900, True), (9900, False), (20000, False)):
         folder = library.room / str(number)
         folder.mkdir()
         end = octets.index(at) + len(at)
@@ -88,6 +89,27 @@ def check_examples(library: Library, counts: Counts) -> None:
         heard.stdin.close()
     is_right = is_told and heard.returncode == 0
     counts.judge(None if is_right else f"status {heard.returncode}", "rust/lldpa/examples/receive.rs")
+    counts.judge(fault_of_agents(str(programs / "agent")), "rust/lldpa/examples/agent.rs")
+
+
+def free_ports() -> list[str]:
+    """Returns two addresses on the loopback interface that nobody uses."""
+    with socket.socket(type=socket.SOCK_DGRAM) as one, socket.socket(type=socket.SOCK_DGRAM) as other:
+        for bound in (one, other):
+            bound.bind(("127.0.0.1", 0))
+        return [f"127.0.0.1:{bound.getsockname()[1]}" for bound in (one, other)]
+
+
+def fault_of_agents(program: str) -> str | None:
+    """Returns None if two agents that send frames to each other see one another come and leave."""
+    one, other = free_ports()
+    pipes = {"stdin": subprocess.PIPE, "stdout": subprocess.PIPE}
+    with subprocess.Popen([program, "one", one, other], **pipes) as here, \
+            subprocess.Popen([program, "other", other, one], **pipes) as there:
+        assert here.stdin is not None and there.stdin is not None
+        fault = met(here, there, there.stdin.close, ("one", "other"))
+        here.stdin.close()
+    return fault or (None if here.returncode == 0 else f"status {here.returncode}")
 
 
 def check_oldest(library: Library, counts: Counts) -> None:
@@ -98,6 +120,33 @@ def check_oldest(library: Library, counts: Counts) -> None:
     ended = cargo(["build", "--all-targets"], library.folder, library, "/usr/bin/cargo",
                   RUSTC="/usr/bin/rustc", CARGO_TARGET_DIR=str(library.room / "oldest"))
     counts.judge(ended.stderr[-1500:] if ended.returncode else None, "the crate for Rust with the system's compiler")
+
+
+# Each edit of the crate: its fault, the file below src, a text that occurs once there, and the wrong
+# text for it.
+EDITS = (
+    ("the same octets are a change", "neighbors.rs", "6 => News::Same(msap)", "6 => News::Changed(msap)"),
+    ("a refused LLDPDU has no fault", "neighbors.rs", ".map_or(News::Unexpected, News::Refused)",
+     ".map_or(News::Unexpected, |_| News::Unexpected)"),
+    ("a setting asks for a show", "agent.rs", "(show != 0).then(|| Show::of(show))", "Some(Show::of(show.max(1)))"),
+    ("every port has the neighbors of the first", "agent.rs", "lldpa_neighbor_count(&*self.handle, port.into(),",
+     "lldpa_neighbor_count(&*self.handle, u32::from(port) * 0,"),
+    ("a dropped agent keeps its memory", "agent.rs", "unsafe { sys::lldpa_close(&mut *self.handle) };", ""),
+)
+
+
+def check_edits(library: Library, counts: Counts) -> None:
+    """Checks that the crate's tests fail with each wrong version of the crate."""
+    copy = library.room / "edited" / "rust" / "lldpa"
+    shutil.copytree(CRATE, copy)
+    for what, name, old, new in EDITS:
+        text, file = (CRATE / "src" / name).read_text(), copy / "src" / name
+        file.write_text(text.replace(old, new))
+        settings = {"RUSTFLAGS": "-A warnings", "CARGO_TARGET_DIR": str(library.room / "edited" / "target")}
+        ended = cargo(["test", "--test", "agents"], library.folder, library, crate=copy, **settings)
+        is_seen = text.count(old) == 1 and "test result: FAILED" in ended.stdout
+        counts.judge(None if is_seen else f"{ended.stdout[-700:]}{ended.stderr[-700:]}", f"a wrong crate: {what}")
+        file.write_text(text)
 
 
 def check_rust(library: Library, counts: Counts) -> None:
@@ -112,6 +161,7 @@ def check_rust(library: Library, counts: Counts) -> None:
     else:
         skip("clippy, which is not installed")
     check_crate(["test", "--test", "strange", "--", "--ignored"], strange_archive(library), library, counts)
+    check_edits(library, counts)
     check_versions(library, counts)
     check_examples(library, counts)
     check_oldest(library, counts)

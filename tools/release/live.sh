@@ -1,10 +1,12 @@
 #!/bin/sh
-# Builds lldpa-live with the library that tools/library/library.sh makes, and prints its path.
+# Builds lldpa-live with the library that tools/library/library.sh makes, and prints its path. lldpa-ctl
+# is a link to it beside it.
 #     tools/release/live.sh [--arch amd64|arm64] [--dynamic]
 # The program is rust/live/out/lldpa-live for this machine, rust/live/out/ARCH/lldpa-live for
 # another architecture. It is linked statically. With --dynamic it uses the GNU C library of the
 # system, and is written to a subfolder `dynamic`, where tools/release/package.sh looks for it.
-# LLDPA_LIB_DIR can name another folder of liblldpa.a. Needs cargo, but no network.
+# LLDPA_LIB_DIR can name another folder of liblldpa.a. Needs cargo, and the crate libc: of Debian's
+# package librust-libc-dev if it is installed, otherwise cargo fetches it.
 # Another architecture needs its gcc and its standard library of Rust, such as libstd-rust-dev:arm64
 # for Debian's cargo. Without such a library the status is 3.
 set -eu
@@ -49,9 +51,12 @@ else
 fi
 export LLDPA_LIB_DIR="${LLDPA_LIB_DIR:-$library}"
 [ -f "$LLDPA_LIB_DIR/liblldpa.a" ] || fail "$LLDPA_LIB_DIR has no liblldpa.a; tools/library/library.sh makes it"
-export CARGO_TARGET_DIR="$out/target" RUSTFLAGS="$flags"
-(cd rust/live && cargo build --offline --release --locked --quiet --target "$triple")
+# The program does not name the folder in which it was built.
+export CARGO_TARGET_DIR="$out/target" RUSTFLAGS="$flags --remap-path-prefix=$PWD=lldpa"
+. tools/release/crates.sh
+(cd rust/live && cargo_with_crates build --release --locked --quiet --target "$triple")
 mkdir -p "$(dirname "$program")"
 cp "$out/target/$triple/release/lldpa-live" "$program.new"
 mv "$program.new" "$program"
+ln -sfn lldpa-live "${program%-live}-ctl"
 echo "$program"

@@ -21,6 +21,8 @@ WRITTEN_BY = {
     "crates/lldpa/proofs/Transcripts.antt": "tools/write/transcripts.py",
     "crates/lldp_pdu/proofs/Vectors/Rows.antt": "tools/write/vectors.py",
     "crates/lldp_tests/src/rows.rt": "tools/write/vectors.py --table",
+    "rust/people/src/letters.rs": "tools/write/letters.py",
+    "rust/people/src/organizational/mau.rs": "tools/write/mau.py",
     "docs/bench.svg": "tools/bench/bench.py --saved docs/bench.json --svg",
 }
 

@@ -4,10 +4,11 @@
     tools/write/numbers.py [--check | --parts [FOLDER]]
 
 Without options it prints the table. With --check it fails if a number of the page is off by more
-than a twentieth, or if there are more lines that people keep by hand than tools/write/lines.txt
-says; the last line is then `N passed, M failed`. --parts prints how many such lines each part has,
-here or in another checkout. If you add lines, remove others in the same change. If there are fewer
-lines, save their numbers:
+than a twentieth, or if people keep more lines or characters by hand than tools/write/lines.txt
+says; the last line is then `N passed, M failed`. --parts prints how many lines each part has, here
+or in another checkout, and two sums. Tests, laws with their proofs, and lldpa-live (*what may grow*)
+grow only by what a change needs. All the rest does not grow: if you add lines there, remove others
+in the same change. Save what has changed:
 
     tools/write/numbers.py --parts > tools/write/lines.txt
 
@@ -28,8 +29,9 @@ sys.path.append(str(TOP / "tools" / "gate"))
 from counts import Counts  # noqa: E402
 
 WRITTEN = ("*/Transcripts.antt", "*/Vectors/Rows.antt", "*/rows.rt", "*/bench.json", "*.svg",
-           "*.expect", "*.pcap", "*/Cargo.lock", "*/judged.json", "*/tests/lldpd/*", "*/leaf1.json",
-           "*/host01.json", "*.walk", "*/lines.txt", "rust/lldpa/src/sys.rs")
+           "*.expect", "*.pcap", "*/calls.json", "*/Cargo.lock", "*/judged.json", "*/tests/lldpd/*", "*/leaf1.json",
+           "*/host01.json", "*.walk", "*/lines.txt", "*/mutants.txt", "rust/lldpa/src/sys.rs",
+           "rust/people/src/letters.rs", "*/organizational/mau.rs")
 PARTS = (("proved code", "crates/*/src/*"), ("definitions", "crates/*/specs/*"),
          ("proofs", "crates/*/proofs/*"), ("mutants", "crates/*/must-fail/*"),
          ("mutants", "tools/*.edit"),
@@ -38,9 +40,17 @@ PARTS = (("proved code", "crates/*/src/*"), ("definitions", "crates/*/specs/*"),
          ("Python package", "python/lldpa/*"), ("tests of the Python package", "python/tests/*"),
          ("scripts", "tools/*"), ("scripts", ".ci/*"), ("pages and manual pages", "*.md"),
          ("pages and manual pages", "man/*"), ("examples", "examples/*"), ("the rest", "*"))
+# What may grow: tests with what they need, laws with their proofs, and lldpa-live.
+GROWING = ("*/tests/*", "crates/lldp_tests/*", "*/must-fail/*", "examples/*", "audit/tools/*",
+           "tools/gate/*", "tools/model/*", "tools/by-hand/*", "tools/library/*.py", "tools/library/c/*",
+           "tools/named.txt", "tools/*.edit", "rust/live/*", "rust/people/*", "rust/*/examples/*",
+           "crates/*/src/laws*", "crates/*/specs/Laws*", "crates/*/proofs/laws/*",
+           "crates/*/proofs/ForLaws*", "crates/*/proofs/Vectors*", "crates/*/Rows.antt",
+           "crates/*/proofs/Examples*")
 CRATES = TOP / "crates"
 LINES = TOP / "tools" / "write" / "lines.txt"
 IMPORT, IMPORTS, SUM = "use ", "imports of .antt besides", "in all"
+GROWS, STAYS = "in tests, laws and lldpa-live", "in all the rest"
 FUNCTION = r"^\s*(?:pub(?:\(\w+\))? )?(?:const )?fn \w+"
 
 
@@ -69,7 +79,7 @@ def numbers():
     tests = sorted([*TOP.glob("python/tests/test_*.py"), *TOP.glob("audit/tests/test_*.py")])
     traces = re.search(r"fuzz\.py .*--traces (\d+)", (TOP / "tools/gate/check.sh").read_text())[1]
     return {
-        "lines that people keep by hand, without imports of proofs": sum_of(kept_by_hand(TOP)),
+        "lines that people keep by hand, without imports of proofs": Kept(TOP).lines(),
         "lines of proved code, contracts and comments among them": lines(sources),
         "functions written in it, each proved to meet its contract": occurrences(FUNCTION, sources),
         "lines of definitions that contracts cite (`specs`, without `specs/Code`)":
@@ -91,43 +101,57 @@ def part_of(name):
     return next(part for part, pattern in PARTS if fnmatch.fnmatch(name, pattern))
 
 
-def kept_by_hand(top):
-    """Returns how many lines of each part people keep by hand in a checkout."""
-    names = subprocess.run(["git", "ls-files", "-z"], cwd=top, stdout=subprocess.PIPE, text=True,
-                           check=True).stdout
-    found = collections.Counter()
-    for name in filter(None, names.split("\0")):
-        path = pathlib.Path(top, name)
-        if path.is_file() and not path.is_symlink() and not is_written(name):
-            imports = occurrences(f"^{IMPORT}", [path]) if path.suffix == ".antt" else 0
-            found[IMPORTS] += imports
-            found[part_of(name)] += lines([path]) - imports
-    return found
+class Kept:
+    """The lines that people keep by hand in a checkout, without imports, and their characters."""
 
+    def __init__(self, top):
+        self.parts = collections.Counter()
+        self.sums = {what: [0, 0] for what in (GROWS, STAYS)}
+        self.imports = 0
+        names = subprocess.run(["git", "ls-files", "-z"], cwd=top, stdout=subprocess.PIPE, text=True, check=True).stdout
+        for name in filter(None, names.split("\0")):
+            path = pathlib.Path(top, name)
+            if path.is_file() and not path.is_symlink() and not is_written(name):
+                self.add(name, path)
 
-def sum_of(found):
-    """Returns how many lines people keep by hand, in all parts."""
-    return sum(found.values()) - found[IMPORTS]
+    def add(self, name, path):
+        """Counts a file by its name within the checkout."""
+        kept = [line for line in path.read_text(errors="replace").splitlines() if line.strip()]
+        if path.suffix == ".antt":
+            imports = [line for line in kept if line.startswith(IMPORT)]
+            self.imports += len(imports)
+            kept = [line for line in kept if not line.startswith(IMPORT)]
+        self.parts[part_of(name)] += len(kept)
+        grows = any(fnmatch.fnmatch(name, pattern) for pattern in GROWING)
+        two = self.sums[GROWS if grows else STAYS]
+        two[0] += len(kept)
+        two[1] += sum(map(len, kept))
+
+    def lines(self):
+        return sum(self.parts.values())
 
 
 def print_parts(top):
-    """Prints how many lines of each part people keep by hand, their sum, and the imports."""
-    found = kept_by_hand(top)
-    imports = found[IMPORTS]
-    for part, number in found.most_common():
-        if part != IMPORTS:
-            print(f"{number:7,}  {part}")
-    print(f"{sum_of(found):7,}  {SUM}\n{imports:7,}  {IMPORTS}\n{sum_of(found) + imports:7,}  with them")
+    """Prints how many lines each part has, the two sums with their characters, and the imports."""
+    kept = Kept(top)
+    for part, number in kept.parts.most_common():
+        print(f"{number:7,}  {part}")
+    for what, (number, characters) in kept.sums.items():
+        print(f"{number:7,}  {what}, {characters:,} characters")
+    print(f"{kept.lines():7,}  {SUM}\n{kept.imports:7,}  {IMPORTS}\n{kept.lines() + kept.imports:7,}  with them")
 
 
-def judge_lines(counts):
-    """Checks that people keep no more lines by hand than tools/write/lines.txt says."""
-    most = int(re.search(rf"^ *([\d,]+)  {SUM}$", LINES.read_text(), re.M)[1].replace(",", ""))
-    more = sum_of(kept_by_hand(TOP)) - most
-    fault = f"{more} more than in tools/write/lines.txt: remove as many, see --parts"
-    counts.judge(fault if more > 0 else None, "lines that people keep by hand")
-    if more < 0:
-        print(f"{-more} lines fewer: save this with tools/write/numbers.py --parts > tools/write/lines.txt")
+def judge_sums(counts):
+    """Checks that people keep no more by hand than tools/write/lines.txt says, in both sums."""
+    saved = LINES.read_text()
+    for what, (number, characters) in Kept(TOP).sums.items():
+        row = re.search(rf"^ *([\d,]+)  {what}, ([\d,]+) characters$", saved, re.M)
+        most = [int(word.replace(",", "")) for word in row.groups()]
+        more = [number - most[0], characters - most[1]]
+        fault = f"{more[0]} lines, {more[1]} characters more than in tools/write/lines.txt: see --parts"
+        counts.judge(fault if max(more) > 0 else None, f"what people keep by hand {what}")
+        if max(more) < 0:
+            print(f"{what}: {-more[0]} lines fewer: save this with tools/write/numbers.py --parts > tools/write/lines.txt")
 
 
 def main():
@@ -145,7 +169,7 @@ def main():
     for what, number in counted.items():
         is_near = what in told and abs(told[what] - number) * 20 <= number
         counts.judge(None if is_near else f"{told.get(what, 'missing')}, counted {number}", f"docs/TESTING.md: {what}")
-    judge_lines(counts)
+    judge_sums(counts)
     return counts.end()
 
 

@@ -6,9 +6,9 @@ from typing import Mapping, NamedTuple, Optional, Sequence
 from ..ages import Ages, ages_of
 from ..judging import Finding, Verdict
 from ..names import MOST_NAMED, shown
+from ..order import natural
 from ..plan import Plan
 from ..seen.tables import Tables
-from .order import natural
 
 RIGHT, WRONG, KNOWN, NOT_LOOKED_AT, NOT_JUDGED = (
     "right", "wrong", "known", "not looked at", "not judged")

@@ -1,14 +1,18 @@
 """Draws pictures of a host for a page, narrow enough for a telephone's screen."""
 import html
+from itertools import count
 from typing import Iterator, Sequence
+
+from lldpa.texts import wrapped
 
 from ..judging import Finding, Verdict
 from ..names import MOST_NAMED, Names, shown
 
 WIDTH = 360
 ENDS_OF_A_PICTURE = 24
-ROW, GAP, MARGIN = 22, 8, 6
-BOX = 18
+GAP, MARGIN = 12, 6
+BOX, BETWEEN = 18, 4  # the height of a box with one line of text, and the space between boxes
+LINE = 13  # the height of a line of text
 PORT_LEFT, PORT_RIGHT = MARGIN, 106
 PEER_LEFT, PEER_RIGHT = 178, WIDTH - MARGIN
 LETTER = 6.7  # the width of a letter of the font, in pixels
@@ -22,9 +26,9 @@ def pictures_of(host: str, faults: Sequence[Finding], names: Names) -> Iterator[
         some = faults[begin:begin + ENDS_OF_A_PICTURE]
         parts, top = [], MARGIN
         for fault in some:
-            lines = lines_of(fault, names)
-            parts.append(group(fault, lines, top))
-            top += ROW * len(lines) + GAP
+            part, bottom = group(fault, lines_of(fault, names), top)
+            parts.append(part)
+            top = bottom + GAP
         height = top - GAP + MARGIN
         title = html.escape(f"faulty ends of {shown(host)}")
         yield (f'<svg viewBox="0 0 {WIDTH} {height}" width="{WIDTH}" height="{height}" role="img" '
@@ -46,23 +50,37 @@ def lines_of(fault: Finding, names: Names) -> list[Line]:
     return lines or [("unknown", "?")]
 
 
-def group(fault: Finding, lines: Sequence[Line], top: int) -> str:
-    """Draws the port of an end, its lines and their peers."""
-    middle = top + (len(lines) - 1) * ROW // 2
+def group(fault: Finding, lines: Sequence[Line], top: int) -> tuple[str, int]:
+    """Draws the port of an end, its lines and their peers. Returns the drawing and its bottom."""
+    port = folded(shown(fault.end.port), PORT_LEFT, PORT_RIGHT)
+    peers = [(style, folded(peer, PEER_LEFT, PEER_RIGHT)) for style, peer in lines]
+    height = sum(height_of(peer) + BETWEEN for _, peer in peers) - BETWEEN
+    height = max(height, height_of(port))
     kind = "unknown" if fault.verdict is Verdict.NO_DATA else "fault"
-    parts = [box(PORT_LEFT, PORT_RIGHT, middle, f"port {kind}", shown(fault.end.port))]
-    for number, (style, peer) in enumerate(lines):
-        at = top + number * ROW
-        parts.append(f'<line class="{style}" x1="{PORT_RIGHT}" y1="{middle + BOX // 2}" '
-                     f'x2="{PEER_LEFT}" y2="{at + BOX // 2}"/>')
+    middle = top + (height - height_of(port)) // 2
+    parts, at = [box(PORT_LEFT, PORT_RIGHT, middle, f"port {kind}", port)], top
+    for style, peer in peers:
+        ends = middle + height_of(port) // 2, at + height_of(peer) // 2
+        parts.append(f'<line class="{style}" x1="{PORT_RIGHT}" y1="{ends[0]}" '
+                     f'x2="{PEER_LEFT}" y2="{ends[1]}"/>')
         parts.append(box(PEER_LEFT, PEER_RIGHT, at, f"peer {style}", peer))
-    return "".join(parts)
+        at += height_of(peer) + BETWEEN
+    return "".join(parts), top + height
 
 
-def box(left: int, right: int, top: int, style: str, text: str) -> str:
-    """Draws a box with as much of a text as fits; a tooltip shows all of it."""
-    room = int((right - left - 8) / LETTER)
-    seen = text if len(text) <= room else text[:room - 1] + "\N{HORIZONTAL ELLIPSIS}"
-    return (f'<g class="{style}"><title>{html.escape(text)}</title>'
-            f'<rect x="{left}" y="{top}" width="{right - left}" height="{BOX}" rx="3"/>'
-            f'<text x="{left + 4}" y="{top + 13}">{html.escape(seen)}</text></g>')
+def folded(text: str, left: int, right: int) -> Sequence[str]:
+    """Returns a text in lines that fit into a box."""
+    return list(wrapped(text, int((right - left - 8) / LETTER)))
+
+
+def height_of(lines: Sequence[str]) -> int:
+    """Returns the height of a box with these lines."""
+    return BOX + LINE * (len(lines) - 1)
+
+
+def box(left: int, right: int, top: int, style: str, lines: Sequence[str]) -> str:
+    """Draws a box with these lines of text."""
+    texts = [f'<text x="{left + 4}" y="{at}">{html.escape(line)}</text>'
+             for at, line in zip(count(top + LINE, LINE), lines)]
+    return (f'<g class="{style}"><rect x="{left}" y="{top}" width="{right - left}" '
+            f'height="{height_of(lines)}" rx="3"/>{"".join(texts)}</g>')

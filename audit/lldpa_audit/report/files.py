@@ -1,17 +1,20 @@
 """Writes the files of a report."""
 import os
 from pathlib import Path
+from typing import Iterable
 
 
-def write(file: str, octets: bytes) -> None:
-    """Writes a file. A regular file is replaced as a whole. Raises OSError."""
+def write(file: str, texts: Iterable[str]) -> None:
+    """Writes texts to a file as they are made. A regular file is replaced as a whole at the end.
+    Raises OSError."""
     path = Path(file)
     try:
         if is_written_in_place(path):
-            path.write_bytes(octets)
+            with path.open("w", encoding="utf-8") as opened:
+                opened.writelines(texts)
         else:
             from lldpa.client.publishing import replace  # slow to load
-            replace(file, octets.decode())
+            replace(file, texts)
     except OSError as fault:
         raise OSError(fault.errno, fault.strerror, file) from None
 

@@ -1,14 +1,14 @@
 """Makes the repairs of exchanged cables, of single links, and of unplanned ports."""
 from typing import Iterator, Sequence
 
-from ..judging import Verdict
+from ..judging import Finding, Verdict
 from ..names import End
 from .repairs import Faults, Repair
 from .texts import FaultTexts
 
 # of the two ends of a link, the one whose verdict comes first here is reported first
-RANKS = (Verdict.WRONG, Verdict.SWAPPED, Verdict.DOUBLED, Verdict.EXTRA, Verdict.NO_DATA,
-         Verdict.ONE_SIDED, Verdict.SILENT, Verdict.DISAGREES)
+RANKS = (Verdict.MOVED, Verdict.WRONG, Verdict.SWAPPED, Verdict.DOUBLED, Verdict.EXTRA,
+         Verdict.NO_DATA, Verdict.ONE_SIDED, Verdict.SILENT, Verdict.DISAGREES)
 
 
 def of_exchanges(faults: Faults, texts: FaultTexts) -> Iterator[Repair]:
@@ -32,12 +32,18 @@ def of_links(faults: Faults, texts: FaultTexts) -> Iterator[Repair]:
             continue
         far = faults.far(key)
         ends = [key] if far is None or far not in faults.left else [key, far]
-        # the end with the worse verdict comes first; of equal verdicts, an end that hears somebody
-        ends.sort(key=lambda end: (RANKS.index(faults.left[end].verdict), not faults.left[end].has))
+        ends.sort(key=lambda end: rank_of(faults.left[end]))
         moved = ports_beside(faults, ends)
         mends = faults.take(ends)
         text = texts.of_link(mends[0], mends[1] if len(mends) > 1 else None)
         yield Repair(mends[0].verdict.value, mends[0].end, text, [*mends, *faults.take(moved)])
+
+
+def rank_of(fault: Finding) -> tuple[int, bool]:
+    """Returns the rank of an end in its link: the worse verdict comes first. Of equal verdicts, an
+    end that hears somebody does, but of a moved cable the end where it is missing."""
+    is_moved = fault.verdict is Verdict.MOVED
+    return RANKS.index(fault.verdict), bool(fault.has) is is_moved
 
 
 def ports_beside(faults: Faults, ends: Sequence[End]) -> list[End]:

@@ -1,6 +1,8 @@
-"""Turns a report into objects for JSON, and escapes octets of texts that are not UTF-8."""
-from typing import Dict, Optional, Sequence, Union
+"""Writes a report as JSON, and escapes octets of texts that are not UTF-8."""
+import json
+from typing import Dict, Iterable, Iterator, Optional, Sequence, Union
 
+from ..ages import Ages
 from ..judging import Finding, Verdict
 from ..mismatches import MISMATCH
 from ..names import End, Seen, text_of
@@ -10,9 +12,32 @@ from .report import Report
 Json = Union[None, str, int, float, Sequence["Json"], Dict[str, "Json"]]
 
 
-def json_of(report: Report) -> Json:
-    """Returns a report as audit/lldpa-audit.schema.json describes it."""
-    count, ages = report.count, report.count.ages
+def json_of(report: Report) -> Iterator[str]:
+    """Yields a report in JSON as audit/lldpa-audit.schema.json describes it."""
+    yield f"{dumped(json_of_count(report))[:-1]}, "
+    yield from listed("repairs", (json_of_repair(report, number, one)
+                                  for number, one in enumerate(report.repairs, 1)))
+    yield ", "
+    yield from listed("ends", (json_of_finding(report, one) for one in report.in_order()))
+    yield "}\n"
+
+
+def listed(name: str, values: Iterable[Json]) -> Iterator[str]:
+    """Yields a field with a list of values, each as soon as it is made."""
+    between = f'"{name}": ['
+    for value in values:
+        yield between + dumped(value)
+        between = ", "
+    yield "]" if between == ", " else f"{between}]"
+
+
+def dumped(value: Json) -> str:
+    """Returns a value in JSON, in which no `##` can begin a command of a pipeline's runner."""
+    return json.dumps(value).replace("##", "#\\u0023")
+
+
+def json_of_count(report: Report) -> Json:
+    count = report.count
     cables = {state.replace(" ", "_"): number for state, number in count.cables.items()}
     return {
         "form": 2,
@@ -20,12 +45,13 @@ def json_of(report: Report) -> Json:
         "unplanned": count.unplanned,
         "mismatches": count.mismatches,
         "hosts_not_looked_at": [text_of(host) for host in count.hosts],
-        "sources": None if ages is None else {"newest": round(ages.newest, 3),
-                                              "oldest": round(ages.oldest, 3)},
-        "repairs": [json_of_repair(report, number, one)
-                    for number, one in enumerate(report.repairs, 1)],
-        "ends": [json_of_finding(report, one) for one in report.in_order()],
+        "sources": json_of_ages(count.ages),
     }
+
+
+def json_of_ages(ages: Optional[Ages]) -> Json:
+    return None if ages is None else {"newest": round(ages.newest, 3),
+                                      "oldest": round(ages.oldest, 3)}
 
 
 def json_of_repair(report: Report, number: int, repair: Repair) -> Json:
@@ -54,6 +80,7 @@ def json_of_finding(report: Report, finding: Finding) -> Json:
         "wants": json_of_end(finding.wants),
         "has": [json_of_neighbor(neighbor) for neighbor in finding.has],
         "swapped_with": json_of_end(finding.partner),
+        "moved_to": json_of_end(finding.moved_to),
         "text": text_of(text) or None,
         "repair": report.repair_of.get(report.names.end(finding.end)),
         **json_of_plan(report, finding.end),

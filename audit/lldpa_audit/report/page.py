@@ -19,11 +19,7 @@ MOST_ROWS = 10_000
 WORD = re.compile(r"[^\s<>&;]+")
 
 
-def page_of(report: Report) -> bytes:
-    return "".join(parts(report)).encode(errors="backslashreplace")
-
-
-def parts(report: Report) -> Iterator[str]:
+def page_of(report: Report) -> Iterator[str]:
     """Yields the page: count, repairs, faults by kind and host, a section per host with faults."""
     hosts: dict[str, list[Finding]] = {}
     for fault in report.told[:MOST_ROWS]:

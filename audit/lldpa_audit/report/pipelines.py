@@ -1,7 +1,7 @@
 """Writes an audit for pipelines: a JUnit report, and metrics for node_exporter."""
 import time
 from collections import Counter
-from typing import Mapping
+from typing import Iterator, Mapping
 from xml.sax.saxutils import quoteattr
 
 from lldpa.texts import printable
@@ -16,37 +16,48 @@ from .report import Report
 NAME = "lldpa-audit"
 
 
-def junit_of(report: Report, needs_all: bool = False) -> bytes:
-    """Returns a JUnit report. Ends that nobody looked at are skipped or, with `needs_all`, fail."""
+def junit_of(report: Report, needs_all: bool = False) -> Iterator[str]:
+    """Yields a JUnit report. Ends that nobody looked at are skipped or, with `needs_all`, fail."""
     unseen = "failure" if needs_all else "skipped"
-    cases = [(one.end, *case_of(report, one, unseen)) for one in report.in_order()]
     not_judged = report.count.cables[NOT_JUDGED]
-    if not_judged:
-        cases.append((End("not judged", "panels"), unseen,
-                      f"cables that cannot be followed through patch panels: {not_judged}"))
-    counted = Counter(element for _, element, _ in cases)
-    counts = (f'tests="{len(cases)}" failures="{counted["failure"]}" errors="0" '
+    counted = Counter(element_of(report, one, unseen) for one in report.findings)
+    counted[unseen] += not_judged > 0
+    counts = (f'tests="{sum(counted.values())}" failures="{counted["failure"]}" errors="0" '
               f'skipped="{counted["skipped"]}"')
-    parts = ['<?xml version="1.0" encoding="UTF-8"?>\n', f'<testsuites name="{NAME}" {counts}>\n',
-             f"<testsuite name={quoted(report.plan.file)} {counts}>\n"]
-    for end, element, text in cases:
-        parts.append(f"<testcase classname={quoted(end.host)} name={quoted(end.port)}")
-        inner = f"><{element} message={quoted(text)}/></testcase>\n"
-        parts.append(inner if element else "/>\n")
-    return "".join([*parts, "</testsuite>\n</testsuites>\n"]).encode()
+    yield f'<?xml version="1.0" encoding="UTF-8"?>\n<testsuites name="{NAME}" {counts}>\n'
+    yield f"<testsuite name={quoted(report.plan.file)} {counts}>\n"
+    for one in report.in_order():
+        element = element_of(report, one, unseen)
+        yield case(one.end, element, text_of_case(report, one) if element else "")
+    if not_judged:
+        yield case(End("not judged", "panels"), unseen,
+                   f"cables that cannot be judged: {not_judged}")
+    yield "</testsuite>\n</testsuites>\n"
 
 
-def case_of(report: Report, one: Finding, unseen: str) -> tuple[str, str]:
-    """Returns the element of an end's test case and its text; both are empty if all is right."""
+def case(end: End, element: str, text: str) -> str:
+    """Returns a test case, with an element that has this text unless all is right."""
+    inner = f"><{element} message={quoted(text)}/></testcase>\n" if element else "/>\n"
+    return f"<testcase classname={quoted(end.host)} name={quoted(end.port)}{inner}"
+
+
+def element_of(report: Report, one: Finding, unseen: str) -> str:
+    """Returns the element of an end's test case, or an empty text if all is right."""
     if one.verdict is Verdict.NOT_LOOKED_AT:
-        return unseen, "not looked at: no source covers either end of its cable"
+        return unseen
+    if one.verdict is Verdict.RIGHT and one.end not in report.mismatches:
+        return ""
+    return "skipped" if one.verdict is Verdict.KNOWN else "failure"
+
+
+def text_of_case(report: Report, one: Finding) -> str:
+    """Returns why an end's test case fails or is skipped."""
+    if one.verdict is Verdict.NOT_LOOKED_AT:
+        return "not looked at: no source covers either end of its cable"
     if one.verdict is Verdict.KNOWN:
-        return "skipped", one.reason
-    text = report.texts.text(one)
-    if not text:
-        return "", ""
+        return one.reason
     number = report.repair_of.get(report.names.end(one.end))
-    return "failure", f"{text} (repair {number})"
+    return f"{report.texts.text(one)} (repair {number})"
 
 
 def quoted(text: str) -> str:
@@ -54,7 +65,7 @@ def quoted(text: str) -> str:
     return quoteattr(printable(text_of(text)))
 
 
-def metrics_of(report: Report) -> bytes:
+def metrics_of(report: Report) -> Iterator[str]:
     count, now = report.count, time.time()
     verdicts = Counter(one.verdict.value for one in report.findings)
     verdicts[MISMATCH] = count.mismatches
@@ -62,13 +73,12 @@ def metrics_of(report: Report) -> bytes:
     names = [*(verdict.value for verdict in Verdict), MISMATCH]
     kinds = Counter(repair.kind for repair in report.repairs)
     ages = {} if count.ages is None else count.ages._asdict()
-    return "".join([
-        gauge("cables", "Planned cables by state.", "state", count.cables),
-        gauge("ends", "Ends by verdict.", "verdict", {name: verdicts[name] for name in names}),
-        gauge("repairs", "Repairs by kind.", "kind", {kind: kinds[kind] for kind in TO_DO}),
-        gauge("source_timestamp_seconds", "When the newest and the oldest source were made.",
-              "source", {name: now - age for name, age in ages.items()}),
-        gauge("run_timestamp_seconds", "Time of the audit.", "", {"": now})]).encode()
+    yield gauge("cables", "Planned cables by state.", "state", count.cables)
+    yield gauge("ends", "Ends by verdict.", "verdict", {name: verdicts[name] for name in names})
+    yield gauge("repairs", "Repairs by kind.", "kind", {kind: kinds[kind] for kind in TO_DO})
+    yield gauge("source_timestamp_seconds", "When the newest and the oldest source were made.",
+                "source", {name: now - age for name, age in ages.items()})
+    yield gauge("run_timestamp_seconds", "Time of the audit.", "", {"": now})
 
 
 def gauge(name: str, told: str, label: str, values: Mapping[str, float]) -> str:

@@ -1,4 +1,5 @@
 """Defines repairs: each fault belongs to one repair, and one repair may mend many faults."""
+from functools import cached_property
 from typing import Iterable, Iterator, NamedTuple, Optional, Sequence
 
 from ..differs import Differences
@@ -20,6 +21,7 @@ TO_DO = {
     "shifted": "move each cable by one port",
     "swapped": "exchange the two cables",
     "wrong": "plug in the right cable",
+    "moved": "move the cable to its planned port",
     "silent": "plug in the cable, or enable LLDP at the host",
     "extra": "remove every device except the planned one",
     "doubled": "look for a hub, or for devices with the same name",
@@ -54,8 +56,12 @@ class Faults:
         self.left = dict(self.all)
         self.differences = Differences(self.names)
         self.seen = self._places_of_wanted()
-        beside = [tables.ends[key].end for key in tables.beside(plan)]
-        self._beside = {self.differences.loosest(end): end for end in beside}
+
+    @cached_property
+    def _beside(self) -> dict[End, End]:
+        """The unplanned ports, by their ends without case, domain and spelling."""
+        beside = [self.tables.ends[key].end for key in self.tables.beside(self.plan)]
+        return {self.differences.loosest(end): end for end in beside}
 
     def _places_of_wanted(self) -> dict[End, End]:
         faults = self.all.values()
@@ -76,8 +82,8 @@ class Faults:
 
     def written(self, key: End) -> End:
         """Returns an end as the plan writes it, or as it is seen if it is not planned."""
-        wish = self.plan.ends.get(key)
-        return wish.end if wish else self.left[key].end
+        wish, told = self.plan.ends.get(key), self.tables.ends.get(key)
+        return wish.end if wish else told.end if told else self.left[key].end
 
     def far(self, key: End) -> Optional[End]:
         """Returns the other end of an end's planned link, or None if the end is not planned."""

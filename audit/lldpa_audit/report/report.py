@@ -7,11 +7,11 @@ from ..columns import key_of
 from ..judging import Finding, Verdict
 from ..mismatches import Mismatch
 from ..names import End, shown, text_of
+from ..order import in_order, natural
 from ..plan import NOT_PLANNED, Plan, Wish
 from ..seen.tables import Tables
 from .count import count
 from .links import of_exchanges, of_links, of_ports
-from .order import in_order, natural
 from .renames import exchanged, renamed
 from .repairs import Faults, Repair
 from .runs import broken_out, looped, shifted, turned
@@ -35,12 +35,12 @@ class Report:
         self.names = tables.names
         self.findings = findings
         self.mismatches = mismatches or {}
-        self.told = in_order(one for one in findings if one.verdict not in NO_FAULTS
-                             or one.end in self.mismatches)
+        self.told = list(in_order(one for one in findings if one.verdict not in NO_FAULTS
+                                  or one.end in self.mismatches))
         self.faults = Faults(plan, tables, [one for one in self.told
                                             if one.verdict is not Verdict.RIGHT])
         self.texts = FaultTexts(self.faults, self.mismatches)
-        self.repairs = in_order(self._repairs())
+        self.repairs = list(in_order(self._repairs()))
         self.repair_of = {self.names.end(fault.end): number
                           for number, repair in enumerate(self.repairs, 1)
                           for fault in repair.mends}
@@ -98,5 +98,5 @@ class Report:
         wishes = [self.planned(fault.end) for fault in repair.mends]
         return len({frozenset(wish[:2]) for wish in wishes if wish is not NOT_PLANNED})
 
-    def in_order(self) -> list[Finding]:
+    def in_order(self) -> Iterator[Finding]:
         return in_order(self.findings)

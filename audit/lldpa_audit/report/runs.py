@@ -5,7 +5,7 @@ from typing import Iterator, Optional, Sequence
 
 from ..judging import Finding, Verdict
 from ..names import End, shown
-from .order import by_port
+from ..order import by_port
 from .repairs import HAVE_ANOTHER, HAVE_NOBODY, Faults, Repair
 
 SHORTEST = 3
@@ -84,7 +84,7 @@ def looped(faults: Faults) -> Iterator[Repair]:
         other = own_end(faults, key, fault) if key in faults.left else None
         if other is None:
             continue
-        name = faults.place(End(fault.end.host, other.port))
+        name = faults.place(faults.written(other))
         text = "it hears itself" if other == key else f"joined to {name}, of the same host"
         ends = faults.with_far([key, other], HAVE_NOBODY)
         yield Repair("loop", fault.end, f"a loop: {text}", faults.take(dict.fromkeys(ends)))

@@ -28,6 +28,10 @@ class FaultTexts:
             return found.text if found is not None else ""
         if fault.wants is None:
             return f"unplanned: has {self.neighbors(fault)}"
+        if fault.moved_to is not None:
+            end, place = (fault.end, fault.wants) if fault.has else (fault.wants, fault.end)
+            return (f"moved: {self.faults.place(end)} is at {self.faults.place(fault.moved_to)}, "
+                    f"wants {self.faults.place(place)}")
         if fault.verdict is Verdict.EXTRA:
             return f"extra: {self.neighbors(fault)} besides {fault.wants}"
         if fault.verdict is Verdict.ONE_SIDED:
@@ -47,7 +51,8 @@ class FaultTexts:
         """Returns what is wrong at an end, and what the other end has if that adds something."""
         text = self.text(fault)
         are_alike = other is not None and fault.verdict is other.verdict
-        if other is None or are_alike and other.verdict in (Verdict.ONE_SIDED, Verdict.SILENT):
+        if other is None or are_alike and other.verdict in (Verdict.ONE_SIDED, Verdict.SILENT,
+                                                            Verdict.MOVED):
             return text
         at = self.faults.place(other.end)
         if other.verdict is Verdict.DISAGREES:

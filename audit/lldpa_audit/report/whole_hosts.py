@@ -1,11 +1,11 @@
 """Finds faults of whole hosts: no data, silence, a name that two hosts have, differing settings."""
-from collections import Counter
-from typing import Iterator, Mapping, Sequence
+from typing import Container, Iterator, Mapping, Sequence
 
 from ..judging import Finding, Verdict
 from ..mismatches import MISMATCH, Mismatch
 from ..names import MOST_NAMED, End, Names, shown
 from ..plan import Plan
+from ..spelling import plain_chassis
 from .repairs import Faults, Repair
 from .texts import listed
 
@@ -58,32 +58,49 @@ def silent_links(faults: Faults, host: str) -> Sequence[Sequence[End]]:
 
 
 def of_one_name(faults: Faults) -> Iterator[Repair]:
-    """Yields a repair for each planned name that hosts of several domains have."""
+    """Yields a repair for each planned name that hosts of several domains have, and for each device
+    that is heard for planned hosts of several domains."""
     ends: dict[str, list[End]] = {}
+    hosts: dict[str, dict[str, list[End]]] = {}
     for key, fault in faults:
         far = faults.far(key)
         if fault.verdict is Verdict.DOUBLED and len(fault.has) == 1 and far is not None:
             ends.setdefault(far.host, []).append(key)
+            name = faults.names.whole_host(fault.has[0].hosts[0])
+            hosts.setdefault(name, {}).setdefault(far.host, []).append(key)
+    for name, by_host in hosts.items():
+        if len(by_host) > 1:
+            keys = [key for some in by_host.values() for key in some]
+            first = faults.left[keys[0]]
+            text = " and ".join(f"{shown(faults.plan.hosts[host])} (at {faults.left[some[0]].end})"
+                                for host, some in by_host.items())
+            yield Repair("doubled", first.end, f"doubled: one device is heard for {text}",
+                         faults.take(keys), shown(first.has[0].hosts[0]))
     for host, keys in ends.items():
         places: dict[str, End] = {}
-        for key in keys:
+        for key in filter(faults.left.__contains__, keys):
             places.setdefault(shown(faults.left[key].has[0].hosts[0]), faults.left[key].end)
         text = ", ".join(f"{name} at {end}" for name, end in places.items())
         name = faults.plan.hosts[host]
-        yield Repair("doubled", End(name, keys[0].port), f"doubled: seen as {text}",
-                     faults.take(keys), shown(name))
+        if places:
+            yield Repair("doubled", End(name, keys[0].port), f"doubled: seen as {text}",
+                         faults.take(keys), shown(name))
 
 
-def several_chassis(findings: Sequence[Finding]) -> Iterator[str]:
-    """Yields a note on hosts that have several chassis IDs at right links: two devices may have the
-    same name, or each card of a server may send its own ID."""
-    heard = {(one.wants.host, one.has[0].chassis): one.end for one in findings
-             if one.verdict is Verdict.RIGHT and one.wants is not None}
-    counts = Counter(host for host, _ in heard)
-    several = [host for host, count in counts.items() if count > 1]
+def several_chassis(findings: Sequence[Finding], hosts: Container[str]) -> Iterator[str]:
+    """Yields a note on those of the hosts that have several chassis IDs at right links, not only
+    several spellings of one: two devices may have the same name, or each card of a server may
+    send its own ID."""
+    unified: dict[str, dict[str, tuple[str, End]]] = {}
+    for one in findings if hosts else ():
+        if one.verdict is Verdict.RIGHT and one.wants is not None and one.wants.host in hosts:
+            chassis = one.has[0].chassis
+            if chassis:
+                unified.setdefault(one.wants.host, {})[plain_chassis(chassis)] = chassis, one.end
+    several = [host for host, some in unified.items() if len(some) > 1]
     for host in several[:1]:
-        some = {chassis: end for (name, chassis), end in heard.items() if name == host}
-        ids = [f"{shown(chassis)} at {end}" for chassis, end in list(some.items())[:MOST_NAMED]]
+        some = list(unified[host].values())
+        ids = [f"{shown(chassis)} at {end}" for chassis, end in some[:MOST_NAMED]]
         text = f"{len(some)} chassis IDs ({listed(ids, len(some) - len(ids))})"
         more = f"; in all, {len(several)} hosts have several chassis IDs" if several[1:] else ""
         yield f"{shown(host)} is heard with {text}: two devices may have the same name{more}"

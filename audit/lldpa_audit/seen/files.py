@@ -1,12 +1,17 @@
 """Reads files of neighbors in any form. Many files are read by several processes."""
 import os
-from concurrent.futures import ProcessPoolExecutor
-from typing import BinaryIO, Iterator, Optional, Sequence
+import signal
+from contextlib import suppress
+from functools import partial
+from multiprocessing import get_context
+from multiprocessing.connection import Connection
+from typing import BinaryIO, Callable, Iterator, Optional, Sequence, Union
 
 from lldpa.agent.show import ShowFault
 from lldpa.capture.source import opened
 from lldpa.capture.unzip import MAGIC, Unzipped
 from lldpa.capture.window import BadCapture, Readable
+from lldpa.faults import LldpaFault
 
 from ..limits import LimitFault, limited
 from ..names import shown
@@ -20,16 +25,27 @@ MANY = 100
 FILES_AT_A_TIME = 100
 FRONT = 512
 MOST_OCTETS = 32 << 20
+# A file in gzip may unpack to so many times its size, or to so many octets if it is small: real
+# lists unpack to 10 to 100 times their size, and hostile ones to 1000 times.
+MOST_TIMES, ALWAYS = 128, 4 << 20
+SMALL = 1 << 20  # octets of a list that cannot need much
+
+ReadOne = Callable[[What], Optional[Listing]]
 
 
-def read_file(what: What) -> Optional[Listing]:
-    """Returns what is in a file, None if it is not text. Raises OSError unless `what.is_found`."""
+def read_file(what: What, platform: str = "") -> Optional[Listing]:
+    """Returns what is in a file, None if it is not text. A switch's text is read by the templates
+    for `platform`. Raises OSError unless `what.is_found`."""
     try:
-        with limited(what.file), opened(what.file) as file:
-            octets = octets_of(file)
-            if octets is None:
-                return None
-            return placed(read_list(octets), what.file, os.fstat(file.fileno()).st_mtime)
+        with opened(what.file) as file:
+            stat = os.fstat(file.fileno())
+            octets = octets_of(file, stat.st_size)
+        if octets is None:
+            return None
+        if len(octets) < SMALL and not platform:
+            return placed(read_list(octets), what.file, stat.st_mtime)
+        with limited(what.file, *warranted(len(octets))):
+            return placed(read_list(octets, platform), what.file, stat.st_mtime)
     except LimitFault as fault:
         return Listing({}, False, faults=[str(fault)])
     except (BadCapture, ShowFault, SeenFault) as fault:
@@ -40,12 +56,19 @@ def read_file(what: What) -> Optional[Listing]:
         return Listing({}, False, faults=[f"{what.file}: {fault.strerror or fault}"])
 
 
-def octets_of(file: BinaryIO) -> Optional[bytes]:
-    """Returns the unpacked octets of a text file, or None. Raises BadCapture and SeenFault."""
+def warranted(octets: int) -> tuple[float, int]:
+    """Returns the seconds of processor time and the MB of memory that the size of a list
+    warrants."""
+    return 4 + octets / (1 << 20), 64 + 10 * (octets >> 20)
+
+
+def octets_of(file: BinaryIO, size: int) -> Optional[bytes]:
+    """Returns the unpacked octets of a text file of this size, or None if it is none. Raises
+    BadCapture and SeenFault."""
     front = file.read(FRONT)
     source: Readable = file
     if front.startswith(MAGIC):
-        source = Unzipped(file, front)
+        source = Unzipped(file, front, max(MOST_TIMES * size, ALWAYS))
         front = taken(source, FRONT)
     if not is_text(front):
         return None
@@ -72,13 +95,63 @@ def placed(listing: Listing, file: str, written: float) -> Listing:
     return listing._replace(hosts=hosts, time=listing.time or written)
 
 
-def read_files(whats: Sequence[What]) -> Iterator[Optional[Listing]]:
+def read_files(whats: Sequence[What], platform: str = "") -> Iterator[Optional[Listing]]:
     """Reads the files, in parallel if there are many. Yields what is in each. Raises OSError."""
+    read_one = partial(read_file, platform=platform)
     processors = len(os.sched_getaffinity(0))
     if len(whats) < MANY or processors < 2:
-        return map(read_file, whats)
-    pool = ProcessPoolExecutor(processors)
+        return map(read_one, whats)
     at_a_time = min(FILES_AT_A_TIME, len(whats) // (4 * processors) + 1)
-    read = pool.map(read_file, whats, chunksize=at_a_time)
-    pool.shutdown(wait=False)
-    return read
+    parts = [whats[at:at + at_a_time] for at in range(0, len(whats), at_a_time)]
+    return read_in_parallel(read_one, parts, processors)
+
+
+def read_in_parallel(read_one: ReadOne, parts: Sequence[Sequence[What]], count: int
+                     ) -> Iterator[Optional[Listing]]:
+    """Reads parts of the files by `count` processes, and yields what is in each file. The main
+    thread receives it: if memory ends in a pool's thread, an audit waits for ever. Raises
+    OSError."""
+    context = get_context("fork")
+    receivers: list[Connection] = []
+    processes = []
+    try:
+        for number in range(count):
+            receiver, sender = context.Pipe(duplex=False)
+            receivers.append(receiver)
+            process = context.Process(target=send_parts, args=(
+                read_one, parts[number::count], sender, receivers))
+            process.start()
+            processes.append(process)
+            sender.close()
+        for number in range(len(parts)):
+            yield from received(receivers[number % count])
+    finally:  # also if the rest is not wanted
+        for process in processes:
+            process.terminate()
+            process.join()
+
+
+def send_parts(read_one: ReadOne, parts: Sequence[Sequence[What]], sender: Connection,
+               receivers: Sequence[Connection]) -> None:
+    """Sends what is in parts of the files, or the exception that ends the reading. Nobody but the
+    audit can receive it, so this process ends if the audit does."""
+    signal.signal(signal.SIGINT, signal.SIG_DFL)
+    for receiver in receivers:
+        receiver.close()
+    with suppress(MemoryError, BrokenPipeError):
+        try:
+            for part in parts:
+                sender.send(list(map(read_one, part)))
+        except (OSError, ValueError, LldpaFault) as fault:
+            sender.send(fault)
+
+
+def received(receiver: Connection) -> Sequence[Optional[Listing]]:
+    """Returns what a process sends. A process that ends before it has sent all has no memory."""
+    try:
+        found: Union[Exception, Sequence[Optional[Listing]]] = receiver.recv()
+    except (EOFError, OSError):
+        raise MemoryError from None
+    if isinstance(found, Exception):
+        raise found
+    return found

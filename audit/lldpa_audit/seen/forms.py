@@ -8,7 +8,8 @@ from .json_text import BEGIN, LONGEST_BANNER, tree_of
 from .listing import Listing, SeenFault
 from .shows import read_ports
 from .snmp import IS_WALK, read_walk
-from .trees import last_line, listing_of
+from .templates import rows_of
+from .trees import USE_JSON, last_line, listing_of
 
 TEXT = bytes([*b"\t\r\n\x1b\a\b", *range(0x20, 0x100)])
 UTF_16 = (codecs.BOM_UTF16_LE, codecs.BOM_UTF16_BE)
@@ -18,10 +19,11 @@ FORMS: tuple[tuple[re.Pattern[str], Callable[[str], Listing]], ...] = (
     # `show neighbors` may be of one port only, so nothing is known of ports that it lacks
     (re.compile(r"lldp\.[^=\n]+\.neighbors="), lambda text: Listing(read_ports(text), False)),
     (IS_WALK, read_walk),
-    (XML, lambda text: listing_of(tree_of_xml(text))),
+    (XML, lambda text: listing_of(tree_of_xml(text), read_text)),
 )
+AT_ONCE = 1 << 16
 FAILED = "the command that wrote it failed"
-USE_JSON = "use `lldpcli -f json show neighbors details`"
+PLAIN = "it looks like a switch's plain text: use its JSON, or --platform (see lldpa-audit(1))"
 # what a text is if it is not a list of neighbors: a pattern for its beginning, and the message
 CAUSES = (
     (r"lldp\.[^\n=]+\.via=", f"it is in lldpcli's keyvalue format: {USE_JSON}"),
@@ -35,28 +37,40 @@ CAUSES = (
      r"permission denied|connection (?:refused|timed)|unknown command|syntax error))",
      FAILED),
     (r"\s*\Z", "it is empty"),
-    ("", "it looks like a switch's plain text: use its JSON, or rows of ntc-templates"),
+    ("", PLAIN),
 )
 
 
-def read_list(octets: bytes) -> Listing:
+def read_list(octets: bytes, platform: str = "") -> Listing:
+    """Returns the neighbors of each port. A switch's text is read by the templates for `platform`,
+    if that is given. Raises SeenFault and ShowFault."""
+    return read_text(text_of(octets), platform)
+
+
+def read_text(text: str, platform: str = "") -> Listing:
     """Returns the neighbors of each port. Raises SeenFault and ShowFault."""
-    text = text_of(octets)
     for begin, read in FORMS:
         if begin.match(text):
             return read(text)
     found = BEGIN.search(text, 0, LONGEST_BANNER)
     if found:
-        return listing_of(tree_of(text, found.end()))
+        # tools remove the last line feed of what a command printed
+        return listing_of(tree_of(text, found.end()), lambda said: read_text(said + "\n", platform))
     cause = next(cause for begins, cause in CAUSES if re.match(begins, text))
+    if cause == PLAIN and platform:
+        if not text.endswith("\n"):
+            raise SeenFault("its last line is incomplete: it was cut short")
+        return listing_of(rows_of(text, platform), read_text)
     raise SeenFault(f"{cause}: {last_line(text)}" if cause == FAILED else cause)
 
 
 def tree_of_xml(text: str) -> Any:
     """Returns XML as a tree like that of Junos' JSON. Raises SeenFault."""
-    root = ElementTree.Element("root")
+    root, parser = ElementTree.Element("root"), ElementTree.XMLParser()
     try:
-        root.append(ElementTree.fromstring(text))
+        for at in range(0, len(text), AT_ONCE):  # between two pieces, its limits are looked at
+            parser.feed(text[at:at + AT_ONCE])
+        root.append(parser.close())
         return node_of(root)
     except (ElementTree.ParseError, RecursionError, ValueError) as fault:
         raise SeenFault(f"it is not valid XML: {fault}") from None

@@ -1,13 +1,13 @@
 """Gathers what is seen into tables: lists of neighbors, captures, and a running lldpa-live."""
 import time
 from math import inf
-from typing import Callable, Iterator, Optional, Sequence
+from typing import Callable, Iterator, Mapping, Optional, Sequence
 
 from lldpa.capture.source import opened
 from lldpa.client.connection import Client
 
 from ..ages import worded
-from ..names import End
+from ..names import End, Names, shown
 from ..plan import Plan
 from ..what import What, of_hosts
 from .captures import read_captures
@@ -24,11 +24,12 @@ class Gathering:
     read, ValueError if a capture names no port, and Ended if the agent that reads captures ends."""
 
     def __init__(self, tables: Tables, program: str, say: Callable[[str], None],
-                 stale_after: float = inf) -> None:
+                 stale_after: float = inf, planned: Mapping[str, str] = {}) -> None:
         self.tables = tables
         self.program = program
         self.say = say
         self.stale_after = stale_after
+        self.planned = planned  # the plan's hosts, by normalized names
         self.now = time.time()
         self.status = 0
 
@@ -40,9 +41,11 @@ class Gathering:
                 self.add_captures(what.host, "", [what.file])
                 continue
             for host, one in (listing.hosts or {what.host: listing}).items():
+                one = self.of_its_host(host, one, what.file)
                 if self.is_usable(host, "", one, what.file):
                     self.need_one(host, self.tables.add_ports(host, one.ports, what.file,
                                                               one.has_all_heard))
+                    self.add_reasons(host, one, what.file)
         of_ports: dict[End, list[str]] = {}
         for what in whats:
             if what.port:
@@ -51,6 +54,29 @@ class Gathering:
                     opened(what.file).close()
         for end, captures in of_ports.items():
             self.add_captures(end.host, end.port, captures)
+
+    def add_reasons(self, host: str, listing: Listing, file: str) -> None:
+        """Notes why ports of a listing have no data, and reports each reason once."""
+        for port, reason in listing.reasons.items():
+            self.tables.add_reason(host, port, f"{file}: {reason}")
+        for reason in dict.fromkeys(listing.reasons.values()):
+            self.say(f"{file}: {reason}")
+            self.status = max(self.status, 1)
+
+    def of_its_host(self, host: str, listing: Listing, file: str) -> Listing:
+        """Returns a listing with a fault if it says that it is of another planned host."""
+        if not listing.source:
+            return listing
+        names = self.tables.names
+        asked, here = names.host(listing.source), names.host(host)
+        if asked not in self.planned:  # perhaps with a domain that the plan lacks
+            names = Names(ignore_case=True, short_names=True)
+            asked, here = names.host(listing.source), names.host(host)
+        others = {names.host(one) for one in self.planned.values()}
+        if asked == here or asked not in others:
+            return listing
+        return listing._replace(faults=[f"{file}: it is of {shown(listing.source)}, not of "
+                                        f"{shown(host)}"])
 
     def add_captures(self, host: str, port: str, files: Sequence[str]) -> None:
         """Adds a port from its captures or, if `port` is empty, all ports of one capture. Frames

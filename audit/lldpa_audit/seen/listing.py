@@ -1,7 +1,8 @@
 """Defines what each reader returns: the ports of a host, and the neighbors seen at them."""
 from __future__ import annotations
 
-from typing import Mapping, NamedTuple, Sequence
+from itertools import chain, islice
+from typing import Any, Mapping, NamedTuple, Sequence
 
 from lldpa.faults import LldpaFault
 from ..names import Seen
@@ -17,7 +18,8 @@ class Listing(NamedTuple):
     """The neighbors of ports. If `has_all_heard`, the host's other ports have no neighbor. If a
     file is of several hosts, `hosts` has a listing for each. If there are `faults`, nothing is
     known of the ports. `notes` says what was skipped. `time` is when the neighbors were seen, in
-    seconds since 1970; 0 if unknown."""
+    seconds since 1970; 0 if unknown. `source` is the host that was asked, if the file says it.
+    `reasons` says for a port why it has no data, though other ports have."""
 
     ports: Ports
     has_all_heard: bool
@@ -25,3 +27,20 @@ class Listing(NamedTuple):
     faults: Sequence[str] = ()
     notes: Sequence[str] = ()
     time: float = 0.0
+    source: str = ""
+    reasons: Mapping[str, str] = {}
+
+    def __reduce__(self) -> tuple[Any, ...]:
+        """Returns how another process makes a copy: from columns, the values of each field of all
+        neighbors. To copy neighbors one by one takes twice the time."""
+        counts = [len(some) for some in self.ports.values()]
+        columns = list(zip(*chain.from_iterable(self.ports.values())))
+        return listing_of_columns, (list(self.ports), counts, columns, self[1:])
+
+
+def listing_of_columns(ports: Sequence[str], counts: Sequence[int],
+                       columns: Sequence[Sequence[Any]], others: Sequence[Any]) -> Listing:
+    """Returns a listing from its ports, how many neighbors each has, and columns."""
+    neighbors = map(Seen._make, zip(*columns))
+    return Listing({port: tuple(islice(neighbors, count)) for port, count in zip(ports, counts)},
+                   *others)

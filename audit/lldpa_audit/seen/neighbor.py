@@ -16,20 +16,28 @@ def neighbor(chassis: str, kind: str, port_id: str, name: str = "", descr: str =
     """Returns a neighbor with all names of its host and port. A field that it does not announce is
     empty. `kind` is lldpcli's word for the type of its Port ID. The host's first name is the
     System Name; the port's is the Port Description, or the Port ID if that names an interface."""
-    chassis, port_id = clean(chassis), clean(port_id)
-    is_named = kind in ("ifname", "ifalias") and port_id != ""
-    ports = texts(port_id, descr) if is_named else texts(descr, port_id)
+    hosts, chassis = names_of_host(name, chassis, *addresses)
+    ports, port_id, is_named = names_of_port(kind, port_id, descr)
     aggregated = settings is not None and bool(settings.is_aggregated)
-    return Seen(names_of_host(name, chassis, *addresses), ports, chassis, port_id,
-                aggregated, settings, is_named)
+    return Seen(hosts, ports, chassis, port_id, aggregated, settings, is_named)
 
 
 # many neighbors have the same texts: each text is kept only once, and sent once between processes
 @lru_cache(MOST_KEPT)
-def names_of_host(name: str, chassis: str, *addresses: str) -> tuple[str, ...]:
-    """Returns the names of a host. In `show neighbors`, an address ends at the first comma."""
+def names_of_host(name: str, chassis: str, *addresses: str) -> tuple[tuple[str, ...], str]:
+    """Returns the names of a host, and its chassis ID. In `show neighbors`, an address ends at the
+    first comma."""
+    chassis = clean(chassis)
     addresses = (chassis, *[clean(address.partition(",")[0]) for address in addresses])
-    return texts(name, *[form for address in addresses for form in names_of_address(address)])
+    return texts(name, *[form for one in addresses for form in names_of_address(one)]), chassis
+
+
+@lru_cache(MOST_KEPT)
+def names_of_port(kind: str, port_id: str, descr: str) -> tuple[tuple[str, ...], str, bool]:
+    """Returns the names of a port, its Port ID, and whether that names an interface."""
+    port_id = clean(port_id)
+    is_named = kind in ("ifname", "ifalias") and port_id != ""
+    return texts(port_id, descr) if is_named else texts(descr, port_id), port_id, is_named
 
 
 @lru_cache(MOST_KEPT)

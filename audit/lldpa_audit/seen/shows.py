@@ -1,5 +1,5 @@
 """Reads the ports of `show neighbors` and their neighbors. An audit of a large network spends most
-of its time here, so one expression matches a whole neighbor."""
+of its time here, so one expression matches a whole neighbor, and a port that has only one."""
 import re
 from functools import lru_cache
 from sys import intern
@@ -16,14 +16,31 @@ from .listing import Ports
 from .neighbor import MOST_KEPT, neighbor
 
 TEXT = "[ -~]*"
-PORT = re.compile(rf"lldp\.({NAME})\.neighbors=({DIGITS})\nlldp\.\1\.octets={DIGITS}\n"
-                  r"lldp\.\1\.too-many=(yes|no)\n")
-# a neighbor: local port, place, chassis ID, kind of Port ID, Port ID, and the other lines
-NEIGHBOR = re.compile(
-    rf"lldp\.({NAME})\.({DIGITS})\.chassis\.(?:{'|'.join(sorted(CHASSIS_KINDS))})=({TEXT})\n"
-    rf"lldp\.\1\.\2\.port\.({'|'.join(sorted(PORT_KINDS))})=({TEXT})\n"
-    rf"lldp\.\1\.\2\.ttl={DIGITS}\nlldp\.\1\.\2\.expires={DIGITS}"
-    rf"((?:\nlldp\.\1\.\2\.{SAID_KEY}={TEXT})*)\n")
+
+
+def of_port(count: str, too_many: str) -> str:
+    """Returns the expression for the lines of a port itself. Its first group is the port's name."""
+    return (rf"lldp\.({NAME})\.neighbors={count}\nlldp\.\1\.octets={DIGITS}\n"
+            rf"lldp\.\1\.too-many={too_many}\n")
+
+
+def of_neighbor(first: str, key: str) -> str:
+    """Returns the expression for the lines of a neighbor, the first of which begins with `first`,
+    and the others with `key`. Its groups are the chassis ID, kind of Port ID, Port ID, the lines
+    that come first in the agent's order (Port Description, System Name, first address), and the
+    other lines."""
+    return (rf"{first}\.chassis\.(?:{'|'.join(sorted(CHASSIS_KINDS))})=({TEXT})\n"
+            rf"{key}\.port\.({'|'.join(sorted(PORT_KINDS))})=({TEXT})\n"
+            rf"{key}\.ttl={DIGITS}\n{key}\.expires={DIGITS}"
+            rf"(?:\n{key}\.port\.descr=({TEXT}))?(?:\n{key}\.chassis\.name=({TEXT}))?"
+            rf"(?:\n{key}\.chassis\.descr={TEXT})?(?:\n{key}\.chassis\.caps={TEXT})?"
+            rf"(?:\n{key}\.chassis\.mgmt=({TEXT}))?((?:\n{key}\.{SAID_KEY}={TEXT})*)\n")
+
+
+PORT = re.compile(of_port(f"({DIGITS})", "(yes|no)"))
+NEIGHBOR = re.compile(of_neighbor(rf"lldp\.({NAME})\.({DIGITS})", r"lldp\.\1\.\2"))
+# most ports have one neighbor
+PORT_WITH_ONE = re.compile(of_port("1", "no") + of_neighbor(r"lldp\.\1\.1", r"lldp\.\1\.1"))
 # Port VLAN ID, MAC/PHY, Maximum Frame Size, and Link Aggregation by 802.1 and by 802.3
 SETTING = r"org\.(?:0080c2\.[17]|00120f\.[134])"
 # the other lines that name the neighbor, or have a setting of its link
@@ -37,43 +54,69 @@ def read_ports(text: str) -> Ports:
     if not text.endswith("\n"):
         raise ShowFault("its last line is incomplete: it was cut short")
     ports: Ports = {}
-    at = 0
-    while found := PORT.match(text, at):
-        name, count = intern(found[1]), int(found[2])
+    at, end = 0, len(text)
+    while at < end:
+        found = PORT_WITH_ONE.match(text, at)
+        seen: tuple[Seen, ...]
+        if found is not None:
+            port, *lines = found.groups("")
+            name, seen, after = intern(port), (neighbor_of(found[0], *lines),), found.end()
+        else:
+            found = PORT.match(text, at)
+            if found is None:
+                break
+            name, seen, after = intern(found[1]), *neighbors_at(text, found)
         if name in ports:
             first = text.find(found[0].partition("=")[0])
             raise ShowFault(f"line {line_of(text, at)}: the port {name} is in it twice, first in "
                             f"line {line_of(text, first)}")
-        seen, end = neighbors_at(text, found.end(), name, count)
-        if len(seen) < count:
+        if not after:
             break
-        ports[name] = (*seen, NAMELESS) if found[3] == "yes" else tuple(seen)
-        at = end
-    if at < len(text) and (not OTHER_SHOW.match(text, at) or PORT.search(text, at)):
+        ports[name], at = seen, after
+    if at < end and (not OTHER_SHOW.match(text, at) or PORT.search(text, at)):
         read_show(text[:-1].split("\n"))  # raises ShowFault
     return ports
 
 
-def neighbors_at(text: str, at: int, port: str, most: int) -> tuple[list[Seen], int]:
-    """Returns the neighbors of a port from the lines that begin at `at`, and the lines' end."""
+def neighbors_at(text: str, port: re.Match[str]) -> tuple[tuple[Seen, ...], int]:
+    """Returns the neighbors of a port, whose own lines are given, and the end of their lines; 0 if
+    a neighbor is missing."""
     seen: list[Seen] = []
-    while len(seen) < most:
+    at = port.end()
+    while len(seen) < int(port[2]):
         found = NEIGHBOR.match(text, at)
-        if found is None or found[1] != port or found[2] != str(len(seen) + 1):
-            break
-        seen.append(seen_neighbor(found[3], found[4], found[5], SAID.findall(found[6])))
+        if found is None or (found[1], found[2]) != (port[1], str(len(seen) + 1)):
+            return (), 0
+        seen.append(neighbor_of(found[0], *found.groups("")[2:]))
         at = found.end()
-    return seen, at
+    return (*seen, NAMELESS) if port[3] == "yes" else tuple(seen), at
 
 
-def seen_neighbor(chassis: str, kind: str, port_id: str, said: Sequence[tuple[str, str]]) -> Seen:
-    """Returns a neighbor from its identifiers and its other lines."""
-    last = dict(said)
-    name, descr = plain(last.get("chassis.name", "")), plain(last.get("port.descr", ""))
-    addresses = [plain(value) for key, value in said if key == "chassis.mgmt"]
-    tlvs = tuple([one for one in said if one[0].startswith("org.")])
-    settings = settings_of_tlvs(tlvs) if tlvs else None
-    return neighbor(plain(chassis), kind, plain(port_id), name, descr, addresses, settings)
+def neighbor_of(lines: str, chassis: str, kind: str, port_id: str, descr: str, name: str,
+                address: str, others: str) -> Seen:
+    """Returns the neighbor in these lines, by what an expression has found in them."""
+    if others or "\\" in lines:
+        said = SAID.findall(others)
+        return seen_neighbor(chassis, kind, port_id, said, descr, name, address)
+    return neighbor(chassis, kind, port_id, name, descr, (address,))
+
+
+def seen_neighbor(chassis: str, kind: str, port_id: str, said: Sequence[tuple[str, str]],
+                  descr: str = "", name: str = "", address: str = "") -> Seen:
+    """Returns a neighbor from its identifiers, its first lines and its other lines."""
+    addresses, tlvs = [address], []
+    for key, value in said:
+        if key == "chassis.name":
+            name = value
+        elif key == "port.descr":
+            descr = value
+        elif key == "chassis.mgmt":
+            addresses.append(value)
+        else:
+            tlvs.append((key, value))
+    settings = settings_of_tlvs(tuple(tlvs)) if tlvs else None
+    return neighbor(plain(chassis), kind, plain(port_id), plain(name), plain(descr),
+                    map(plain, addresses), settings)
 
 
 @lru_cache(MOST_KEPT)  # a network has few settings, and many ports

@@ -3,15 +3,17 @@ import re
 from ipaddress import ip_address
 
 from ..names import Seen
-from .fields import kind_of
 from .listing import Listing, SeenFault
 from .neighbor import neighbor
+from .reading import kind_of
 
-IS_WALK = re.compile(r"LLDP-MIB::lldp|(?:iso|\.?1)\.0\.8802\.1\.1\.2\.")
+# a walk begins with an object's name or number and its value, without `=` after `snmpwalk -Oq`
+IS_WALK = re.compile(r"(?:[A-Z][A-Za-z0-9-]*::[a-z]\w*|lldp[A-Z][A-Za-z]*|\.?iso|\.?1)[.\[][^\n=]*"
+                     r"(?: = |(?<=[0-9\]]) [^\n=])")
 # a quoted text may have line feeds, and hexadecimal may continue in further lines
 LINE = re.compile(
-    r"^(?:LLDP-MIB::(lldp[A-Za-z]+)|(?:iso|\.?1)\.0\.8802\.1\.1\.2\.(1(?:\.[0-9]+){4}))\.([0-9.]+)"
-    r' = (?:(Hex-STRING|STRING|INTEGER): )?("[^"\\]*(?:\\(?s:.)[^"\\]*)*"$'
+    r"^(?:(?:LLDP-MIB::)?(lldp[A-Za-z]+)|\.?(?:iso|1)\.0\.8802\.1\.1\.2\.(1(?:\.[0-9]+){4}))"
+    r'\.([0-9.]+) = (?:(Hex-STRING|STRING|INTEGER): )?("[^"\\]*(?:\\(?s:.)[^"\\]*)*"$'
     r"|.*(?:\n(?:[0-9A-F]{2} ?)+$)*)", re.M)
 LOCAL = ("lldpLocPortIdSubtype", "lldpLocPortId", "lldpLocPortDesc")
 REMOTE = ("lldpRemChassisIdSubtype", "lldpRemChassisId", "lldpRemPortIdSubtype", "lldpRemPortId",
@@ -19,6 +21,13 @@ REMOTE = ("lldpRemChassisIdSubtype", "lldpRemChassisId", "lldpRemPortIdSubtype",
 NAMES = {**{f"1.3.7.1.{number}": name for number, name in enumerate(LOCAL, 2)},
          **{f"1.4.1.1.{number}": name for number, name in enumerate(REMOTE, 4)}}
 ORDER = {name: place for place, name in enumerate(NAMES.values())}
+# what a walk reads after the last of these objects
+AFTER = (len(ORDER),)
+IS_AFTER = re.compile(r"lldpRem|lldpX|1\.(?:4\.1\.1\.[1-9][0-9]|4\.[2-9]|[5-9])")
+# a line about one of these objects that LINE does not match, as `snmpwalk -OX` prints it
+IS_OTHER = re.compile(r"^(?:(?:LLDP-MIB::)?lldp(?:LocPort|Rem)[A-Za-z]*[.\[]"
+                      r"|\.?(?:iso|1)\.0\.8802\.1\.1\.2\.1\.(?:3\.7|4\.1)\.)", re.M)
+IS_ERROR = re.compile(r"^(?:Timeout: |Error in packet|Error: OID|snmp[a-z]*: )", re.M)
 COMMAND = "use `snmpwalk -v2c -c COMMUNITY HOST 1.0.8802.1.1.2.1`"
 # the subtypes for a MAC address and for a network address, of chassis IDs and of Port IDs
 OF_CHASSIS, OF_PORT = ("4", "5"), ("3", "4")
@@ -27,50 +36,98 @@ OF_CHASSIS, OF_PORT = ("4", "5"), ("3", "4")
 Row = dict[str, str]
 
 
+class Walk:
+    """The rows of local ports and those of neighbors, by index, and the place of the last object
+    that was read: its column and its index, or AFTER."""
+
+    def __init__(self) -> None:
+        self.local: dict[str, Row] = {}
+        self.remote: dict[str, Row] = {}
+        self.last: tuple[int, ...] = ()
+
+    def lacks(self, index: str) -> bool:
+        """Returns whether the walk stopped before it had read all of a neighbor's row. A walk reads
+        a column of all rows before the next column."""
+        return self.last < (ORDER[REMOTE[-1]], *map(int, index.split(".")))
+
+
 def read_walk(text: str) -> Listing:
-    """Returns the neighbors of each port in a walk. Raises SeenFault."""
+    """Returns the neighbors of each port in a walk. If the walk stopped, the ports of neighbors
+    whose rows are incomplete have no data. Raises SeenFault."""
     if not text.endswith("\n"):
         raise SeenFault("its last line is incomplete: it was cut short")
-    local, remote = rows_of(text)
-    names = {number: port_name(row) for number, row in local.items() if LOCAL[1] in row}
+    walk = walk_of(text)
+    names = {number: port_name(row) for number, row in walk.local.items() if LOCAL[1] in row}
     ports: dict[str, list[Seen]] = {name: [] for name in names.values()}
     if len(ports) < len(names):
         raise SeenFault("two of its ports have the same name in lldpLocPortId or lldpLocPortDesc")
-    for index, row in remote.items():
+    if not ports:
+        raise SeenFault(f"it has no lldpLocPortId: {COMMAND}")
+    if walk.last < (ORDER[REMOTE[1]],):
+        raise SeenFault("it ends before the neighbors: either the walk stopped, or it had no more "
+                        f"to read: {COMMAND}")
+    stopped = set()
+    for index, row in walk.remote.items():
         _, _, further = index.partition(".")
         number = further.partition(".")[0]
         if number not in names:
             raise SeenFault(f"it has no lldpLocPortId.{number}: {COMMAND}")
-        ports[names[number]].append(seen(row, names[number]))
-    if not ports:
-        raise SeenFault(f"it has no lldpLocPortId: {COMMAND}")
-    return Listing(dict(ports), True)
+        if walk.lacks(index):
+            stopped.add(names[number])
+        else:
+            ports[names[number]].append(seen(row, names[number]))
+    why = f"the walk stopped before it had read all of some ports' neighbors: {COMMAND}"
+    return Listing({name: some for name, some in ports.items() if name not in stopped}, True,
+                   reasons=dict.fromkeys(sorted(stopped), why))
 
 
-def rows_of(text: str) -> tuple[dict[str, Row], dict[str, Row]]:
-    """Returns the rows of local ports and those of neighbors, by index. Raises SeenFault if they
-    are not in the order of a walk, since a line in a neighbor's text could pretend to be a row."""
-    tables: tuple[dict[str, Row], dict[str, Row]] = {}, {}
-    last: tuple[int, ...] = ()
-    for name, number, index, kind, value in LINE.findall(text):
-        name = name or NAMES.get(number, "")
-        if name not in ORDER:
-            continue
-        try:
-            place = (ORDER[name], *map(int, index.split(".")))
-        except ValueError:  # an index may have thousands of digits, or two dots
-            raise SeenFault(f"{name}.{index[:40]} has an invalid index") from None
-        if place <= last:
-            raise SeenFault(f"{name}.{index} is out of order, as if from another walk: {COMMAND}")
-        last = place
-        tables[name in REMOTE].setdefault(index, {})[name] = text_of(kind, value)
-    return tables
+def walk_of(text: str) -> Walk:
+    """Returns the rows of a walk, up to an error message in it. Raises SeenFault if they are not in
+    the order of a walk, since a line in a neighbor's text could pretend to be a row."""
+    walk, end = Walk(), 0
+    for found in LINE.finditer(text):
+        if walk.last < AFTER and is_error(text, end, found.start()):
+            return walk
+        name, number, index, kind, value = found.groups("")
+        end, name = found.end(), name or NAMES.get(number, "")
+        if name in ORDER:
+            add(walk, name, index, text_of(kind, value))
+        elif IS_AFTER.match(name or number):
+            walk.last = AFTER
+    is_error(text, end, len(text))
+    return walk
+
+
+def is_error(text: str, begin: int, end: int) -> bool:
+    """Returns whether lines between objects have an error message. Raises SeenFault for lines of
+    LLDP-MIB in another form."""
+    between = text[begin:end]
+    other = IS_OTHER.search(between)
+    if other:
+        line = between[other.start():].partition("\n")[0]
+        raise SeenFault(f"{line[:60]!r} is not as snmpwalk prints it without options: {COMMAND}")
+    return IS_ERROR.search(between) is not None
+
+
+def add(walk: Walk, name: str, index: str, value: str) -> None:
+    """Adds the value of an object to its row. Raises SeenFault."""
+    try:
+        place = (ORDER[name], *map(int, index.split(".")))
+    except ValueError:  # an index may have thousands of digits, or two dots
+        raise SeenFault(f"{name}.{index[:40]} has an invalid index") from None
+    if place <= walk.last:
+        raise SeenFault(f"{name}.{index} is out of order, as if from another walk: {COMMAND}")
+    walk.last = place
+    rows = walk.remote if name in REMOTE else walk.local
+    rows.setdefault(index, {})[name] = value
 
 
 def text_of(kind: str, value: str) -> str:
     """Returns a value as text. The text of an enumeration is its number."""
     if kind == "INTEGER":
         return value.rpartition("(")[2].rstrip(")")
+    if not kind and value not in ('""', "No more variables left in this MIB View"):
+        raise SeenFault(f"the value {value[:40]!r} has no type: use snmpwalk without -OQ")
     if kind == "Hex-STRING":
         try:
             return bytes.fromhex(value).decode(errors="surrogateescape")

@@ -1,6 +1,6 @@
 """Collects what is known of the audited hosts: the neighbors of their ports."""
 from itertools import filterfalse
-from typing import Mapping, NamedTuple, Sequence
+from typing import Mapping, NamedTuple, Optional, Sequence
 
 from ..names import End, Names, Seen, shown
 from ..plan import Plan
@@ -25,6 +25,7 @@ class Tables:
         self._listed: dict[str, str] = {}
         self._forgotten: dict[str, str] = {}
         self.times: list[float] = []  # of each source, in seconds since 1970
+        self.several: set[str] = set()  # hosts that right links hear with several chassis IDs
 
     def add_host(self, host: str) -> None:
         """Adds an audited host. Raises ValueError if --short-names merges it with another."""
@@ -46,10 +47,9 @@ class Tables:
         files.append(file)
         for port, neighbors in ports.items():
             end = End(host, port)
-            key = self.names.end(end)
-            if key in self.ends:
+            known = KnownPort(end, neighbors)
+            if self.ends.setdefault(self.names.end(end), known) is not known:
                 return f"{end} is in two of these files: {', '.join(files)}"
-            self.ends[key] = KnownPort(end, neighbors)
         if has_all_heard:
             before = self._listed.get(name)
             self._listed[name] = file
@@ -62,18 +62,33 @@ class Tables:
         self.add_host(host)
         self._forgotten.setdefault(self.names.host(host), reason)
 
-    def complete(self, plan: Plan) -> None:
-        """Adds planned ports that a complete list of neighbors lacks: they have no neighbor. Ports
-        for which a reason was noted, such as a damaged file, remain without data."""
+    def discard_forgotten(self) -> None:
+        """Discards the data of the hosts to forget, after all sources were added."""
         for name, reason in self._forgotten.items():
             self._listed.pop(name, None)
             self._reasons[End(name, "")] = reason
         if self._forgotten:
             self.ends = {key: port for key, port in self.ends.items()
                          if key.host not in self._forgotten}
+
+    def complete(self, plan: Plan) -> None:
+        """Adds the planned ports that complete lists of neighbors lack."""
         for key, wish in plan.ends.items():
-            if key.host in self._listed and key not in self.ends and not self.reason(key):
-                self.ends[key] = KnownPort(wish.end, ())
+            self.told(key, wish.end)
+
+    def told(self, key: End, end: End) -> Optional[KnownPort]:
+        """Returns what is known of a planned port, written as `end`. Adds the port if a complete
+        list of neighbors lacks it: it has no neighbor. A port for which a reason was noted, such
+        as a damaged file, remains without data."""
+        known = self.ends.get(key)
+        if known is None and self.covers(key):
+            known = self.ends[key] = KnownPort(end, ())
+        return known
+
+    def covers(self, key: End) -> bool:
+        """Returns whether it is known what an end hears, perhaps from a complete list that does not
+        have the end."""
+        return key in self.ends or key.host in self._listed and not self.reason(key)
 
     def beside(self, plan: Plan) -> list[End]:
         """Returns the ports with data that are not planned, sorted."""

@@ -1,88 +1,131 @@
 """Finds which form JSON has, also inside answers of APIs and files of many hosts."""
-from typing import Any, Optional
+from typing import Any, Callable, Optional
 
 from lldpa.texts import printable
 
-from .fields import FORMS, NAPALM, leads, read_form, text
+from .fields import FORMS, NAPALM, ROWS, UNIFI, Form
+from .gnmic import is_gnmic, read_gnmic
 from .listing import Listing, SeenFault
 from .neighbor import clean
 from .prometheus import read_prometheus
+from .reading import listing_of_rows, read_form
+from .ways import begins_of, leads, text
 
 # names under which NAPALM, salt, Ansible, eAPI, NX-API, Junos and gNMI tools put neighbors
 GETTERS = [f"{front}lldp_neighbors{detail}" for front in ("", "get_", "napalm_")
            for detail in ("_detail", "")]
 WRAPPERS = (*GETTERS, "out", "ansible_facts", "result", "ins_api", "outputs", "output", "body",
             "rpc-reply", "multi-routing-engine-results", "multi-routing-engine-item", "stdout",
-            "parsed", "notification", "update", "updates", "values", "val",
-            "openconfig-lldp:lldp", "lldp", "openconfig-lldp:interfaces", "interfaces")
+            "parsed", "notification", "update", "val", "Cisco-IOS-XR-ethernet-lldp-oper:lldp",
+            "srl_nokia-lldp:lldp", "openconfig-lldp:lldp", "lldp", "openconfig-lldp:interfaces",
+            "interfaces")
+USE_JSON = "use `lldpcli -f json show neighbors details`"
 # for JSON that is not a full list of neighbors: names that lead somewhere in it, and what it is
 CAUSES = (
     ("lldpNeighbors neighborDevice", "EOS' short list, without chassis IDs: use `show lldp "
                                      "neighbors detail | json`"),
     ("TABLE_nbor", "NX-OS' short list, without chassis IDs: use `show lldp neighbors detail | "
                    "json`"),
-    ("local-chassis", "what lldpcli says of its own host: use `lldpcli -f json show neighbors "
-                      "details`"),
+    ("local-chassis", f"what lldpcli says of its own host: {USE_JSON}"),
+    (", ".join(f"lldp * chassis {kind}" for kind in ("mac", "local", "ifname", "ip")),
+     f"Ansible's facts `lldp`, in which a port has only one neighbor: {USE_JSON}"),
+    ("tags subscription-name", "gnmic's events: use `gnmic get --path /lldp/interfaces`"),
+    ("nodes node neighbors devices, nodes node neighbors summaries",
+     "IOS-XR's neighbors without `details`: ask for nodes/node/neighbors/details"),
 )
 LONGEST_SHOWN = 200
+# an object of none of these ways is a wrapper, or has NAPALM's form: most lists are found so
+ROW_SIGNS = ", ".join(form.sign for form in ROWS)
+SIGNS = ", ".join([ROW_SIGNS, *(form.sign for form in FORMS), *(ways for ways, _ in CAUSES),
+                   "data"])
+OF_ANY_NAME = ", ".join(way for way in SIGNS.split(", ") if way.startswith("*"))
+
+ReadText = Callable[[str], Listing]
 
 
-def listing_of(tree: Any) -> Listing:
-    """Returns the neighbors in JSON of any form, of one host or many. Raises SeenFault."""
-    found = listing_of_host(tree)
+def listing_of(tree: Any, read_text: ReadText) -> Listing:
+    """Returns the neighbors in JSON of any form, of one host or many. Raises SeenFault.
+    `read_text` reads a text in JSON, such as what a command printed."""
+    found = listing_of_host(tree, read_text)
     if found is not None:
         return found
-    hosts = {host: listing_or_fault(one) for host, one in tree.items()
+    hosts = {host: listing_or_fault(one, read_text) for host, one in tree.items()
              } if isinstance(tree, dict) else {}
     if any(not one.faults or is_failed(tree[host]) for host, one in hosts.items()):
         return Listing({}, True, hosts)
     raise unknown(tree)
 
 
-def listing_of_host(tree: Any) -> Optional[Listing]:
+def listing_of_host(tree: Any, read_text: ReadText) -> Optional[Listing]:
     """Returns the neighbors in JSON of one host, None if its form is unknown. Raises SeenFault."""
     if is_failed(tree):
         why = text(tree, "comment, msg") or "no reason is given"
         raise SeenFault(f"the command failed: {last_line(why)}")
+    if is_gnmic(tree):
+        return read_gnmic(tree, lambda value: listing_of_host(value, read_text))
+    if isinstance(tree, dict) and begins_of(SIGNS).isdisjoint(tree) and not leads(
+            tree, OF_ANY_NAME):
+        return listing_in(tree, read_text)
+    tree = lowered(tree)
+    rows = next((form for form in ROWS if leads(tree, form.sign)), None)
+    if rows is not None:
+        return listing_of_rows(tree, rows)
+    if isinstance(tree, list):
+        return listing_of_one(tree, read_text)
     cause = next((cause for way, cause in CAUSES if leads(tree, way)), "")
     if cause:
         raise SeenFault(f"it is {cause}")
     if leads(tree, "data resultType"):
         return read_prometheus(tree)
-    tree = lowered(tree)
+    if leads(tree, "data lldp_table"):
+        return Listing({}, True, {text(one, "name, mac"): read_form(one["lldp_table"], UNIFI)
+                                  for one in tree["data"] if leads(one, "lldp_table")})
     form = next((form for form in FORMS if leads(tree, form.sign)), None)
     if form is not None:
+        need_one(tree, form)
         return read_form(tree, form)
-    if isinstance(tree, list):
-        return listing_of_one(tree)
-    return listing_in(tree) if isinstance(tree, dict) else None
+    return listing_in(tree, read_text) if isinstance(tree, dict) else None
 
 
-def listing_in(tree: dict[str, Any]) -> Optional[Listing]:
+def need_one(tree: dict[str, Any], form: Form) -> None:
+    """Raises SeenFault if an object has several lists of ports, which may be of several hosts."""
+    name, _, rest = form.ports.partition(" ")
+    lists = tree.get(name)
+    if rest and isinstance(lists, list) and len(lists) > 1:
+        raise SeenFault(f"it has {len(lists)} lists of neighbors, as entries 1 and 2 of {name!r}: "
+                        "give only one")
+
+
+def listing_in(tree: dict[str, Any], read_text: ReadText) -> Optional[Listing]:
     """Returns the neighbors inside a wrapper or in NAPALM's form, else None. Raises SeenFault."""
-    inner = {name.rpartition("/")[2]: one for name, one in tree.items()}
-    wrapper = next((name for name in WRAPPERS if name in inner), None)
+    wrapper = next((name for name in WRAPPERS if name in tree), None)
     if wrapper is not None:
-        return listing_of_host(inner[wrapper])
+        inner = tree[wrapper]
+        said = inner[0] if isinstance(inner, list) and len(inner) == 1 else inner
+        is_text = wrapper == "stdout" and isinstance(said, str)
+        return read_text(said) if is_text else listing_of_host(inner, read_text)
     is_napalm = all(isinstance(one, list) for one in tree.values())
-    is_of_rows = any(leads(lowered(one), FORMS[-1].sign) for one in tree.values())
+    first = next(filter(None, tree.values()), ())
+    is_of_rows = leads(lowered(first), ROW_SIGNS)
     return read_form(tree, NAPALM) if is_napalm and not is_of_rows else None
 
 
-def listing_of_one(answers: list[Any]) -> Optional[Listing]:
+def listing_of_one(answers: list[Any], read_text: ReadText) -> Optional[Listing]:
     """Returns the only list of neighbors in several answers, or None. Raises SeenFault."""
     if len(answers) == 1:
-        return listing_of_host(answers[0])
-    found = [one for one in map(listing_or_fault, filter(None, answers)) if not one.faults]
+        return listing_of_host(answers[0], read_text)
+    found = [(place, one) for place, answer in enumerate(answers, 1)
+             if answer and (one := listing_of_host(answer, read_text)) is not None]
     if len(found) > 1:
-        raise SeenFault(f"it has {len(found)} lists of neighbors: give only one")
-    return found[0] if found else None
+        raise SeenFault(f"it has {len(found)} lists of neighbors, as entries {found[0][0]} and "
+                        f"{found[1][0]}: give only one")
+    return found[0][1] if found else None
 
 
-def listing_or_fault(tree: Any) -> Listing:
+def listing_or_fault(tree: Any, read_text: ReadText) -> Listing:
     """Returns the neighbors of one host of many, or a listing with the fault of its JSON."""
     try:
-        found = listing_of_host(tree)
+        found = listing_of_host(tree, read_text)
         if found is not None and not found.hosts:
             return found
         raise unknown(tree)

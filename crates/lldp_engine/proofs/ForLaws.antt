@@ -17,3 +17,4 @@ pub mod Places
 pub mod Shows
 pub mod FirstFault
 pub mod FrameOctets
+pub mod Calls

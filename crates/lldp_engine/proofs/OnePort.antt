@@ -3,3 +3,4 @@ pub mod Heard
 pub mod Counters
 pub mod Allowed
 pub mod Rights
+pub mod Telling

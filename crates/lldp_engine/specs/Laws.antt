@@ -12,3 +12,4 @@ pub mod Places
 pub mod PortAt
 pub mod Shows
 pub mod Tally
+pub mod Calls

@@ -7,6 +7,7 @@ pub mod Counters
 pub mod Sound
 pub mod AgentState
 pub mod Port
+pub mod Told
 pub mod Place
 pub mod Past
 pub mod Standing

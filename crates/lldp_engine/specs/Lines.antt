@@ -1,6 +1,5 @@
 -- The lines of show commands.
 use Rattle.std.specs.Prelude.{ℕ, List}
-use Rattle.arrayvec.specs.ArrayVec.{ArrayVec}
 use Rattle.lldp_engine.specs.AgentState.{AgentState}
 use Rattle.lldp_engine.specs.NeighborLines.{neighbors_lines}
 use Rattle.lldp_engine.specs.StatisticsLines.{statistics_lines}
@@ -15,7 +14,3 @@ lines_of Neighbors agent = neighbors_lines agent.ports
 lines_of Statistics agent = statistics_lines agent.ports
 lines_of Chassis agent = chassis_lines agent.configuration
 lines_of Configuration agent = configuration_lines agent
-
--- Returns the octets of a line.
-abbrev pub octets_of : ArrayVec ℕ → List ℕ
-octets_of line = line.items

@@ -15,6 +15,8 @@ ghost use Rattle.lldp_engine.specs.Frames.{IsSent};
 ghost use Rattle.lldp_engine.specs.Sound.{AreSound};
 ghost use Rattle.lldp_engine.specs.Standing.{Stands};
 ghost use Rattle.lldp_engine.specs.Code.Step.{agent_after, agent_marks};
+ghost use Rattle.lldp_engine.specs.Code.Telling.{agent_told};
+ghost use Rattle.lldp_engine.specs.Told.{told_of, Tells};
 ghost use Rattle.lldp_engine.specs.Headline.{PromisedStep};
 
 pub(crate) mod configuration;
@@ -24,12 +26,14 @@ pub(crate) mod open_fault;
 pub(crate) mod options;
 pub(crate) mod port_names;
 pub(crate) mod ports;
+pub(crate) mod told;
 
 use crate::agent::configuration::Configuration;
 use crate::agent::event::{Event, Setting};
 use crate::agent::open_fault::OpenFault;
 use crate::agent::options::Options;
 use crate::agent::ports::{Marks, all_fit, find_place, open_ports, take_event};
+use crate::agent::told::Told;
 use crate::port::Port;
 use crate::port::counters::Counters;
 use crate::port::status::Status;
@@ -135,6 +139,7 @@ impl<A: Allocator> Agent<A> {
     }
 
     /// Returns the number of the port with this name, from 0, or None if no port has it.
+    #[inline(always)]
     pub fn find_port(&self, name: &[u8]) -> Option<u8>
         ensures place { result ≡ place_of (names_of self.now) name.now }
         ensures exists { IfSome result (λ port. IsPort self.now port) }
@@ -255,8 +260,34 @@ impl<A: Allocator> Agent<A> {
         ensures headline { (past : Past) → Stands past self.old →
             PromisedStep past (event_of event.entry) result.items self.new }
     {
+        let mut marks = Marks::new();
+        self.step_told(event, &mut marks);
+        marks
+    }
+
+    /// Does the same as `step`, and writes the ports that send in place of what `marks` held.
+    /// Returns what a received frame did: which neighbor it named, and whether that neighbor is
+    /// new, changed, repeated, dropped or gone, or the fault for which the LLDPDU was refused. Any
+    /// other event tells nothing.
+    pub fn step_told<'a>(&mut self, event: Event<'a>, marks: &mut Marks) -> Told<'a>
+        requires { Allows self.old (event_of event) }
+        ensures after { self.new ≡ agent_after (event_of event.entry) self.old }
+        ensures marks { marks.new.items ≡ agent_marks (event_of event.entry) self.old }
+        // What is told, computed from the agent before the event; and how it agrees with the table
+        // of the frame's port before and after it.
+        ensures told { told_of result ≡ agent_told (event_of event.entry) self.old }
+        ensures tells { Tells (event_of event.entry) self.old self.new (told_of result) }
+        ensures sent { AllByRecursion (λ mark. IsPort self.new mark.0
+            × IsSent mark.1) marks.new.items }
+        ensures stands { (past : Past) → Stands past self.old →
+            Stands (with_event past (event_of event.entry)) self.new }
+        ensures marks_past { (past : Past) → Stands past self.old →
+            marks.new.items ≡ marks_of (with_event past (event_of event.entry)) }
+        ensures headline { (past : Past) → Stands past self.old →
+            PromisedStep past (event_of event.entry) marks.new.items self.new }
+    {
         self.configuration.take(&event);
         let interval = self.configuration.interval();
-        take_event(self.ports.as_mut_slice(), &event.whose(), interval)
+        take_event(self.ports.as_mut_slice(), &event.whose(), interval, marks)
     }
 }

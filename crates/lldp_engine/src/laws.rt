@@ -12,6 +12,7 @@ ghost use Rattle.lldp_engine.specs.Code.Step.{agent_after, agent_marks};
 ghost use Rattle.lldp_engine.specs.Laws.LastSet.{IsLastStatus, IsLastLink, IsLastConfiguration};
 ghost use Rattle.lldp_engine.specs.Headline.{Promised};
 
+pub mod calls;
 pub mod counting;
 pub mod deafness;
 pub mod fixed;

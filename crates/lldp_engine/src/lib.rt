@@ -14,6 +14,7 @@ pub use agent::frame::Frame;
 pub use agent::open_fault::OpenFault;
 pub use agent::options::{MOST_CREDIT, MOST_FAST, MOST_NEIGHBORS, MOST_REINIT, Options, Role};
 pub use agent::ports::Marks;
+pub use agent::told::Told;
 pub use command::forms::{end_words, next_port, next_word};
 pub use command::{Command, Show};
 pub use lldp_text::{

@@ -5,6 +5,8 @@ ghost use Rattle.lldp_engine.specs.Port.Event.{tick, status};
 ghost use Rattle.lldp_engine.specs.Port.EventView.{port_event_of};
 ghost use Rattle.lldp_engine.specs.Code.PortStep.{opened_port, port_after_event, port_cause, port_mark, port_step};
 ghost use Rattle.lldp_engine.specs.Code.Taking.{FitsLimit};
+ghost use Rattle.lldp_engine.specs.Code.Telling.{port_told};
+ghost use Rattle.lldp_engine.specs.Told.{told_of};
 
 mod causes;
 pub(crate) mod counters;
@@ -13,6 +15,7 @@ mod hearing;
 pub(crate) mod status;
 
 use crate::agent::options::Options;
+use crate::agent::told::Told;
 use crate::port::counters::Counters;
 use crate::port::status::{Status, opening_status};
 use arrayvec::ArrayVec;
@@ -115,14 +118,22 @@ impl<A: Allocator> Port<A> {
         &self.counters
     }
 
-    /// Applies an event, with the tx-interval in force after it. Returns what the port sends.
+    /// Applies an event, with the tx-interval in force after it. Returns what the port sends, and
+    /// writes what a frame tells.
     #[inline(always)]
-    pub(crate) fn take(&mut self, event: &PortEvent<'_>, interval: u16) -> Mark
+    pub(crate) fn take<'a>(
+        &mut self,
+        event: &PortEvent<'a>,
+        interval: u16,
+        told: &mut Told<'a>,
+    ) -> Mark
         requires { FitsLimit (port_event_of event.now) self.old.table }
         ensures after { self.new ≡ port_step (port_event_of event.now) interval self.old }
         ensures mark { result ≡ port_mark (port_event_of event.now) interval self.old }
+        ensures told { told_of told.new
+            ≡ port_told (port_event_of event.now) self.old (told_of told.old) }
     {
-        let cause = self.apply(event);
+        let cause = self.apply(event, told);
         let mark = self.transmit.event(cause, interval);
         self.counters.count_mark(mark);
         mark
@@ -137,19 +148,22 @@ impl<A: Allocator> Port<A> {
         self.counters.count_aged_out(aged_out);
     }
 
-    /// Applies an event to the table and the counters. Returns what the event means to the machine.
+    /// Applies an event to the table and the counters. Returns what the event means to the machine,
+    /// and writes what a frame tells.
     #[inline(always)]
-    fn apply(&mut self, event: &PortEvent<'_>) -> Cause
+    fn apply<'a>(&mut self, event: &PortEvent<'a>, told: &mut Told<'a>) -> Cause
         requires { FitsLimit (port_event_of event.now) self.old.table }
         ensures after { self.new ≡ port_after_event (port_event_of event.now) self.old }
         ensures cause { result ≡ port_cause (port_event_of event.now) self.old }
+        ensures told { told_of told.new
+            ≡ port_told (port_event_of event.now) self.old (told_of told.old) }
     {
         match event {
             PortEvent::Tick => {
                 self.age();
                 Cause::Tick
             }
-            PortEvent::Frame(octets) => self.receive(octets),
+            PortEvent::Frame(octets) => self.receive(octets, told),
             PortEvent::Link(up) => cause_of_link_event(self.transmit.is_up(), *up),
             PortEvent::Status(given) => self.set_status(*given),
             PortEvent::Limit(neighbors) => {

@@ -3,3 +3,4 @@ pub mod CapsSpelling
 pub mod FrameForm
 pub mod KeptOnce
 pub mod SoundForm
+pub mod Told

@@ -4,10 +4,15 @@ ghost use Rattle.std.specs.Iterator.{YieldsThen};
 ghost use Rattle.lldp_pdu.specs.declared.tlv.Tlv.{Tlv};
 ghost use Rattle.lldp_pdu.specs.Tlv.{TlvUnit, AreOctets};
 ghost use Rattle.lldp_pdu.specs.Cut.{Cut, IsCut, cut};
-ghost use Rattle.lldp_pdu.specs.View.{tlv_view, GivesFirstTlv};
+ghost use Rattle.lldp_pdu.specs.View.{tlv_view, address_view, GivesFirstTlv};
+ghost use Rattle.lldp_pdu.specs.declared.fields.Msap.{Msap};
+ghost use Rattle.lldp_pdu.specs.declared.fields.Mgmt.{Mgmt};
+ghost use Rattle.lldp_pdu.specs.declared.examination.Examined.TheVariants as Examined;
+ghost use Rattle.lldp_pdu.specs.Examined.{Answers, IsWithin};
+ghost use Rattle.lldp_pdu.specs.Laws.Told.{Leaves, Gives, HasFields};
 ghost use Rattle.lldp_pdu.specs.Fault.{fault_of};
 ghost use Rattle.lldp_pdu.specs.Lldpdu.{extent, ttl_of};
-ghost use Rattle.lldp_pdu.specs.Info.{info_of, IsInfo, TellsItself};
+ghost use Rattle.lldp_pdu.specs.Info.{LldpInfo, info_of, IsInfo, TellsItself};
 ghost use Rattle.lldp_pdu.specs.Draft.{Draft, CanPut, CanBuild, IsReadBack, put_fault, lldpdu_octets};
 ghost use Rattle.lldp_pdu.specs.declared.fields.Caps.{Caps};
 ghost use Rattle.lldp_pdu.specs.Msap.{IsIdentifier};
@@ -68,6 +73,15 @@ pub fn extents_tell_the_same()
         0 < ttl_of octets → TellsItself (info_of octets) }
 {}
 
+/// Examining an LLDPDU of octets answers Shutdown with its name if its TTL is 0, and otherwise an
+/// Info whose fields are those of the LLDPDU, with an extent that is no longer than the LLDPDU.
+pub fn examined_lldpdus_are_told()
+    ensures shutdown { (octets : List ℕ) (name : Msap) → Answers octets (Examined.Shutdown name) →
+        Leaves octets name }
+    ensures info { (octets : List ℕ) (info : LldpInfo) → Answers octets (Examined.Info info) →
+        IsWithin octets (Examined.Info info) → Gives octets info }
+{}
+
 /// An LLDPDU begins with its extent.
 #[tactic(auto, using(crate::proofs::Whole::extent_front))]
 pub fn lldpdus_begin_with_extents()
@@ -101,10 +115,13 @@ pub fn drafts_are_read_back()
     ensures read_back { (draft : Draft) → CanBuild draft → IsReadBack draft (lldpdu_octets draft) }
 {}
 
-/// `address_of` returns an address exactly if its fields are in range and the body encodes it.
+/// `address_of` returns an address exactly if its fields are in range and the body encodes it. A
+/// body that was read has the fields that were given.
 pub fn management_addresses_are_spelled()
-    ensures { (body : List ℕ) (address : Address) → AreOctets body →
+    ensures spelled { (body : List ℕ) (address : Address) → AreOctets body →
         (address_of body ≡ Some address) ↔ IsSpelled body address }
+    ensures given { (body : List ℕ) (given : Mgmt) → AreOctets body →
+        address_of body ≡ Some (address_view given) → HasFields body given }
 {}
 
 /// The constants of `tlv_type` equal the types of the standard's table, as the definitions list

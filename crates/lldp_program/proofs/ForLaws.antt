@@ -6,3 +6,5 @@ pub mod Asked
 pub mod CommandLine
 pub mod Listening
 pub mod Served
+pub mod Ends
+pub mod Refused

@@ -2,3 +2,4 @@
 -- calls use other definitions.
 pub mod Output
 pub mod Parts
+pub mod Plain

@@ -100,11 +100,14 @@ RefusesOpening rows told_before told_after =
 abbrev pub AreWrong : List Text → Type 0
 AreWrong words = (kind : ErrorKind) × MayFail words kind × (kind ≢ DisplayHelp) × (kind ≢ DisplayVersion)
 
--- Status 2: the arguments are wrong; or there was no memory to parse them, and that was reported;
--- or they were parsed, and an address or the opening was refused.
-abbrev pub HasRefused : List Text → Stream → Stream → Type 0
-HasRefused words told_before told_after =
-    AreWrong words
-    ⊎ (IsTold program.Memory told_before told_after
+-- There was no memory to parse the arguments, or they were parsed, and an address or the opening
+-- was refused. That fault was reported.
+abbrev pub TellsRefusal : List Text → Stream → Stream → Type 0
+TellsRefusal words told_before told_after =
+    IsTold program.Memory told_before told_after
     ⊎ ((rows : List Row) × IsParse words rows
-    × (RefusesAddress rows told_before told_after ⊎ RefusesOpening rows told_before told_after)))
+    × (RefusesAddress rows told_before told_after ⊎ RefusesOpening rows told_before told_after))
+
+-- Status 2: the arguments are wrong, or another refusal was reported.
+abbrev pub HasRefused : List Text → Stream → Stream → Type 0
+HasRefused words told_before told_after = AreWrong words ⊎ TellsRefusal words told_before told_after

@@ -1,17 +1,19 @@
 //! One line of a trace, and what it asks for.
-ghost use Rattle.std.specs.Prelude.{◌≡◌, ◌≤◌, length, ℕ, List, ◌∷◌, IfOk, IfErr, IfSome, MatchOption, ◌≢◌, ◌*◌, ◌%◌, ◌++◌};
-ghost use Rattle.std.specs.List.{AllByRecursion};
+ghost use Rattle.std.specs.Prelude.{◌≡◌, ◌≤◌, length, ℕ, List, ◌∷◌, IfOk, IfErr, IfSome, MatchOption, ◌≢◌, ◌<◌, ◌*◌, ◌++◌, take};
+ghost use Rattle.std.specs.List.{AllByRecursion, AllPass};
 ghost use Rattle.hex.specs.Hex.{decode_of};
 ghost use Rattle.lldp_engine.specs.AgentState.{AgentState, IsPort};
 ghost use Rattle.lldp_text.specs.Answer.{on_ok};
 ghost use Rattle.lldp_program.specs.Faults.FaultNumber.{number_of_line_fault};
 ghost use Rattle.lldp_program.specs.Trace.Forms.{fault_text, is_skipped, or_hex, tick_form, frame_form, link_form, work_given};
 ghost use Rattle.lldp_program.specs.Trace.Work.{frame, work_of, AllowsWork};
+ghost use Rattle.lldp_program.specs.Code.Plain.{is_plain_octet, EndsAt};
 
 use lldp_engine::{
     Agent, Command, CommandFault, Words, decode_digits, end_words, next_port, next_word, number,
-    split, split_at_bare,
+    split,
 };
+use lldp_text::decode_line;
 
 /// The most octets that a line may have, without its LF.
 pub const LONGEST: usize = 4096;
@@ -159,30 +161,55 @@ fn behind<'l>(text: &'l [u8], front: &[u8]) -> Option<&'l [u8]>
     text.strip_prefix(front)
 }
 
-/// Reads the port and the digits of `rx PORT HEX` if the line has one space between words and no
-/// quotes. Returns None for other lines and for most faults; such lines are read word by word.
-fn plain_frame<'l>(agent: &Agent, line: &'l [u8]) -> Option<(u8, &'l [u8])>
-    requires { length line.now ≤ 4096 }
-    ensures reads { IfSome result (λ x. (octets : List ℕ) → decode_of x.1.now ≡ Ok octets →
-        work_given agent.now line.now ≡ Ok (frame x.0 octets)) }
-    ensures even { IfSome result (λ x. length x.1.now % 2 ≡ 0) }
-    ensures short { IfSome result (λ x. length x.1.now ≤ 4096) }
-    ensures exists { IfSome result (λ x. IsPort agent.now x.0) }
+/// Returns whether an octet is neither a space, a quote nor a control character.
+fn is_plain(octet: u8) -> bool
+    ensures { result ≡ is_plain_octet octet }
 {
-    let Some(rest) = behind(line, b"rx ") else {
-        return None;
-    };
-    let (name, after) = split_at_bare(rest);
-    let Some(digits) = behind(after, b" ") else {
-        return None;
-    };
-    if name.is_empty() || digits.is_empty() || digits.len() % 2 != 0 {
+    octet > b' ' && octet != b'"'
+}
+
+/// Returns the word at the front of a text, and the text after the space behind it. Returns None if
+/// there is no such word.
+fn plain_word(text: &[u8]) -> Option<(&[u8], &[u8])>
+    ensures whole { IfSome result (λ x. text.now ≡ x.0.now ++ 32 ∷ x.1.now) }
+    ensures plain { IfSome result (λ x. AllPass is_plain_octet x.0.now) }
+    ensures some { IfSome result (λ x. 0 < length x.0.now) }
+{
+    let end = text.iter().position(|c| !is_plain(*c))?;
+    if end == 0 || text[end] != b' ' {
         return None;
     }
-    match agent.find_port(name) {
-        Some(port) => Some((port, digits)),
-        None => None,
+    Some((&text[..end], &text[end + 1..]))
+}
+
+/// A line `rx PORT HEX` at the front of a text: its port, how many octets its frame has, and where
+/// the LF is that ends the line.
+#[derive(Clone, Copy)]
+pub struct FrameLine {
+    pub port: u8,
+    pub count: usize,
+    pub end: usize,
+}
+
+/// Reads the line at the front of a text if it is `rx PORT HEX` with one space between words and
+/// no quotes, as most lines are. Writes the octets of the frame into `room`. Returns None for other
+/// lines, and if fewer than 32 octets follow; such lines are read word by word.
+pub fn frame_line(agent: &Agent, text: &[u8], room: &mut [u8; 2048]) -> Option<FrameLine>
+    ensures ends { IfSome result (λ x. EndsAt text.now x.end) }
+    ensures reads { IfSome result (λ x. work_given agent.now (take x.end text.now)
+        ≡ Ok (frame x.port (take x.count room.new))) }
+    ensures room { IfSome result (λ x. x.count ≤ 2048) }
+    ensures exists { IfSome result (λ x. IsPort agent.now x.port) }
+{
+    let rest = behind(text, b"rx ")?;
+    let (name, digits) = plain_word(rest)?;
+    let port = agent.find_port(name)?;
+    let count = decode_line(digits, &mut room[..])?;
+    let end = 4 + name.len() + 2 * count;
+    if count == 0 || end > LONGEST {
+        return None;
     }
+    Some(FrameLine { port, count, end })
 }
 
 /// Reads what a line asks of the agent. `line` is without its LF. Returns the work, whose events
@@ -199,16 +226,6 @@ pub fn read_line<'l>(
 {
     if line.len() > LONGEST {
         return Err(LineFault::TooLong);
-    }
-    // Most lines are frames in this form. Those with a bad digit are read again and refused below.
-    if let Some((port, digits)) = plain_frame(agent, line) {
-        let count = digits.len() / 2;
-        if decode_digits(digits, &mut room[..count]) {
-            return Ok(Work::Frame {
-                port,
-                octets: &room[..count],
-            });
-        }
     }
     if is_skipped_line(line) {
         return Ok(Work::Skip);

@@ -13,6 +13,7 @@ ghost use Rattle.lldp_program.specs.Code.Parts.{output_state, Between};
 
 use crate::device::{DeviceFault, Sink};
 use lldp_engine::{Agent, Frame, LINE_ROOM, LineSink, Marks, Show, Writer};
+use std::fmt;
 
 /// Writes all of the octets.
 pub fn send<W: Sink>(sink: &mut W, octets: &[u8]) -> Result<(), DeviceFault>
@@ -25,6 +26,18 @@ pub fn send<W: Sink>(sink: &mut W, octets: &[u8]) -> Result<(), DeviceFault>
         sent += sink.write(&octets[sent..])?;
     }
     Ok(())
+}
+
+/// Writes text to a borrowed sink.
+#[derive(Drop)]
+pub(crate) struct SinkText<'a, W> {
+    pub(crate) sink: &'a mut W,
+}
+
+impl<W: Sink> fmt::Write for SinkText<'_, W> {
+    fn write_str(&mut self, text: &str) -> fmt::Result {
+        send(self.sink, text.as_bytes()).map_err(|_| fmt::Error)
+    }
 }
 
 /// Writes text to a borrowed sink through a buffer. The end of each text flushes the buffer.

@@ -7,14 +7,14 @@ ghost use Rattle.lldp_engine.specs.Options.{Options, fault_of};
 ghost use Rattle.lldp_program.specs.CommandLine.Arguments.{IsProgramParse};
 ghost use Rattle.lldp_program.specs.Faults.ProgramFault.{status_of};
 ghost use Rattle.lldp_program.specs.Faults.Told.{EndsBy, EndsWellOr, IsTold, stream};
-ghost use Rattle.lldp_program.specs.Program.{FailedBy, HasAnswered, HasRefused, RanAs, RanStreams, RefusesAddress, RefusesOpening};
+ghost use Rattle.lldp_program.specs.Program.{AreWrong, FailedBy, HasAnswered, HasRefused, RanAs, RanStreams, RefusesAddress, RefusesOpening, TellsRefusal};
 ghost use Rattle.lldp_program.specs.CommandLine.Usage.{Asks};
 
 use crate::acceptor::AtPort;
 use crate::arguments::{Listening, listening_of, parse, read_options};
 use crate::device::{Flush, FromReader, Sink, Source, ToWriter};
 use crate::fault::ProgramFault;
-use crate::output::send;
+use crate::output::{SinkText, send};
 use crate::serve::listen;
 use crate::trace::run_trace;
 use clap::error::ErrorKind;
@@ -22,6 +22,7 @@ use clap::{ArgMatches, Error};
 use lldp_engine::Agent;
 use std::alloc::Global;
 use std::convert::AsStr;
+use std::fmt::Write as _;
 use std::io::{Read, Write};
 use std::net::{Net, TcpListener, TcpStream};
 
@@ -57,6 +58,41 @@ const REFUSED: u8 = 2;
 /// Tests show what no clause says: that a reported fault of a write, a flush, a socket or memory
 /// did occur; the texts of help, of the version and of wrong arguments; and that with `--listen`
 /// the traces arrive over connections to 127.0.0.1.
+pub fn run_words<S: AsStr, R: Read, W: Write, E: Sink>(
+    rt: &impl Net<Listener = TcpListener, Stream = TcpStream>,
+    alloc: Global,
+    words: &[S],
+    reader: &mut R,
+    writer: &mut W,
+    faults: &mut E,
+) -> u8
+    ensures status { result ≤ 2 }
+    // The arguments ask for help or the version; or they have no fault, and the program ran with
+    // their options.
+    ensures answered { result ≢ 2 → HasAnswered (map S.text words.now)
+        (R.remaining reader.old) (R.remaining reader.new)
+        (W.contents writer.old) (W.contents writer.new)
+        (stream (E.taken faults.old) (E.failures faults.old))
+        (stream (E.taken faults.new) (E.failures faults.new)) result }
+    // Status 2: the arguments are wrong by `clap`'s specification, or the fault of the arguments or
+    // of the opening was reported. `TellsRefusal` has the reasons.
+    ensures refused { result ≡ 2 → AreWrong (map S.text words.now)
+        ⊎ ((E.place faults.new ≡ E.place faults.old) × TellsRefusal (map S.text words.now)
+        (stream (E.taken faults.old) (E.failures faults.old))
+        (stream (E.taken faults.new) (E.failures faults.new))) }
+    ensures silent { result ≡ 2 →
+        Keeps (R.remaining reader.old) (R.remaining reader.new)
+        × Keeps (W.contents writer.old) (W.contents writer.new) }
+    ensures place { result ≢ 2 → E.place faults.new ≡ E.place faults.old }
+{
+    match parse(alloc, words) {
+        Ok(matches) => run_matches(rt, alloc, &matches, reader, writer, faults),
+        Err(error) => answer_words(&error, writer, faults),
+    }
+}
+
+/// Runs the program as `run_words` does, and writes faults to a writer of std. Such a writer does
+/// not report failures, so two clauses hold for some number of them.
 pub fn run_program<S: AsStr, R: Read, W: Write, E: Write>(
     rt: &impl Net<Listener = TcpListener, Stream = TcpStream>,
     alloc: Global,
@@ -79,13 +115,7 @@ pub fn run_program<S: AsStr, R: Read, W: Write, E: Write>(
         Keeps (R.remaining reader.old) (R.remaining reader.new)
         × Keeps (W.contents writer.old) (W.contents writer.new) }
 {
-    match parse(alloc, words) {
-        Ok(matches) => {
-            let mut faults = ToWriter::new(faults);
-            run_matches(rt, alloc, &matches, reader, writer, &mut faults)
-        }
-        Err(error) => answer_words(&error, writer, faults),
-    }
+    run_words(rt, alloc, words, reader, writer, &mut ToWriter::new(faults))
 }
 
 /// Runs the program with the options that the parsed arguments ask for.
@@ -133,17 +163,19 @@ fn run_matches<R: Read, W: Write, E: Sink>(
 }
 
 /// Reports a fault of the arguments, or writes the help or version that was asked for.
-fn answer_words<W: Write, E: Write>(error: &Error, writer: &mut W, faults: &mut E) -> u8
+fn answer_words<W: Write, E: Sink>(error: &Error, writer: &mut W, faults: &mut E) -> u8
     ensures refused { (kind_of error.now ≢ ErrorKind.DisplayHelp) →
         (kind_of error.now ≢ ErrorKind.DisplayVersion) →
         (result ≡ 2) × Keeps (W.contents writer.old) (W.contents writer.new) }
-    ensures memory { (kind_of error.now ≡ ErrorKind.OutOfMemory) → (failed : ℕ) ×
-        IsTold ProgramFault.Memory
-        (stream (E.contents faults.old) 0) (stream (E.contents faults.new) failed) }
+    ensures memory { (kind_of error.now ≡ ErrorKind.OutOfMemory) →
+        (E.place faults.new ≡ E.place faults.old) × IsTold ProgramFault.Memory
+        (stream (E.taken faults.old) (E.failures faults.old))
+        (stream (E.taken faults.new) (E.failures faults.new)) }
     ensures answered { ((kind_of error.now ≡ ErrorKind.DisplayHelp)
-        ⊎ (kind_of error.now ≡ ErrorKind.DisplayVersion)) → (failed : ℕ) ×
-        EndsWellOr ProgramFault.Write
-        (stream (E.contents faults.old) 0) (stream (E.contents faults.new) failed) result }
+        ⊎ (kind_of error.now ≡ ErrorKind.DisplayVersion)) →
+        (E.place faults.new ≡ E.place faults.old) × EndsWellOr ProgramFault.Write
+        (stream (E.taken faults.old) (E.failures faults.old))
+        (stream (E.taken faults.new) (E.failures faults.new)) result }
     ensures status { result ≤ 2 }
     ensures silent { result ≡ 2 → Keeps (W.contents writer.old) (W.contents writer.new) }
 {
@@ -151,10 +183,10 @@ fn answer_words<W: Write, E: Write>(error: &Error, writer: &mut W, faults: &mut 
         return no_memory(faults);
     }
     if error.use_stderr() {
-        let _ = write!(faults, "{error}");
+        let _ = write!(SinkText { sink: faults }, "{error}");
         return REFUSED;
     }
-    write_help(error, writer, &mut ToWriter::new(faults))
+    write_help(error, writer, faults)
 }
 
 /// Writes and flushes the help or version that was asked for.
@@ -266,12 +298,14 @@ fn finish<E: Sink>(flushed: bool, faults: &mut E) -> u8
 }
 
 /// Reports that there was no memory, and returns the status 2.
-pub fn no_memory<E: Write>(faults: &mut E) -> u8
+pub fn no_memory<E: Sink>(faults: &mut E) -> u8
     ensures status { result ≡ 2 }
-    ensures told { (failed : ℕ) × IsTold ProgramFault.Memory
-        (stream (E.contents faults.old) 0) (stream (E.contents faults.new) failed) }
+    ensures told { IsTold ProgramFault.Memory
+        (stream (E.taken faults.old) (E.failures faults.old))
+        (stream (E.taken faults.new) (E.failures faults.new)) }
+    ensures place { E.place faults.new ≡ E.place faults.old }
 {
-    tell(ProgramFault::Memory, &mut ToWriter::new(faults))
+    tell(ProgramFault::Memory, faults)
 }
 
 /// Writes the line of a fault, or a part of it if a write fails. Returns the status of the fault,

@@ -1,8 +1,8 @@
 //! Runs an agent over a trace.
-ghost use Rattle.std.specs.Prelude.{◌≡◌, ◌<◌, ◌≤◌, ◌+◌, ◌^◌, [], ◌∷◌, length, take, drop, replicate, IfOk};
-ghost use Rattle.lldp_engine.specs.AgentState.{Allows};
+ghost use Rattle.std.specs.Prelude.{◌≡◌, ◌<◌, ◌≤◌, ◌+◌, ◌^◌, [], ◌∷◌, length, take, drop, replicate, IfOk, IfSome, IfNone};
+ghost use Rattle.lldp_engine.specs.AgentState.{Allows, IsPort};
 ghost use Rattle.lldp_text.specs.Answer.{on_ok};
-ghost use Rattle.lldp_engine.specs.Event.{tick, event_of};
+ghost use Rattle.lldp_engine.specs.Event.{tick, frame, event_of};
 ghost use Rattle.lldp_engine.specs.Past.{Past};
 ghost use Rattle.lldp_engine.specs.Standing.{Stands};
 ghost use Rattle.lldp_program.specs.Faults.FaultNumber.{number_of_run_fault};
@@ -10,14 +10,15 @@ ghost use Rattle.lldp_program.specs.Trace.Lines.{ended_lines, unfinished, if_any
 ghost use Rattle.lldp_program.specs.Trace.Work.{work_of, AllowsWork};
 ghost use Rattle.lldp_program.specs.Trace.Items.{happens, items_of_work, items_of, items_of_lines};
 ghost use Rattle.lldp_program.specs.Code.Parts.{RunsItems, Between};
+ghost use Rattle.lldp_program.specs.Code.Plain.{EndsAt};
 ghost use Rattle.lldp_program.specs.Trace.Runs.{EndsTold, HasRun, KeepsOn, read_failures_after, write_failures_after};
 
 use crate::buffer::{hold, read_more};
 use crate::device::{DeviceFault, Sink, Source};
-use crate::line::{LineFault, Work, read_line};
+use crate::line::{LineFault, Work, frame_line, read_line};
 use crate::output::Output;
-use lldp_engine::{Agent, Command, Event};
-use memchr::memchr;
+use lldp_engine::{Agent, Command, Event, Marks};
+use memchr::{memchr, memrchr};
 use thiserror::Error;
 
 const LF: u8 = b'\n';
@@ -61,7 +62,8 @@ fn run_event<W: Sink>(
     ensures { Between W.taken W.failures W.place output.old output.new
         (RunsItems (λ _. happens (event_of event.entry) ∷ []) result agent.old agent.new) }
 {
-    let marks = agent.step(event);
+    let mut marks = Marks::new();
+    agent.step_told(event, &mut marks);
     output.write_marks(agent, &marks)
 }
 
@@ -123,23 +125,60 @@ impl<W: Sink> Run<'_, '_, W> {
         run_work(self.agent, &mut self.output, read)
     }
 
-    /// Does what each line in `octets` asks for, if the line ends with LF. The first `searched`
-    /// octets have no LF. Returns where the unfinished line begins.
-    fn lines(&mut self, octets: &[u8], searched: usize) -> Result<usize, DeviceFault>
-        requires within { searched ≤ length octets.now }
-        requires no_line { ended_lines (take searched octets.now) ≡ [] }
-        ensures rest { IfOk result (λ start. (start ≤ length octets.now)
-            × (drop start octets.now ≡ unfinished octets.now)) }
-        ensures run { Performs W.taken W.failures W.place self.old self.new
-            (λ past. items_of_lines past (ended_lines octets.now)) result }
+    /// Receives a frame, whose octets are the first ones of the room.
+    fn receive(&mut self, port: u8, count: usize) -> Result<(), DeviceFault>
+        requires port { IsPort self.old.agent.now port }
+        requires room { count ≤ 2048 }
+        ensures { Performs W.taken W.failures W.place self.old self.new
+            (λ past. happens (frame port (take count self.old.room)) ∷ []) result }
     {
+        let octets = &self.room[..count];
+        run_event(self.agent, &mut self.output, Event::Frame { port, octets })
+    }
+
+    /// Does what the first line of `text` asks for, if its LF is among the first `held` octets.
+    /// Returns where the LF is, or None if there is none.
+    fn first(&mut self, text: &[u8], held: usize) -> Result<Option<usize>, DeviceFault>
+        requires { held ≤ length text.now }
+        ensures none { IfOk result (λ found. IfNone found (ended_lines (take held text.now) ≡ [])) }
+        ensures ends { IfOk result (λ found. IfSome found (EndsAt (take held text.now))) }
+        ensures run { Performs W.taken W.failures W.place self.old self.new
+            (λ past. items_of_lines past (take 1 (ended_lines (take held text.now)))) result }
+    {
+        if let Some(line) = frame_line(self.agent, text, &mut self.room) {
+            if line.end < held {
+                self.receive(line.port, line.count)?;
+                return Ok(Some(line.end));
+            }
+        }
+        let Some(end) = memchr(LF, &text[..held]) else {
+            return Ok(None);
+        };
+        self.line(&text[..end])?;
+        Ok(Some(end))
+    }
+
+    /// Does what each line in the first `held` octets asks for, if the line ends with LF. The first
+    /// `searched` octets have no LF. Returns where the unfinished line begins.
+    fn lines(&mut self, buffer: &[u8], held: usize, searched: usize) -> Result<usize, DeviceFault>
+        requires within { searched ≤ held }
+        requires held { held ≤ length buffer.now }
+        requires no_line { ended_lines (take searched (take held buffer.now)) ≡ [] }
+        ensures rest { IfOk result (λ start. (start ≤ held)
+            × (drop start (take held buffer.now) ≡ unfinished (take held buffer.now))) }
+        ensures run { Performs W.taken W.failures W.place self.old self.new
+            (λ past. items_of_lines past (ended_lines (take held buffer.now))) result }
+    {
+        // What follows the last LF is not decoded before its line has ended.
+        let Some(last) = memrchr(LF, &buffer[searched..held]) else {
+            return Ok(0);
+        };
         let mut start = 0;
-        let mut from = searched;
-        while let Some(at) = memchr(LF, &octets[from..]) {
-            let end = from + at;
-            self.line(&octets[start..end])?;
-            start = end + 1;
-            from = start;
+        'ended: while start <= searched + last {
+            let Some(end) = self.first(&buffer[start..], held - start)? else {
+                return Ok(start);
+            };
+            start += end + 1;
         }
         Ok(start)
     }
@@ -222,7 +261,7 @@ pub fn run_trace<S: Source, W: Sink>(
             };
         }
         let end = held + n;
-        let Ok(start) = run.lines(&buffer[..end], held) else {
+        let Ok(start) = run.lines(&buffer, end, held) else {
             return Err(RunFault::Write);
         };
         held = hold(&mut buffer, start, end);

@@ -2,6 +2,7 @@ pub mod Msap
 pub mod Events
 pub mod Counted
 pub mod Contents
+pub mod Outcomes
 pub mod Standing
 pub mod Positions
 pub mod Code

@@ -7,11 +7,13 @@ ghost use Rattle.lldp_pdu.specs.Lldpdu.{extent, ttl_of, msap_of};
 ghost use Rattle.lldp_pdu.specs.Fault.{fault_of};
 ghost use Rattle.lldp_pdu.specs.Kept.{kept_of};
 ghost use Rattle.lldp_table.specs.declared.learned.Learned.TheVariants.{New, Refreshed, Dropped};
-ghost use Rattle.lldp_table.specs.Laws.Changes.{a_tick_before, just_stored, sets_limit};
+ghost use Rattle.lldp_table.specs.Laws.Changes.{a_tick_before, just_stored, sets_limit, HoldsOctets, HoldsOthers};
+ghost use Rattle.lldp_table.specs.declared.learned.Outcome.TheVariants.{Added, Changed, Repeated, NoRoom};
+ghost use Rattle.lldp_table.specs.Outcomes.{learned_of, octets_held, store_outcome, outcome_between};
 ghost use Rattle.lldp_table.specs.Events.{Call, learn, forget, purge, tick, set_limit, Neighbor, TableEvent, ticked, aged_out, answer, event_of, events_of, neighbors, too_many_left};
 ghost use Rattle.lldp_table.specs.Contents.{Contents, IsExtent, IsHeld, IsSound};
 ghost use Rattle.lldp_table.specs.Code.Stored.{tag_of};
-ghost use Rattle.lldp_table.specs.Code.Steps.{learn_answer, newly_opened, table_after};
+ghost use Rattle.lldp_table.specs.Code.Steps.{learn_answer, after_learn, newly_opened, table_after};
 ghost use Rattle.lldp_table.specs.Standing.{Stands, ForEachCalls, IsPossible, ArePossible, table_of};
 ghost use Rattle.lldp_table.specs.Positions.{IsLastStored, IsLive, HasRoom, IsNewBefore, WasDropped};
 ghost use Rattle.lldp_table.specs.declared.limits.TheConstants.{MOST_NEIGHBORS};
@@ -145,6 +147,26 @@ pub fn stored_frames_replace_their_name_alone()
         ¬ (answer opened name (events_of opened calls) ≡ Dropped) →
         record (table_of opened (learn name ttl octets ∷ calls)) { neighbors = (table_of opened calls).neighbors }
         ≡ table_of opened calls }
+{}
+
+/// `store` says Added exactly if `learn` says New, and NoRoom exactly if it says Dropped. It says
+/// Repeated exactly if a neighbor with the frame's MSAP identifier is held with the same octets,
+/// and Changed exactly if one is held with others. The octets held before and after say the same.
+#[tactic(auto, using(crate::proofs::Outcomes::stores_tell_what_they_did))]
+pub fn stores_tell_what_they_did()
+    ensures added { (table : Contents) (name : MsapId) (octets : List ℕ) →
+        (store_outcome table name octets ≡ Added) ↔ (learn_answer table name ≡ New) }
+    ensures no_room { (table : Contents) (name : MsapId) (octets : List ℕ) →
+        (store_outcome table name octets ≡ NoRoom) ↔ (learn_answer table name ≡ Dropped) }
+    ensures repeated { (table : Contents) (name : MsapId) (octets : List ℕ) → IsSound table →
+        (store_outcome table name octets ≡ Repeated) ↔ HoldsOctets table name octets }
+    ensures changed { (table : Contents) (name : MsapId) (octets : List ℕ) → IsSound table →
+        (store_outcome table name octets ≡ Changed) ↔ HoldsOthers table name octets }
+    ensures between { (table : Contents) (name : MsapId) (octets : List ℕ) (ttl : ℕ) →
+        store_outcome table name octets ≡ outcome_between (octets_held table name)
+        (octets_held (after_learn table name ttl octets) name) }
+    ensures learned { (table : Contents) (name : MsapId) (octets : List ℕ) →
+        learned_of (store_outcome table name octets) ≡ learn_answer table name }
 {}
 
 /// A dropped frame extends the too-many timer to at least the frame's TTL. Nothing else changes.

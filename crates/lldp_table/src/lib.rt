@@ -16,7 +16,7 @@ mod times;
 
 pub use entries::Entries;
 pub use entry::Entry;
-pub use learned::Learned;
+pub use learned::{Learned, Outcome};
 pub use limits::MOST_NEIGHBORS;
 pub use lldp_pdu::MOST_OCTETS;
 pub use room::Room;

@@ -181,16 +181,22 @@ impl Slot {
         name.chassis == held.chassis && name.port == held.port
     }
 
-    /// Stores a frame in place of the previous one. `tag` is the tag of its MSAP identifier.
-    pub(crate) fn store(&mut self, octets: &[u8], ttl: u16, tag: u32)
+    /// Stores a frame in place of the previous one. `tag` is the tag of its MSAP identifier. Returns
+    /// whether the octets are the same as before.
+    pub(crate) fn store(&mut self, octets: &[u8], ttl: u16, tag: u32) -> bool
         requires short { length octets.now ≤ MOST_OCTETS }
         requires tag { tag ≡ tag_of (msap_of octets.now) }
         ensures octets { self.new.octets ≡ octets.now }
         ensures ttl { self.new.ttl ≡ ttl }
+        ensures same { result ≡ bytes_eq self.old.octets octets.now }
     {
+        self.ttl = ttl;
+        if self.octets() == octets {
+            return true;
+        }
         self.room[..octets.len()].copy_from_slice(octets);
         self.length = octets.len() as u16;
-        self.ttl = ttl;
         self.tag = tag;
+        false
     }
 }

@@ -9,10 +9,11 @@ ghost use Rattle.lldp_table.specs.Code.Steps.{learn_answer, learned_as, after_le
 ghost use Rattle.lldp_table.specs.declared.learned.Learned.TheVariants.{New, Refreshed};
 ghost use Rattle.lldp_table.specs.Events.{Call, learn, forget, purge, tick, set_limit, live, answer, aged_out, events_of};
 ghost use Rattle.lldp_table.specs.Standing.{Stands, ForEachCalls};
+ghost use Rattle.lldp_table.specs.Outcomes.{learned_of, octets_held, outcome_for, store_outcome, outcome_between};
 
 use crate::entries::Entries;
 use crate::entry::Entry;
-use crate::learned::Learned;
+use crate::learned::{Learned, Outcome};
 use crate::limits::MOST_NEIGHBORS;
 use crate::order::{age_out, octets_of, place_of, write_next};
 use crate::queue::Queue;
@@ -89,6 +90,7 @@ impl<A: Allocator> Table<A> {
     /// New if the number of live neighbors is below the current limit, and else Dropped. The stored
     /// octets have the kept TLVs of the frame. The table then matches the list of calls with this
     /// call.
+    #[inline(always)]
     pub fn learn(&mut self, info: &Info<'_>) -> Learned
         requires { length info.now.octets ≤ 1500 }
         ensures answer { result ≡ learn_answer self.old.shown info.now.msap }
@@ -100,20 +102,35 @@ impl<A: Allocator> Table<A> {
         ensures stands { ForEachCalls self.old.shown (λ opened calls.
             Stands opened (learn info.now.msap info.now.ttl info.now.octets ∷ calls) self.new.shown) }
     {
+        self.store(info).learned()
+    }
+
+    /// Does the same as `learn`, and also tells whether a neighbor that was held sent the same
+    /// octets as before.
+    pub fn store(&mut self, info: &Info<'_>) -> Outcome
+        requires { length info.now.octets ≤ 1500 }
+        ensures outcome { result ≡ store_outcome self.old.shown info.now.msap info.now.octets }
+        ensures between { result ≡ outcome_between (octets_held self.old.shown info.now.msap)
+            (octets_held self.new.shown info.now.msap) }
+        ensures after { self.new.shown ≡ after_learn self.old.shown info.now.msap info.now.ttl info.now.octets }
+        ensures extent { IsExtent info.now.msap info.now.ttl info.now.octets }
+        ensures kept { kept_of info.now.octets ≡ info.now.kept }
+        ensures stands { ForEachCalls self.old.shown (λ opened calls.
+            Stands opened (learn info.now.msap info.now.ttl info.now.octets ∷ calls) self.new.shown) }
+    {
         let name = info.msap();
         let tag = mix_name(&name);
         let ttl = info.ttl();
         let octets = info.octets();
         if let Some(at) = self.place(&name, tag) {
-            self.refresh(at, octets, ttl, tag);
-            return Learned::Refreshed;
+            return self.refresh(at, octets, ttl, tag);
         }
         if self.has_room() {
             self.admit(octets, ttl, tag);
-            return Learned::New;
+            return Outcome::Added;
         }
         self.too_many = self.too_many.max(ttl);
-        Learned::Dropped
+        Outcome::NoRoom
     }
 
     /// Returns the neighbor's place in the order, if a neighbor with this MSAP identifier is held.
@@ -127,16 +144,25 @@ impl<A: Allocator> Table<A> {
     }
 
     /// Stores a frame and its TTL for the neighbor at this place, which has the frame's identifier.
-    fn refresh(&mut self, at: usize, octets: &[u8], ttl: u16, tag: u32)
+    /// Tells whether the neighbor's octets changed.
+    fn refresh(&mut self, at: usize, octets: &[u8], ttl: u16, tag: u32) -> Outcome
         requires extent { IsExtent (msap_of octets.now) ttl octets.now }
         requires tag { tag ≡ tag_of (msap_of octets.now) }
         requires there { slice_get (names_of self.old.shown.neighbors) at ≡ Some (msap_of octets.now) }
-        ensures { self.new.shown ≡ learned_as Refreshed self.old.shown (msap_of octets.now) ttl octets.now }
+        ensures after { self.new.shown
+            ≡ learned_as Refreshed self.old.shown (msap_of octets.now) ttl octets.now }
+        ensures outcome { result
+            ≡ outcome_for self.old.shown (octets_held self.old.shown (msap_of octets.now)) octets.now }
     {
         let slot = self.order[at];
-        self.slots.at_mut(slot as usize).store(octets, ttl, tag);
+        let same = self.slots.at_mut(slot as usize).store(octets, ttl, tag);
         self.queue.leave(slot);
         self.queue.enter(slot, ttl);
+        if same {
+            Outcome::Repeated
+        } else {
+            Outcome::Changed
+        }
     }
 
     /// Adds a new neighbor with this frame and its TTL after the others. There must be room.

@@ -1,15 +1,15 @@
 -- Lemmas about the loops that read and write digits in blocks.
 use Rattle.std.proofs.Common.{◌≡◌, ℕ, ◌+◌, ◌*◌, ◌/◌, ◌%◌, ◌<◌, ◌≤◌, ◌-◌, zero, suc, List, Some, ◌++◌, length, drop, take, slice_index, true, Result, Ok, Err, inl, inr, refl, sym, ap, subst, ◌∙◌, arith}
-use Rattle.std.proofs.lemmas.List.{set-get_or, get_or_past}
+use Rattle.std.proofs.lemmas.List.{set-get_or, get_or_past, get_or-take, length-take-le}
 use Rattle.std.proofs.lemmas.List.Elements.{All-get_or}
 use Rattle.std.proofs.lemmas.Bool.{cases_lt}
 use Rattle.std.specs.Prelude.{IsOk}
 use Rattle.std.specs.List.{AllPass}
 use Rattle.std.proofs.lemmas.Simd.{get_or-chunk, get_or-put_chunk_at}
 use Rattle.std.specs.Simd.Lanes.{chunk, put_chunk}
-use Rattle.hex.specs.Hex.{hex_digit_value, is_hex_digit, decode_pairs, encode_with, lower_digits}
+use Rattle.hex.specs.Hex.{hex_digit_value, is_hex_digit, decode_of, decode_pairs, encode_with, lower_digits}
 use Rattle.hex.specs.declared.error.FromHexError.{FromHexError}
-use Rattle.hex.proofs.HexLemmas.{decode_pairs-ok}
+use Rattle.hex.proofs.HexLemmas.{decode_of-even, decode_pairs-ok}
 use Rattle.hex.proofs.Pairs.{prepend, decode_start, decode_step, decode_done, encode_step, encode_done}
 use Rattle.lldp_text.specs.Code.Digits.{IsValue, AreSmall, ArePairs, AreDigits}
 
@@ -63,26 +63,37 @@ block_small s values at many room digits read = λ k. elim (cases_lt k 32) [
   | inr g ↦ rw (get_or_past values k 0 (omega (arith, many))) (omega arith)
 ]
 
--- in a block that is read, each octet is the value of its two digits
-pub pair_at : (s out values octets : List ℕ) (at i : ℕ) → length s ≡ 2 * length out → at + 16 ≤ length out → length octets ≡ 16
-    → ((k : ℕ) → k < 32 → IsValue (slice_index (chunk (2 * at) 32 s) k) (slice_index values k))
-    → ((k : ℕ) → k < 16 → slice_index values (2 * k) < 16 → slice_index values (2 * k + 1) < 16 → slice_index octets k ≡ slice_index values (2 * k) * 16 + slice_index values (2 * k + 1))
-    → AreSmall values → at ≤ i → i < at + 16 → ArePairs s (put_chunk at out octets) i
-pair_at s out values octets at i long room many read joined small from to =
-    let k : ℕ = i - at in
-    let here : i ≡ at + k = omega arith in
-    let high = small (2 * k) in
-    let low = small (2 * k + 1) in
-    let a : 2 * at + 2 * k ≡ 2 * i = omega (arith, here) in
-    let b : 2 * at + (2 * k + 1) ≡ 2 * i + 1 = omega (arith, here) in
-    let one : IsValue (slice_index s (2 * i)) (slice_index values (2 * k)) = rw (get_or-chunk (2 * at) 32 s (2 * k) 0 (omega arith), a) at (read (2 * k) (omega arith)) in
-    let two : IsValue (slice_index s (2 * i + 1)) (slice_index values (2 * k + 1)) = rw (get_or-chunk (2 * at) 32 s (2 * k + 1) 0 (omega arith), b) at (read (2 * k + 1) (omega arith)) in
+-- in a block that is read, each octet is the value of its two digits, if these are digits
+pub pair_at : (s out values octets : List ℕ) (at k : ℕ) → at + 16 ≤ length out → length octets ≡ 16
+    → ((j : ℕ) → j < 32 → IsValue (slice_index (chunk (2 * at) 32 s) j) (slice_index values j))
+    → ((j : ℕ) → j < 16 → slice_index values (2 * j) < 16 → slice_index values (2 * j + 1) < 16 → slice_index octets j ≡ slice_index values (2 * j) * 16 + slice_index values (2 * j + 1))
+    → k < 16 → slice_index values (2 * k) < 16 → slice_index values (2 * k + 1) < 16 → ArePairs s (put_chunk at out octets) (at + k)
+pair_at s out values octets at k room many read joined here high low =
+    let a : 2 * at + 2 * k ≡ 2 * (at + k) = omega arith in
+    let b : 2 * at + (2 * k + 1) ≡ 2 * (at + k) + 1 = omega arith in
+    let one : IsValue (slice_index s (2 * (at + k))) (slice_index values (2 * k)) = rw (get_or-chunk (2 * at) 32 s (2 * k) 0 (omega arith), a) at (read (2 * k) (omega arith)) in
+    let two : IsValue (slice_index s (2 * (at + k) + 1)) (slice_index values (2 * k + 1)) = rw (get_or-chunk (2 * at) 32 s (2 * k + 1) 0 (omega arith), b) at (read (2 * k + 1) (omega arith)) in
     let stored = get_or-put_chunk_at at out octets k 0 (omega (arith, many)) (omega (arith, many)) in
-    let first = known (slice_index s (2 * i)) (slice_index values (2 * k)) one high in
-    let second = known (slice_index s (2 * i + 1)) (slice_index values (2 * k + 1)) two low in
-    let put : slice_index (put_chunk at out octets) i ≡ slice_index values (2 * k) * 16 + slice_index values (2 * k + 1) =
-    ap (λ j. slice_index (put_chunk at out octets) j) here ∙ stored ∙ joined k (omega arith) high low in
+    let first = known (slice_index s (2 * (at + k))) (slice_index values (2 * k)) one high in
+    let second = known (slice_index s (2 * (at + k) + 1)) (slice_index values (2 * k + 1)) two low in
+    let put : slice_index (put_chunk at out octets) (at + k) ≡ slice_index values (2 * k) * 16 + slice_index values (2 * k + 1) = stored ∙ joined k here high low in
     rw (first, second, put) refl
+
+-- the same for a place that is counted from the beginning
+pub block_read : (s out values : List ℕ) (at end : ℕ) → ((k : ℕ) → k < 16 → slice_index values (2 * k) < 16 → slice_index values (2 * k + 1) < 16 → ArePairs s out (at + k))
+    → ((k : ℕ) → k < end → slice_index values k < 16) → (i : ℕ) → at ≤ i → i < at + 16 → 2 * (i - at) + 1 < end → ArePairs s out i
+block_read s out values at end pairs small i from to within =
+    let here : at + (i - at) ≡ i = omega arith in
+    subst (ArePairs s out) here (pairs (i - at) (omega arith) (small (2 * (i - at)) (omega arith)) (small (2 * (i - at) + 1) within))
+
+-- if each pair of digits at the front is read as its octet, the octets are those that `hex` decodes
+pub front_read : (s out : List ℕ) (n : ℕ) → 2 * n ≤ length s → n ≤ length out → ((i : ℕ) → i < n → ArePairs s out i) → decode_of (take (2 * n) s) ≡ Ok (take n out)
+front_read s out n within room all =
+    let long : length (take (2 * n) s) ≡ 2 * n = length-take-le (2 * n) s within in
+    let few : length (take n out) ≡ n = length-take-le n out room in
+    decode_of-even (take (2 * n) s) (omega (arith, long)) ∙ all_read (take (2 * n) s) (take n out) (omega (arith, long, few)) (λ i h.
+    let l : i < n = omega (arith, few) in
+    rw (get_or-take (2 * n) s (2 * i) 0 (omega arith), get_or-take (2 * n) s (2 * i + 1) 0 (omega arith), get_or-take n out i 0 l) (all i l))
 
 -- in a block that is written, each octet is written as its two digits
 pub digits_at : (octets digits hs ls high low both : List ℕ) (at i : ℕ) → length digits ≡ 2 * length octets → at + 16 ≤ length octets → length both ≡ 32

@@ -1,11 +1,13 @@
 -- Vectors whose lanes are computed from the lanes of another vector.
-use Rattle.std.proofs.Common.{◌≡◌, ℕ, zero, suc, ◌+◌, ◌-◌, T, ◌*◌, ◌/◌, ◌%◌, ◌^◌, ◌<◌, Bool, ◌&&◌, true, false, nat_lt, if◌then◌else◌, List, [], ◌∷◌, ◌++◌, map, length, get_or, replicate, cond, leb, eqb, bit_and, bit_or, Option, Some, None, Fits, w8, eqb-true, refl, sym, ap, subst, ◌∙◌, inl, inr, arith}
-use Rattle.std.proofs.lemmas.Bool.{agree_below, agree_below_at, and_parts, cases_lt, leb-false, leb-true}
-use Rattle.std.proofs.lemmas.List.{get_or-map, get_or_past, get_or_append_left, get_or-append_right, drop_more, length-map}
-use Rattle.std.proofs.lemmas.Simd.{map-map, zip2_of_maps, zip2_splat, get_or-zip2, length-zip2, mask_l-mod, get_or_wider, below_from_Fits, Each1-get_or}
-use Rattle.std.proofs.lemmas.Nat.{le_or_l, le_or_r, or_lt}
+use Rattle.std.proofs.Common.{◌≡◌, ℕ, zero, suc, ◌+◌, ◌-◌, T, ◌*◌, ◌/◌, ◌%◌, ◌^◌, ◌<◌, ◌≤◌, min, Bool, ◌&&◌, not, true, false, nat_lt, if◌then◌else◌, List, [], ◌∷◌, ◌++◌, map, length, get_or, replicate, cond, leb, eqb, bit_and, bit_or, Option, Some, None, Fits, w8, eqb-true, refl, sym, ap, subst, ◌∙◌, inl, inr, arith}
+use Rattle.std.proofs.lemmas.Bool.{agree_below, agree_below_at, and_parts, cases_eq, cases_lt, eq-eqb, ne_eqb, leb-false, lt-ltb, ltb-true}
+use Rattle.std.proofs.lemmas.List.{get_or-map, get_or_past, get_or_append_left, get_or-append_right, drop_more, length-map, take_all}
+use Rattle.std.proofs.lemmas.Simd.{map-map, zip2_of_maps, zip2_splat, mask_l-mod, get_or_wider, below_from_Fits, Each1-get_or, first_set_mask_l, tops_compared, zip2_splat_left, run_in_chunk_fails}
+use Rattle.std.proofs.lemmas.Nat.{le_or_l, le_or_r}
 use Rattle.std.specs.Prelude.{◌↔◌}
-use Rattle.std.specs.Simd.Lanes.{zip2, sel_l, mask_l, top, chunk, number_l, digits_l, pick_l, Each1}
+use Rattle.std.specs.List.{prefix_len}
+use lib.Count.{count_trailing_zeros}
+use Rattle.std.specs.Simd.Lanes.{fold_l, zip2, sel_l, mask_l, top, chunk, number_l, digits_l, pick_l, Each1}
 use Rattle.hex.specs.Hex.{hex_digit_value, lower_digits}
 use Rattle.lldp_text.specs.Code.Digits.{IsValue, AreSmall}
 use Rattle.std.proofs.lemmas.Grind.{common_steps}
@@ -76,61 +78,62 @@ octet_at factor v long fits all k h high low =
     get_or-map f (digits_l 65536 16 (number_l 256 v)) k 0 0 h ∙ ap f (pair ∙ numbered)
     ∙ eqb-true _ _ (agree_below_at (octet_test f) (λ _. true) 256 (a * 16 + b) all (omega (arith, high, low)))
 
-at_zip2 : (a b : List ℕ) (k : ℕ) → length a ≡ 32 → length b ≡ 32 → k < 32 → get_or (zip2 bit_or a b) k 0 ≡ bit_or (get_or a k 0) (get_or b k 0)
-at_zip2 a b k la lb h = get_or-zip2 bit_or a b k 0 0 0 (omega (arith, la)) (omega (arith, lb))
+or_zero : (m x y : ℕ) → m ≡ bit_or x y → m ≡ 0 → (x ≡ 0) × (y ≡ 0)
+or_zero m x y is none = (omega (arith, le_or_l x y), omega (arith, le_or_r x y))
 
--- if all lanes of `a | b` are below 16, so are those of a and of b
-pub each_small : (a b : List ℕ) → length a ≡ 32 → length b ≡ 32 → AreSmall (zip2 bit_or a b) → AreSmall a × AreSmall b
-each_small a b la lb all = (
-  λ k. elim (cases_lt k 32) [
-    | inl l ↦ omega (arith, rw (at_zip2 a b k la lb l) at (all k), le_or_l (get_or a k 0) (get_or b k 0))
-    | inr g ↦ rw (get_or_past a k 0 (omega (arith, la))) (omega arith)
-  ],
-  λ k. elim (cases_lt k 32) [
-    | inl l ↦ omega (arith, rw (at_zip2 a b k la lb l) at (all k), le_or_r (get_or a k 0) (get_or b k 0))
-    | inr g ↦ rw (get_or_past b k 0 (omega (arith, lb))) (omega arith)
-  ],
-)
+all_zero : (xs : List ℕ) (start : ℕ) → fold_l bit_or start xs ≡ 0 → (start ≡ 0) × ((k : ℕ) → get_or xs k 0 ≡ 0)
+all_zero [] start e = (e, λ k. refl)
+all_zero (x ∷ xs) start e =
+    let later = all_zero xs (bit_or start x) e in
+    let parts = or_zero _ start x refl later.0 in
+    (parts.0, go parts.1 later.1)
+  where
+    go : x ≡ 0 → ((k : ℕ) → get_or xs k 0 ≡ 0) → (k : ℕ) → get_or (x ∷ xs) k 0 ≡ 0
+    go here rest zero = here
+    go here rest (suc k) = rest k
 
--- if all lanes of a and of b are below 16, so are those of `a | b`
-pub both_small : (a b : List ℕ) → length a ≡ 32 → length b ≡ 32 → AreSmall a × AreSmall b → AreSmall (zip2 bit_or a b)
-both_small a b la lb each = λ k. elim (cases_lt k 32) [
-  | inl l ↦ rw (at_zip2 a b k la lb l) (or_lt 4 (get_or a k 0) (get_or b k 0) (each.0 k) (each.1 k))
-  | inr g ↦ rw (get_or_past (zip2 bit_or a b) k 0 (omega (arith, length-zip2 bit_or a b (la ∙ sym lb), la))) (omega arith)
-]
+zero_all : (xs : List ℕ) → ((k : ℕ) → get_or xs k 0 ≡ 0) → fold_l bit_or 0 xs ≡ 0
+zero_all [] all = refl
+zero_all (x ∷ xs) all = let here : x ≡ 0 = all 0 in rw here (zero_all xs (λ k. all (suc k)))
+
+-- no lane has one of the upper four bits exactly if all lanes are below 16
+pub no_upper_bits : (v : List ℕ) → length v ≡ 32 → Each1 (Fits w8) v → (eqb (fold_l bit_or 0 (zip2 bit_and v (replicate 32 240))) 0 ≡ true) ↔ AreSmall v
+no_upper_bits v long fits =
+    let masked = zip2 bit_and v (replicate 32 240) in
+    let many : length masked ≡ 32 = ap length (zip2_splat bit_and v 32 240 long) ∙ length-map v (λ x. bit_and x 240) ∙ long in
+    let agree = λ (k : ℕ) (l : k < 32). agree_below_at (λ x. eqb (bit_and x 240) 0) (λ x. nat_lt x 16) 256 (get_or v k 0) refl (Each1-get_or (λ x. x < 256) v k 0 (omega (arith, long)) (below_from_Fits w8 v fits)) in (
+      λ none k. elim (cases_lt k 32) [
+        | inl l ↦
+            let here = (all_zero masked 0 (eqb-true _ _ none)).1 k in
+            ltb-true _ _ (sym (agree k l) ∙ eq-eqb _ _ (sym (splat_lane bit_and v 32 240 k long l) ∙ here))
+        | inr g ↦ rw (get_or_past v k 0 (omega (arith, long))) (omega arith)
+      ],
+      λ small. eq-eqb _ _ (zero_all masked (λ k. elim (cases_lt k 32) [
+        | inl l ↦ splat_lane bit_and v 32 240 k long l ∙ eqb-true _ _ (agree k l ∙ lt-ltb _ _ (small k))
+        | inr g ↦ get_or_past masked k 0 (omega (arith, many))
+      ])),
+    )
 
 abbrev at_least : ℕ → ℕ → ℕ
 at_least a b = cond (leb a b) 255 0
 
--- the bit mask of the lanes that are at least n
-abbrev pub not_below : ℕ → List ℕ → ℕ
-not_below n xs = mask_l (map (top 7) (zip2 at_least (replicate (length xs) n) xs))
-
-no_bit : (n x rest : ℕ) → x < n → rest ≡ 0 → cond (top 7 (at_least n x)) 1 0 + 2 * rest ≡ 0
-no_bit n x rest below none = grind (arith, common_steps, leb-true)
-
-none_marked : (n : ℕ) (xs : List ℕ) → ((i : ℕ) → get_or xs i 0 < n) → not_below n xs ≡ 0
-none_marked n [] all = refl
-none_marked n (x ∷ xs) all = no_bit n x (not_below n xs) (all 0) (none_marked n xs (λ i. all (suc i)))
-
-all_below_n : (n : ℕ) (xs : List ℕ) → 0 < n → not_below n xs ≡ 0 → (i : ℕ) → get_or xs i 0 < n
-all_below_n n [] some e i = some
-all_below_n n (x ∷ xs) some e zero = go (leb n x) refl (omega arith)
+-- the lanes before the lowest set bit of the mask are below n
+pub before_mask : (n : ℕ) (v : List ℕ) (r : ℕ) → length v ≡ 32 → r ≡ min (count_trailing_zeros 64 (mask_l (map (top 7) (zip2 at_least (replicate 32 n) v)) % 2 ^ 64)) 32
+    → (k : ℕ) → k < r → get_or v k 0 < n
+before_mask n v r long is k h =
+    let mask : mask_l (map (top 7) (zip2 at_least (replicate 32 n) v)) % 2 ^ 64 ≡ mask_l (map (leb n) v) =
+    ap (λ ms. mask_l ms % 2 ^ 64) (tops_compared w8 leb (replicate 32 n) v ∙ zip2_splat_left leb n 32 v long) ∙ mask_l-mod (map (leb n) v) 64 (omega (arith, length-map v (leb n), long)) in
+    let first = first_set_mask_l (leb n) v 32 long (omega arith) in
+    let whole : chunk 0 32 v ≡ v = take_all 32 v (omega (arith, long)) in
+    let counted : prefix_len (λ x. not (leb n x)) v ≡ prefix_len (λ x. not (leb n x)) (chunk 0 32 v) = ap (prefix_len (λ x. not (leb n x))) (sym whole) in
+    let within : r ≤ prefix_len (λ x. not (leb n x)) v = below (mask_l (map (leb n) v)) _ r first (is ∙ ap (λ m. min (count_trailing_zeros 64 m) 32) mask) in
+    leb-false n (get_or v k 0) (run_in_chunk_fails (leb n) v 0 32 (prefix_len (λ x. not (leb n x)) v) 0 (omega (arith, long)) counted k (omega arith) (omega arith))
   where
-    go : (t : Bool) → leb n x ≡ t → ◌≡◌ {A = ℕ} (cond (top 7 (cond t 255 0)) 1 0) 0 → x < n
-    go true p q = absurd (omega arith)
-    go false p q = leb-false n x p
-all_below_n n (x ∷ xs) some e (suc i) = all_below_n n xs some (omega arith) i
-
--- the mask is 0 exactly if all lanes are below n
-pub empty_mask : (n : ℕ) (xs : List ℕ) → length xs ≡ 32 → 0 < n
-    → (eqb (mask_l (map (top 7) (zip2 at_least (replicate 32 n) xs)) % 2 ^ 64) 0 ≡ true) ↔ ((i : ℕ) → get_or xs i 0 < n)
-empty_mask n xs long some =
-    let fits = mask_l-mod (map (top 7) (zip2 at_least (replicate 32 n) xs)) 64 (omega (arith, length-map (zip2 at_least (replicate 32 n) xs) (top 7), length-zip2 at_least (replicate 32 n) xs (sym long))) in
-    let same = ap (λ m. mask_l (map (top 7) (zip2 at_least (replicate m n) xs))) long in (
-      λ e. all_below_n n xs some (same ∙ sym fits ∙ eqb-true _ _ e),
-      λ all. ap (λ m. eqb m 0) (fits ∙ sym same ∙ none_marked n xs all),
-    )
+    below : (m p r : ℕ) → cond (eqb m 0) 32 (count_trailing_zeros 64 m) ≡ p → r ≡ min (count_trailing_zeros 64 m) 32 → r ≤ p
+    below m p r first is = elim (cases_eq m 0) [
+      | inl e ↦ let t : eqb m 0 ≡ true = eq-eqb m 0 e in omega (arith, is, rw t at first)
+      | inr ne ↦ let t : eqb m 0 ≡ false = ne_eqb m 0 ne in omega (arith, is, rw t at first)
+    ]
 
 -- a shuffle with these places takes the lanes of a and b alternately, a lane of a first
 pub turns_are : (places a b : List ℕ) → length places ≡ 32 → length a ≡ 16
@@ -148,8 +151,3 @@ turns_are places a b many long all k h =
 -- the lower four bits of an octet are its remainder modulo 16
 pub low_bits : (x : ℕ) → x < 256 → bit_and x 15 ≡ x % 16
 low_bits x h = eqb-true _ _ (agree_below_at (λ j. eqb (bit_and j 15) (j % 16)) (λ _. true) 256 x refl h)
-
-pub zeros_small : (n : ℕ) → AreSmall (replicate n 0)
-zeros_small zero k = omega arith
-zeros_small (suc n) zero = omega arith
-zeros_small (suc n) (suc k) = zeros_small n k

@@ -1,7 +1,8 @@
 -- How a text of joined items grows by one item.
-use Rattle.std.proofs.Common.{◌≡◌, ℕ, ◌+◌, ◌<◌, List, [], ◌∷◌, ◌++◌, length, get_or, take, map, refl, ap, sym, ◌∙◌, append_assoc, arith}
+use Rattle.std.proofs.Common.{◌≡◌, ℕ, ◌+◌, ◌<◌, List, [], ◌∷◌, ◌++◌, length, get_or, take, map, refl, ap, sym, ◌∙◌, append_assoc, append-nil, arith}
 use Rattle.std.specs.List.{join_with_byte}
 use Rattle.std.proofs.lemmas.List.{take_more, length-take-le, length-map, map-append}
+use Rattle.hex.specs.Hex.{encode_with, encode_lower}
 use Rattle.lldp_text.specs.Text.{separator}
 use Rattle.std.proofs.lemmas.Grind.{common_steps}
 
@@ -22,3 +23,12 @@ joined_more c f xs i d h = grind (arith, common_steps, length-map, length-take-l
 -- appending a key and then a value is the same as appending both at once
 pub behind : (old mid new k v v' : List ℕ) → mid ≡ old ++ k → new ≡ mid ++ v → v ≡ v' → new ≡ old ++ (k ++ v')
 behind old mid new k v v' a b c = rw (b, a, c) (append_assoc old k v')
+
+-- appending a key and keeping the rest for later
+pub tailed : (old mid k v : List ℕ) → mid ≡ old ++ k → mid ++ v ≡ old ++ (k ++ v)
+tailed old mid k v a = rw a (append_assoc old k v)
+
+-- no octets are written as no digits
+pub nothing_more : (line : List ℕ) → line ++ encode_lower [] ≡ line
+unfolding encode_with
+nothing_more line = append-nil line

@@ -1,6 +1,7 @@
 pub mod Answer
 pub mod Fault
 pub mod Text
+pub mod Tail
 pub mod Words
 pub mod Number
 pub mod Addresses

@@ -1,9 +1,8 @@
 //! Writes System Capabilities.
 ghost use Rattle.std.specs.Prelude.{◌≡◌, ◌+◌, ◌*◌, ◌<◌, ◌≤◌, ◌++◌, length};
-ghost use Rattle.lldp_text.specs.declared.writing.TheConstants.{ROOM};
 ghost use Rattle.lldp_text.specs.Capabilities.{capability_name, is_set, on_or_off, capability_text, capabilities_text};
 
-use crate::writing::Writer;
+use crate::appending::{Append, write_separator};
 use lldp_pdu::Caps;
 
 /// The number of capability bits.
@@ -50,11 +49,11 @@ fn word_of_switch(on: bool) -> &'static [u8]
 }
 
 /// Writes the name of a capability, and whether the capability is enabled.
-fn write_capability(line: &mut Writer, caps: Caps, bit: u8)
-    requires room { length line.old + 12 ≤ ROOM }
+fn write_capability<L: Append>(line: &mut L, caps: Caps, bit: u8)
+    requires room { length (L.held line.old) + 12 ≤ L.most }
     requires known { bit < 16 }
-    ensures value { line.new ≡ line.old ++ capability_text caps bit }
-    ensures len { length line.new ≤ length line.old + 12 }
+    ensures value { L.held line.new ≡ L.held line.old ++ capability_text caps bit }
+    ensures len { length (L.held line.new) ≤ length (L.held line.old) + 12 }
 {
     line.text(name_of_bit(bit));
     line.text(b":");
@@ -62,15 +61,15 @@ fn write_capability(line: &mut Writer, caps: Caps, bit: u8)
 }
 
 /// Writes the available capabilities, separated by commas.
-pub(crate) fn write_capabilities(line: &mut Writer, caps: Caps)
-    requires room { length line.old + 208 ≤ ROOM }
-    ensures value { line.new ≡ line.old ++ capabilities_text caps }
-    ensures len { length line.new ≤ length line.old + 208 }
+pub(crate) fn write_capabilities<L: Append>(line: &mut L, caps: Caps)
+    requires room { length (L.held line.old) + 208 ≤ L.most }
+    ensures value { L.held line.new ≡ L.held line.old ++ capabilities_text caps }
+    ensures len { length (L.held line.new) ≤ length (L.held line.old) + 208 }
 {
     let mut written = 0;
     for bit in 0..BITS {
         if has_bit(caps.available, bit) {
-            line.separator(b',', written);
+            write_separator(line, b',', written);
             write_capability(line, caps, bit);
             written += 1;
         }

@@ -23,9 +23,9 @@
 //! bits, `high + 256 * low`. Its product with 4097 is, modulo 65536,
 //! `high + 256 * (16 * high + low)`, so the upper eight bits are the octet.
 //!
-//! **Wrong digits.** The values of all blocks are combined with `|`, lane by lane. The result is
-//! below 16 exactly if all the values are, so one comparison at the end shows whether any octet was
-//! not a digit. If so, wrong octets may have been written, but no caller reads them.
+//! **Other octets.** The first block in which a value is 16 or more has the end of the digits: a line
+//! feed, if the line has its usual form. So nothing looks for the end of such a line first. After the
+//! last pair, wrong octets may have been written, but no caller reads them.
 //!
 //! **Writing.** The digit of a value up to 9 is the value plus the octet `0`. For a greater value
 //! 39 more is added, so that 10 becomes `a`. The digits of the upper and lower four bits alternate.
@@ -33,9 +33,9 @@
 //! **The last block** begins sixteen octets before the end, so it may overlap the block before it.
 //! Octets in both blocks are read or written twice, with the same result. So no octets are left to
 //! be read or written one by one.
-ghost use Rattle.std.specs.Prelude.{◌≡◌, ℕ, ◌↔◌, ◌<◌, ◌≤◌, ◌+◌, ◌*◌, length, true, slice_index, IsOk, IsTrue};
+ghost use Rattle.std.specs.Prelude.{◌≡◌, ℕ, ◌↔◌, ◌<◌, ◌≤◌, ◌+◌, ◌*◌, length, take, true, slice_index, IfSome, IsOk, IsTrue};
 ghost use Rattle.std.specs.List.{AllPass};
-ghost use Rattle.hex.specs.Hex.{decode_pairs, encode_lower, is_hex_digit, lower_digits};
+ghost use Rattle.hex.specs.Hex.{decode_of, decode_pairs, encode_lower, is_hex_digit, lower_digits};
 ghost use Rattle.lldp_text.specs.Code.Digits.{IsValue, AreSmall, ArePairs, AreDigits};
 
 use std::simd::prelude::*;
@@ -68,36 +68,77 @@ fn octets_of(values: u8x32) -> u8x16
     (pairs >> u16x16::splat(8)).cast::<u8>()
 }
 
-/// Returns the bitwise OR of the two vectors.
-#[inline(always)]
-fn either(a: u8x32, b: u8x32) -> u8x32
-    ensures { AreSmall result ↔ (AreSmall a × AreSmall b) }
-{
-    a | b
-}
-
 /// Returns whether every lane is below 16, as the values of digits are.
 #[inline(always)]
 fn are_small(values: u8x32) -> bool
     ensures { IsTrue result ↔ AreSmall values }
 {
-    values.simd_ge(u8x32::splat(16)).to_bitmask() == 0
+    (values & u8x32::splat(0xf0)).reduce_or() == 0
+}
+
+/// Returns how many lanes come before the first that is 16 or more.
+#[inline(always)]
+fn leading(values: u8x32) -> usize
+    ensures most { result ≤ 32 }
+    ensures small { (k : ℕ) → k < result → slice_index values k < 16 }
+{
+    let others = values.simd_ge(u8x32::splat(16)).to_bitmask();
+    (others.trailing_zeros() as usize).min(32)
 }
 
 /// Decodes the digits of sixteen octets, from octet `at` on. Returns the values of the digits.
 #[inline(always)]
 fn decode_block(digits: &[u8], octets: &mut [u8], at: usize) -> u8x32
     requires fits { at + 16 ≤ length octets.old }
-    requires digits { length digits.now ≡ 2 * length octets.old }
+    requires digits { 2 * at + 32 ≤ length digits.now }
     ensures len { length octets.new ≡ length octets.old }
-    ensures pairs { AreSmall result → (i : ℕ) → at ≤ i → i < at + 16 →
-        ArePairs digits.now octets.new i }
+    ensures pairs { (k : ℕ) → k < 16 → slice_index result (2 * k) < 16 →
+        slice_index result (2 * k + 1) < 16 → ArePairs digits.now octets.new (at + k) }
     ensures small { AllPass is_hex_digit digits.now → AreSmall result }
     ensures rest { (i : ℕ) → i < at → slice_index octets.new i ≡ slice_index octets.old i }
 {
     let values = values_of(u8x32::from_slice(&digits[2 * at..]));
     octets_of(values).copy_to_slice(&mut octets[at..]);
     values
+}
+
+/// Decodes pairs of digits from the front of a text. Returns how many octets these are: all up to
+/// the first octet that is not a digit, or those of the whole blocks.
+fn decode_front(text: &[u8], octets: &mut [u8]) -> usize
+    ensures len { length octets.new ≡ length octets.old }
+    ensures room { result ≤ length octets.new }
+    ensures within { 2 * result ≤ length text.now }
+    ensures pairs { (i : ℕ) → i < result → ArePairs text.now octets.new i }
+    ensures far { AllPass is_hex_digit text.now → 2 * length octets.new ≤ length text.now →
+        length octets.new < result + 16 }
+{
+    let most = text.len().min(2 * octets.len());
+    let mut at = 0;
+    'blocks: while 2 * at + 2 * BLOCK <= most {
+        let values = decode_block(text, octets, at);
+        if !are_small(values) {
+            return at + leading(values) / 2;
+        }
+        at += BLOCK;
+    }
+    at
+}
+
+/// Decodes the digits before the first line feed, as `hex` does. Returns how many octets these are.
+/// Returns None if another octet comes first, if the number of digits is odd, or if the line feed
+/// is not within a whole block of the text and of the room.
+pub fn decode_line(text: &[u8], octets: &mut [u8]) -> Option<usize>
+    ensures len { length octets.new ≡ length octets.old }
+    ensures ends { IfSome result (λ n. 2 * n < length text.now) }
+    ensures line_feed { IfSome result (λ n. slice_index text.now (2 * n) ≡ 10) }
+    ensures room { IfSome result (λ n. n ≤ length octets.new) }
+    ensures octets { IfSome result (λ n. decode_of (take (2 * n) text.now) ≡ Ok (take n octets.new)) }
+{
+    let count = decode_front(text, octets);
+    if 2 * count < text.len() && text[2 * count] == b'\n' {
+        return Some(count);
+    }
+    None
 }
 
 /// Decodes pairs of digits into octets, as `hex` does. Returns true exactly if there are sixteen
@@ -112,13 +153,10 @@ pub fn decode_digits(digits: &[u8], octets: &mut [u8]) -> bool
         return false;
     }
     let last = octets.len() - BLOCK;
-    let mut met = u8x32::splat(0);
-    let mut at = 0;
-    'blocks: while at < last {
-        met = either(met, decode_block(digits, octets, at));
-        at += BLOCK;
+    if decode_front(digits, octets) < last {
+        return false;
     }
-    are_small(either(met, decode_block(digits, octets, last)))
+    are_small(decode_block(digits, octets, last))
 }
 
 /// Returns the digit of each value up to 15.

@@ -1,11 +1,14 @@
 //! Writes chassis IDs and port IDs.
 ghost use Rattle.std.specs.Prelude.{◌≡◌, ◌+◌, ◌*◌, ◌≤◌, ◌++◌, length, codes, slice_index, drop};
 ghost use Rattle.lldp_pdu.specs.Msap.{IsIdentifier};
+ghost use Rattle.lldp_text.specs.Tail.{tail_text, tail_room};
 ghost use Rattle.lldp_text.specs.declared.writing.TheConstants.{ROOM, VALUE_ROOM};
 ghost use Rattle.lldp_text.specs.Addresses.{address_kind};
 ghost use Rattle.lldp_text.specs.Identifier.{chassis_kind, port_kind, unhandled_text, network_text, identifier_text, chassis_text, port_text};
 
 use crate::addresses::{AddressKind, kind_of_address, write_ipv4, write_ipv6, write_mac};
+use crate::appending::Append;
+use crate::tail::{Tail, begin_text};
 use crate::writing::Writer;
 
 /// The kind of an identifier.
@@ -52,66 +55,104 @@ fn kind_of_port(subtype: u8) -> IdentifierKind
     }
 }
 
-/// Writes a whole body in hexadecimal, including its subtype.
-fn write_unhandled(line: &mut Writer, body: &[u8])
+/// Begins a whole body in hexadecimal, including its subtype.
+#[inline(always)]
+fn begin_unhandled<'a, L: Append>(line: &mut L, body: &'a [u8]) -> Tail<'a>
     requires fits { length body.now ≤ 256 }
-    requires room { length line.old + VALUE_ROOM ≤ ROOM }
-    ensures value { line.new ≡ line.old ++ unhandled_text body.now }
-    ensures len { length line.new ≤ length line.old + VALUE_ROOM }
+    requires room { length (L.held line.old) + 64 ≤ L.most }
+    ensures value { L.held line.new ++ tail_text result ≡ L.held line.old ++ unhandled_text body.now }
+    ensures len { length (L.held line.new) ≤ length (L.held line.old) + 10 }
+    ensures tail { tail_room result ≤ 512 }
 {
     line.text(b"unhandled=");
-    line.hex(body);
+    Tail::Hex(body)
 }
 
-/// Writes an IP address, or the whole body if the family is unknown or the length is wrong for it.
-fn write_network(line: &mut Writer, body: &[u8])
+/// Writes an IP address, or begins the whole body if the family is unknown or the length is wrong
+/// for it.
+#[inline(always)]
+fn begin_network<'a, L: Append>(line: &mut L, body: &'a [u8]) -> Tail<'a>
     requires fits { IsIdentifier body.now }
-    requires room { length line.old + VALUE_ROOM ≤ ROOM }
-    ensures value { line.new ≡ line.old
+    requires room { length (L.held line.old) + 64 ≤ L.most }
+    ensures value { L.held line.new ++ tail_text result ≡ L.held line.old
         ++ network_text (address_kind (slice_index body.now 1) (length (drop 2 body.now)))
         body.now }
-    ensures len { length line.new ≤ length line.old + VALUE_ROOM }
+    ensures len { length (L.held line.new) ≤ length (L.held line.old) + 64 }
+    ensures tail { tail_room result ≤ 512 }
 {
     let address = &body[2..];
     match kind_of_address(body[1], address.len()) {
         AddressKind::Ipv4 => {
             line.text(b"ip=");
             write_ipv4(line, address);
+            Tail::Hex(&[])
         }
         AddressKind::Ipv6 => {
             line.text(b"ip=");
             write_ipv6(line, address);
+            Tail::Hex(&[])
         }
-        AddressKind::Unknown => write_unhandled(line, body),
+        AddressKind::Unknown => begin_unhandled(line, body),
     }
 }
 
-/// Writes an identifier of this kind as key and value. The body begins with its subtype.
-fn write_identifier(line: &mut Writer, kind: IdentifierKind, body: &[u8])
+/// Begins an identifier of this kind as key and value. The body begins with its subtype.
+#[inline(always)]
+fn begin_identifier<'a, L: Append>(line: &mut L, kind: IdentifierKind, body: &'a [u8]) -> Tail<'a>
     requires fits { IsIdentifier body.now }
-    requires room { length line.old + VALUE_ROOM ≤ ROOM }
-    ensures value { line.new ≡ line.old ++ identifier_text kind body.now }
-    ensures len { length line.new ≤ length line.old + VALUE_ROOM }
+    requires room { length (L.held line.old) + 64 ≤ L.most }
+    ensures value { L.held line.new ++ tail_text result
+        ≡ L.held line.old ++ identifier_text kind body.now }
+    ensures len { length (L.held line.new) ≤ length (L.held line.old) + 64 }
+    ensures whole { length (L.held line.new) + tail_room result
+        ≤ length (L.held line.old) + VALUE_ROOM }
 {
     let identifier = &body[1..];
     match kind {
-        IdentifierKind::Component => line.escaped_value(b"component=", identifier),
-        IdentifierKind::InterfaceAlias => line.escaped_value(b"ifalias=", identifier),
-        IdentifierKind::PortComponent => line.escaped_value(b"portcomp=", identifier),
+        IdentifierKind::Component => begin_text(line, b"component=", identifier),
+        IdentifierKind::InterfaceAlias => begin_text(line, b"ifalias=", identifier),
+        IdentifierKind::PortComponent => begin_text(line, b"portcomp=", identifier),
         IdentifierKind::Mac => {
             if identifier.len() == 6 {
                 line.text(b"mac=");
                 write_mac(line, identifier);
+                Tail::Hex(&[])
             } else {
-                write_unhandled(line, body);
+                begin_unhandled(line, body)
             }
         }
-        IdentifierKind::Network => write_network(line, body),
-        IdentifierKind::InterfaceName => line.escaped_value(b"ifname=", identifier),
-        IdentifierKind::CircuitId => line.escaped_value(b"circuit=", identifier),
-        IdentifierKind::Local => line.escaped_value(b"local=", identifier),
-        IdentifierKind::Other => write_unhandled(line, body),
+        IdentifierKind::Network => begin_network(line, body),
+        IdentifierKind::InterfaceName => begin_text(line, b"ifname=", identifier),
+        IdentifierKind::CircuitId => begin_text(line, b"circuit=", identifier),
+        IdentifierKind::Local => begin_text(line, b"local=", identifier),
+        IdentifierKind::Other => begin_unhandled(line, body),
     }
+}
+
+/// Begins a chassis ID of 2 to 256 octets as key and value: writes its head and returns its tail.
+#[inline(always)]
+pub fn begin_chassis<'a, L: Append>(line: &mut L, body: &'a [u8]) -> Tail<'a>
+    requires fits { IsIdentifier body.now }
+    requires room { length (L.held line.old) + 64 ≤ L.most }
+    ensures value { L.held line.new ++ tail_text result ≡ L.held line.old ++ chassis_text body.now }
+    ensures len { length (L.held line.new) ≤ length (L.held line.old) + 64 }
+    ensures whole { length (L.held line.new) + tail_room result
+        ≤ length (L.held line.old) + VALUE_ROOM }
+{
+    begin_identifier(line, kind_of_chassis(body[0]), body)
+}
+
+/// Begins a port ID of 2 to 256 octets as key and value: writes its head and returns its tail.
+#[inline(always)]
+pub fn begin_port<'a, L: Append>(line: &mut L, body: &'a [u8]) -> Tail<'a>
+    requires fits { IsIdentifier body.now }
+    requires room { length (L.held line.old) + 64 ≤ L.most }
+    ensures value { L.held line.new ++ tail_text result ≡ L.held line.old ++ port_text body.now }
+    ensures len { length (L.held line.new) ≤ length (L.held line.old) + 64 }
+    ensures whole { length (L.held line.new) + tail_room result
+        ≤ length (L.held line.old) + VALUE_ROOM }
+{
+    begin_identifier(line, kind_of_port(body[0]), body)
 }
 
 /// Writes a chassis ID of 2 to 256 octets as key and value. The text has at most 1,050 octets.
@@ -121,7 +162,8 @@ pub fn write_chassis(line: &mut Writer, body: &[u8])
     ensures value { line.new ≡ line.old ++ chassis_text body.now }
     ensures len { length line.new ≤ length line.old + VALUE_ROOM }
 {
-    write_identifier(line, kind_of_chassis(body[0]), body);
+    let tail = begin_chassis(line, body);
+    line.tail(tail);
 }
 
 /// Writes a port ID of 2 to 256 octets as key and value. The text has at most 1,050 octets.
@@ -131,5 +173,6 @@ pub fn write_port(line: &mut Writer, body: &[u8])
     ensures value { line.new ≡ line.old ++ port_text body.now }
     ensures len { length line.new ≤ length line.old + VALUE_ROOM }
 {
-    write_identifier(line, kind_of_port(body[0]), body);
+    let tail = begin_port(line, body);
+    line.tail(tail);
 }

@@ -3,6 +3,7 @@
 #![tactic(auto)]
 
 mod addresses;
+mod appending;
 mod capabilities;
 mod digits;
 mod fault;
@@ -13,14 +14,17 @@ mod management_address;
 mod numbers;
 mod printable;
 mod splitting;
+mod tail;
 mod writing;
 
 pub use addresses::{write_ipv4, write_mac};
-pub use digits::{decode_digits, encode_digits};
+pub use appending::{Append, HEAD_ROOM, Head};
+pub use digits::{decode_digits, decode_line, encode_digits};
 pub use fault::CommandFault;
-pub use identifier::{write_chassis, write_port};
-pub use kept_tlv::write_kept_tlv;
+pub use identifier::{begin_chassis, begin_port, write_chassis, write_port};
+pub use kept_tlv::{begin_kept_tlv, write_kept_tlv};
 pub use numbers::number;
 pub use printable::is_printable_text;
 pub use splitting::{Words, split, split_at_bare};
+pub use tail::Tail;
 pub use writing::{LINE_ROOM, Line, ROOM, Writer};

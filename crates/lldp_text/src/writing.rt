@@ -2,9 +2,12 @@
 ghost use Rattle.std.specs.Prelude.{◌≡◌, ◌+◌, ◌*◌, ◌≤◌, ◌∷◌, ◌++◌, [], length, decimal};
 ghost use Rattle.hex.specs.Hex.{encode_lower};
 ghost use Rattle.std.specs.List.{list_all};
-ghost use Rattle.lldp_text.specs.Text.{is_plain, escape, escaped, separator};
+ghost use Rattle.lldp_text.specs.Tail.{tail_text, tail_room};
+ghost use Rattle.lldp_text.specs.Text.{is_plain, escape, escaped};
 
+use crate::appending::{Append, write_decimal};
 use crate::digits::encode_digits;
+use crate::tail::Tail;
 use arrayvec::ArrayVec;
 use std::marker::Model;
 
@@ -40,7 +43,7 @@ impl Model for Writer {
 
 /// Returns whether escaping leaves each of these octets unchanged. The loop does not end early:
 /// without branches it can check many octets at a time.
-fn are_plain(octets: &[u8]) -> bool
+pub(crate) fn are_plain(octets: &[u8]) -> bool
     ensures { result ≡ list_all is_plain octets.now }
 {
     let mut all = true;
@@ -95,17 +98,6 @@ impl Writer {
         self.len = end;
     }
 
-    /// Writes a separator if `before`, the number of items already written, is not 0.
-    pub fn separator(&mut self, between: u8, before: usize)
-        requires { length self.old + 1 ≤ ROOM }
-        ensures value { self.new ≡ self.old ++ separator between before }
-        ensures len { length self.new ≤ length self.old + 1 }
-    {
-        if before > 0 {
-            self.text(&[between]);
-        }
-    }
-
     /// Writes octets as lower-case hexadecimal digits.
     pub fn hex(&mut self, octets: &[u8])
         requires { length self.old + 2 * length octets.now ≤ ROOM }
@@ -152,18 +144,20 @@ impl Writer {
         ensures value { self.new ≡ self.old ++ decimal n }
         ensures len { length self.new ≤ length self.old + 10 }
     {
-        let mut digits = itoa::Buffer::new();
-        self.text(digits.format(n).as_bytes());
+        write_decimal(self, n);
     }
 
-    /// Writes a key and, in escaped form, a text.
-    pub fn escaped_value(&mut self, key: &[u8], text: &[u8])
-        requires { length self.old + length key.now + 4 * length text.now ≤ ROOM }
-        ensures value { self.new ≡ self.old ++ (key.now ++ escaped text.now) }
-        ensures len { length self.new ≤ length self.old + length key.now + 4 * length text.now }
+    /// Writes the tail of a value.
+    #[inline(always)]
+    pub(crate) fn tail(&mut self, tail: Tail<'_>)
+        requires { length self.old + tail_room tail ≤ ROOM }
+        ensures value { self.new ≡ self.old ++ tail_text tail.entry }
+        ensures len { length self.new ≤ length self.old + tail_room tail.entry }
     {
-        self.text(key);
-        self.escaped(text);
+        match tail {
+            Tail::Escaped(octets) => self.escaped(octets),
+            Tail::Hex(octets) => self.hex(octets),
+        }
     }
 
     /// Returns all octets written so far.
@@ -171,5 +165,19 @@ impl Writer {
         ensures { result.now ≡ self.now }
     {
         &self.room[..self.len]
+    }
+}
+
+impl Append for Writer {
+    ghost held = { λ line. line };
+
+    ghost most = { 8192 };
+
+    fn text(&mut self, octets: &[u8]) {
+        Writer::text(self, octets);
+    }
+
+    fn hex(&mut self, octets: &[u8]) {
+        Writer::hex(self, octets);
     }
 }

@@ -15,6 +15,7 @@
 SIZE(place, 16) SIZE(examined, 64) SIZE(kept, 32) SIZE(capabilities, 4) SIZE(management, 40) SIZE(tlv, 24)
 SIZE(machine, 12) SIZE(text, 16) SIZE(options, 72) SIZE(agent, 16) SIZE(mark, 2) SIZE(marks, 129) SIZE(ticks_taken, 8)
 SIZE(news, 40) SIZE(held, 72) SIZE(statistics_told, 36) SIZE(configuration_told, 96) SIZE(lines, 16)
+SIZE(chassis_told, 524)
 
 /* ---- NULL ---------------------------------------------------------------------------------------------------------- */
 
@@ -58,14 +59,16 @@ static uint8_t *room_at(uint8_t *at)
     }
 
 /* The build of the Rust crate searches the archive for these words, and reads the number after them. */
-static const volatile struct {
+static const struct {
     char words[20];
     uint32_t number;
 } version = {"liblldpa version", LLDPA_VERSION};
 
 uint32_t lldpa_version(void)
 {
-    return version.number;
+    const uint32_t *number = &version.number;
+    __asm__("" : "+r"(number)); /* so that the words stay in the archive */
+    return *number;
 }
 
 CHECKED(uint8_t, lldpa_fault_text, (uint32_t fault, uint8_t *room, size_t room_length, size_t *length),
@@ -197,6 +200,9 @@ CHECKED(uint8_t, lldpa_statistics, (const lldpa_agent *agent, uint32_t port, lld
         agent == NULL || told == NULL, LLDPA_NULL, (COPY(agent), port, told))
 
 CHECKED(uint8_t, lldpa_configuration, (const lldpa_agent *agent, lldpa_configuration_told *told),
+        agent == NULL || told == NULL, LLDPA_NULL, (COPY(agent), told))
+
+CHECKED(uint8_t, lldpa_chassis, (const lldpa_agent *agent, lldpa_chassis_told *told),
         agent == NULL || told == NULL, LLDPA_NULL, (COPY(agent), told))
 
 CHECKED(uint8_t, lldpa_command,

@@ -307,7 +307,10 @@ typedef struct lldpa_options {
     uint32_t reinit;         /* reinitDelay in seconds, 1 to 10 */
 } lldpa_options;
 
-/* Begin with these: no ports, no hostname, the MAC address 00:00:00:00:00:00, and the defaults of the program lldpa. */
+/*
+ * Begin with these: no ports, no hostname, the MAC address 00:00:00:00:00:00, and the defaults of the program lldpa. The
+ * System Description is "lldpa"; the command `configure system description "TEXT"` of lldpa_command sets another one.
+ */
 #define LLDPA_OPTIONS_INIT                                                                                              \
     { sizeof(lldpa_options), NULL, 0, { NULL, 0 }, { 0, 0, 0, 0, 0, 0 }, { 0, 0, 0, 0 }, false, false, LLDPA_STATION,   \
       32, 5, 4, 2 }
@@ -360,7 +363,7 @@ typedef struct lldpa_ticks_taken {
 /*
  * Reports to the agent that `count` seconds have passed. The call stops early after the first second at which a port
  * sends or a neighbor ages out. Returns 0 or LLDPA_NOT_OPEN.
- *   count  the seconds that passed; do not pass LLDPA_NEVER, which could take minutes
+ *   count  the seconds that passed; LLDPA_NEVER waits for the next event, and ends soon if nothing is ever due
  *   marks  the frames to send at the last second counted, on success
  *   told   written on success. Send the frames of marks; then, if told->taken is less than count, call lldpa_ticks
  *          again for the remaining seconds. The neighbors that aged out had told->taken seconds left before the call.
@@ -403,7 +406,8 @@ typedef struct lldpa_news {
  * Passes to the agent a frame that a port received. You may pass any octets: if they are not an LLDP frame, nothing
  * changes. Returns 0, LLDPA_NOT_OPEN or LLDPA_NO_PORT. First report the seconds that passed before the frame arrived
  * (lldpa_ticks): the neighbor's time to live starts at this call, and seconds that you report later reduce it. A full
- * table accepts no new neighbor, but the neighbors in it are still refreshed.
+ * table accepts no new neighbor, but the neighbors in it are still refreshed. Your own frame becomes a neighbor too, so
+ * do not pass frames that you sent.
  *   port   the number of the port, from 0, in the order of the options
  *   marks  the frames to send, on success
  *   news   what the frame did, on success; or NULL
@@ -411,11 +415,15 @@ typedef struct lldpa_news {
 uint8_t lldpa_frame(lldpa_agent *agent, uint32_t port, const uint8_t *octets, size_t length, lldpa_marks *marks,
                     lldpa_news *news);
 
-/* Reports that the link of a port came up or went down. port, marks and the results are as for lldpa_frame. */
+/*
+ * Reports that the link of a port came up or went down. A port whose link is down neither sends nor receives, but keeps
+ * its neighbors until they age out. port, marks and the results are as for lldpa_frame.
+ */
 uint8_t lldpa_link(lldpa_agent *agent, uint32_t port, bool up, lldpa_marks *marks);
 
 /*
- * Disables every port. Call it before you close the agent, and send the frames of marks: lldpa_close sends none.
+ * Disables every port, which also removes all neighbors. Call it before you close the agent, and send the frames of
+ * marks: lldpa_close sends none.
  * Returns 0 or LLDPA_NOT_OPEN.
  *   marks  on success: a shutdown frame on each port that was active, and no other frame
  */
@@ -482,6 +490,21 @@ typedef struct lldpa_configuration_told {
 /* Writes the settings of an agent. Returns 0 or LLDPA_NOT_OPEN; told is written on success. */
 uint8_t lldpa_configuration(const lldpa_agent *agent, lldpa_configuration_told *told);
 
+/* What an agent says about its host. */
+typedef struct lldpa_chassis_told {
+    uint8_t mac[6];             /* the source address and the Chassis ID of each frame */
+    uint8_t role;               /* LLDPA_STATION, LLDPA_BRIDGE or LLDPA_ROUTER */
+    bool managed;               /* whether there is a management address */
+    uint8_t management[4];      /* the IPv4 management address, or zeros */
+    uint8_t hostname_length;    /* the number of octets of hostname */
+    uint8_t description_length; /* the number of octets of description */
+    uint8_t hostname[255];      /* the System Name: printable ASCII, then zeros */
+    uint8_t description[255];   /* the System Description: printable ASCII, then zeros */
+} lldpa_chassis_told;
+
+/* Writes what an agent says about its host. Returns 0 or LLDPA_NOT_OPEN; told is written on success. */
+uint8_t lldpa_chassis(const lldpa_agent *agent, lldpa_chassis_told *told);
+
 /* What a command shows. */
 #define LLDPA_SHOW_NOTHING 0 /* the command changed something */
 #define LLDPA_SHOW_NEIGHBORS 1
@@ -530,7 +553,12 @@ uint8_t lldpa_show_lines(const lldpa_agent *agent, uint32_t show, uint32_t from,
                          lldpa_lines *told);
 
 /*
- * Writes the frame that a mark asks for, with the current settings. Send it on the port of the mark.
+ * Writes the frame that a mark asks for, with the current settings. Send it on the port of the mark. A frame has the
+ * destination 01-80-C2-00-00-0E, the agent's MAC address as source, the EtherType 88-CC and the LLDPDU, and is not
+ * padded to 60 octets: the driver does that. The Chassis ID is the MAC address (subtype 4), and the Port ID the name of
+ * the port (subtype 5). An ordinary frame then has the time to live, a Port Description (the port's name again), System
+ * Name (the hostname), System Description, System Capabilities (by the role) and, if there is one, the Management
+ * Address. A shutdown frame has a time to live of 0 and no further TLVs.
  *   mark    LLDPA_ORDINARY or LLDPA_SHUTDOWN
  *   room    LLDPA_FRAME_ROOM octets are always enough
  *   length  the number of octets of the frame, on success

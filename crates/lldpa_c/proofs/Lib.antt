@@ -5,6 +5,8 @@ pub mod ByHand
 pub mod Coming
 pub mod Ticking
 pub mod Dueness
+pub mod Stillness
 pub mod Newly
-pub mod Stepping
 pub mod Disabling
+pub mod Items
+pub mod Rows

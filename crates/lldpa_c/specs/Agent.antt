@@ -1,5 +1,5 @@
 -- The contract of events that C passes to an agent.
-use Rattle.std.specs.Prelude.{◌≡◌, ℕ, true, false, List, map}
+use Rattle.std.specs.Prelude.{◌≡◌, ℕ, true, false, List}
 use Rattle.std.specs.List.{AllByRecursion}
 use Rattle.lldp_transmit.specs.declared.event.Mark.{Mark}
 use Rattle.lldp_engine.specs.AgentState.{AgentState, IsPort, Allows}
@@ -13,7 +13,7 @@ use Rattle.lldpa_c.specs.declared.agent.Happening.{Happening}
 use Rattle.lldpa_c.specs.declared.agent.Happening.TheVariants.{Frame, Link}
 use Rattle.lldpa_c.specs.declared.holder.LldpaAgent.{LldpaAgent}
 use Rattle.lldpa_c.specs.declared.marks.LldpaMarks.{LldpaMarks}
-use Rattle.lldpa_c.specs.Marks.{numbered, marks_told}
+use Rattle.lldpa_c.specs.Marks.{TellsMarks}
 
 -- the event for a frame or a link change on a port
 abbrev pub happening_on : ℕ → Happening → Event
@@ -35,7 +35,7 @@ pub record Takes (before : LldpaAgent) (event : Event) (after : LldpaAgent) (tol
   pub open_after : after.is_open ≡ true
   pub allowed : Allows before.held.agent event
   pub sent : List (ℕ × Mark)
-  pub told_are : marks_told told ≡ map numbered sent
+  pub told_are : TellsMarks sent told
   pub steps : Steps before.held.agent event after.held.agent sent
 
 -- An open agent applies an allowed event. Otherwise nothing changes, and `answer` says why.

@@ -1,5 +1,5 @@
 -- The contract of commands that C passes to an agent.
-use Rattle.std.specs.Prelude.{◌≡◌, ℕ, ◌==◌, true, false, List, [], map, Option, Some, None, Result, Ok, Err, if◌then◌else◌}
+use Rattle.std.specs.Prelude.{◌≡◌, ℕ, ◌==◌, true, false, List, [], Option, Some, None, Result, Ok, Err, if◌then◌else◌}
 use Rattle.lldp_transmit.specs.declared.event.Mark.{Mark}
 use Rattle.lldp_text.specs.declared.fault.CommandFault.{CommandFault}
 use Rattle.lldp_engine.specs.declared.command.Show.{Show}
@@ -10,7 +10,7 @@ use Rattle.lldp_engine.specs.Event as event
 use Rattle.lldp_engine.specs.Given.{command_given}
 use Rattle.lldpa_c.specs.declared.holder.LldpaAgent.{LldpaAgent}
 use Rattle.lldpa_c.specs.declared.marks.LldpaMarks.{LldpaMarks}
-use Rattle.lldpa_c.specs.Marks.{numbered, marks_told}
+use Rattle.lldpa_c.specs.Marks.{TellsMarks}
 use Rattle.lldpa_c.specs.Faults.{command_fault_number}
 use Rattle.lldpa_c.specs.Agent.{Steps}
 
@@ -33,7 +33,7 @@ show_numbered n =
 -- the setting was applied, and the frames to send were written to the struct for C
 pub record CarriesOut (setting : event.Setting) (agent after : AgentState) (told : LldpaMarks) : Type 0 where
   pub sent : List (ℕ × Mark)
-  pub told_are : marks_told told ≡ map numbered sent
+  pub told_are : TellsMarks sent told
   pub steps : Steps agent (event.set setting) after sent
 
 -- If the command has a fault, the fault's number is returned and nothing changes. For a show, the
@@ -42,7 +42,7 @@ abbrev pub Obeys : Result command.Command CommandFault → AgentState → ℕ �
 Obeys (Err fault) agent show told answer after show_after told_after =
     (answer ≡ command_fault_number fault) × (after ≡ agent) × (show_after ≡ show) × (told_after ≡ told)
 Obeys (Ok (command.show what)) agent show told answer after show_after told_after =
-    (answer ≡ 0) × (after ≡ agent) × (show_after ≡ show_number what) × (marks_told told_after ≡ [])
+    (answer ≡ 0) × (after ≡ agent) × (show_after ≡ show_number what) × TellsMarks [] told_after
 Obeys (Ok (command.set setting)) agent show told answer after show_after told_after =
     (answer ≡ 0) × (show_after ≡ 0) × CarriesOut setting agent after told_after
 

@@ -1,5 +1,5 @@
 -- An agent leaves: its ports are disabled one after another.
-use Rattle.std.specs.Prelude.{◌≡◌, ℕ, zero, suc, ◌+◌, ◌&&◌, Bool, true, false, List, [], ◌∷◌, ◌++◌, length, map}
+use Rattle.std.specs.Prelude.{◌≡◌, ℕ, zero, suc, ◌+◌, ◌&&◌, Bool, true, false, List, [], ◌∷◌, ◌++◌, length}
 use Rattle.std.specs.List.{AllByRecursion}
 use Rattle.lldp_transmit.specs.declared.event.Mark.{Mark}
 use Rattle.lldp_transmit.specs.declared.event.Mark.TheVariants.{Shutdown}
@@ -12,7 +12,7 @@ use Rattle.lldp_engine.specs.Status.{transmits}
 use Rattle.lldp_engine.specs.Code.Step.{agent_after, agent_marks}
 use Rattle.lldpa_c.specs.declared.holder.LldpaAgent.{LldpaAgent}
 use Rattle.lldpa_c.specs.declared.marks.LldpaMarks.{LldpaMarks}
-use Rattle.lldpa_c.specs.Marks.{numbered, marks_told}
+use Rattle.lldpa_c.specs.Marks.{TellsMarks}
 
 -- the event that disables a port
 abbrev pub disables : ℕ → Event
@@ -54,5 +54,5 @@ pub record Leaves (before after : AgentState) (sent : List (ℕ × Mark)) : Type
 -- The ports are disabled if the handle is open. Otherwise nothing is written.
 pub record Left (before : LldpaAgent) (marks_before : LldpaMarks) (answer : ℕ) (after : LldpaAgent) (marks : LldpaMarks) : Type 0 where
   pub left : before.is_open ≡ true → (answer ≡ 0) × (after.is_open ≡ true)
-      × ((sent : List (ℕ × Mark)) × (marks_told marks ≡ map numbered sent) × Leaves before.held.agent after.held.agent sent)
+      × ((sent : List (ℕ × Mark)) × TellsMarks sent marks × Leaves before.held.agent after.held.agent sent)
   pub closed : before.is_open ≡ false → (answer ≡ 102) × (after.is_open ≡ false) × (marks ≡ marks_before)

@@ -16,12 +16,13 @@ pub mod Filled
 pub mod Filling
 pub mod Texts
 pub mod News
-pub mod NewsStep
 pub mod Leaving
 pub mod Values
 pub mod Laws
 pub mod Ticks
 pub mod Held
 pub mod Due
+pub mod Still
 pub mod Settings
+pub mod Chassis
 pub mod Numbers

@@ -1,5 +1,5 @@
 -- The frames to send, in the struct for C.
-use Rattle.std.specs.Prelude.{ℕ, List, take}
+use Rattle.std.specs.Prelude.{◌≡◌, ℕ, List, length, map, take}
 use Rattle.lldp_transmit.specs.declared.event.Mark.{Mark}
 use Rattle.lldpa_c.specs.declared.marks.LldpaMark.{LldpaMark}
 use Rattle.lldpa_c.specs.declared.marks.LldpaMarks.{LldpaMarks}
@@ -9,6 +9,7 @@ use Rattle.lldpa_c.specs.Machine.{mark_number}
 abbrev pub numbered : ℕ × Mark → LldpaMark
 numbered x = record { port = x.0; mark = mark_number x.1 }
 
--- the frames to send: the first `count` items of the struct
-abbrev pub marks_told : LldpaMarks → List LldpaMark
-marks_told t = take t.count t.items
+-- The frames to send are the first `count` items of the struct.
+pub record TellsMarks (sent : List (ℕ × Mark)) (told : LldpaMarks) : Type 0 where
+  pub count : told.count ≡ length sent
+  pub items : take told.count told.items ≡ map numbered sent

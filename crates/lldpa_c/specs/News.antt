@@ -1,62 +1,55 @@
--- The news of a frame: what the frame does, in the struct for C.
-use Rattle.std.specs.Prelude.{◌≡◌, ℕ, ◌+◌, ◌==◌, ◌≤◌, ◌&&◌, Bool, nat_lt, List, length, find, Option, Some, None, slice_get, if◌then◌else◌}
-use Rattle.std.specs.Option.{option_map}
-use Rattle.std.specs.Str.{bytes_eq}
-use Rattle.lldp_pdu.specs.declared.fault.PduFault.{PduFault}
+-- The news of a frame: what its step tells, in the struct for C.
+use Rattle.std.specs.Prelude.{◌≡◌, ℕ, ◌+◌, ◌≤◌, if◌then◌else◌, List, length, Option, Some, None}
 use Rattle.lldp_pdu.specs.FaultNumber.{pdu_fault_number}
 use Rattle.lldp_pdu.specs.Msap.{MsapId}
-use Rattle.lldp_pdu.specs.Frame.{lldpdu_of}
-use Rattle.lldp_pdu.specs.Fault.{fault_of}
-use Rattle.lldp_pdu.specs.Lldpdu.{extent, ttl_of, msap_of}
-use Rattle.lldp_table.specs.Contents.{Contents, is_named, IsSound}
-use Rattle.lldp_engine.specs.AgentState.{AgentState, PortState}
-use Rattle.lldp_engine.specs.Status.{receives}
+use Rattle.lldp_table.specs.declared.learned.Outcome.{Outcome}
+use Rattle.lldp_table.specs.declared.learned.Outcome.TheVariants.{Added, Changed, Repeated, NoRoom}
+use Rattle.lldp_engine.specs.Told.{Told, nothing, deaf, not_lldp, refused, stored, left}
 use Rattle.lldpa_c.specs.declared.place.LldpaPlace.{LldpaPlace}
 use Rattle.lldpa_c.specs.declared.news.LldpaNews.{LldpaNews}
-use Rattle.lldpa_c.specs.declared.news.TheConstants.{DEAF, NOT_LLDP, REFUSED, NEW, CHANGED, SAME, DROPPED, GONE, UNKNOWN}
+use Rattle.lldpa_c.specs.declared.news.TheConstants.{NOT_LLDP, DEAF, REFUSED, NEW, CHANGED, SAME, DROPPED, GONE, UNKNOWN}
+use Rattle.lldpa_c.specs.Examined.{chassis_place, port_place}
 use Rattle.lldpa_c.specs.Place.{octets_at}
 
--- the stored octets of the neighbor with this MSAP identifier, if the table has that neighbor
-abbrev pub stored_of : Contents → MsapId → Option (List ℕ)
-stored_of table name = option_map (λ neighbor. neighbor.octets) (find (is_named name) table.neighbors)
+-- the number of what a frame with a TTL above 0 did
+abbrev pub outcome_number : Outcome → ℕ
+outcome_number Added = NEW
+outcome_number Changed = CHANGED
+outcome_number Repeated = SAME
+outcome_number NoRoom = DROPPED
 
--- the news for a TTL above 0: the neighbor sent the same or different octets, is new, or is dropped
-abbrev pub life_news : Contents → List ℕ → Option (List ℕ) → ℕ
-life_news table octets (Some stored) = if bytes_eq stored octets then SAME else CHANGED
-life_news table octets None = if nat_lt (length table.neighbors) table.limit then NEW else DROPPED
+-- the number of what is told; only another event than a frame tells nothing
+abbrev pub news_number : Told → ℕ
+news_number nothing = NOT_LLDP
+news_number not_lldp = NOT_LLDP
+news_number deaf = DEAF
+news_number (refused fault) = REFUSED
+news_number (stored msap outcome) = outcome_number outcome
+news_number (left msap held) = if held then GONE else UNKNOWN
 
--- the news for a TTL of 0: the neighbor is held and leaves, or is not held
-abbrev pub leave_news : Option (List ℕ) → ℕ
-leave_news (Some stored) = GONE
-leave_news None = UNKNOWN
+-- the number of the fault that is told, or 0
+abbrev pub news_fault : Told → ℕ
+news_fault nothing = 0
+news_fault not_lldp = 0
+news_fault deaf = 0
+news_fault (refused fault) = pdu_fault_number fault
+news_fault (stored msap outcome) = 0
+news_fault (left msap held) = 0
 
--- the news of an LLDPDU, given its first fault if it has one
-abbrev pub pdu_news : Contents → List ℕ → Option PduFault → ℕ
-pdu_news table pdu (Some fault) = REFUSED
-pdu_news table pdu None =
-    if ttl_of pdu == 0 then leave_news (stored_of table (msap_of pdu))
-    else life_news table (extent pdu) (stored_of table (msap_of pdu))
-
--- the news of a frame, given its LLDPDU if it is an LLDP frame
-abbrev pub frame_news : Contents → Option (List ℕ) → ℕ
-frame_news table None = NOT_LLDP
-frame_news table (Some pdu) = pdu_news table pdu (fault_of pdu)
-
--- the port may receive, and its link is up
-abbrev pub hears : PortState → Bool
-hears port = receives port.status && port.machine.up
-
--- The news of a frame on a port: always DEAF if the port may not receive or its link is down.
-abbrev pub news_on : PortState → List ℕ → ℕ
-news_on port frame = if hears port then frame_news port.table (lldpdu_of frame) else DEAF
-
--- the LLDPDU of a frame, if the port receives the frame and it is an LLDP frame
-abbrev pub heard_pdu : PortState → List ℕ → Option (List ℕ)
-heard_pdu port frame = if hears port then lldpdu_of frame else None
+-- the MSAP identifier that is told, if an LLDPDU without a fault was received
+abbrev pub news_name : Told → Option MsapId
+news_name (stored msap outcome) = Some msap
+news_name (left msap held) = Some msap
+news_name told = None
 
 -- converts a range of the LLDPDU to the range of the same octets in the frame
 abbrev pub in_frame : LldpaPlace → LldpaPlace
 in_frame place = record { start = 14 + place.start; length = place.length }
+
+-- the ranges are those of these identifiers in a frame
+pub record PlacesName (told : LldpaNews) (name : MsapId) : Type 0 where
+  pub chassis : told.chassis ≡ in_frame (chassis_place name)
+  pub port : told.port ≡ in_frame (port_place name)
 
 -- the ranges contain the bodies of these identifiers
 pub record HoldsName (frame : List ℕ) (told : LldpaNews) (name : MsapId) : Type 0 where
@@ -70,22 +63,10 @@ pub record TellsNoName (told : LldpaNews) : Type 0 where
   pub chassis : told.chassis ≡ record { start = 0; length = 0 }
   pub port : told.port ≡ record { start = 0; length = 0 }
 
--- The report on a frame that arrives on a port: what the frame does, the number of the LLDPDU's
--- fault or 0, and the ranges of the identifiers if an LLDPDU without a fault is received.
-pub record Reports (port : PortState) (frame : List ℕ) (told : LldpaNews) : Type 0 where
-  pub what : told.what ≡ news_on port frame
-  pub none : heard_pdu port frame ≡ None → (told.fault ≡ 0) × TellsNoName told
-  pub refused : (pdu : List ℕ) (fault : PduFault) → heard_pdu port frame ≡ Some pdu → fault_of pdu ≡ Some fault →
-      (told.fault ≡ pdu_fault_number fault) × TellsNoName told
-  pub named : (pdu : List ℕ) → heard_pdu port frame ≡ Some pdu → fault_of pdu ≡ None →
-      (told.fault ≡ 0) × HoldsName frame told (msap_of pdu)
-
--- `Reports` for the port with this number
-abbrev pub ReportsAt : AgentState → ℕ → List ℕ → LldpaNews → Type 0
-ReportsAt agent number frame told = (port : PortState) → slice_get agent.ports number ≡ Some port → Reports port frame told
-
--- if a port receives an LLDPDU without a fault, the port's table is sound
-abbrev pub HearsSound : AgentState → ℕ → List ℕ → Type 0
-HearsSound agent number frame =
-    (port : PortState) (pdu : List ℕ) → slice_get agent.ports number ≡ Some port → heard_pdu port frame ≡ Some pdu →
-    fault_of pdu ≡ None → IsSound port.table
+-- The report on a frame of which this is told: what the frame did, the number of the LLDPDU's fault
+-- or 0, and the ranges of the identifiers if an LLDPDU without a fault was received.
+pub record Reports (told : Told) (frame : List ℕ) (news : LldpaNews) : Type 0 where
+  pub what : news.what ≡ news_number told
+  pub fault : news.fault ≡ news_fault told
+  pub none : news_name told ≡ None → TellsNoName news
+  pub named : (name : MsapId) → news_name told ≡ Some name → HoldsName frame news name

@@ -19,6 +19,7 @@ use Rattle.lldpa_c.specs.Frame.{mark_numbered}
 use Rattle.lldpa_c.specs.Command.{show_number, show_numbered}
 use Rattle.lldpa_c.specs.Settings.{status_number}
 use Rattle.lldpa_c.specs.Opening.{role_numbered}
+use Rattle.lldpa_c.specs.Chassis.{role_number}
 
 -- the item with this number, if the items are numbered from `first` on
 abbrev pub item_numbered : {A : Type 0} → ℕ → List A → ℕ → Option A
@@ -51,4 +52,5 @@ pub record AreTold : Type 0 where
   pub news : NOT_LLDP ∷ DEAF ∷ REFUSED ∷ NEW ∷ CHANGED ∷ SAME ∷ DROPPED ∷ GONE ∷ UNKNOWN ∷ []
       ≡ 1 ∷ 2 ∷ 3 ∷ 4 ∷ 5 ∷ 6 ∷ 7 ∷ 8 ∷ 9 ∷ []
   pub statuses : map status_number (status.RxAndTx ∷ status.RxOnly ∷ status.TxOnly ∷ status.Disabled ∷ []) ≡ 0 ∷ 1 ∷ 2 ∷ 3 ∷ []
+  pub roles : map role_number (role.Station ∷ role.Bridge ∷ role.Router ∷ []) ≡ 0 ∷ 1 ∷ 2 ∷ []
   pub never : NEVER ≡ 4294967295

@@ -1,5 +1,5 @@
 -- The contract of ticks: each tick is one second that passes.
-use Rattle.std.specs.Prelude.{◌≡◌, ℕ, zero, suc, ◌+◌, ◌<◌, ◌≤◌, true, false, List, [], ◌∷◌, length, map}
+use Rattle.std.specs.Prelude.{◌≡◌, ℕ, zero, suc, ◌+◌, ◌<◌, ◌≤◌, true, false, List, [], ◌∷◌, length}
 use Rattle.lldp_transmit.specs.declared.event.Mark.{Mark}
 use Rattle.lldp_engine.specs.AgentState.{AgentState, PortState}
 use Rattle.lldp_engine.specs.Event.{tick}
@@ -10,7 +10,7 @@ use Rattle.lldp_engine.specs.Code.Step.{agent_after, agent_marks}
 use Rattle.lldpa_c.specs.declared.holder.LldpaAgent.{LldpaAgent}
 use Rattle.lldpa_c.specs.declared.marks.LldpaMarks.{LldpaMarks}
 use Rattle.lldpa_c.specs.declared.ticks.LldpaTicks.{LldpaTicks}
-use Rattle.lldpa_c.specs.Marks.{numbered, marks_told}
+use Rattle.lldpa_c.specs.Marks.{TellsMarks}
 
 -- how many neighbors these ports hold
 abbrev pub held_by : List PortState → ℕ
@@ -65,7 +65,7 @@ pub record Takes (asked taken : ℕ) (before after : AgentState) (sent : List (�
 pub record TicksTaken (before : LldpaAgent) (asked : ℕ) (marks_before : LldpaMarks) (told_before : LldpaTicks) (answer : ℕ)
     (after : LldpaAgent) (marks : LldpaMarks) (told : LldpaTicks) : Type 0 where
   pub taken : before.is_open ≡ true → (answer ≡ 0) × (after.is_open ≡ true)
-      × ((sent : List (ℕ × Mark)) × (marks_told marks ≡ map numbered sent)
+      × ((sent : List (ℕ × Mark)) × TellsMarks sent marks
       × Takes asked told.taken before.held.agent after.held.agent sent told.aged_out)
   pub closed : before.is_open ≡ false →
       (answer ≡ 102) × (after.is_open ≡ false) × (marks ≡ marks_before) × (told ≡ told_before)

@@ -2,14 +2,15 @@
 ghost use Rattle.std.specs.Prelude.{◌≡◌, false};
 ghost use Rattle.lldp_engine.specs.Event.{event_of, frame, link};
 ghost use Rattle.lldpa_c.specs.Agent.{Answers, happening_on};
-ghost use Rattle.lldpa_c.specs.News.{ReportsAt};
-ghost use Rattle.lldpa_c.specs.NewsStep.{TellsStepAt};
+ghost use Rattle.lldp_engine.specs.Told.{Tells};
+ghost use Rattle.lldp_engine.specs.Code.Telling.{agent_told};
+ghost use Rattle.lldpa_c.specs.News.{Reports};
 
 use crate::answer::{NO_PORT, NOT_OPEN, OK};
 use crate::holder::LldpaAgent;
 use crate::marks::{LldpaMarks, tell};
 use crate::news::{LldpaNews, news_of};
-use lldp_engine::Event;
+use lldp_engine::{Event, Marks};
 use std::alloc::Global;
 
 /// A frame that a port received, or a link that came up (true) or went down.
@@ -48,7 +49,8 @@ fn take_on(
         handle.put(agent);
         return NO_PORT;
     }
-    let sent = agent.step(happening.on(port as u8));
+    let mut sent = Marks::new();
+    agent.step_told(happening.on(port as u8), &mut sent);
     handle.put(agent);
     tell(&sent, marks);
     OK
@@ -63,7 +65,7 @@ pub extern "C" fn lldpa_frame(
     octets: &[u8],
     marks: &mut LldpaMarks,
 ) -> u8
-    ensures { Answers agent.old (frame port octets.now) marks.old result agent.new marks.new }
+    ensures answer { Answers agent.old (frame port octets.now) marks.old result agent.new marks.new }
 {
     take_on(alloc, agent, port, Happening::Frame(octets), marks)
 }
@@ -79,9 +81,10 @@ pub extern "C" fn lldpa_frame_news(
     news: &mut LldpaNews,
 ) -> u8
     ensures answer { Answers agent.old (frame port octets.now) marks.old result agent.new marks.new }
-    ensures news { result ≡ 0 → ReportsAt agent.old.held.agent port octets.now news.new }
-    ensures step { result ≡ 0 →
-        TellsStepAt agent.old.held.agent agent.new.held.agent port octets.now news.new.what }
+    ensures news { result ≡ 0 → Reports (agent_told (frame port octets.now) agent.old.held.agent)
+        octets.now news.new }
+    ensures step { result ≡ 0 → Tells (frame port octets.now) agent.old.held.agent agent.new.held.agent
+        (agent_told (frame port octets.now) agent.old.held.agent) }
     ensures refused { ¬ (result ≡ 0) → news.new ≡ news.old }
 {
     let Some(mut held) = agent.take(alloc) else {
@@ -92,10 +95,11 @@ pub extern "C" fn lldpa_frame_news(
         return NO_PORT;
     }
     let port = port as u8;
-    *news = news_of(&held, port, octets);
-    let sent = held.step(Event::Frame { port, octets });
+    let mut sent = Marks::new();
+    let told = held.step_told(Event::Frame { port, octets }, &mut sent);
     agent.put(held);
     tell(&sent, marks);
+    *news = news_of(&told);
     OK
 }
 
@@ -108,7 +112,7 @@ pub extern "C" fn lldpa_link(
     up: bool,
     marks: &mut LldpaMarks,
 ) -> u8
-    ensures { Answers agent.old (link port up) marks.old result agent.new marks.new }
+    ensures answer { Answers agent.old (link port up) marks.old result agent.new marks.new }
 {
     take_on(alloc, agent, port, Happening::Link(up), marks)
 }

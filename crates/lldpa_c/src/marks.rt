@@ -1,6 +1,6 @@
 //! The frames to send, in a form for C.
 ghost use Rattle.std.specs.Prelude.{◌≡◌, map};
-ghost use Rattle.lldpa_c.specs.Marks.{marks_told, numbered};
+ghost use Rattle.lldpa_c.specs.Marks.{TellsMarks};
 
 use crate::machine::mark_number;
 use lldp_engine::Marks;
@@ -23,7 +23,7 @@ pub struct LldpaMarks {
 
 /// Writes the frames to send into the struct for C.
 pub(crate) fn tell(sent: &Marks, told: &mut LldpaMarks)
-    ensures { marks_told told.new ≡ map numbered sent.now.items }
+    ensures { TellsMarks sent.now.items told.new }
 {
     let mut items = told.items;
     let all = sent.as_slice();

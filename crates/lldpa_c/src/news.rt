@@ -1,24 +1,16 @@
-//! Finds out what a frame will do to an agent.
-ghost use Rattle.std.specs.Prelude.{◌≡◌, None, Some, IfNone, IfSome};
-ghost use Rattle.lldp_pdu.specs.declared.fault.PduFault.{PduFault as Fault};
-ghost use Rattle.lldp_pdu.specs.FaultNumber.{pdu_fault_number};
-ghost use Rattle.lldp_pdu.specs.Fault.{fault_of};
-ghost use Rattle.lldp_pdu.specs.Lldpdu.{msap_of};
+//! Writes what a frame did.
+ghost use Rattle.std.specs.Prelude.{◌≡◌, Some, None};
+ghost use Rattle.lldp_pdu.specs.Msap.{MsapId};
 ghost use Rattle.lldp_pdu.specs.View.{msap_view};
-ghost use Rattle.lldp_table.specs.Contents.{IsSound};
-ghost use Rattle.lldp_table.specs.Msap.{same_msap};
-ghost use Rattle.lldp_engine.specs.AgentState.{IsPort};
-ghost use Rattle.lldp_engine.specs.Status.{receives};
-ghost use Rattle.lldpa_c.specs.Examined.{chassis_place, port_place};
-ghost use Rattle.lldpa_c.specs.News.{stored_of, life_news, leave_news, pdu_news, in_frame, TellsNoName, ReportsAt, HearsSound};
+ghost use Rattle.lldp_engine.specs.Told.{told_of};
+ghost use Rattle.lldpa_c.specs.News.{outcome_number, news_number, news_fault, news_name, PlacesName, TellsNoName};
 
 use crate::examine::TLV_HEADER;
 use crate::frame::HEADER;
 use crate::place::LldpaPlace;
-use lldp_engine::{Agent, Status};
-use lldp_pdu::{Examined, Info, Msap, examine, frame_pdu};
-use lldp_table::Table;
-use std::alloc::Global;
+use lldp_engine::Told;
+use lldp_pdu::Msap;
+use lldp_table::Outcome;
 
 /// The octets are not an LLDP frame.
 pub const NOT_LLDP: u32 = 1;
@@ -83,8 +75,7 @@ fn unnamed(what: u32, fault: u32) -> LldpaNews
 fn named(what: u32, name: &Msap<'_>) -> LldpaNews
     ensures what { result.what ≡ what }
     ensures fault { result.fault ≡ 0 }
-    ensures chassis { result.chassis ≡ in_frame (chassis_place (msap_view name.now)) }
-    ensures port { result.port ≡ in_frame (port_place (msap_view name.now)) }
+    ensures name { PlacesName result (msap_view name.now) }
 {
     LldpaNews {
         chassis: LldpaPlace {
@@ -100,88 +91,32 @@ fn named(what: u32, name: &Msap<'_>) -> LldpaNews
     }
 }
 
-fn receives(status: Status) -> bool
-    ensures { result ≡ receives status }
+/// Returns the number of what a frame with a TTL above 0 did.
+fn outcome_number(outcome: Outcome) -> u32
+    ensures { result ≡ outcome_number outcome }
 {
-    matches!(status, Status::RxAndTx | Status::RxOnly)
-}
-
-fn is_same(one: &Msap<'_>, other: &Msap<'_>) -> bool
-    ensures { result ≡ same_msap (msap_view one.now) (msap_view other.now) }
-{
-    one.chassis == other.chassis && one.port == other.port
-}
-
-/// Returns the stored octets of the neighbor with this MSAP identifier, if the table has it.
-fn stored<'a>(table: &'a Table<Global>, name: &Msap<'_>) -> Option<&'a [u8]>
-    ensures none { IfNone result (stored_of table.now.shown (msap_view name.now) ≡ None) }
-    ensures some { IfSome result (λ octets. stored_of table.now.shown (msap_view name.now)
-        ≡ Some octets.now) }
-    ensures sound { IsSound table.now.shown }
-{
-    for entry in table.entries() {
-        if is_same(name, &entry.msap()) {
-            return Some(entry.octets());
-        }
-    }
-    None
-}
-
-/// Returns what an LLDPDU with a TTL above 0 does to a table, as one of the numbers above.
-fn life_news(table: &Table<Global>, info: &Info<'_>) -> u32
-    ensures news { result ≡ life_news table.now.shown info.now.octets
-        (stored_of table.now.shown info.now.msap) }
-    ensures sound { IsSound table.now.shown }
-{
-    match stored(table, &info.msap()) {
-        Some(octets) if octets == info.octets() => SAME,
-        Some(_) => CHANGED,
-        None if table.len() < table.limit() => NEW,
-        None => DROPPED,
+    match outcome {
+        Outcome::Added => NEW,
+        Outcome::Changed => CHANGED,
+        Outcome::Repeated => SAME,
+        Outcome::NoRoom => DROPPED,
     }
 }
 
-/// Returns what a shutdown LLDPDU does to a table, as one of the numbers above.
-fn leave_news(table: &Table<Global>, name: &Msap<'_>) -> u32
-    ensures news { result ≡ leave_news (stored_of table.now.shown (msap_view name.now)) }
-    ensures sound { IsSound table.now.shown }
+/// Returns the news of a frame, from what its step told.
+pub(crate) fn news_of(told: &Told<'_>) -> LldpaNews
+    ensures what { result.what ≡ news_number (told_of told.now) }
+    ensures fault { result.fault ≡ news_fault (told_of told.now) }
+    ensures none { news_name (told_of told.now) ≡ None → TellsNoName result }
+    ensures named { (name : MsapId) → news_name (told_of told.now) ≡ Some name →
+        PlacesName result name }
 {
-    match stored(table, name) {
-        Some(_) => GONE,
-        None => UNKNOWN,
-    }
-}
-
-/// Returns the news of an LLDPDU that a port with this table receives.
-fn pdu_news(table: &Table<Global>, pdu: &[u8]) -> LldpaNews
-    ensures what { result.what ≡ pdu_news table.now.shown pdu.now (fault_of pdu.now) }
-    ensures refused { (fault : Fault) → fault_of pdu.now ≡ Some fault →
-        (result.fault ≡ pdu_fault_number fault) × TellsNoName result }
-    ensures fault { fault_of pdu.now ≡ None → result.fault ≡ 0 }
-    ensures chassis { fault_of pdu.now ≡ None →
-        result.chassis ≡ in_frame (chassis_place (msap_of pdu.now)) }
-    ensures port { fault_of pdu.now ≡ None →
-        result.port ≡ in_frame (port_place (msap_of pdu.now)) }
-    ensures sound { fault_of pdu.now ≡ None → IsSound table.now.shown }
-{
-    match examine(pdu) {
-        Err(fault) => unnamed(REFUSED, u32::from(fault.number())),
-        Ok(Examined::Shutdown(name)) => named(leave_news(table, &name), &name),
-        Ok(Examined::Info(info)) => named(life_news(table, &info), &info.msap()),
-    }
-}
-
-/// Returns the news of a frame with these octets that arrives on a port.
-pub(crate) fn news_of(agent: &Agent, port: u8, octets: &[u8]) -> LldpaNews
-    requires { IsPort agent.now port }
-    ensures news { ReportsAt agent.now port octets.now result }
-    ensures sound { HearsSound agent.now port octets.now }
-{
-    if !receives(agent.status(port)) || !agent.is_up(port) {
-        return unnamed(DEAF, 0);
-    }
-    match frame_pdu(octets) {
-        Some(pdu) => pdu_news(agent.table(port), pdu),
-        None => unnamed(NOT_LLDP, 0),
+    match told {
+        Told::Nothing | Told::NotLldp => unnamed(NOT_LLDP, 0),
+        Told::Deaf => unnamed(DEAF, 0),
+        Told::Refused(fault) => unnamed(REFUSED, u32::from(fault.number())),
+        Told::Stored { name, outcome } => named(outcome_number(*outcome), name),
+        Told::Left { name, held: true } => named(GONE, name),
+        Told::Left { name, held: false } => named(UNKNOWN, name),
     }
 }

@@ -7,6 +7,7 @@ ghost use Rattle.lldpa_c.specs.Ticks.{neighbors_held, AgesOut, Takes, TicksTaken
 use crate::answer::{NOT_OPEN, OK};
 use crate::holder::LldpaAgent;
 use crate::marks::{LldpaMarks, tell};
+use crate::still::is_still;
 use lldp_engine::{Agent, Event, Marks};
 use std::alloc::Global;
 
@@ -50,6 +51,10 @@ fn take_ticks(agent: &mut Agent, count: u32) -> (Marks, LldpaTicks)
     let mut taken = 0;
     let mut aged_out = 0;
     while taken < count && aged_out == 0 && sent.is_empty() {
+        if is_still(agent) {
+            let taken = count;
+            return (sent, LldpaTicks { taken, aged_out });
+        }
         (sent, aged_out) = tick_once(agent);
         taken += 1;
     }

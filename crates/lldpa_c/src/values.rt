@@ -1,15 +1,14 @@
 //! Writes TLVs and texts as `show neighbors` does.
-ghost use Rattle.std.specs.Prelude.{◌≡◌, ◌≤◌, ◌<◌, ◌*◌, [], Some, IsTrue, length, take, drop};
+ghost use Rattle.std.specs.Prelude.{◌≡◌, ◌≤◌, ◌<◌, ◌+◌, ◌*◌, ◌++◌, [], Some, IsTrue, length, take, drop};
+ghost use Rattle.lldp_text.specs.Tail.{tail_text, tail_room};
 ghost use Rattle.lldp_text.specs.Text.{escaped};
 ghost use Rattle.lldpa_c.specs.Answer.{answer_of};
 ghost use Rattle.lldpa_c.specs.Values.{may_write, value_of, tlv_value, value_checks, escape_checks};
 
-use crate::answer::OUT_OF_RANGE;
-use crate::giving::give;
-use lldp_engine::Writer;
+use crate::answer::{NO_ROOM, OK, OUT_OF_RANGE};
 use lldp_pdu::tlv_type::{CHASSIS_ID, ORGANIZATIONALLY_SPECIFIC, PORT_ID, TIME_TO_LIVE};
 use lldp_pdu::{Seen, Tlv};
-use lldp_text::{write_chassis, write_kept_tlv, write_port};
+use lldp_text::{Append, Head, Tail, begin_chassis, begin_kept_tlv, begin_port};
 
 /// The greatest length of a TLV's body, in octets.
 const MOST_BODY: usize = 511;
@@ -30,44 +29,45 @@ fn may_write(kind: u32, body: &[u8]) -> bool
     none.keeps(&Tlv { kind, body })
 }
 
-/// Writes a TLV as text to an empty line.
-fn write_value(line: &mut Writer, tlv: Tlv<'_>)
-    requires empty { line.old ≡ [] }
+/// Begins a TLV's text in an empty head. Returns what follows the head.
+fn begin_value<'a>(head: &mut Head, tlv: Tlv<'a>) -> Tail<'a>
+    requires empty { head.old ≡ [] }
     requires may { IsTrue (may_write tlv.kind tlv.body.now) }
-    ensures value { line.new ≡ value_of tlv.entry.kind tlv.entry.body.now }
-    ensures short { length line.new ≤ 1058 }
+    ensures value { head.new ++ tail_text result ≡ value_of tlv.entry.kind tlv.entry.body.now }
+    ensures short { length head.new + tail_room result ≤ 1058 }
 {
     match tlv.kind {
         CHASSIS_ID => {
-            line.text(b"chassis.");
-            write_chassis(line, tlv.body);
+            head.text(b"chassis.");
+            begin_chassis(head, tlv.body)
         }
         PORT_ID => {
-            line.text(b"port.");
-            write_port(line, tlv.body);
+            head.text(b"port.");
+            begin_port(head, tlv.body)
         }
-        _ => write_kept_tlv(line, tlv),
+        _ => begin_kept_tlv(head, tlv),
     }
 }
 
-/// Writes a TLV as text into the caller's buffer.
-// Not inlined: this function's stack frame exceeds a page. When it was inlined, LLVM moved a branch
-// of the caller before the loop that probes pages. The loop overwrote a register of that branch.
-#[inline(never)]
-fn give_value(tlv: Tlv<'_>, room: &mut [u8], written: &mut usize) -> u8
-    requires { IsTrue (may_write tlv.kind tlv.body.now) }
-    ensures fits { length (value_of tlv.entry.kind tlv.entry.body.now) ≤ length room.old → result ≡ 0 }
+/// Writes a head and what follows it to the start of the caller's buffer, if both fit.
+fn give_text(head: &[u8], tail: Tail<'_>, room: &mut [u8], written: &mut usize) -> u8
+    requires { length head.now + tail_room tail ≤ 2044 }
+    ensures fits { length (head.now ++ tail_text tail.entry) ≤ length room.old → result ≡ 0 }
     ensures within { result ≡ 0 → written.new ≤ length room.new }
-    ensures short { result ≡ 0 → written.new ≤ 1058 }
-    ensures octets { result ≡ 0 →
-        take written.new room.new ≡ value_of tlv.entry.kind tlv.entry.body.now }
+    ensures short { result ≡ 0 → written.new ≤ length head.now + tail_room tail.entry }
+    ensures octets { result ≡ 0 → take written.new room.new ≡ head.now ++ tail_text tail.entry }
     ensures rest { result ≡ 0 → drop written.new room.new ≡ drop written.new room.old }
-    ensures over { length room.old < length (value_of tlv.entry.kind tlv.entry.body.now) → result ≡ 101 }
+    ensures over { length room.old < length (head.now ++ tail_text tail.entry) → result ≡ 101 }
     ensures refused { ¬ (result ≡ 0) → (room.new ≡ room.old) × (written.new ≡ written.old) }
 {
-    let mut line = Writer::new();
-    write_value(&mut line, tlv);
-    give(line.as_slice(), room, written)
+    let end = head.len() + tail.len();
+    if end > room.len() {
+        return NO_ROOM;
+    }
+    room[..head.len()].copy_from_slice(head);
+    tail.write(&mut room[head.len()..end]);
+    *written = end;
+    OK
 }
 
 /// Writes a TLV to the caller's buffer, as `show neighbors` does.
@@ -84,24 +84,9 @@ pub extern "C" fn lldpa_tlv_text(kind: u32, body: &[u8], room: &mut [u8], writte
         return OUT_OF_RANGE;
     }
     let kind = kind as u8;
-    give_value(Tlv { kind, body }, room, written)
-}
-
-/// Escapes a text, and writes it to the caller's buffer.
-#[inline(never)]
-fn give_escaped(text: &[u8], room: &mut [u8], written: &mut usize) -> u8
-    requires { length text.now ≤ 511 }
-    ensures fits { length (escaped text.now) ≤ length room.old → result ≡ 0 }
-    ensures within { result ≡ 0 → written.new ≤ length room.new }
-    ensures short { result ≡ 0 → written.new ≤ 4 * length text.now }
-    ensures octets { result ≡ 0 → take written.new room.new ≡ escaped text.now }
-    ensures rest { result ≡ 0 → drop written.new room.new ≡ drop written.new room.old }
-    ensures over { length room.old < length (escaped text.now) → result ≡ 101 }
-    ensures refused { ¬ (result ≡ 0) → (room.new ≡ room.old) × (written.new ≡ written.old) }
-{
-    let mut line = Writer::new();
-    line.escaped(text);
-    give(line.as_slice(), room, written)
+    let mut head = Head::new();
+    let tail = begin_value(&mut head, Tlv { kind, body });
+    give_text(head.as_slice(), tail, room, written)
 }
 
 /// Escapes a text as the show commands do.
@@ -117,5 +102,5 @@ pub extern "C" fn lldpa_escape(text: &[u8], room: &mut [u8], written: &mut usize
     if text.len() > MOST_BODY {
         return OUT_OF_RANGE;
     }
-    give_escaped(text, room, written)
+    give_text(&[], Tail::Escaped(text), room, written)
 }

@@ -40,7 +40,8 @@ def read_show(lines: Iterable[str]) -> Show:
     """Reads the output of one or several `show` commands.
 
     Their order must be neighbors, statistics, chassis, configuration. A line may end with a line
-    feed. Raises ShowFault, which names the line, if a line is unknown or out of place.
+    feed. Counters of a newer agent are skipped. Raises ShowFault, which names the line, if another
+    line is unknown or out of place.
     """
     return Reader(lines).show()
 
@@ -150,8 +151,23 @@ class Reader:
             if name in names:
                 raise self.fault("a port that is not listed above")
             names.add(name)
-            keys = [f"lldp.{name}.{shown_key(field)}" for field in Counters._fields]
-            yield name, Counters(*map(self.number, keys))
+            numbers = [self.counter(name, field) for field in Counters._fields]
+            self.skip_counters(name)
+            yield name, Counters(*numbers)
+
+    def counter(self, port: str, field: str) -> int:
+        """Reads a counter of a port. One that has a default may be missing: the agent is older."""
+        key = f"lldp.{port}.{shown_key(field)}"
+        if field in Counters._field_defaults and not self.next().startswith(key + "="):
+            return int(Counters._field_defaults[field])
+        return self.number(key)
+
+    def skip_counters(self, port: str) -> None:
+        """Skips further counters of a port: the agent is newer. No known one may follow."""
+        further = re.compile(rf"lldp\.{re.escape(port)}\.([a-z][a-z-]*)={DIGITS}")
+        known = {shown_key(field) for field in Counters._fields}
+        while (found := further.fullmatch(self.next())) and found[1] not in known:
+            self.at += 1
 
     def chassis(self) -> LocalChassis:
         keys = LocalChassis._fields[:-1]

@@ -8,13 +8,14 @@ from typing import Dict, List, Optional
 
 from .packet import ETHERNET, SECOND, CaptureInterface, Look
 from .reader import UNKNOWN, Reader
-from .window import Window
+from .window import BadCapture, Window
 
 SECTION_HEADER = b"\n\r\r\n"
 SECTION, INTERFACE, OLD_PACKET, SIMPLE_PACKET, ENHANCED_PACKET = 0x0A0D0D0A, 1, 2, 3, 6
 NAME, RESOLUTION, OFFSET = 2, 9, 14
 BYTE_ORDERS = {b"\x1a\x2b\x3c\x4d": ">", b"\x4d\x3c\x2b\x1a": "<"}
 MICROSECONDS = b"\x06"
+MOST_INTERFACES = 1 << 18  # of all sections: a hostile file has millions
 
 
 class PcapngReader(Reader):
@@ -103,6 +104,8 @@ class PcapngReader(Reader):
         (offset,) = struct.unpack(self._order + "q", options.get(OFFSET, bytes(8)))
         name = options.get(NAME, b"").decode("utf-8", "replace").rstrip("\0")
         interface = CaptureInterface(name or None, link_type, base**power, offset, most)
+        if len(self.described) == MOST_INTERFACES:
+            raise BadCapture(f"it describes more than {MOST_INTERFACES:,} interfaces")
         self._interfaces.append(interface)
         self.described.append(interface)
         if link_type == ETHERNET and self._passable == len(self._interfaces) - 1:

@@ -22,6 +22,8 @@ DEFAULT_PATH = "/run/lldpa/control"
 SECONDS_TO_ANSWER = 30.0
 LONGEST_LINE = 64 * 1024  # of a line in an answer, in octets
 MOST_OCTETS = 25 * 1024 * 1024  # of an answer: 64 ports with 128 neighbors of 1,500 octets each
+MOST_SKIPPED = 512 * 1024 * 1024  # of the rest of a larger answer
+BY_PORT = ("show neighbors", "live")  # questions that can be asked for each port
 MOST_DIGITS = 12  # of the number of lines, including the `=`
 NOBODY = 65534  # user and group
 TIMEVAL = struct.Struct("ll")  # seconds and microseconds
@@ -43,6 +45,10 @@ class Gone(LldpaFault, ConnectionError):
     """lldpa-live did not send a complete, correct answer."""
 
 
+class TooLarge(Gone):
+    """The answer is larger than this program accepts."""
+
+
 class Client:
     """A connection to lldpa-live, for one question after another. Its calls block.
 
@@ -54,6 +60,7 @@ class Client:
         self.seconds = seconds
         self.last = 0.0  # when the answer must be complete
         self.room = 0  # octets that may still be received
+        self.left = 0  # lines of the answer that are not read yet
         self.octets = bytearray()  # received, but not read yet
         self.connection = socket.socket(socket.AF_UNIX, socket.SOCK_STREAM)
         try:
@@ -63,12 +70,42 @@ class Client:
             raise
 
     def ask(self, line: str) -> list[str]:
-        """Sends a line, and returns the lines of its answer, safe to print on a terminal.
+        """Sends a line, and returns the lines of its answer, safe to print on a terminal. If the
+        answer is too large, asks for one port after another.
 
         Raises Refused if the line is refused, ValueError if it has a line feed or is too long, and
         TimeoutError if the answer is not complete after `seconds`. Raises Gone if the connection
         ends early, or the answer is malformed, over 25 MB, or has a line over 64 kB.
         """
+        try:
+            return self.ask_once(line)
+        except TooLarge as fault:
+            if line not in BY_PORT:
+                raise
+            try:
+                self.skip()
+                return self.ask_by_port(line)
+            except (Gone, TimeoutError):
+                raise fault from None
+
+    def ask_by_port(self, line: str) -> list[str]:
+        """Asks for one port after another, and returns all lines. Raises as `ask` does."""
+        names = [key.split(".")[1] for key in self.ask_once("show configuration")
+                 if key.partition("=")[0].endswith(".status")]
+        lines = [one for name in names for one in self.ask_once(f"{line} {name}")]
+        return list({one.partition("=")[0]: one for one in lines}.values())
+
+    def skip(self) -> None:
+        """Receives the rest of an answer, and keeps none of it."""
+        self.room = MOST_SKIPPED
+        while (found := self.octets.count(b"\n")) < self.left:
+            self.left -= found
+            self.octets = self.octets.rpartition(b"\n")[2]
+            self.receive()
+        self.octets = self.octets.split(b"\n", self.left)[self.left]
+
+    def ask_once(self, line: str) -> list[str]:
+        """Sends a line, and returns the lines of its answer, as `ask` does."""
         octets = checked(line) + b"\n"
         self.last, self.room = time.monotonic() + self.seconds, MOST_OCTETS
         with contextlib.suppress(BrokenPipeError, ConnectionResetError):
@@ -76,7 +113,9 @@ class Client:
         head = self.read_line()
         if not (head.startswith("=") and head[1:].isdecimal() and len(head) <= MOST_DIGITS):
             raise Gone(f"not an answer of lldpa-live: {head!r}")
-        lines = [self.read_line() for _ in range(int(head[1:]))]
+        lines = []
+        for self.left in range(int(head[1:]), 0, -1):
+            lines.append(self.read_line())
         if len(lines) == 1 and lines[0].startswith(REFUSAL):
             raise Refused(lines[0][len(REFUSAL):])
         return lines
@@ -99,9 +138,9 @@ class Client:
         if not octets:
             raise Gone("lldpa-live has ended the connection")
         self.room -= len(octets)
-        if self.room < 0:
-            raise Gone("lldpa-live answers with more than 25 MB")
         self.octets += octets
+        if self.room < 0:
+            raise TooLarge("lldpa-live answers with more than 25 MB")
 
     def in_time(self, call: Callable[[Any], Any], argument: Any) -> Any:
         """Calls a socket method. Raises TimeoutError, also in Python 3.9, if the time is over."""

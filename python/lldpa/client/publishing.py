@@ -17,6 +17,7 @@ from ..agent.show import Show, ShowFault, read_show
 from ..organizational.kinds import load
 
 SECONDS_TO_ANSWER = 10.0  # for each question; the timer asks again soon
+MANY = 1000  # neighbors; more of them are asked for port by port
 
 
 def publish(path: str, file: Optional[str]) -> None:
@@ -49,7 +50,9 @@ def asked(path: str, is_printed: bool) -> tuple[LiveLines, list[str]]:
         shown = Show()
         if LiveLines(live).is_up:
             try:
-                shown = read_show(client.ask("show neighbors") + client.ask("show statistics"))
+                is_large = sum(".since." in line for line in live) > MANY
+                ask = client.ask_by_port if is_large else client.ask
+                shown = read_show(ask("show neighbors") + client.ask("show statistics"))
             except Refused:
                 live = client.ask("live")
                 if LiveLines(live).is_up:  # the agent does not wait, so something is wrong
@@ -64,20 +67,20 @@ def write(lines: Iterable[str], file: Optional[str]) -> None:
         print(text, end="")
         return
     try:
-        replace(file, text)
+        replace(file, [text])
     except OSError as error:
         raise LldpaFault(f"{file}: {error.strerror}") from None
 
 
-def replace(file: str, text: str) -> None:
-    """Writes this text to a temporary file, and then replaces the file with it."""
+def replace(file: str, texts: Iterable[str]) -> None:
+    """Writes these texts to a temporary file, and then replaces the file with it."""
     import tempfile  # slow to load
     folder, name = os.path.split(os.path.abspath(file))
     number, path = tempfile.mkstemp(prefix=f".{name}.", dir=folder)
     try:
         with open(number, "w", encoding="utf-8") as new:
             os.fchmod(new.fileno(), 0o644)  # so that the collector, another user, can read it
-            new.write(text)
+            new.writelines(texts)
             new.flush()
             os.fsync(new.fileno())
         os.replace(path, file)

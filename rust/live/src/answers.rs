@@ -1,157 +1,228 @@
-//! Answers clients' questions and applies settings. The agent runs even if settings are refused.
+//! Answers clients' questions.
 
-use crate::clock::{self, SECOND};
-use crate::control::Control;
-use crate::live::Live;
-use crate::patterns;
-use crate::reports::{counted, notice, warn};
-use crate::settings::{self, explained, first_word, Setting, LONGEST_LINE};
-use crate::since;
-use lldpa::Status;
+use crate::client::Answer;
+use crate::control::{Control, Question};
+use crate::live::{Live, Turn};
+use crate::port::Port;
+use crate::queries::{LineFault, Query};
+use crate::tables::{Lines, Tables, Writer};
+use crate::time::{processor_time, Moment, INEXACT};
+use lldpa::Show;
+use std::rc::{Rc, Weak};
+use std::time::Duration;
 
 /// The longest time in which clients are answered before other work continues.
-const MOST_AT_ONCE: i64 = SECOND / 10;
+const MOST_AT_ONCE: Duration = Duration::from_millis(50);
+/// The longest time in which frames that arrived before a question are read before its answer.
+const MOST_TO_CATCH_UP: Duration = Duration::from_millis(250);
 /// The time between checks of the host's name and the socket: some systems report no changes.
-const BETWEEN_LOOKS: i64 = 10 * SECOND;
+const BETWEEN_LOOKS: Duration = Duration::from_secs(10);
+/// Up to so many octets of LLDPDUs, the agent itself writes the lines of all neighbors.
+const FEW_OCTETS: usize = 1 << 16;
+
+/// The clients, and what is kept for their questions.
+pub struct Server {
+    pub control: Option<Control>,
+    /// Since when questions wait for the frames that arrived before them.
+    asked_at: Option<Moment>,
+    /// When to look at the host's name and the control socket again.
+    next_look: Moment,
+    /// The tables for answers, if a client still reads them and they have not changed.
+    tables: Option<Weak<Tables>>,
+    /// How often neighbors have come, changed or left.
+    pub changes: u64,
+}
+
+impl Server {
+    pub fn new(control: Option<Control>) -> Server {
+        Server { control, asked_at: None, next_look: Moment::default(), tables: None, changes: 0 }
+    }
+
+    /// True if a question waits for the frames that arrived before it.
+    pub fn has_question(&self) -> bool {
+        self.asked_at.is_some()
+    }
+
+    fn has_more(&self) -> bool {
+        self.control.as_ref().map_or(false, Control::has_more)
+    }
+
+    fn reply(&mut self, question: &Question, answer: Answer) {
+        if let Some(control) = &mut self.control {
+            control.reply(question, answer, Moment::now());
+        }
+    }
+
+    /// Lets a client wait for the next change of a neighbor, unless many wait.
+    fn let_wait(&mut self, question: &Question) {
+        let is_waiting =
+            self.control.as_mut().map_or(false, |control| control.let_wait(question, self.changes));
+        if !is_waiting {
+            self.reply(question, Answer::of("error: too many clients\n"));
+        }
+    }
+
+    /// Notes that the agent's tables, or the seconds left in them, may have changed.
+    pub fn forget_tables(&mut self) {
+        self.tables = None;
+    }
+
+    /// Returns when a client is too slow, or when a question has waited long enough.
+    pub fn deadline(&self, now: Moment) -> Option<Moment> {
+        let of_clients = self.control.as_ref().and_then(|control| control.deadline(now));
+        let of_question = self.asked_at.map(|asked_at| asked_at + MOST_TO_CATCH_UP);
+        of_clients.into_iter().chain(of_question).min()
+    }
+}
 
 impl Live {
-    /// Gives the agent the host's name if it changed. Answers at most one question of each client.
-    pub fn serve(&mut self, is_asked: bool) {
-        self.next_look = clock::now() + BETWEEN_LOOKS;
-        self.follow_name();
-        let begin = clock::now();
-        if let Some(control) = &mut self.control {
-            control.turn(begin, is_asked);
+    /// Hears and serves clients after a turn. What this costs is no part of the frames' share.
+    pub fn serve(&mut self, turn: &Turn) {
+        let before = processor_time();
+        self.hear_clients(turn);
+        if self.is_caught_up(turn) {
+            self.answer_questions();
+            self.server.asked_at = self.server.has_more().then(Moment::now); // the next turn does not wait
         }
-        while let Some(question) = self.control.as_mut().and_then(Control::question) {
-            let answer = self.answer(&question.line, question.may_change);
-            if let Some(control) = &mut self.control {
-                control.reply(&question, &answer, clock::now());
+        if let Some(control) = &mut self.server.control {
+            control.tell_changes(self.server.changes, Moment::now());
+        }
+        self.ports.share.leave_out(processor_time().saturating_sub(before));
+    }
+
+    fn hear_clients(&mut self, turn: &Turn) {
+        let now = Moment::now();
+        let is_due = self.server.control.as_ref().map_or(false, |control| control.is_due(now));
+        if turn.is_asked || is_due || now >= self.server.next_look {
+            self.server.next_look = now + BETWEEN_LOOKS;
+            self.follow_name();
+            if let Some(control) = &mut self.server.control {
+                control.turn(now, turn.is_asked);
             }
-            if clock::now() - begin > MOST_AT_ONCE {
+        }
+    }
+
+    /// True if questions wait, and all frames that arrived before them were given to the agent.
+    fn is_caught_up(&mut self, turn: &Turn) -> bool {
+        if !self.server.has_more() {
+            self.server.asked_at = None;
+            return false;
+        }
+        let now = Moment::now();
+        let asked_at = *self.server.asked_at.get_or_insert(now);
+        let are_read = turn.moment >= asked_at + INEXACT || !self.ports.have_more();
+        turn.began >= asked_at && are_read || now.since(asked_at) >= MOST_TO_CATCH_UP
+    }
+
+    /// Answers at most one question of each client.
+    fn answer_questions(&mut self) {
+        let begin = Moment::now();
+        while let Some(question) = self.server.control.as_mut().and_then(Control::question) {
+            let query = Query::read(&question.line, question.may_change);
+            if query == Ok(Query::Changes(Some(self.server.changes))) {
+                self.server.let_wait(&question);
+            } else {
+                let answer = self.answer(&question.line, query);
+                self.server.reply(&question, answer);
+            }
+            if Moment::now().since(begin) > MOST_AT_ONCE {
                 return;
             }
         }
     }
 
-    fn answer(&mut self, line: &[u8], may_change: bool) -> String {
-        if let Some(refusal) = refusal(line, may_change) {
-            return refusal.into();
-        }
-        self.catch_up();
-        if first_word(line) == "live" {
-            return self.about();
-        }
+    fn answer(&mut self, line: &[u8], query: Result<Query<'_>, LineFault>) -> Answer {
+        let query = match query {
+            Ok(Query::Live(port)) => return self.for_port(port, Live::status),
+            Ok(Query::Changes(_)) => return Answer::of_changes(self.server.changes),
+            Ok(query) => query,
+            Err(fault) => return Answer::of(&fault.to_string()),
+        };
         if self.running.is_none() {
-            return format!("error: waiting for an interface: {}\n", self.given.parts.join(" "));
+            let awaited = self.arguments.selectors.join(" ");
+            return Answer::of(&format!("error: waiting for an interface: {awaited}\n"));
         }
-        self.command(line).unwrap_or_else(|refusal| refusal + "\n")
+        match query {
+            Query::Neighbors(port) => self.for_port(port, Live::neighbors),
+            Query::Statistics(port) => self.for_port(port, Live::statistics),
+            _ => match self.command(line) {
+                Ok(lines) => Answer::of(&lines),
+                Err(refusal) => Answer::of(&format!("error: {refusal}\n")),
+            },
+        }
     }
 
-    /// Gives the agent a command. Returns the answer, or the line that says why it is refused.
-    pub fn command(&mut self, line: impl AsRef<[u8]>) -> Result<String, String> {
-        let line = line.as_ref();
-        let running = self.running.as_mut().ok_or("error: waiting for an interface")?;
-        let done = running.agent.command(line).map_err(|fault| fault.line())?;
-        if let Some(show) = done.show {
-            return Ok(running.agent.show(show));
+    /// Returns the answer for the port of this name, or for all ports.
+    fn for_port(&mut self, name: Option<&str>, answer: fn(&mut Live, Option<usize>) -> Answer) -> Answer {
+        let name = match name {
+            Some(name) => name,
+            None => return answer(self, None),
+        };
+        match self.ports.all.iter().position(|port| port.name == name) {
+            Some(number) => answer(self, Some(number)),
+            None => Answer::of("error: no such port\n"),
         }
-        let told = running.agent.configuration().status;
-        for (port, status) in self.ports.all.iter_mut().zip(told) {
-            if !matches!(status, Status::RxAndTx | Status::RxOnly) {
-                port.full_until = 0; // its table was emptied
+    }
+
+    /// Returns this port, or all of them, with their numbers.
+    fn chosen(&self, only: Option<usize>) -> impl Iterator<Item = (u8, &Port)> {
+        let ports = self.ports.all.iter().enumerate();
+        let chosen = ports.filter(move |one| only.map_or(true, |only| only == one.0));
+        chosen.map(|(number, port)| (number as u8, port))
+    }
+
+    /// Returns the present tables of one port, or of all.
+    fn tables(&mut self, only: Option<usize>) -> Rc<Tables> {
+        if let (None, Some(tables)) = (only, self.server.tables.as_ref().and_then(Weak::upgrade)) {
+            return tables;
+        }
+        let mut tables = Tables::new();
+        if let Some(running) = &self.running {
+            for (number, port) in self.chosen(only) {
+                let has_too_many = port.full_until > self.clock.given;
+                tables.add(&running.agent, number, &port.name, has_too_many, &port.neighbors);
             }
         }
-        self.log.write(clock::now(), &String::from_utf8_lossy(line));
-        self.take_sent(&done.sent, clock::now());
-        self.note_gone();
-        self.send();
-        Ok(String::new())
+        let tables = Rc::new(tables);
+        if only.is_none() {
+            self.server.tables = Some(Rc::downgrade(&tables));
+        }
+        tables
     }
 
-    fn about(&mut self) -> String {
+    fn neighbors(&mut self, only: Option<usize>) -> Answer {
+        let tables = self.tables(only);
+        match &self.running {
+            Some(running) if only.is_none() && tables.octets < FEW_OCTETS => {
+                Answer::of(&running.agent.show(Show::Neighbors))
+            }
+            _ => Answer::new("", Some(Writer::new(tables, Lines::Neighbors))),
+        }
+    }
+
+    fn statistics(&mut self, only: Option<usize>) -> Answer {
+        let agent = self.running.as_ref().map(|running| &running.agent);
+        let lines = self.chosen(only).filter_map(|(number, port)| {
+            let statistics = agent?.statistics(number).ok()?;
+            Some(port.counters.lines(&port.name, &statistics))
+        });
+        Answer::of(&lines.collect::<String>())
+    }
+
+    /// Returns the answer to `live`, or to `live PORT`.
+    fn status(&mut self, only: Option<usize>) -> Answer {
         self.ports.count_drops();
         let own = [
-            ("began", clock::written(self.began.div_euclid(SECOND))),
+            ("began", self.began.to_string()),
             ("agent", if self.running.is_some() { "running" } else { "waiting" }.into()),
             ("seconds", self.clock.given.to_string()),
-            ("settings-refused", self.not_taken.to_string()),
-            ("ports-refused", self.ports.refused.len().to_string()),
+            ("settings-refused", self.settings.refused.to_string()),
+            ("ports-refused", self.ports.count_refused().to_string()),
             ("log", self.log.state().into()),
             ("log-lines-lost", self.log.lost.to_string()),
         ];
         let mut text: String = own.iter().map(|(key, value)| format!("live.{key}={value}\n")).collect();
-        text.extend(self.ports.all.iter().map(|port| port.about()));
-        text.extend(self.ports.all.iter().map(|port| since::lines(&port.name, &port.held)));
-        text + &since::chassis_lines(self.held().map(|(_, held)| held))
-    }
-
-    /// Gives the agent the settings in the files. Reports refused settings and unreadable files.
-    pub fn settle(&mut self, is_first: bool) {
-        let (read, unread) = settings::read(&self.given.config);
-        unread.iter().for_each(|line| warn(line));
-        self.not_taken = unread.len();
-        self.settings = read.iter().filter(|setting| setting.port().is_some()).cloned().collect();
-        self.apply(&read);
-        match self.not_taken {
-            0 if is_first => (),
-            0 => notice("the settings were read again"),
-            1 => warn("1 setting was not applied"),
-            count => warn(&format!("{} were not applied", counted(count, "setting"))),
-        }
-    }
-
-    pub fn settle_later(&mut self, names: &[String]) {
-        let is_theirs = |setting: &&Setting| setting.port().map_or(false, |port| names.contains(&port));
-        let settings: Vec<Setting> = self.settings.iter().filter(is_theirs).cloned().collect();
-        self.apply(&settings);
-    }
-
-    pub fn reload(&mut self) {
-        if self.running.is_some() {
-            self.manager.reloading();
-            self.catch_up();
-            self.settle(false);
-            self.manager.tell("READY=1");
-        }
-    }
-
-    fn apply(&mut self, settings: &[Setting]) {
-        for setting in settings {
-            if let Some(why) = self.why_refused(setting) {
-                warn(&setting.refused(&why));
-                self.not_taken += 1;
-            }
-        }
-    }
-
-    /// Applies a setting. Returns why it is refused, but None if a pattern may still add its port.
-    fn why_refused(&mut self, setting: &Setting) -> Option<String> {
-        if setting.line.len() > LONGEST_LINE {
-            return Some("line too long".into());
-        }
-        if first_word(&setting.line) != "configure" {
-            return Some("a setting must begin with `configure`".into());
-        }
-        let refusal = self.command(&setting.line).err()?;
-        let text = refusal.trim_start_matches("error: ");
-        let waits = |port: String| text == "no such port" && patterns::may_give(&self.given.parts, &port);
-        (!setting.port().map_or(false, waits)).then(|| explained(&setting.line, text))
-    }
-}
-
-/// Returns the answer to a line that is refused or ignored: too long, blank, a comment, an unknown
-/// command, an event that only lldpa-live may report, or a change without permission. Returns None
-/// for all other lines.
-pub fn refusal(line: &[u8], may_change: bool) -> Option<&'static str> {
-    let word = first_word(line);
-    let first = line.iter().find(|octet| !b" \t".contains(octet));
-    match &word[..] {
-        _ if line.len() > LONGEST_LINE => Some("error: line too long\n"),
-        "tick" | "rx" | "up" | "down" => Some("error: for lldpa-live alone\n"),
-        _ if matches!(first, None | Some(b'#')) => Some(""),
-        "configure" | "update" if !may_change => Some("error: no permission\n"),
-        "live" | "show" | "configure" | "update" => None,
-        _ => Some("error: unknown command\n"),
+        text.extend(self.chosen(only).map(|one| one.1.status_lines()));
+        Answer::new(&text, Some(Writer::new(self.tables(only), Lines::Since)))
     }
 }

@@ -2,100 +2,30 @@
 //! root and the owner may connect, with 0660 also the group. They may do everything. With 0666
 //! everybody may ask, but only root, owner and group may `configure` and `update`.
 
-use crate::clock::SECOND;
-use crate::listening::{Listening, Peer};
+use crate::client::{Answer, Client, LONGEST_SENDING};
+use crate::listening::Listening;
 use crate::reports::warn;
 use crate::rights::text_of;
-use crate::settings::LONGEST_LINE;
-use crate::waiting::{Awaited, IN, OUT};
-use std::collections::VecDeque;
+use crate::time::{Moment, SECOND};
+use crate::waiting::{IN, OUT};
 use std::fs::File;
 use std::io::{ErrorKind, Read, Result, Write};
 use std::os::unix::net::UnixStream;
+use std::rc::Rc;
+use std::time::Duration;
 
 const MOST_CLIENTS: usize = 64;
-const KEPT: usize = 8; // further places for root and the socket's owner alone
-const TO_READ: i64 = 10 * SECOND;
-const IDLENESS: i64 = 60 * SECOND;
-const MOST_READS: usize = 64; // from one client in one turn
-const MOST_UNREAD: usize = 64 << 20; // octets of all unread answers together
+const MOST_PREFERRED: usize = MOST_CLIENTS + 8; // with root and the socket's owner
+const MOST_WAITING: usize = 16; // clients that wait for a change
+const IDLENESS: Duration = Duration::from_secs(60);
+const MOST_UNREAD: usize = 48 << 20; // octets of all unread answers together
 
 /// A client's line, and whether the client may change the agent.
 pub struct Question {
-    place: usize,
+    /// The index of the client.
+    client: usize,
     pub line: Vec<u8>,
     pub may_change: bool,
-}
-
-struct Client {
-    stream: Awaited<UnixStream>,
-    peer: Peer,
-    asked: Vec<u8>,
-    is_at_end: bool,
-    answer: VecDeque<u8>,
-    /// When the client connected or was last answered. Its time limits run from this moment.
-    since: i64,
-    is_over: bool,
-}
-
-impl Client {
-    /// True if a line can be answered. At the end of input a line may lack its line feed.
-    fn has_line(&self) -> bool {
-        let is_whole = self.asked.contains(&b'\n') || self.is_at_end && !self.asked.is_empty();
-        self.answer.is_empty() && is_whole && !self.is_over
-    }
-
-    /// True if the client has ended its input, and all its lines are answered and the answers sent.
-    fn is_left(&self) -> bool {
-        self.is_at_end && self.asked.is_empty() && self.answer.is_empty()
-    }
-
-    /// Removes and returns the next line. Only the first 4,097 octets of a longer line were kept.
-    fn next_line(&mut self) -> Vec<u8> {
-        let end = self.asked.iter().position(|octet| *octet == b'\n').unwrap_or(self.asked.len());
-        let line = self.asked.drain(..end).collect();
-        self.asked.drain(..1.min(self.asked.len()));
-        line
-    }
-
-    /// Reads from the client, unless a whole line still waits or an answer is not yet sent.
-    fn read(&mut self) {
-        let mut room = [0u8; LONGEST_LINE];
-        for _ in 0..MOST_READS {
-            if !self.answer.is_empty() || self.is_at_end || self.asked.contains(&b'\n') {
-                return;
-            }
-            match self.stream.file.read(&mut room) {
-                Ok(0) => self.is_at_end = true,
-                Ok(length) => self.take(&room[..length]),
-                Err(fault) => {
-                    self.is_over |= fault.kind() != ErrorKind::WouldBlock;
-                    return;
-                }
-            }
-        }
-    }
-
-    /// Keeps octets that were read. A line that is too long is cut one octet over the limit.
-    fn take(&mut self, octets: &[u8]) {
-        let end = octets.iter().position(|octet| *octet == b'\n').unwrap_or(octets.len());
-        let room = (LONGEST_LINE + 1).saturating_sub(self.asked.len());
-        self.asked.extend_from_slice(&octets[..end.min(room)]);
-        self.asked.extend_from_slice(&octets[end..]);
-    }
-
-    fn send(&mut self) {
-        while !self.answer.is_empty() {
-            match self.stream.file.write(self.answer.as_slices().0) {
-                Ok(length) => drop(self.answer.drain(..length)),
-                Err(fault) => {
-                    self.is_over |= fault.kind() != ErrorKind::WouldBlock;
-                    return;
-                }
-            }
-        }
-        self.answer = VecDeque::new(); // frees its memory
-    }
 }
 
 pub struct Control {
@@ -103,8 +33,10 @@ pub struct Control {
     clients: Vec<Client>,
     /// The index of the client with which the search for the next question begins.
     next: usize,
+    /// The index of the client to which is sent first.
+    first: usize,
     /// When to accept clients again after a failure.
-    pause: i64,
+    pause: Moment,
     /// True if the socket was removed and could not be made again.
     is_lost: bool,
 }
@@ -113,10 +45,17 @@ impl Control {
     /// Opens the socket at a path. This needs the rights that lldpa-live gives up later.
     pub fn open(path: &str, group: Option<u32>) -> Result<Control> {
         let listening = Listening::open(path, group)?;
-        Ok(Control { listening, clients: Vec::new(), next: 0, pause: 0, is_lost: false })
+        Ok(Control {
+            listening,
+            clients: Vec::new(),
+            next: 0,
+            first: 0,
+            pause: Moment::default(),
+            is_lost: false,
+        })
     }
 
-    pub fn await_clients(&mut self, epoll: &File, now: i64) {
+    pub fn await_clients(&mut self, epoll: &File, now: Moment) {
         self.listening.socket.wait_for(epoll, if now >= self.pause { IN } else { 0 });
         self.listening.watch.iter_mut().for_each(|watch| watch.wait_for(epoll, IN));
         for client in &mut self.clients {
@@ -124,14 +63,18 @@ impl Control {
         }
     }
 
-    pub fn deadline(&self, now: i64) -> Option<i64> {
-        let unread = self.clients.iter().filter(|client| !client.answer.is_empty());
+    pub fn deadline(&self, now: Moment) -> Option<Moment> {
         let pause = Some(self.pause).filter(|pause| *pause > now);
-        unread.map(|client| client.since + TO_READ).chain(pause).min()
+        self.clients.iter().filter_map(Client::deadline).chain(pause).min()
+    }
+
+    /// True if a client was too slow, and has to go.
+    pub fn is_due(&self, now: Moment) -> bool {
+        self.clients.iter().filter_map(Client::deadline).any(|deadline| deadline <= now)
     }
 
     /// Accepts clients, reads and sends, without waiting. Makes the socket again if it was removed.
-    pub fn turn(&mut self, now: i64, is_asked: bool) {
+    pub fn turn(&mut self, now: Moment, is_asked: bool) {
         let _ = self.listening.watch.as_mut().map(|watch| watch.file.read(&mut [0u8; 256]));
         if !self.listening.is_there() {
             let renewed = self.listening.renew();
@@ -141,24 +84,42 @@ impl Control {
                 warn(&format!("{}: {what}: {}", self.listening.path, text_of(&fault)));
             }
         }
-        for client in &mut self.clients {
-            client.send();
-            client.read();
-            client.is_over |= client.is_left() || !client.answer.is_empty() && now - client.since >= TO_READ;
-        }
-        self.clients.retain(|client| !client.is_over);
+        self.send_and_read(now);
         if is_asked && now >= self.pause {
             self.accept(now);
         }
     }
 
-    fn accept(&mut self, now: i64) {
+    /// Sends to each client, reads from each, and ends those that are done or too slow.
+    fn send_and_read(&mut self, now: Moment) {
+        let count = self.clients.len();
+        for step in 0..count {
+            let index = (self.first + step) % count;
+            let client = &mut self.clients[index];
+            if Moment::now().since(now) < LONGEST_SENDING {
+                client.send(now);
+            } else if !client.answer.is_empty() {
+                self.first = index; // the next turn begins with it
+                break;
+            }
+        }
+        for client in &mut self.clients {
+            client.read();
+            let is_late = client.deadline().map_or(false, |deadline| deadline <= now);
+            client.is_over |= client.is_left() || is_late || client.is_impatient();
+        }
+        self.clients.retain(|client| !client.is_over);
+        self.first %= self.clients.len().max(1);
+    }
+
+    fn accept(&mut self, now: Moment) {
         for _ in 0..MOST_CLIENTS {
             match self.listening.socket.file.accept() {
                 Ok((stream, _)) if stream.set_nonblocking(true).is_ok() => self.admit(stream, now),
                 Ok(_) => (),
                 Err(fault) => {
-                    self.pause = if fault.kind() == ErrorKind::WouldBlock { 0 } else { now + SECOND };
+                    self.pause =
+                        if fault.kind() == ErrorKind::WouldBlock { Moment::default() } else { now + SECOND };
                     return;
                 }
             }
@@ -167,23 +128,22 @@ impl Control {
 
     /// Admits a client. If all places are taken, it replaces the client that has been idle longest;
     /// if none has been idle for a minute, the new client is refused.
-    fn admit(&mut self, mut stream: UnixStream, now: i64) {
-        let peer = Peer::of(&stream);
-        let most = if peer.is_preferred(&self.listening.path) { MOST_CLIENTS + KEPT } else { MOST_CLIENTS };
-        let mut is_over = false;
+    fn admit(&mut self, stream: UnixStream, now: Moment) {
+        let mut client = Client::new(stream, now);
+        let is_preferred = client.peer.is_preferred(&self.listening.path);
+        let most = if is_preferred { MOST_PREFERRED } else { MOST_CLIENTS };
         if self.clients.iter().filter(|client| !client.is_over).count() >= most {
-            let is_idle = |client: &Client| client.answer.is_empty() && now - client.since >= IDLENESS;
-            let idle = (0..self.clients.len()).filter(|place| is_idle(&self.clients[*place]));
-            match idle.min_by_key(|place| self.clients[*place].since) {
+            let is_idle =
+                |client: &Client| client.answer.is_empty() && now.since(client.active_at) >= IDLENESS;
+            let idle = (0..self.clients.len()).filter(|index| is_idle(&self.clients[*index]));
+            match idle.min_by_key(|index| self.clients[*index].active_at) {
                 Some(longest) => drop(self.clients.remove(longest)),
                 None => {
-                    let _ = stream.write(b"=1\nerror: too many clients\n");
-                    is_over = true; // removed next turn: until then it can send its line
+                    let _ = client.stream.file.write(b"=1\nerror: too many clients\n");
+                    client.is_over = true; // removed next turn: until then it can send its line
                 }
             }
         }
-        let (asked, answer, stream) = (Vec::new(), VecDeque::new(), Awaited::new(stream));
-        let mut client = Client { stream, peer, asked, is_at_end: false, answer, since: now, is_over };
         client.read();
         self.clients.extend(Some(client).filter(|client| !client.is_left()));
     }
@@ -191,37 +151,165 @@ impl Control {
     /// Returns the next question, one for each client in turn. None after the last client.
     pub fn question(&mut self) -> Option<Question> {
         let first = std::mem::take(&mut self.next);
-        let place = (first..self.clients.len()).find(|place| self.clients[*place].has_line())?;
-        let client = &mut self.clients[place];
-        self.next = place + 1;
+        let index = (first..self.clients.len()).find(|index| self.clients[*index].has_line())?;
+        let client = &mut self.clients[index];
+        self.next = index + 1;
         Some(Question {
-            place,
+            client: index,
             line: client.next_line(),
             may_change: client.peer.may_change(&self.listening.path),
         })
     }
 
-    pub fn reply(&mut self, question: &Question, text: &str, now: i64) {
-        let count = text.bytes().filter(|octet| *octet == b'\n').count();
-        let client = &mut self.clients[question.place];
-        client.answer = format!("={count}\n{text}").into_bytes().into();
-        client.since = now;
-        client.send();
+    pub fn reply(&mut self, question: &Question, answer: Answer, now: Moment) {
+        self.clients[question.client].reply(answer, now);
         self.end_slowest();
+    }
+
+    /// Lets a client wait until the count of changes is another one. False if too many wait.
+    pub fn let_wait(&mut self, question: &Question, count: u64) -> bool {
+        let is_able = self.clients.iter().filter(|client| client.known.is_some()).count() < MOST_WAITING;
+        self.clients[question.client].known = Some(count).filter(|_| is_able);
+        is_able
+    }
+
+    /// Answers the clients that wait for another count of changes than the one that they know.
+    pub fn tell_changes(&mut self, count: u64, now: Moment) {
+        for client in &mut self.clients {
+            if client.known.map_or(false, |known| known != count) {
+                client.known = None;
+                client.reply(Answer::of_changes(count), now);
+            }
+        }
     }
 
     pub fn has_more(&self) -> bool {
         self.clients.iter().any(Client::has_line)
     }
 
-    /// While over 64 MiB of answers are unread, ends the connection with the oldest unread answer.
+    /// Returns how many octets the unread answers take. Answers may share tables.
+    fn unread(&self) -> usize {
+        let own: usize = self.clients.iter().map(|client| client.answer.memory()).sum();
+        let mut tables: Vec<_> =
+            self.clients.iter().filter_map(|client| Some(client.answer.rest.as_ref()?.tables())).collect();
+        tables.sort_by_key(|one| Rc::as_ptr(one));
+        tables.dedup_by_key(|one| Rc::as_ptr(one));
+        own + tables.iter().map(|one| one.memory()).sum::<usize>()
+    }
+
+    /// While too many octets are unread, ends the connection with the oldest unread answer.
     fn end_slowest(&mut self) {
-        while self.clients.iter().map(|client| client.answer.len()).sum::<usize>() > MOST_UNREAD {
+        while self.unread() > MOST_UNREAD {
             let waiting = self.clients.iter_mut().filter(|client| !client.answer.is_empty());
-            if let Some(slowest) = waiting.min_by_key(|client| client.since) {
-                slowest.is_over = true;
-                slowest.answer = VecDeque::new();
+            match waiting.min_by_key(|client| client.answered_at) {
+                Some(slowest) => {
+                    slowest.is_over = true;
+                    slowest.answer = Answer::default();
+                }
+                None => return,
             }
         }
+    }
+}
+
+#[cfg(test)]
+mod tests {
+    use super::*;
+    use std::fs;
+
+    fn opened(name: &str) -> (String, Control) {
+        let folder = std::env::temp_dir().join(format!("lldpa-live-{name}-{}", std::process::id()));
+        let path = folder.join("control").to_string_lossy().into_owned();
+        let control = Control::open(&path, None).expect("a socket");
+        (path, control)
+    }
+
+    /// Returns the next line of each client.
+    fn questions(control: &mut Control) -> Vec<String> {
+        std::iter::from_fn(|| control.question())
+            .map(|question| String::from_utf8(question.line).expect("a text"))
+            .collect()
+    }
+
+    #[test]
+    fn each_client_is_answered_in_turn() {
+        let (path, mut control) = opened("clients");
+        let mut clients: Vec<_> = (0..3).map(|_| UnixStream::connect(&path).expect("a socket")).collect();
+        for (number, client) in clients.iter_mut().enumerate() {
+            write!(client, "live p{number}\nshow neighbors\n").expect("room");
+        }
+        let now = Moment::now();
+        control.turn(now, false);
+        assert!(!control.has_more(), "nobody is accepted unless somebody asks");
+        control.turn(now, true);
+        assert_eq!((control.deadline(now), control.has_more()), (None, true));
+        for number in 0..3 {
+            let question = control.question().expect("a question");
+            assert_eq!(question.line, format!("live p{number}").as_bytes());
+            assert!(question.may_change, "the socket is ours");
+            control.reply(&question, Answer::of("x\n"), now);
+        }
+        assert!(control.question().is_none());
+        for client in &mut clients {
+            let mut room = [0; 5];
+            client.read_exact(&mut room).expect("an answer");
+            assert_eq!(&room, b"=1\nx\n");
+        }
+        assert_eq!(questions(&mut control), ["show neighbors"; 3]);
+        fs::remove_dir_all(path.trim_end_matches("/control")).expect("a folder");
+    }
+
+    #[test]
+    fn a_removed_socket_is_made_again() {
+        let (path, mut control) = opened("removed");
+        fs::remove_file(&path).expect("a socket");
+        assert!(UnixStream::connect(&path).is_err());
+        control.turn(Moment::now(), false);
+        let mut client = UnixStream::connect(&path).expect("a socket");
+        client.write_all(b"live\n").expect("room");
+        control.turn(Moment::now(), true);
+        assert_eq!(questions(&mut control), ["live"]);
+        fs::remove_dir_all(path.trim_end_matches("/control")).expect("a folder");
+    }
+
+    #[test]
+    fn a_slow_client_has_to_go() {
+        let (path, mut control) = opened("slow");
+        let mut client = UnixStream::connect(&path).expect("a socket");
+        client.write_all(b"live\nlive\n").expect("room");
+        let now = Moment::now();
+        control.turn(now, true);
+        let question = control.question().expect("a question");
+        control.reply(&question, Answer::of(&"x\n".repeat(1 << 20)), now);
+        let deadline = control.deadline(now).expect("a deadline");
+        assert_eq!(deadline.since(now), std::time::Duration::from_secs(10));
+        let before = now + std::time::Duration::from_millis(9999);
+        assert!(!control.is_due(before) && control.is_due(deadline));
+        control.turn(deadline, false);
+        assert_eq!((control.deadline(deadline), control.clients.len()), (None, 0));
+        fs::remove_dir_all(path.trim_end_matches("/control")).expect("a folder");
+    }
+
+    #[test]
+    fn places_are_limited() {
+        let (path, mut control) = opened("places");
+        let now = Moment::now();
+        let clients: Vec<_> =
+            (0..MOST_PREFERRED).map(|_| UnixStream::connect(&path).expect("a socket")).collect();
+        control.turn(now, true);
+        control.turn(now, true);
+        assert_eq!(control.clients.len(), MOST_PREFERRED);
+        let mut late = UnixStream::connect(&path).expect("a socket");
+        control.turn(now, true);
+        let mut text = [0; 27];
+        late.read_exact(&mut text).expect("a refusal");
+        assert_eq!(&text, b"=1\nerror: too many clients\n");
+        let idle = now + IDLENESS;
+        let _newest = UnixStream::connect(&path).expect("a socket");
+        control.turn(idle, true);
+        assert_eq!(control.clients.len(), MOST_PREFERRED, "one that was idle has gone");
+        assert!(control.clients.iter().any(|client| client.active_at == idle));
+        drop(clients);
+        fs::remove_dir_all(path.trim_end_matches("/control")).expect("a folder");
     }
 }

@@ -1,8 +1,13 @@
-//! Feeds damaged input to each reader, and fails if a reader panics:
-//!     LLDPA_FUZZ_SECONDS=600 cargo test --release -- --ignored fuzz
+//! Feeds damaged input to each reader, and fails if a reader panics. Each run of the tests reads the
+//! same inputs. For longer, with other inputs:
+//!     LLDPA_FUZZ_SECONDS=600 cargo test --release fuzz
 
-use crate::links::{messages, Links};
-use crate::{answers, settings, state};
+use crate::links::Links;
+use crate::netlink::messages;
+use crate::queries::Query;
+use crate::time::{Moment, WallTime};
+use crate::{settings, state};
+use lldpa::CommandFault;
 use std::fs::File;
 use std::time::{Duration, Instant};
 
@@ -13,6 +18,8 @@ const STATE: &str =
 const SETTINGS: &str =
     "\u{feff}# a comment\nconfigure system hostname \"a b\"\r\nconfigure lldp tx-hold 300\n\
     configure ports eth0 lldp status rx-only x\nshow neighbors\nupdate \"\n";
+
+const INPUTS: usize = 20_000; // for each reader
 
 /// Makes damaged copies of samples, at random.
 struct Octets(u64);
@@ -41,13 +48,13 @@ impl Octets {
     }
 }
 
-/// Feeds damaged samples to a reader, for LLDPA_FUZZ_SECONDS (default 5).
-fn try_for_long(samples: &[&[u8]], mut reader: impl FnMut(&[u8])) {
-    let seconds = std::env::var("LLDPA_FUZZ_SECONDS").map_or(5, |text| text.parse().expect("a number"));
-    let end = Instant::now() + Duration::from_secs(seconds);
-    let mut octets = Octets(u64::from(std::process::id()) << 32 | 1);
-    let mut count = 0u64;
-    while Instant::now() < end {
+/// Feeds damaged samples to a reader: always the same ones, or others for LLDPA_FUZZ_SECONDS.
+fn feed(samples: &[&[u8]], mut reader: impl FnMut(&[u8])) {
+    let text = std::env::var("LLDPA_FUZZ_SECONDS").ok();
+    let span = text.map(|text| Duration::from_secs(text.parse().expect("a number")));
+    let mut octets = Octets(if span.is_some() { u64::from(std::process::id()) << 32 | 1 } else { 1 });
+    let (begin, mut count) = (Instant::now(), 0);
+    while span.map_or(count < INPUTS, |span| begin.elapsed() < span) {
         for sample in samples {
             (0..100).for_each(|_| reader(&octets.next(sample)));
             count += 100;
@@ -57,7 +64,6 @@ fn try_for_long(samples: &[&[u8]], mut reader: impl FnMut(&[u8])) {
 }
 
 #[test]
-#[ignore = "it runs for LLDPA_FUZZ_SECONDS"]
 fn fuzz_netlink() {
     let mut links = Links::over(File::open("/dev/null").expect("a file"));
     let link = [
@@ -67,40 +73,39 @@ fn fuzz_netlink() {
     ]
     .concat();
     let address = [32u32, 20, 0, 0, 0x2, 2, 0x2_0008, 0x100_007f].map(u32::to_ne_bytes).concat();
-    try_for_long(&[&link, &address], |octets| {
+    feed(&[&link, &address], |octets| {
         let mut news = Vec::new();
-        messages(octets).for_each(|(kind, body)| links.take(kind, body, &mut news));
+        messages(octets).for_each(|(kind, body)| links.handle(kind, body, &mut news));
     });
     assert!(links.changes > 0);
 }
 
 #[test]
-#[ignore = "it runs for LLDPA_FUZZ_SECONDS"]
 fn fuzz_control_lines() {
     let samples: Vec<&[u8]> = SETTINGS.lines().map(str::as_bytes).collect();
-    try_for_long(&samples, |octets| {
-        answers::refusal(octets, octets.len() % 2 == 0);
+    feed(&samples, |octets| {
+        let _ = Query::read(octets, octets.len() % 2 == 0);
     });
 }
 
 #[test]
-#[ignore = "it runs for LLDPA_FUZZ_SECONDS"]
 fn fuzz_settings() {
-    try_for_long(&[SETTINGS.as_bytes()], |octets| {
+    feed(&[SETTINGS.as_bytes()], |octets| {
         for setting in settings::settings_in("a.conf", octets) {
-            let why = settings::explained(&setting.line, "unknown command");
+            let why = settings::explained(&setting.line, CommandFault::Unknown);
             assert!(setting.refused(&why).len() < 4000);
-            settings::explained(&setting.line, "out of range");
+            settings::explained(&setting.line, CommandFault::Range);
             setting.port();
         }
     });
 }
 
 #[test]
-#[ignore = "it runs for LLDPA_FUZZ_SECONDS"]
 fn fuzz_state() {
-    assert_eq!(state::past(STATE.as_bytes(), 110_000, 60_000).map(|past| past.lines.len()), Ok(4));
-    try_for_long(&[STATE.as_bytes()], |octets| {
-        let _ = state::past(octets, 110_000, 60_000);
+    let wall = WallTime::after_1970(Duration::from_secs(110));
+    let now = Moment::after_boot(Duration::from_secs(60));
+    assert_eq!(state::saved_in(STATE.as_bytes(), wall, now).map(|saved| saved.lines.len()).ok(), Some(4));
+    feed(&[STATE.as_bytes()], |octets| {
+        let _ = state::saved_in(octets, wall, now);
     });
 }

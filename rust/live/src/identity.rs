@@ -1,6 +1,7 @@
 //! Finds what identifies this host: chassis ID, operating system and management address.
 
 use crate::links::{Link, Links, Mac};
+use crate::patterns;
 use std::net::Ipv4Addr;
 
 const OS_RELEASE: [&str; 2] = ["/etc/os-release", "/usr/lib/os-release"];
@@ -17,13 +18,18 @@ pub fn chassis_address(ports: &[String], links: &Links) -> Option<Mac> {
 }
 
 /// Returns the management address: the first global IPv4 address of a port, else of an interface
-/// above a port, else of hardware, else of any interface (lowest index first).
-pub fn management_address(ports: &[String], links: &Links) -> Option<Ipv4Addr> {
+/// above a port, else of a VLAN on one of these, else of hardware, else of any interface (lowest
+/// index first). If there are patterns, they must allow the address.
+pub fn management_address(ports: &[String], links: &Links, patterns: &[String]) -> Option<Ipv4Addr> {
     let ours = || ports.iter().filter_map(|name| links.named(name));
+    let stack = || ours().chain(ours().flat_map(|one| above(one, links)));
+    let vlans = links.all().filter(|one| one.vlan_on != 0 && stack().any(|lower| lower.index == one.vlan_on));
     let hardware = links.all().filter(|one| one.is_hardware && one.is_ethernet);
-    let mut all = ours().chain(ours().flat_map(|one| above(one, links))).chain(hardware).chain(links.all());
-    all.find_map(|one| links.addresses.iter().map(|known| known.0).find(|known| known.0 == one.index))
-        .map(|one| one.1)
+    let mut all = stack().chain(vlans).chain(hardware).chain(links.all());
+    let is_allowed = |address: &Ipv4Addr| patterns::allows(patterns, &address.to_string());
+    let known: Vec<_> =
+        links.addresses.iter().map(|known| known.0).filter(|one| is_allowed(&one.1)).collect();
+    all.find_map(|one| known.iter().find(|known| known.0 == one.index)).map(|one| one.1)
 }
 
 /// Returns the interfaces above this one: its bond, team or bridge, the interface above that, etc.
@@ -59,6 +65,7 @@ mod tests {
         let mut links = Links::over(std::fs::File::open("/dev/null").expect("a file"));
         for ((name, is_hardware), index) in kinds.iter().zip(1..) {
             let one = Link {
+                index: i32::from(index),
                 name: name.to_string(),
                 is_ethernet: true,
                 is_hardware: *is_hardware,
@@ -81,5 +88,42 @@ mod tests {
         let known = links(&[("veth1", false), ("veth2", false)]);
         assert_eq!(chassis_address(&["eth0".into(), "veth2".into()], &known), Some([2, 0, 0, 0, 0, 2]));
         assert_eq!(chassis_address(&["eth0".into()], &known), None);
+    }
+
+    #[test]
+    fn an_interface_names_the_host_only_by_an_address() {
+        let mut known = links(&[("lo", true), ("eth0", true), ("eth1", true)]);
+        let lo = &mut known.known.get_mut(&1).expect("lo").0;
+        (lo.is_ethernet, lo.permanent) = (false, Some([2, 0, 0, 0, 1, 1]));
+        let eth0 = &mut known.known.get_mut(&2).expect("eth0").0;
+        (eth0.address, eth0.permanent) = (Some([0; 6]), None);
+        let ports = ["lo".to_string(), "eth0".to_string()];
+        assert_eq!(chassis_address(&ports, &known), Some([2, 0, 0, 0, 1, 3]));
+        known.known.get_mut(&3).expect("eth1").0.permanent = None;
+        assert_eq!(chassis_address(&ports, &known), Some([2, 0, 0, 0, 0, 3]));
+    }
+
+    #[test]
+    fn addresses_of_ports_and_what_is_on_them_come_first() {
+        let mut known =
+            links(&[("docker0", false), ("eth0", true), ("bond0", false), ("v", false), ("eth1", true)]);
+        known.known.get_mut(&2).expect("eth0").0.master = 3;
+        known.known.get_mut(&4).expect("v").0.vlan_on = 3;
+        let at = |last: u8, index: i32| ((index, Ipv4Addr::new(192, 0, 2, last)), 0);
+        let all = [at(1, 1), at(2, 2), at(3, 3), at(4, 4), at(5, 5)];
+        let ports = ["eth0".to_string()];
+        // without the address of the port, of its bond, of the VLAN on the bond, and so on
+        for (skipped, last) in [(&[][..], 2), (&[2], 3), (&[2, 3], 4), (&[2, 3, 4], 5), (&[2, 3, 4, 5], 1)] {
+            known.addresses = all.iter().filter(|one| !skipped.contains(&one.0 .0)).copied().collect();
+            let found = management_address(&ports, &known, &[]);
+            assert_eq!(found, Some(Ipv4Addr::new(192, 0, 2, last)), "{skipped:?}");
+        }
+        known.addresses = all.to_vec();
+        for (patterns, last) in [("!192.0.2.2", 3), ("192.0.2.[145]", 4), ("192.0.2.*,!192.0.2.[2345]", 1)] {
+            let patterns: Vec<String> = patterns.split(',').map(String::from).collect();
+            let found = management_address(&ports, &known, &patterns);
+            assert_eq!(found, Some(Ipv4Addr::new(192, 0, 2, last)), "{patterns:?}");
+        }
+        assert_eq!(management_address(&ports, &known, &["10.*".into()]), None);
     }
 }

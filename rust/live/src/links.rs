@@ -1,32 +1,26 @@
 //! Follows the interfaces of this network namespace and their global IPv4 addresses. Needs no
 //! rights. Ignores malformed messages. (linux: netlink.h, rtnetlink.h, if_link.h, if_addr.h)
 
-use crate::sys;
+use crate::netlink::{address_of, link_of, messages};
+use crate::sys::sockets;
 use crate::waiting::Awaited;
+use libc::{RTM_DELADDR, RTM_DELLINK, RTM_GETADDR, RTM_GETLINK, RTM_NEWADDR, RTM_NEWLINK};
 use std::collections::BTreeMap;
 use std::fs::File;
 use std::io::{ErrorKind, Read, Result, Write};
 use std::net::Ipv4Addr;
 
-const AF_NETLINK: u16 = 16;
-const GROUPS: u32 = 0x1 | 0x10; // RTMGRP_LINK, RTMGRP_IPV4_IFADDR
-const REQUEST_DUMP: u16 = 0x301;
-const ERROR: u16 = 2;
-const DONE: u16 = 3;
-const NEW_LINK: u16 = 16;
-const DEL_LINK: u16 = 17;
-const GET_LINK: u16 = 18;
-const NEW_ADDRESS: u16 = 20;
-const DEL_ADDRESS: u16 = 21;
-const GET_ADDRESS: u16 = 22;
-const ENOBUFS: i32 = 105;
+const GROUPS: i32 = libc::RTMGRP_LINK | libc::RTMGRP_IPV4_IFADDR;
+const REQUEST_DUMP: u16 = (libc::NLM_F_REQUEST | libc::NLM_F_DUMP) as u16;
+const ERROR: u16 = libc::NLMSG_ERROR as u16;
+const DONE: u16 = libc::NLMSG_DONE as u16;
 const LONGEST_MESSAGE: usize = 65536;
-const AF_INET: u8 = 2;
+const AF_INET: u8 = libc::AF_INET as u8;
 
 pub type Mac = [u8; 6];
 
 /// An interface as it is, or as it was when it was removed.
-#[derive(Clone, Debug, Default, PartialEq)]
+#[derive(Clone, Debug, Default, PartialEq, Eq)]
 pub struct Link {
     pub index: i32,
     pub name: String,
@@ -39,6 +33,8 @@ pub struct Link {
     pub permanent: Option<Mac>,
     /// The index of the bond, team or bridge above it, or 0.
     pub master: i32,
+    /// The index of the interface that this VLAN is on, or 0.
+    pub vlan_on: i32,
 }
 
 /// The known interfaces and addresses, each with the value of `list` when it was last reported.
@@ -59,10 +55,7 @@ pub struct Links {
 
 impl Links {
     pub fn open() -> Result<Links> {
-        let socket = sys::raw_socket(AF_NETLINK.into())?;
-        let address = [u32::from(AF_NETLINK), 0, GROUPS].map(u32::to_ne_bytes).concat();
-        sys::name_socket(&socket, &address, false)?;
-        let mut links = Links::over(socket);
+        let mut links = Links::over(sockets::open_netlink(GROUPS)?);
         links.ask()?;
         while links.lists_to_come > 0 {
             links.read()?; // never waits: the kernel makes a list while it is read
@@ -81,7 +74,7 @@ impl Links {
         self.list += 1;
         self.lists_to_come = 2;
         self.is_stale = false;
-        self.request(GET_LINK, &[0; 16])
+        self.request(RTM_GETLINK, &[0; 16])
     }
 
     fn request(&mut self, kind: u16, body: &[u8]) -> Result<()> {
@@ -99,10 +92,10 @@ impl Links {
         let result = loop {
             match self.socket.file.read(&mut room) {
                 Ok(length) => {
-                    messages(&room[..length]).for_each(|(kind, body)| self.take(kind, body, &mut news))
+                    messages(&room[..length]).for_each(|(kind, body)| self.handle(kind, body, &mut news))
                 }
                 Err(fault) if fault.kind() == ErrorKind::WouldBlock => break Ok(()),
-                Err(fault) if fault.raw_os_error() == Some(ENOBUFS) => self.is_stale = true,
+                Err(fault) if fault.raw_os_error() == Some(libc::ENOBUFS) => self.is_stale = true,
                 Err(fault) => break Err(fault),
             }
             let asked = if self.is_stale && self.lists_to_come == 0 { self.ask() } else { Ok(()) };
@@ -114,17 +107,18 @@ impl Links {
         result.map(|()| news)
     }
 
-    pub fn take(&mut self, kind: u16, body: &[u8], news: &mut Vec<Link>) {
+    /// Handles a message. Adds its news of an interface.
+    pub fn handle(&mut self, kind: u16, body: &[u8], news: &mut Vec<Link>) {
         match kind {
-            NEW_LINK | DEL_LINK => {
-                if let Some(link) = link_of(body, kind == NEW_LINK) {
+            RTM_NEWLINK | RTM_DELLINK => {
+                if let Some(link) = link_of(body, kind == RTM_NEWLINK) {
                     self.note(&link);
                     news.push(link);
                 }
             }
-            NEW_ADDRESS | DEL_ADDRESS => {
+            RTM_NEWADDR | RTM_DELADDR => {
                 if let Some(address) = address_of(body) {
-                    self.note_address(address, kind == NEW_ADDRESS);
+                    self.note_address(address, kind == RTM_NEWADDR);
                 }
             }
             DONE => self.end_list(news),
@@ -150,7 +144,7 @@ impl Links {
                 self.note(&gone);
                 news.push(gone);
             }
-            self.is_stale = self.request(GET_ADDRESS, &[AF_INET, 0, 0, 0, 0, 0, 0, 0]).is_err();
+            self.is_stale = self.request(RTM_GETADDR, &[AF_INET, 0, 0, 0, 0, 0, 0, 0]).is_err();
         } else {
             let count = self.addresses.len();
             self.addresses.retain(|one| one.1 == list);
@@ -187,62 +181,80 @@ impl Links {
     }
 }
 
-fn half(octets: &[u8], at: usize) -> Option<u16> {
-    Some(u16::from_ne_bytes(octets.get(at..at + 2)?.try_into().ok()?))
-}
+#[cfg(test)]
+mod tests {
+    use super::*;
+    use std::fs::OpenOptions;
 
-fn number(octets: &[u8], at: usize) -> Option<u32> {
-    Some(u32::from_ne_bytes(octets.get(at..at + 4)?.try_into().ok()?))
-}
+    fn links() -> Links {
+        Links::over(OpenOptions::new().write(true).open("/dev/null").expect("a file"))
+    }
 
-/// Splits octets into parts, aligned to four octets. `length_of` reads the first part's length.
-fn parts(octets: &[u8], least: usize, length_of: fn(&[u8]) -> Option<usize>) -> impl Iterator<Item = &[u8]> {
-    let mut rest = octets;
-    std::iter::from_fn(move || {
-        let length = length_of(rest).filter(|length| *length >= least)?;
-        let part = rest.get(..length)?;
-        rest = rest.get((length + 3) & !3..).unwrap_or(&[]);
-        Some(part)
-    })
-}
+    /// A message about an interface whose name is one letter.
+    fn interface(index: i32, name: u8) -> Vec<u8> {
+        let front = [0, 0, 1, 0].into_iter().chain(index.to_ne_bytes()).chain([0; 8]);
+        let attribute = [6u16, libc::IFLA_IFNAME].map(u16::to_ne_bytes).concat();
+        front.chain(attribute).chain([name, 0, 0, 0]).collect()
+    }
 
-pub fn messages(octets: &[u8]) -> impl Iterator<Item = (u16, &[u8])> {
-    parts(octets, 16, |rest| number(rest, 0).map(|length| length as usize))
-        .map(|part| (half(part, 4).unwrap_or(0), &part[16..]))
-}
+    fn address(index: i32, last: u8) -> Vec<u8> {
+        let front = [AF_INET, 24, 0, 0].into_iter().chain(index.to_ne_bytes());
+        let attribute = [8u16, libc::IFA_LOCAL].map(u16::to_ne_bytes).concat();
+        front.chain(attribute).chain([192, 0, 2, last]).collect()
+    }
 
-fn attribute(octets: &[u8], kind: u16) -> Option<&[u8]> {
-    parts(octets, 4, |rest| half(rest, 0).map(usize::from))
-        .find(|part| half(part, 2).map(|found| found & 0x3fff) == Some(kind))
-        .map(|part| &part[4..])
-}
+    /// Handles messages, and returns the names in their news, with `-` before those that are gone.
+    fn news(links: &mut Links, messages: &[(u16, Vec<u8>)]) -> String {
+        let mut news = Vec::new();
+        messages.iter().for_each(|(kind, body)| links.handle(*kind, body, &mut news));
+        let name = |link: &Link| format!("{}{}", if link.is_there { "" } else { "-" }, link.name);
+        news.iter().map(name).collect::<Vec<_>>().join(" ")
+    }
 
-fn text(octets: &[u8]) -> String {
-    String::from_utf8_lossy(octets.split(|octet| *octet == 0).next().unwrap_or(&[])).into_owned()
-}
+    #[test]
+    fn what_a_whole_list_lacks_is_gone() {
+        let mut links = links();
+        links.ask().expect("a request");
+        let first = [(RTM_NEWLINK, interface(1, b'a')), (RTM_NEWLINK, interface(2, b'b')), (DONE, vec![])];
+        assert_eq!(news(&mut links, &first), "a b");
+        let addresses = [(RTM_NEWADDR, address(1, 1)), (RTM_NEWADDR, address(2, 2)), (DONE, vec![])];
+        assert_eq!(news(&mut links, &addresses), "");
+        assert_eq!((links.lists_to_come, links.changes, links.addresses.len()), (0, 4, 2));
 
-/// Returns the interface in a message. None if the message is malformed or about a bridge's port.
-fn link_of(body: &[u8], is_there: bool) -> Option<Link> {
-    let attributes = body.get(16..).filter(|_| body[0] == 0)?;
-    let mac = |kind| attribute(attributes, kind).and_then(|octets| Mac::try_from(octets).ok());
-    let made_as = attribute(attributes, 18).and_then(|info| attribute(info, 1)).map_or(String::new(), text);
-    Some(Link {
-        index: number(body, 4)? as i32,
-        name: text(attribute(attributes, 3)?),
-        is_there,
-        is_running: is_there && number(body, 8)? & 0x10000 != 0, // IFF_LOWER_UP
-        is_ethernet: half(body, 2)? == 1,                        // ARPHRD_ETHER
-        is_hardware: made_as.is_empty() || made_as == "dsa",
-        address: mac(1),
-        permanent: mac(54),
-        master: attribute(attributes, 10).and_then(|octets| number(octets, 0)).unwrap_or(0) as i32,
-    })
-}
+        links.ask().expect("a request");
+        assert_eq!(news(&mut links, &[(RTM_NEWLINK, interface(2, b'c')), (DONE, vec![])]), "c -a");
+        assert_eq!(news(&mut links, &[(RTM_NEWADDR, address(2, 2)), (DONE, vec![])]), "");
+        let left: Vec<_> = links.addresses.iter().map(|one| one.0).collect();
+        assert_eq!(left, [(2, Ipv4Addr::new(192, 0, 2, 2))]);
+        assert!(links.named("a").is_none() && links.named("b").is_none() && links.named("c").is_some());
+        assert!(!links.is_stale);
+    }
 
-/// Returns the interface's index and the global IPv4 address in a message. None if it has none.
-fn address_of(body: &[u8]) -> Option<(i32, Ipv4Addr)> {
-    let attributes = body.get(8..).filter(|_| body[0] == AF_INET && body[3] == 0)?;
-    let octets = attribute(attributes, 2).or_else(|| attribute(attributes, 1))?;
-    let octets: [u8; 4] = octets.try_into().ok()?;
-    Some((number(body, 4)? as i32, octets.into()))
+    #[test]
+    fn a_list_with_a_gap_removes_nothing() {
+        let mut links = links();
+        assert_eq!(news(&mut links, &[(RTM_NEWLINK, interface(1, b'a'))]), "a");
+        links.ask().expect("a request");
+        links.is_stale = true;
+        assert_eq!(news(&mut links, &[(RTM_NEWLINK, interface(2, b'b')), (DONE, vec![])]), "b");
+        assert_eq!((links.lists_to_come, links.all().count()), (0, 2));
+        links.ask().expect("a request");
+        assert_eq!(news(&mut links, &[(ERROR, vec![])]), "");
+        assert!(links.is_stale && links.lists_to_come == 0);
+    }
+
+    #[test]
+    fn news_come_and_go() {
+        let mut links = links();
+        let (here, gone) = ((RTM_NEWLINK, interface(1, b'a')), (RTM_DELLINK, interface(1, b'a')));
+        assert_eq!(news(&mut links, &[here.clone(), gone, here]), "a -a a");
+        let before = links.changes;
+        let address = address(1, 1);
+        for (kind, changes, count) in
+            [(RTM_NEWADDR, 1, 1), (RTM_NEWADDR, 1, 1), (RTM_DELADDR, 2, 0), (RTM_DELADDR, 2, 0)]
+        {
+            news(&mut links, &[(kind, address.clone())]);
+            assert_eq!((links.changes - before, links.addresses.len()), (changes, count), "{kind}");
+        }
+    }
 }

@@ -1,8 +1,7 @@
 //! Listens at the control socket's path, which one process uses at a time. Checks clients' rights.
 
-use crate::files::O_NOFOLLOW;
 use crate::rights::at;
-use crate::sys::{self, SOL_SOCKET};
+use crate::sys::{files, sockets};
 use crate::waiting::Awaited;
 use std::fs::{self, DirBuilder, File, OpenOptions, Permissions};
 use std::io::{Error, ErrorKind, Result};
@@ -10,16 +9,11 @@ use std::os::unix::fs::{DirBuilderExt, FileTypeExt, MetadataExt, OpenOptionsExt,
 use std::os::unix::io::AsRawFd;
 use std::os::unix::net::{UnixListener, UnixStream};
 use std::path::Path;
-use std::sync::mpsc::channel;
 use std::thread;
-use std::time::Duration;
+use std::time::{Duration, Instant};
 
-const LOCK_EX_NB: i32 = 2 | 4;
-const O_PATH: i32 = 0o10_000_000;
+const BETWEEN_TRIES: Duration = Duration::from_millis(10);
 const ONLY_OWNER: u32 = 0o177; // as a umask
-const SO_PEERCRED: i32 = 17;
-const SO_PEERGROUPS: i32 = 59;
-const MOST_GROUPS: usize = 256;
 
 /// A listening socket. Until it is dropped or the process ends, no other lldpa-live uses its path.
 pub struct Listening {
@@ -67,7 +61,7 @@ impl Listening {
 }
 
 fn watch(path: &str) -> Option<Awaited<File>> {
-    sys::watch(path).ok().map(Awaited::new)
+    files::watch(path).ok().map(Awaited::new)
 }
 
 fn lock_path(path: &str) -> String {
@@ -80,19 +74,19 @@ fn in_use(path: &str) -> Error {
 
 fn locked(path: &str) -> Result<File> {
     let mut options = OpenOptions::new();
-    let options = options.read(true).write(true).create(true).mode(0o600).custom_flags(O_NOFOLLOW);
+    let options = options.read(true).write(true).create(true).mode(0o600).custom_flags(libc::O_NOFOLLOW);
     let lock = options.open(lock_path(path)).map_err(at(&lock_path(path)))?;
-    sys::lock(lock.as_raw_fd(), LOCK_EX_NB).map_err(|_| in_use(path))?;
+    files::lock(&lock).map_err(|_| in_use(path))?;
     Ok(lock)
 }
 
 /// Removes a socket on which nobody listens any more. Anything else at the path is an error.
 fn remove_stale(path: &str) -> Result<()> {
-    let told = match fs::symlink_metadata(path) {
-        Ok(told) => told,
+    let found = match fs::symlink_metadata(path) {
+        Ok(found) => found,
         Err(_) => return Ok(()),
     };
-    if !told.file_type().is_socket() {
+    if !found.file_type().is_socket() {
         return Err(at(path)(Error::new(ErrorKind::AlreadyExists, "this is not a socket")));
     }
     match connect(path, Duration::from_secs(1)) {
@@ -101,20 +95,27 @@ fn remove_stale(path: &str) -> Result<()> {
     }
 }
 
-/// Connects to a socket within this time. (If its queue is full, the kernel would wait forever.)
+/// Connects to a socket within this time, in which its queue may be full. Reads of it never wait.
 pub fn connect(path: &str, patience: Duration) -> Result<UnixStream> {
-    let ((ours, theirs), path) = (channel(), path.to_string());
-    thread::spawn(move || ours.send(UnixStream::connect(path)));
-    theirs
-        .recv_timeout(patience)
-        .unwrap_or_else(|_| Err(Error::new(ErrorKind::TimedOut, "the connection was not accepted in time")))
+    let last = Instant::now() + patience;
+    loop {
+        match sockets::connect_stream(path) {
+            Err(fault) if fault.kind() == ErrorKind::WouldBlock && Instant::now() < last => {
+                thread::sleep(BETWEEN_TRIES);
+            }
+            Err(fault) if fault.kind() == ErrorKind::WouldBlock => {
+                return Err(Error::new(ErrorKind::TimedOut, "the connection was not accepted in time"))
+            }
+            connected => return connected,
+        }
+    }
 }
 
 /// Returns a listening socket. Its mode is 0600 at first, then 0660 if a group is given.
 fn listener(path: &str, group: Option<u32>) -> Result<UnixListener> {
-    let mask = sys::set_umask(ONLY_OWNER)?;
+    let mask = files::set_umask(ONLY_OWNER);
     let bound = UnixListener::bind(path);
-    sys::set_umask(mask as u32)?;
+    files::set_umask(mask);
     let socket = bound?;
     socket.set_nonblocking(true)?;
     if let Some(group) = group {
@@ -126,12 +127,12 @@ fn listener(path: &str, group: Option<u32>) -> Result<UnixListener> {
 /// Lets a group use the socket at a path. Opens the socket once for all steps, since another user
 /// who may write to the folder could replace it between two steps.
 fn hand_over(path: &str, group: u32) -> Result<()> {
-    let place = OpenOptions::new().read(true).custom_flags(O_PATH | O_NOFOLLOW).open(path)?;
-    if !place.metadata()?.file_type().is_socket() {
+    let file = OpenOptions::new().read(true).custom_flags(libc::O_PATH | libc::O_NOFOLLOW).open(path)?;
+    if !file.metadata()?.file_type().is_socket() {
         return Err(Error::new(ErrorKind::AlreadyExists, "this is not a socket"));
     }
-    let by_number = format!("/proc/self/fd/{}", place.as_raw_fd());
-    sys::give(&by_number, u32::MAX, group)?;
+    let by_number = format!("/proc/self/fd/{}", file.as_raw_fd());
+    files::give(&by_number, None, Some(group))?;
     fs::set_permissions(&by_number, Permissions::from_mode(0o660))
 }
 
@@ -143,11 +144,8 @@ pub struct Peer {
 
 impl Peer {
     pub fn of(stream: &UnixStream) -> Peer {
-        let told = sys::get::<3>(stream, SOL_SOCKET, SO_PEERCRED).map_or([u32::MAX; 3], |told| told.0);
-        let further = sys::get::<MOST_GROUPS>(stream, SOL_SOCKET, SO_PEERGROUPS);
-        let mut groups = further.map_or(Vec::new(), |(all, count)| all[..count].to_vec());
-        groups.push(told[2]);
-        Peer { user: told[1], groups }
+        let (user, groups) = sockets::peer_of(stream);
+        Peer { user, groups }
     }
 
     /// True if the client is root, or may write to the socket as its owner or by its group. (The
@@ -155,13 +153,44 @@ impl Peer {
     pub fn may_change(&self, path: &str) -> bool {
         match fs::symlink_metadata(path) {
             _ if self.user == 0 => true,
-            Ok(told) if told.uid() == self.user => told.mode() & 0o200 != 0,
-            Ok(told) => told.mode() & 0o020 != 0 && self.groups.contains(&told.gid()),
+            Ok(found) if found.uid() == self.user => found.mode() & 0o200 != 0,
+            Ok(found) => found.mode() & 0o020 != 0 && self.groups.contains(&found.gid()),
             Err(_) => false,
         }
     }
 
     pub fn is_preferred(&self, path: &str) -> bool {
-        self.user == 0 || fs::symlink_metadata(path).map_or(false, |told| told.uid() == self.user)
+        self.user == 0 || fs::symlink_metadata(path).map_or(false, |found| found.uid() == self.user)
+    }
+}
+
+#[cfg(test)]
+mod tests {
+    use super::*;
+
+    #[test]
+    fn root_the_owner_and_the_group_may_change() {
+        let path = std::env::temp_dir().join(format!("lldpa-live-peer-{}", std::process::id()));
+        File::create(&path).expect("a file");
+        let found = fs::metadata(&path).expect("a file");
+        let path = path.to_string_lossy().into_owned();
+        let (owner, group, other) = (found.uid(), found.gid(), found.uid() + found.gid() + 12_345);
+        for (mode, user, groups, may_change) in [
+            (0o600, owner, vec![], true),
+            (0o600, other, vec![group], false),
+            (0o660, other, vec![other, group], true),
+            (0o660, other, vec![other], false),
+            (0o666, other, vec![other], false),
+            (0o400, 0, vec![], true),
+        ] {
+            fs::set_permissions(&path, Permissions::from_mode(mode)).expect("a mode");
+            let peer = Peer { user, groups };
+            assert_eq!(peer.may_change(&path), may_change, "{mode:o} {user}");
+            assert_eq!(peer.is_preferred(&path), user == owner || user == 0, "{user}");
+        }
+        fs::remove_file(&path).expect("a file");
+        let peer = |user| Peer { user, groups: vec![group] };
+        assert!(peer(0).may_change(&path) && peer(0).is_preferred(&path));
+        assert!(!peer(other).may_change(&path) && !peer(other).is_preferred(&path));
     }
 }

@@ -1,220 +1,286 @@
 //! Gives the agent the received frames and the seconds in the order of time, and sends its frames.
 
-use crate::agent::{Line, Running};
-use crate::clock::{self, Clock, INEXACT, MILLISECOND, SECOND};
+use crate::agent::Running;
+use crate::answers::Server;
+use crate::arguments::Arguments;
+use crate::commands::Settings;
 use crate::control::Control;
+use crate::following::{Announced, Following};
+use crate::lines::Line;
 use crate::links::{Link, Links};
 use crate::log::Log;
 use crate::notify::Manager;
-use crate::ports::{ran_and_later, Ports};
+use crate::outbox::Outbox;
+use crate::ports::Ports;
 use crate::reports::Events;
-use crate::settings::Setting;
-use crate::sys;
+use crate::sys::signals;
+use crate::time::{processor_time, Clock, Moment, WallTime};
 use crate::waiting::{self, Awaited, IN, PRIORITY};
-use crate::words::Given;
 use lldpa::Sent;
 use std::fs::File;
 use std::io::Result;
-use std::net::Ipv4Addr;
 use std::os::unix::io::AsRawFd;
+use std::time::Duration;
 
-const MOST_TICKS: usize = 65535; // seconds in one line
-
-/// A frame to send at a port, and when it was due.
-struct Outgoing {
-    moment: i64,
-    port: usize,
-    frame: Vec<u8>,
-}
+const MOST_TICKS: u32 = 65535; // seconds in one line
+/// How many frames one turn gives to the agent, and for how long: then signals and questions follow.
+const MOST_FRAMES: usize = 64;
+const LONGEST_GIVING: Duration = Duration::from_millis(25);
+/// How long frames wait while the log is behind, before it is asked again.
+const PAUSE: Duration = Duration::from_millis(5);
 
 /// The result of `turn`: the moment reached, and whether signals or clients wait to be handled.
 pub struct Turn {
+    pub began: Moment,
     /// The agent was given all frames and seconds up to this moment.
-    moment: i64,
+    pub moment: Moment,
     pub has_signal: bool,
     pub is_asked: bool,
 }
 
-pub struct Live {
-    pub given: Given,
+/// The files that wake lldpa-live, besides those of ports, links and clients.
+pub struct Wakers {
     epoll: File,
     pub signals: Awaited<File>,
-    pub began: i64,
-    pub clock: Clock,
+    /// Becomes ready when the host's name has changed.
+    host_name: Option<Awaited<File>>,
+}
+
+impl Wakers {
+    fn open() -> Result<Wakers> {
+        Ok(Wakers {
+            epoll: waiting::epoll()?,
+            signals: Awaited::new(signals::open()?),
+            host_name: File::open("/proc/sys/kernel/hostname").ok().map(Awaited::new),
+        })
+    }
+}
+
+/// A running lldpa-live.
+pub struct Live {
+    pub arguments: Arguments,
+    pub began: WallTime,
+    pub wakers: Wakers,
     pub links: Links,
     pub ports: Ports,
+    /// The agent's seconds.
+    pub clock: Clock,
     /// The agent. None while lldpa-live waits for an interface.
     pub running: Option<Running>,
-    pub log: Log,
-    pub control: Option<Control>,
+    pub settings: Settings,
+    pub announced: Announced,
+    pub following: Following,
+    pub server: Server,
     pub manager: Manager,
     pub events: Events,
-    /// The announced management address.
-    pub management: Option<Ipv4Addr>,
-    pub other_management: Option<(Option<Ipv4Addr>, i64)>, // another that was found since, and when
-    /// The settings of ports in the files, kept for ports that are added later.
-    pub settings: Vec<Setting>,
-    pub not_taken: usize, // how many settings were not applied
-    pub host_name: String,
-    /// The host's name as last given to the agent, or empty.
-    pub announced_name: String,
-    /// Becomes ready when the host's name has changed.
-    name_file: Option<Awaited<File>>,
-    /// The value of `links.changes` when the ports were last matched with the interfaces.
-    pub followed: u64,
-    /// When to write the state next.
-    pub next_state: i64,
-    pub next_try: i64, // when to try next to open or replace the agent
-    /// When to check the host's name and the control socket: some systems report no changes.
-    pub next_look: i64,
-    /// True if it was reported that lldpa-live waits for an interface.
-    pub is_awaiting: bool,
-    /// True if it was reported that there is no IPv4 address to announce.
-    pub was_missing: bool,
-    pub last_number: u32,
-    outgoing: Vec<Outgoing>,
+    pub log: Log,
+    /// When to save the state next.
+    pub next_state: Moment,
+    /// The last number that was given to a chassis.
+    pub last_chassis: u32,
+    outbox: Outbox,
+    /// True if frames that could be given to the agent wait for the next turn.
+    pub is_cut: bool,
 }
 
 impl Live {
-    pub fn new(given: Given, links: Links, ports: Ports, control: Option<Control>) -> Result<Live> {
+    pub fn new(arguments: Arguments, links: Links, ports: Ports, control: Option<Control>) -> Result<Live> {
         Ok(Live {
-            epoll: sys::epoll()?,
-            signals: Awaited::new(sys::signals()?),
-            began: clock::wall(),
-            clock: Clock::new(),
+            began: WallTime::now(),
+            wakers: Wakers::open()?,
             links,
             ports,
+            clock: Clock::new(),
             running: None,
-            log: Log::new(given.log.clone(), given.log_most, given.log_keep),
-            control,
+            settings: Settings::default(),
+            announced: Announced::new(arguments.agent.management),
+            following: Following::default(),
+            server: Server::new(control),
             manager: Manager::new(),
             events: Events::default(),
-            management: given.agent.management,
-            other_management: None,
-            settings: Vec::new(),
-            not_taken: 0,
-            host_name: sys::host_name(),
-            announced_name: String::new(),
-            name_file: File::open("/proc/sys/kernel/hostname").ok().map(Awaited::new),
-            followed: 0,
-            next_state: 0,
-            next_try: 0,
-            next_look: 0,
-            is_awaiting: false,
-            was_missing: false,
-            last_number: 0,
-            outgoing: Vec::new(),
-            given,
+            log: Log::new(arguments.log.clone(), arguments.log_most, arguments.log_keep),
+            next_state: Moment::default(),
+            last_chassis: 0,
+            outbox: Outbox::default(),
+            is_cut: false,
+            arguments,
         })
     }
 
-    /// Waits for input or a deadline, at most until `last`. Then gives the agent the frames in the
+    /// Waits for input or a deadline, at most until `last`. Then gives the agent some frames in the
     /// order of their stamps, with each second at its place among them. Links that came up are
-    /// given before the frames, links that went down after them, so that no frame is lost. If
-    /// `is_question`, does not wait, and also reads ports that rest.
-    pub fn turn(&mut self, last: i64, is_question: bool) -> Turn {
-        let before = clock::now();
+    /// given before the frames, links that went down after them, so that no frame is lost. If a
+    /// question waits for frames, does not wait, and also reads ports that rest.
+    pub fn turn(&mut self, last: Option<Moment>) -> Turn {
+        let before = Moment::now();
         let due = self.agent_due();
-        self.await_files(before, is_question);
-        let wait = if is_question { 0 } else { self.deadline(before, due).min(last) - before };
-        let found = waiting::ready(&self.epoll, ((wait.max(0) + MILLISECOND - 1) / MILLISECOND) as i32);
-        let has_signal = found.contains(&self.signals.file.as_raw_fd());
+        self.await_files(before);
+        let deadline = self.deadline(before, due);
+        let deadline = last.map_or(deadline, |last| last.min(deadline));
+        let found = waiting::ready(&self.wakers.epoll, deadline.since(before));
+        let has_signal = found.contains(&self.wakers.signals.file.as_raw_fd());
         let has_news = found.contains(&self.links.socket.file.as_raw_fd());
         let news = if has_news { self.links.read().unwrap_or_default() } else { Vec::new() };
-        let ready = self.ports.ready(&found);
-        let is_asked = found.len() > ready.len() + usize::from(has_signal) + usize::from(has_news);
-        let left = self.ports.read(&mut self.clock, &ready);
+        let others = self.ports.count_of(&found) + usize::from(has_signal) + usize::from(has_news);
+        let left = self.ports.read(&mut self.clock, &found, before);
         // If the agent acts at a second that ended while this turn waited, that second is given at
         // the next turn: then all frames before it have certainly been read.
-        let now = clock::now();
+        let now = Moment::now();
         let all = if due.map_or(false, |due| due <= now) { before } else { now };
-        let moment = left.map_or(all, |left| left.min(all));
-        self.give(news, moment);
-        Turn { moment, has_signal, is_asked }
+        let moment = self.give(news, left.map_or(all, |left| left.min(all)));
+        self.follow();
+        self.ports.share.count(processor_time(), Moment::now());
+        Turn { began: before, moment, has_signal, is_asked: found.len() > others }
     }
 
-    fn await_files(&mut self, now: i64, is_question: bool) {
-        self.signals.wait_for(&self.epoll, IN);
-        self.links.socket.wait_for(&self.epoll, IN);
-        self.name_file.iter_mut().for_each(|file| file.wait_for(&self.epoll, PRIORITY));
-        self.control.iter_mut().for_each(|control| control.await_clients(&self.epoll, now));
-        self.ports.await_frames(&self.epoll, if is_question { i64::MAX } else { now });
+    fn await_files(&mut self, now: Moment) {
+        if self.log.is_behind() {
+            self.ports.paused_until = now + PAUSE;
+        }
+        let epoll = &self.wakers.epoll;
+        self.wakers.signals.wait_for(epoll, IN);
+        self.links.socket.wait_for(epoll, IN);
+        self.wakers.host_name.iter_mut().for_each(|file| file.wait_for(epoll, PRIORITY));
+        self.ports.await_frames(epoll, now, self.server.has_question());
+        self.server.control.iter_mut().for_each(|control| control.await_clients(epoll, now));
     }
 
-    /// Gives the agent these link changes, and the frames and seconds up to this moment.
-    fn give(&mut self, news: Vec<Link>, moment: i64) {
+    /// Gives the agent these link changes, and frames and seconds up to this moment, or up to an
+    /// earlier one if there are many frames. Returns the moment that was reached.
+    fn give(&mut self, news: Vec<Link>, moment: Moment) -> Moment {
         if self.running.is_none() {
-            return self.await_interface();
+            return moment;
         }
         let (came, went) = ran_and_later(news);
-        let mut downs = self.take_links(&came);
-        for frame in self.ports.frames_until(moment) {
-            self.take_frame(&frame);
-        }
-        self.pass(moment);
-        downs.extend(self.take_links(&went));
-        if self.given.forget_on_down {
-            for port in &downs {
-                self.forget(port);
-            }
+        let mut downs = self.follow_links(&came);
+        let moment = self.give_frames(moment, went.is_empty());
+        self.give_seconds(moment);
+        downs.extend(self.follow_links(&went));
+        if self.arguments.forget_on_down {
+            downs.iter().for_each(|port| self.empty_table(port));
         }
         self.send(); // before ports may be removed
-        self.follow();
+        moment
+    }
+
+    /// Gives the agent the frames up to this moment, but only some if `may_cut`. Returns the moment
+    /// up to which it has all.
+    fn give_frames(&mut self, moment: Moment, may_cut: bool) -> Moment {
+        let (end, mut count) = (Moment::now() + LONGEST_GIVING, 0);
+        self.is_cut = false;
+        while let Some(frame) = self.ports.next_until(moment) {
+            self.receive(&frame);
+            count += 1;
+            if may_cut && (count >= MOST_FRAMES || Moment::now() >= end) {
+                self.is_cut = true;
+                return frame.moment;
+            }
+        }
+        moment
     }
 
     /// Returns when the agent next acts without input.
-    fn agent_due(&self) -> Option<i64> {
+    fn agent_due(&self) -> Option<Moment> {
         self.running.as_ref()?.agent.due().map(|seconds| self.clock.end_of(seconds))
     }
 
-    /// Gives the agent all input that arrived before a question.
-    pub fn catch_up(&mut self) {
-        let moment = clock::now() + INEXACT;
-        while self.turn(0, true).moment < moment && self.ports.have_more() {}
-    }
-
     /// Gives the agent each second that has ended by this moment and was not given yet.
-    pub fn pass(&mut self, moment: i64) -> Option<()> {
+    pub fn give_seconds(&mut self, moment: Moment) {
         let mut left = self.clock.missing(moment);
         if left == 0 {
-            return None;
+            return;
         }
-        for from in (0..left).step_by(MOST_TICKS) {
-            self.log.write(moment, &Line::Ticks((left - from).min(MOST_TICKS as u32)));
+        for before in (0..left).step_by(MOST_TICKS as usize) {
+            self.log.write(moment, &Line::Ticks((left - before).min(MOST_TICKS)));
         }
-        while left > 0 {
-            let ticks = self.running.as_mut()?.agent.ticks(left);
+        while let Some(running) = self.running.as_mut().filter(|_| left > 0) {
+            let ticks = running.agent.ticks(left);
             left -= ticks.taken;
-            self.clock.given += i64::from(ticks.taken);
-            self.take_sent(&ticks.sent, self.clock.end_of(0));
+            self.clock.given += u64::from(ticks.taken);
+            self.server.forget_tables();
+            self.queue_sent(&ticks.sent, self.clock.end_of(0));
             if ticks.aged_out > 0 {
-                self.note_gone();
+                self.remove_gone();
             }
         }
         if self.ports.all.iter().any(|port| port.is_refused()) {
-            self.take_known_links();
+            self.follow_known_links();
         }
-        Some(())
     }
 
     /// Builds these ports' frames from the present configuration, and queues them as due at this
-    /// moment. A queued frame that is a second late is discarded when its port queues the next one.
-    pub fn take_sent(&mut self, sent: &[Sent], moment: i64) {
-        let now = clock::now();
+    /// moment.
+    pub fn queue_sent(&mut self, sent: &[Sent], moment: Moment) {
         for one in sent {
+            let running = self.running.as_ref();
+            let frame = running.and_then(|running| running.agent.frame_of(one.port, one.mark).ok());
             let port = usize::from(one.port);
-            let frame =
-                self.running.as_ref().and_then(|running| running.agent.frame_of(one.port, one.mark).ok());
-            let count = self.outgoing.len();
-            self.outgoing.retain(|other| other.port != port || now - other.moment < SECOND);
-            self.ports.all[port].left_out += (count - self.outgoing.len()) as u64;
-            self.outgoing.extend(frame.map(|frame| Outgoing { moment, port, frame }));
+            self.ports.all[port].counts.left_out += self.outbox.remove_late(port, Moment::now());
+            frame.into_iter().for_each(|frame| self.outbox.add(port, frame, moment));
         }
     }
 
+    /// Sends all queued frames.
     pub fn send(&mut self) {
-        for one in std::mem::take(&mut self.outgoing) {
-            self.ports.all[one.port].send(&self.ports.sockets[one.port].file, one.frame);
+        self.outbox.send(&mut self.ports.all);
+    }
+}
+
+/// Splits news of interfaces into two parts, and keeps their order. For each name, the first part
+/// has all news up to the last that says that an interface of this name is running.
+fn ran_and_later(news: Vec<Link>) -> (Vec<Link>, Vec<Link>) {
+    let last_run = |one: &Link| news.iter().rposition(|other| other.name == one.name && other.is_running);
+    let ran: Vec<bool> = news.iter().enumerate().map(|(number, one)| last_run(one) >= Some(number)).collect();
+    let (came, went): (Vec<_>, Vec<_>) = news.into_iter().zip(ran).partition(|one| one.1);
+    (came.into_iter().map(|one| one.0).collect(), went.into_iter().map(|one| one.0).collect())
+}
+
+#[cfg(test)]
+mod tests {
+    use super::*;
+
+    #[test]
+    fn no_port_is_read_while_the_log_is_behind() {
+        let arguments = Arguments::default();
+        let ports = Ports::open(&[], &arguments, false).expect("no sockets");
+        let links = Links::over(File::open("/dev/null").expect("a file"));
+        let mut live = Live::new(arguments, links, ports, None).expect("files that wake it");
+        let now = Moment::now();
+        live.await_files(now);
+        assert_eq!(live.ports.paused_until, Moment::default());
+        live.log = Log::behind();
+        live.await_files(now);
+        assert_eq!(live.ports.paused_until, now + PAUSE);
+        assert!(live.ports.all_rest_until(now, true) >= now + PAUSE);
+    }
+
+    #[test]
+    fn links_that_came_up_are_given_first() {
+        // names in the order of news, upper case if the interface is running
+        for (news, first, second) in [
+            ("", "", ""),
+            ("a", "", "a"),
+            ("A", "A", ""),
+            ("aA", "aA", ""),
+            ("Aa", "A", "a"),
+            ("AaBb", "AB", "ab"),
+            ("aAaBA", "aAaBA", ""),
+            ("abA", "aA", "b"),
+        ] {
+            let link = |letter: char| Link {
+                name: letter.to_ascii_lowercase().into(),
+                is_running: letter.is_ascii_uppercase(),
+                ..Link::default()
+            };
+            let text = |links: Vec<Link>| -> String {
+                let letter = |one: &Link| match one.is_running {
+                    true => one.name.to_uppercase(),
+                    false => one.name.clone(),
+                };
+                links.iter().map(letter).collect()
+            };
+            let (came, went) = ran_and_later(news.chars().map(link).collect());
+            assert_eq!((&text(came)[..], &text(went)[..]), (first, second), "{news}");
         }
     }
 }

@@ -2,57 +2,79 @@
 #![deny(unsafe_code)]
 
 mod agent;
+mod allowance;
 mod answers;
+mod arguments;
 mod ask;
-mod clock;
+mod changes;
+mod client;
+mod commands;
 mod control;
+mod counters;
+mod ctl;
+mod drops;
 mod files;
-mod follow;
+mod following;
 #[cfg(test)]
 mod fuzz;
-mod heard;
+mod hex;
+mod identifiers;
 mod identity;
+mod lines;
+mod link_changes;
 mod links;
 mod listening;
 mod live;
 mod log;
+mod neighbors;
+mod netlink;
 mod notify;
-mod open;
+mod opening;
 mod options;
+mod outbox;
 mod packet;
 mod patterns;
 mod port;
 mod ports;
+mod queries;
+mod reading;
+mod rebuilding;
+mod received;
+mod replacing;
 mod reports;
 mod rights;
-mod said;
 mod settings;
-mod since;
+mod share;
 mod start;
 mod state;
 #[allow(unsafe_code)]
 mod sys;
+mod tables;
+mod time;
 mod waiting;
-mod words;
 
+use arguments::{ArgumentFault, Request};
 use reports::{report, ERROR};
 use std::io::Write;
-use words::Wanted;
 
-const WRONG_WORDS: i32 = 2;
+/// The exit status for a wrong command line.
+const WRONG_ARGUMENTS: i32 = 2;
 
 fn main() {
     let words: Vec<String> =
         std::env::args_os().skip(1).map(|word| word.to_string_lossy().into_owned()).collect();
-    let status = match words::read(&words) {
-        Ok(Wanted::Print(text)) => i32::from(std::io::stdout().write_all(text.as_bytes()).is_err()),
-        Ok(Wanted::Run(given)) => start::run(*given),
-        Err(why) => wrong_words(&why),
+    if ctl::is_wanted() {
+        std::process::exit(ctl::run(&words));
+    }
+    let status = match Request::read(&words) {
+        Ok(Request::Print(text)) => i32::from(std::io::stdout().write_all(text.as_bytes()).is_err()),
+        Ok(Request::Run(arguments)) => start::run(*arguments),
+        Err(fault) => wrong_arguments(&fault),
     };
     std::process::exit(status);
 }
 
-pub fn wrong_words(why: &str) -> i32 {
-    report(ERROR, &format!("error: {why}; see lldpa-live --help"));
-    WRONG_WORDS
+pub fn wrong_arguments(fault: &ArgumentFault) -> i32 {
+    report(ERROR, &format!("error: {fault}; see lldpa-live --help"));
+    WRONG_ARGUMENTS
 }

@@ -1,38 +1,38 @@
 //! Reports the service's state to systemd, by datagrams to the socket in NOTIFY_SOCKET: see
 //! sd_notify(3). Never waits: a datagram that cannot be sent at once is lost.
 
-use crate::clock::{self, SECOND};
-use crate::sys;
+use crate::sys::sockets;
+use crate::time::{awake, Moment};
 use std::env::var;
 use std::fs::File;
 use std::io::Write;
+use std::time::Duration;
 
-const AF_UNIX: u16 = 1;
-const SIGNS_A_SPAN: i64 = 4; // signs of life in the time that the watchdog allows
+const LEAST_BETWEEN_SIGNS: Duration = Duration::from_millis(10);
+const SIGNS_A_SPAN: u32 = 4; // signs of life in the time that the watchdog allows
 
 /// The service manager that started this service, if there is one.
 pub struct Manager {
     socket: Option<(File, Vec<u8>)>,
-    span: Option<i64>,
-    next_sign: i64,
+    span: Option<Duration>,
+    next_sign: Moment,
     status: String,
 }
 
-/// Returns the watchdog's limit between signs of life, in nanoseconds. None without a watchdog.
-fn watchdog_span() -> Option<i64> {
+/// Returns the watchdog's limit between signs of life. None without a watchdog.
+fn watchdog_span() -> Option<Duration> {
     let is_other = |pid: String| pid != std::process::id().to_string();
     if var("WATCHDOG_PID").map_or(false, is_other) {
         return None;
     }
-    let span: i64 = var("WATCHDOG_USEC").ok()?.parse().ok()?;
-    (1..i64::MAX / 1000).contains(&span).then(|| span * 1000)
+    let microseconds: u64 = var("WATCHDOG_USEC").ok()?.parse().ok()?;
+    (microseconds > 0).then_some(Duration::from_micros(microseconds))
 }
 
-/// Returns the address for a socket's name: a path, or `@` and an abstract name.
+/// Returns the address for a socket's name: a path, or a zero and an abstract name.
 fn address_of(name: &str) -> Option<Vec<u8>> {
     let rest = name.strip_prefix(&['/', '@'][..]).filter(|rest| rest.len() < 107)?;
-    let mut address = AF_UNIX.to_ne_bytes().to_vec();
-    address.push(if name.starts_with('/') { b'/' } else { 0 });
+    let mut address = vec![if name.starts_with('/') { b'/' } else { 0 }];
     address.extend_from_slice(rest.as_bytes());
     Some(address)
 }
@@ -40,8 +40,8 @@ fn address_of(name: &str) -> Option<Vec<u8>> {
 impl Manager {
     pub fn new() -> Manager {
         let address = var("NOTIFY_SOCKET").ok().and_then(|name| address_of(&name));
-        let socket = address.and_then(|address| Some((sys::raw_socket(AF_UNIX.into()).ok()?, address)));
-        Manager { socket, span: watchdog_span(), next_sign: 0, status: String::new() }
+        let socket = address.and_then(|address| Some((sockets::open_datagrams().ok()?, address)));
+        Manager { socket, span: watchdog_span(), next_sign: Moment::default(), status: String::new() }
     }
 
     pub fn is_there(&self) -> bool {
@@ -49,33 +49,35 @@ impl Manager {
     }
 
     /// Sends lines, such as `READY=1`.
-    pub fn tell(&self, lines: &str) {
+    pub fn send(&self, lines: &str) {
         if let Some((socket, address)) = &self.socket {
-            let _ = sys::name_socket(socket, address, true).and_then(|()| { socket }.write(lines.as_bytes()));
+            let _ =
+                sockets::connect_datagrams(socket, address).and_then(|()| { socket }.write(lines.as_bytes()));
         }
     }
 
     /// Reports that the service reads its settings again. `READY=1` must follow.
-    pub fn reloading(&self) {
-        self.tell(&format!("RELOADING=1\nMONOTONIC_USEC={}", clock::read(1) / 1000));
+    pub fn report_reloading(&self) {
+        self.send(&format!("RELOADING=1\nMONOTONIC_USEC={}", awake().as_micros()));
     }
 
     /// Sets the status that `systemctl status` shows, if it has changed.
     pub fn show(&mut self, status: String) {
         if status != self.status {
-            self.tell(&format!("STATUS={status}"));
+            self.send(&format!("STATUS={status}"));
             self.status = status;
         }
     }
 
-    pub fn turned(&mut self, now: i64) {
+    /// Gives a sign of life if one is due.
+    pub fn give_sign(&mut self, now: Moment) {
         if let Some(span) = self.span.filter(|_| now >= self.next_sign) {
-            self.next_sign = now + (span / SIGNS_A_SPAN).max(SECOND / 100);
-            self.tell("WATCHDOG=1");
+            self.next_sign = now + (span / SIGNS_A_SPAN).max(LEAST_BETWEEN_SIGNS);
+            self.send("WATCHDOG=1");
         }
     }
 
-    pub fn deadline(&self) -> Option<i64> {
+    pub fn deadline(&self) -> Option<Moment> {
         self.span.filter(|_| self.socket.is_some()).map(|_| self.next_sign)
     }
 }

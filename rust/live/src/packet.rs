@@ -1,96 +1,85 @@
 //! The packet socket of a port. Only opening it needs CAP_NET_RAW. Binding it to an interface (even
 //! again), joining groups, reading and sending need no capability.
 
-use crate::sys::{self, SOL_SOCKET};
+use crate::sys::sockets::{self, GroupAddress};
+pub use crate::sys::sockets::{drops, receive, Rooms, LONGEST_FRAME, ROOMS};
+use libc::sock_filter;
 use std::fs::File;
 use std::io::Result;
 
-const AF_PACKET: u16 = 17;
-const SO_RCVBUF: i32 = 8;
-const SO_LOCK_FILTER: i32 = 44;
-const SOL_PACKET: i32 = 263;
-const PACKET_ADD_MEMBERSHIP: i32 = 1;
-const PACKET_STATISTICS: i32 = 6;
-const ETH_P_ALL: u16 = 3;
+const ETH_P_ALL: u16 = libc::ETH_P_ALL as u16;
 const ETH_P_LLDP: u16 = 0x88cc;
-const LOOPBACK: i32 = 1;
-/// The last octets of the group addresses: nearest bridge, non-TPMR bridge and customer bridge.
-const GROUPS: [u8; 3] = [0x0e, 0x03, 0x00];
-const ROOM_IN_KERNEL: i32 = 1 << 20;
-pub const LONGEST_FRAME: usize = 1514;
-pub const ROOMS: usize = 16; // frames that one call reads
-pub type Rooms = [[u8; LONGEST_FRAME]; ROOMS];
+const LLDP: u32 = ETH_P_LLDP as u32;
+const LOOPBACK: i32 = 1; // its index in each network namespace
+/// The group addresses of LLDP: nearest bridge, nearest non-TPMR bridge, nearest customer bridge.
+const GROUPS: [GroupAddress; 3] = [group(0x0e), group(0x03), group(0x00)];
+/// How many octets of frames the kernel may keep for all sockets together, as it counts them.
+const ROOM_OF_ALL: usize = 64 << 20;
 /// How many octets are kept of a frame that is only counted: fewer than any whole frame has.
 const OF_ANOTHER: u32 = 13;
 
-const LLDP: u32 = ETH_P_LLDP as u32;
-
-/// A step of a filter: its operation, how many steps to skip if true and if false, its operand.
-#[repr(C)]
-pub struct Step(pub u16, pub u8, pub u8, pub u32);
-
-/// Keeps LLDP frames that arrived untagged, for the nearest bridge, with at most 1,514 octets. Of
-/// other LLDP frames to group addresses it keeps 13 octets, to count them. (linux/filter.h)
-const FILTER: [Step; 21] = [
-    Step(0x30, 0, 0, 0xffff_f004), // 0: how the packet came
-    Step(0x15, 18, 0, 4),          // outgoing: go to 20
-    Step(0x20, 0, 0, 0),           // 2: the first octets of the destination
-    Step(0x15, 0, 16, 0x0180_c200),
-    Step(0x28, 0, 0, 12), // 4: the EtherType
-    Step(0x15, 4, 0, LLDP),
-    Step(0x15, 1, 0, 0x8100),
-    Step(0x15, 0, 12, 0x88a8),
-    Step(0x28, 0, 0, 16), // 8: the EtherType after a tag
-    Step(0x15, 9, 10, LLDP),
-    Step(0x28, 0, 0, 4), // 10: the last octets of the destination
-    Step(0x15, 2, 0, GROUPS[0] as u32),
-    Step(0x15, 6, 0, GROUPS[1] as u32),
-    Step(0x15, 5, 6, GROUPS[2] as u32),
-    Step(0x30, 0, 0, 0xffff_f030), // 14: did the kernel remove a tag?
-    Step(0x15, 0, 3, 0),
-    Step(0x80, 0, 0, 0), // 16: the length
-    Step(0x25, 1, 0, LONGEST_FRAME as u32),
-    Step(0x06, 0, 0, 0xffff),     // 18: keep the whole frame
-    Step(0x06, 0, 0, OF_ANOTHER), // 19: keep 13 octets
-    Step(0x06, 0, 0, 0),          // 20: drop it
-];
-
-/// Opens a socket that receives nothing yet, and whose filter nobody can remove or replace.
-pub fn open() -> Result<File> {
-    let socket = sys::raw_socket(AF_PACKET.into())?;
-    sys::set(&socket, SOL_SOCKET, SO_RCVBUF, &ROOM_IN_KERNEL.to_ne_bytes())?;
-    sys::set(&socket, SOL_SOCKET, sys::SO_TIMESTAMPNS, &1i32.to_ne_bytes())?;
-    sys::set_filter(&socket, &FILTER)?;
-    sys::set(&socket, SOL_SOCKET, SO_LOCK_FILTER, &1i32.to_ne_bytes())?;
-    Ok(socket)
+const fn group(last: u8) -> GroupAddress {
+    [0x01, 0x80, 0xc2, 0x00, 0x00, last]
 }
 
-pub fn take(socket: &File, interface: i32) -> Result<()> {
-    bind(socket, interface, ETH_P_ALL)?;
-    for last in GROUPS {
-        let mut group = interface.to_ne_bytes().to_vec();
-        group.extend_from_slice(&0u16.to_ne_bytes());
-        group.extend_from_slice(&6u16.to_ne_bytes());
-        group.extend_from_slice(&[0x01, 0x80, 0xc2, 0, 0, last, 0, 0]);
-        sys::set(socket, SOL_PACKET, PACKET_ADD_MEMBERSHIP, &group)?;
-    }
-    Ok(())
+// The filter's steps. (linux/filter.h)
+const LOAD_OCTET: u32 = libc::BPF_LD | libc::BPF_B | libc::BPF_ABS;
+const LOAD_TWO: u32 = libc::BPF_LD | libc::BPF_H | libc::BPF_ABS;
+const LOAD_FOUR: u32 = libc::BPF_LD | libc::BPF_W | libc::BPF_ABS;
+const LOAD_LENGTH: u32 = libc::BPF_LD | libc::BPF_W | libc::BPF_LEN;
+const IF_EQUAL: u32 = libc::BPF_JMP | libc::BPF_JEQ | libc::BPF_K;
+const IF_ABOVE: u32 = libc::BPF_JMP | libc::BPF_JGT | libc::BPF_K;
+const KEEP: u32 = libc::BPF_RET | libc::BPF_K;
+const HOW_IT_CAME: u32 = (libc::SKF_AD_OFF + libc::SKF_AD_PKTTYPE) as u32;
+const HAD_A_TAG: u32 = (libc::SKF_AD_OFF + libc::SKF_AD_VLAN_TAG_PRESENT) as u32;
+const OUTGOING: u32 = 4; // PACKET_OUTGOING in linux/if_packet.h
+const TAGGED: u32 = libc::ETH_P_8021Q as u32;
+const SERVICE_TAGGED: u32 = libc::ETH_P_8021AD as u32;
+
+/// A step: its operation, how many steps to skip if true and if false, its operand.
+const fn step(code: u32, jt: u8, jf: u8, k: u32) -> sock_filter {
+    sock_filter { code: code as u16, jt, jf, k }
+}
+
+/// Keeps LLDP frames that arrived untagged, for the nearest bridge, with at most 1,514 octets. Of
+/// other LLDP frames to group addresses it keeps 13 octets, to count them.
+const FILTER: [sock_filter; 21] = [
+    step(LOAD_OCTET, 0, 0, HOW_IT_CAME),
+    step(IF_EQUAL, 18, 0, OUTGOING), // go to 20
+    step(LOAD_FOUR, 0, 0, 0),        // 2: the first octets of the destination
+    step(IF_EQUAL, 0, 16, 0x0180_c200),
+    step(LOAD_TWO, 0, 0, 12), // 4: the EtherType
+    step(IF_EQUAL, 4, 0, LLDP),
+    step(IF_EQUAL, 1, 0, TAGGED),
+    step(IF_EQUAL, 0, 12, SERVICE_TAGGED),
+    step(LOAD_TWO, 0, 0, 16), // 8: the EtherType after a tag
+    step(IF_EQUAL, 9, 10, LLDP),
+    step(LOAD_TWO, 0, 0, 4), // 10: the last octets of the destination
+    step(IF_EQUAL, 2, 0, GROUPS[0][5] as u32),
+    step(IF_EQUAL, 6, 0, GROUPS[1][5] as u32),
+    step(IF_EQUAL, 5, 6, GROUPS[2][5] as u32),
+    step(LOAD_OCTET, 0, 0, HAD_A_TAG), // 14: did the kernel remove a tag?
+    step(IF_EQUAL, 0, 3, 0),
+    step(LOAD_LENGTH, 0, 0, 0), // 16
+    step(IF_ABOVE, 1, 0, LONGEST_FRAME as u32),
+    step(KEEP, 0, 0, 0xffff),     // 18: keep the whole frame
+    step(KEEP, 0, 0, OF_ANOTHER), // 19: keep 13 octets
+    step(KEEP, 0, 0, 0),          // 20: drop it
+];
+
+/// Opens one of `count` sockets. It receives nothing yet, and nobody can remove its filter.
+pub fn open(count: usize) -> Result<File> {
+    // The kernel doubles the number, since it counts its own data about each frame, too.
+    sockets::open_packet(&FILTER, ROOM_OF_ALL / 2 / count.max(1))
+}
+
+/// Receives the LLDP frames of an interface.
+pub fn receive_from(socket: &File, interface: i32) -> Result<()> {
+    sockets::bind_packet(socket, interface, ETH_P_ALL)?;
+    GROUPS.iter().try_for_each(|group| sockets::join(socket, interface, *group))
 }
 
 /// Stops a socket from receiving: binds it to the loopback interface, which has no LLDP frames.
 pub fn release(socket: &File) {
-    let _ = bind(socket, LOOPBACK, ETH_P_LLDP);
-}
-
-fn bind(socket: &File, interface: i32, protocol: u16) -> Result<()> {
-    let mut address = AF_PACKET.to_ne_bytes().to_vec();
-    address.extend_from_slice(&protocol.to_be_bytes());
-    address.extend_from_slice(&interface.to_ne_bytes());
-    address.extend_from_slice(&[0; 12]);
-    sys::name_socket(socket, &address, false)
-}
-
-/// Returns how many frames the kernel dropped since the last call.
-pub fn drops(socket: &File) -> u64 {
-    sys::get::<2>(socket, SOL_PACKET, PACKET_STATISTICS).map_or(0, |(told, _)| told[1].into())
+    let _ = sockets::bind_packet(socket, LOOPBACK, ETH_P_LLDP);
 }

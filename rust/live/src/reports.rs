@@ -1,14 +1,14 @@
 //! Writes reports for people to standard error. Each is one line, and begins with a level if the
 //! journal reads it. A line that cannot be written at once is lost.
 
-use crate::clock::{self, SECOND};
-use crate::sys;
-use crate::waiting::{ready, Awaited, OUT};
+use crate::time::Moment;
+use crate::waiting::{epoll, ready, Awaited, OUT};
 use std::collections::BTreeMap;
 use std::fs::File;
 use std::io::Write;
 use std::os::unix::fs::MetadataExt;
 use std::os::unix::io::AsFd;
+use std::time::Duration;
 
 const MOST_AT_ONCE: usize = 4095; // octets that a pipe accepts whole, with a line feed
 pub const ERROR: u8 = 3;
@@ -16,7 +16,7 @@ pub const WARNING: u8 = 4;
 pub const NOTICE: u8 = 5;
 const INFORMATION: u8 = 6;
 const MOST_A_MINUTE: usize = 100; // lines of a port about its neighbors
-const MINUTE: i64 = 60 * SECOND;
+const MINUTE: Duration = Duration::from_secs(60);
 const LONGEST: usize = 1000; // characters of such a line
 
 pub fn report(level: u8, text: &str) {
@@ -33,9 +33,9 @@ pub fn report(level: u8, text: &str) {
 /// True if standard error accepts a line at once. A regular file, which epoll refuses, always does.
 fn can_take() -> bool {
     let mut errors = Awaited::new(std::io::stderr());
-    sys::epoll().map_or(false, |epoll| {
+    epoll().map_or(false, |epoll| {
         errors.wait_for(&epoll, OUT);
-        !errors.is_awaited() || !ready(&epoll, 0).is_empty()
+        !errors.is_awaited() || !ready(&epoll, Duration::ZERO).is_empty()
     })
 }
 
@@ -49,11 +49,11 @@ pub fn notice(text: &str) {
 
 /// True if standard error goes to systemd's journal, which reads a level before each line.
 fn is_journal() -> bool {
-    let told = std::env::var("JOURNAL_STREAM").unwrap_or_default();
+    let journal = std::env::var("JOURNAL_STREAM").unwrap_or_default();
     let number = std::io::stderr().as_fd().try_clone_to_owned().map(File::from);
     number
         .and_then(|file| file.metadata())
-        .map_or(false, |file| told == format!("{}:{}", file.dev(), file.ino()))
+        .map_or(false, |file| journal == format!("{}:{}", file.dev(), file.ino()))
 }
 
 /// Letters that are invisible on a terminal.
@@ -89,16 +89,22 @@ pub fn counted(count: usize, what: &str) -> String {
 pub struct Events {
     pub are_wanted: bool,
     counts: BTreeMap<String, usize>,
-    next_minute: i64,
+    next_minute: Moment,
 }
 
 impl Events {
+    /// True if an event of a port would have a line.
+    pub fn have_room(&mut self, port: &str) -> bool {
+        self.end_minute();
+        self.are_wanted && self.counts.get(port).map_or(true, |count| *count < MOST_A_MINUTE)
+    }
+
     /// Reports an event of a port, unless the port has used up its lines for this minute.
-    pub fn tell(&mut self, port: &str, text: &str) {
+    pub fn report(&mut self, port: &str, text: &str) {
         if !self.are_wanted {
             return;
         }
-        self.take_time();
+        self.end_minute();
         let count = self.counts.entry(port.into()).or_insert(0);
         *count += 1;
         match text.char_indices().nth(LONGEST - 4) {
@@ -111,8 +117,8 @@ impl Events {
     }
 
     /// Reports at the end of each minute how many events of a port were left out.
-    pub fn take_time(&mut self) {
-        let now = clock::now();
+    pub fn end_minute(&mut self) {
+        let now = Moment::now();
         if now < self.next_minute {
             return;
         }
@@ -124,7 +130,7 @@ impl Events {
         self.next_minute = now + MINUTE;
     }
 
-    pub fn deadline(&self) -> Option<i64> {
+    pub fn deadline(&self) -> Option<Moment> {
         self.counts.values().any(|count| *count > MOST_A_MINUTE).then_some(self.next_minute)
     }
 }

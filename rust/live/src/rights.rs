@@ -1,25 +1,14 @@
 //! Gives up the rights that opened the sockets: reading strangers' frames needs none of them.
 
-use crate::sys;
+use crate::arguments::ArgumentFault;
+use crate::sys::rights as sys;
+pub use crate::sys::rights::own_user;
 use std::io::{Error, Result};
-
-/// The number of the system call keyctl, or -1 (invalid) on a processor that is not listed here.
-const KEYCTL: std::os::raw::c_long = if cfg!(target_arch = "x86_64") {
-    250
-} else if cfg!(target_arch = "aarch64") {
-    219
-} else {
-    -1
-};
 
 #[derive(Clone, Copy)]
 pub struct User {
     pub user: u32,
     pub group: u32,
-}
-
-pub fn own_user() -> u32 {
-    sys::user().map_or(u32::MAX, |user| user as u32)
 }
 
 fn entry(path: &str, name: &str) -> Option<Vec<String>> {
@@ -35,24 +24,41 @@ fn number_of(name: &str) -> Option<u32> {
 }
 
 /// Returns the user with this name in /etc/passwd, or else with this number.
-pub fn user_of(name: &str) -> std::result::Result<User, String> {
+fn user_of(name: &str) -> std::result::Result<User, ArgumentFault> {
     let field = |fields: &[String], place: usize| fields.get(place).and_then(|text| text.parse().ok());
     let fields = entry("/etc/passwd", name);
     let found = fields.and_then(|fields| Some(User { user: field(&fields, 2)?, group: field(&fields, 3)? }));
     let of_number = || number_of(name).map(|number| User { user: number, group: number });
-    found.or_else(of_number).ok_or(format!("user {name} is not in /etc/passwd"))
+    found.or_else(of_number).ok_or_else(|| ArgumentFault::UnknownUser(name.into()))
 }
 
-/// Returns the group with this name in /etc/group, or else with this number.
-pub fn group_of(name: &str) -> std::result::Result<u32, String> {
-    let found = entry("/etc/group", name).and_then(|fields| fields.get(2)?.parse().ok());
-    found.or_else(|| number_of(name)).ok_or(format!("group {name} is not in /etc/group"))
+/// Returns the group with this name, or else with this number.
+pub fn group_of(name: &str) -> Option<u32> {
+    group_named(name).or_else(|| number_of(name))
 }
+
+/// A program that is linked statically cannot ask the name service.
+#[cfg(target_feature = "crt-static")]
+fn group_named(name: &str) -> Option<u32> {
+    entry("/etc/group", name).and_then(|fields| fields.get(2)?.parse().ok())
+}
+
+#[cfg(not(target_feature = "crt-static"))]
+fn group_named(name: &str) -> Option<u32> {
+    sys::group_number(name)
+}
+
+/// Says where `group_of` has looked for a group.
+pub const KNOWN_GROUPS: &str = if cfg!(target_feature = "crt-static") {
+    "this program is linked statically, so it knows only numbers and the groups in /etc/group"
+} else {
+    "neither /etc/group nor the name service has it"
+};
 
 /// Returns the user that root becomes, by default `nobody`. None if this process is not root.
-pub fn user_to_be(name: Option<&str>) -> std::result::Result<Option<User>, String> {
+pub fn user_to_be(name: Option<&str>) -> std::result::Result<Option<User>, ArgumentFault> {
     if own_user() != 0 {
-        return name.map_or(Ok(None), |_| Err("--user: only root can use this option".into()));
+        return name.map_or(Ok(None), |_| Err(ArgumentFault::OnlyForRoot));
     }
     let nobody = User { user: 65534, group: 65534 };
     name.map_or(Ok(user_of("nobody").unwrap_or(nobody)), user_of).map(Some)
@@ -60,7 +66,7 @@ pub fn user_to_be(name: Option<&str>) -> std::result::Result<Option<User>, Strin
 
 /// Gives up all rights for good, and becomes this user if one is given.
 pub fn give_up(user: Option<User>) -> Result<()> {
-    sys::keep_no_right(user.map(|user| (user.user, user.group)), KEYCTL)
+    sys::keep_no_right(user.map(|user| (user.user, user.group)))
 }
 
 /// Puts a path before the text of an error.
@@ -71,5 +77,34 @@ pub fn at(path: &str) -> impl Fn(Error) -> Error + '_ {
 /// Returns the text of an error without its number.
 pub fn text_of(fault: &Error) -> String {
     let text = fault.to_string();
-    text.split(" (os error").next().unwrap_or(&text).into()
+    let number = fault.raw_os_error().map(|number| format!(" (os error {number})"));
+    let plain = number.and_then(|number| text.strip_suffix(&number).map(String::from));
+    plain.unwrap_or(text)
+}
+
+#[cfg(test)]
+mod tests {
+    use super::*;
+    use std::io::ErrorKind;
+
+    #[test]
+    fn errors_have_a_text_without_a_number() {
+        let missing = Error::from_raw_os_error(libc::ENOENT);
+        assert_eq!(text_of(&missing), "No such file or directory");
+        assert_eq!(at("/a")(missing).to_string(), "/a: No such file or directory");
+        let own = Error::new(ErrorKind::Other, "what (os error 2)");
+        assert_eq!(text_of(&own), "what (os error 2)");
+    }
+
+    #[test]
+    fn users_and_groups_have_names_or_numbers() {
+        let number = |name: &str| user_of(name).map(|user| (user.user, user.group));
+        assert_eq!(number("root"), Ok((0, 0)));
+        assert_eq!(number("12345"), Ok((12_345, 12_345)));
+        for wrong in ["4294967295", "-1", "no-such-user"] {
+            assert_eq!(number(wrong), Err(ArgumentFault::UnknownUser(wrong.into())), "{wrong}");
+        }
+        assert_eq!((group_of("root"), group_of("12345")), (Some(0), Some(12_345)));
+        assert_eq!((group_of("4294967295"), group_of("no-such-group")), (None, None));
+    }
 }

@@ -1,8 +1,9 @@
 //! Reads the settings, which are `configure` lines in files and so outlive a restart.
 
-use crate::files::{names, O_NONBLOCK};
+use crate::files::names;
 use crate::reports::readable;
 use crate::rights::{at, text_of};
+use lldpa::CommandFault;
 use std::fs::{self, OpenOptions};
 use std::io::{Error, ErrorKind, Read, Result};
 use std::os::unix::fs::OpenOptionsExt;
@@ -49,7 +50,7 @@ pub fn read(paths: &[String]) -> (Vec<Setting>, Vec<String>) {
 }
 
 fn files_of(path: &str) -> Result<Vec<String>> {
-    if !fs::metadata(path).map_or(false, |told| told.is_dir()) {
+    if !fs::metadata(path).map_or(false, |found| found.is_dir()) {
         return Ok(fs::symlink_metadata(path).map_or(Vec::new(), |_| vec![path.into()]));
     }
     let mut names = names(path).map_err(at(path))?;
@@ -64,7 +65,7 @@ fn lines_of(path: &str) -> Result<Vec<Setting>> {
     if !fs::metadata(path).map_err(at(path))?.is_file() {
         return Err(wrong("not a regular file".into()));
     }
-    let file = OpenOptions::new().read(true).custom_flags(O_NONBLOCK).open(path).map_err(at(path))?;
+    let file = OpenOptions::new().read(true).custom_flags(libc::O_NONBLOCK).open(path).map_err(at(path))?;
     let mut octets = Vec::new();
     file.take(MOST_OCTETS + 1).read_to_end(&mut octets).map_err(at(path))?;
     if octets.len() as u64 > MOST_OCTETS {
@@ -133,13 +134,13 @@ fn fitting(form: &[&str], words: &[String]) -> usize {
 
 /// Adds the wrong word and what is allowed in its place to the agent's refusal of a line: `out of
 /// range` becomes `out of range: 0 (seconds between frames, 1 to 3600)`.
-pub fn explained(line: &[u8], text: &str) -> String {
+pub fn explained(line: &[u8], fault: CommandFault) -> String {
     let words = words_of(line);
     let most = FORMS.iter().map(|form| fitting(form.0, &words)).max().unwrap_or(0);
     let forms: Vec<_> = FORMS.iter().filter(|form| fitting(form.0, &words) == most).collect();
-    let place = match text {
-        "bad quote" | "too many held" => return text.into(),
-        "unknown command" | "extra word" => most,
+    let place = match fault {
+        CommandFault::Quote | CommandFault::InUse => return fault.to_string(),
+        CommandFault::Unknown | CommandFault::Extra => most,
         _ => forms[0].0.iter().position(|word| is_value(word)).unwrap_or(most),
     };
     let allowed = |form: &&(&[&'static str], &'static str)| match form.0.get(place) {
@@ -155,5 +156,85 @@ pub fn explained(line: &[u8], text: &str) -> String {
         Some("") => "empty word",
         Some(word) => word,
     };
-    format!("{text}: {found} ({})", wanted.join(" or "))
+    format!("{fault}: {found} ({})", wanted.join(" or "))
+}
+
+#[cfg(test)]
+mod tests {
+    use super::*;
+
+    #[test]
+    fn lines_are_settings_unless_blank_or_comments() {
+        let octets =
+            b"\xef\xbb\xbf# a comment\n\n  configure lldp tx-hold 3\r\n\t# another\nshow\xff x\n  \nlast";
+        let found = settings_in("a.conf", octets);
+        let lines: Vec<_> = found.iter().map(|one| (one.number, &one.line[..])).collect();
+        let wanted: [(usize, &[u8]); 3] =
+            [(3, b"  configure lldp tx-hold 3"), (5, b"show\xff x"), (7, b"last")];
+        assert_eq!(lines, wanted);
+        assert_eq!(found[0].refused("no"), "a.conf:3: configure lldp tx-hold 3: no");
+    }
+
+    #[test]
+    fn a_setting_is_of_the_port_that_it_names() {
+        for (line, port) in [
+            ("configure ports eth0 lldp status rx-only", Some("eth0")),
+            (" configure  \"ports\"\t\"eth 1\" lldp", Some("eth 1")),
+            ("configure ports", None),
+            ("configure lldp tx-hold 3", None),
+            ("update ports eth0", None),
+            ("", None),
+        ] {
+            let found = settings_in("a.conf", format!("x\n{line}").as_bytes());
+            let setting = found.get(1).and_then(Setting::port);
+            assert_eq!(setting.as_deref(), port, "{line}");
+        }
+    }
+
+    #[test]
+    fn a_refusal_says_what_is_allowed() {
+        for (line, fault, wanted) in [
+            (
+                "configure lldp tx-interval 0",
+                CommandFault::Range,
+                "out of range: 0 (seconds between frames, 1 to 3600)",
+            ),
+            (
+                "configure lldp tx-hold",
+                CommandFault::Unknown,
+                "unknown command: a word is missing (intervals that peers keep a frame, 1 to 100)",
+            ),
+            (
+                "configure lldp hold 3",
+                CommandFault::Unknown,
+                "unknown command: hold (tx-interval or tx-hold or max-neighbors)",
+            ),
+            ("configure lldp tx-hold 3 4", CommandFault::Extra, "extra word: 4 (no word is allowed here)"),
+            (
+                "configure ports eth9 lldp status rx-only",
+                CommandFault::NoSuchPort,
+                "no such port: eth9 (must be a port of this agent)",
+            ),
+            (
+                "configure ports eth0 lldp status on",
+                CommandFault::Unknown,
+                "unknown command: on (rx-and-tx, rx-only, tx-only, disabled)",
+            ),
+            (
+                "configure system hostname \"\"",
+                CommandFault::Text,
+                "bad text: empty word (up to 255 printable characters, in quotes if it has spaces)",
+            ),
+            (
+                "configure lldp tx-hold x",
+                CommandFault::Number,
+                "not a number: x (intervals that peers keep a frame, 1 to 100)",
+            ),
+            ("set", CommandFault::Unknown, "unknown command: set (configure)"),
+            ("configure system hostname \"a", CommandFault::Quote, "bad quote"),
+            ("configure lldp max-neighbors 1", CommandFault::InUse, "too many held"),
+        ] {
+            assert_eq!(explained(line.as_bytes(), fault), wanted, "{line}");
+        }
+    }
 }

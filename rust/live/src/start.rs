@@ -1,91 +1,166 @@
 //! Opens sockets and files, gives up rights, runs, and sends shutdown frames at the end.
 
-use crate::clock::{self, SECOND};
+use crate::arguments::Arguments;
 use crate::control::Control;
 use crate::files;
+use crate::lines::set_status;
 use crate::links::Links;
 use crate::live::Live;
 use crate::patterns;
 use crate::ports::{Ports, MOST_PORTS};
 use crate::reports::{report, warn, ERROR};
 use crate::rights::{self, give_up, group_of, text_of, user_to_be};
-use crate::state;
-use crate::sys;
-use crate::words::Given;
-use crate::{agent::set_status, ask, wrong_words};
-use lldpa::{Show, Status};
-use std::io::{Error, ErrorKind, Read, Result, Write};
+use crate::state::{self, Saved, StateFault};
+use crate::sys::seccomp;
+use crate::sys::signals::{self, Signal};
+use crate::time::Moment;
+use crate::{ask, ctl, wrong_arguments};
+use lldpa::{OpenFault, Show, Status};
+use std::fmt;
+use std::fs::File;
+use std::io::{Error, ErrorKind, Write};
 use std::panic::{catch_unwind, AssertUnwindSafe};
+use std::time::Duration;
 
-const FOR_THE_LOG: i64 = SECOND; // the longest wait for it at the end
-const SIGHUP: u8 = 1;
+/// The longest end, with the wait for the disk: the unit kills lldpa-live after 5 seconds.
+const LONGEST_END: Duration = Duration::from_secs(4);
 
-pub fn run(given: Given) -> i32 {
-    if let Some(line) = &given.ask {
-        return ask::ask(&given.control, line).unwrap_or_else(|fault| fail(&fault));
-    }
-    let users = user_to_be(given.user.as_deref())
-        .and_then(|user| Ok((user, given.control_group.as_deref().map(group_of).transpose()?)));
-    match users {
-        Err(why) => wrong_words(&why),
-        Ok((user, group)) => begun(given, user, group).map_or_else(|fault| fail(&fault), work),
+/// Why lldpa-live does not start.
+enum StartFault {
+    Io(Error),
+    /// The packet sockets could not be opened.
+    NoSocket(Error),
+    NothingSelected(Vec<String>),
+    Missing(String),
+    Agent(OpenFault),
+}
+
+impl fmt::Display for StartFault {
+    fn fmt(&self, out: &mut fmt::Formatter<'_>) -> fmt::Result {
+        match self {
+            StartFault::NoSocket(fault) if fault.kind() == ErrorKind::PermissionDenied => {
+                let needs = "opening packet sockets needs root or CAP_NET_RAW";
+                write!(out, "{} ({needs})", text_of(fault))
+            }
+            StartFault::Io(fault) | StartFault::NoSocket(fault) => out.write_str(&text_of(fault)),
+            StartFault::NothingSelected(selectors) => {
+                write!(out, "{}: no Ethernet interface is selected", selectors.join(","))
+            }
+            StartFault::Missing(name) => write!(out, "{name}: there is no such interface"),
+            StartFault::Agent(fault) => fault.fmt(out),
+        }
     }
 }
 
-fn fail(fault: &Error) -> i32 {
-    report(ERROR, &text_of(fault));
+impl From<Error> for StartFault {
+    fn from(fault: Error) -> StartFault {
+        StartFault::Io(fault)
+    }
+}
+
+impl From<OpenFault> for StartFault {
+    fn from(fault: OpenFault) -> StartFault {
+        StartFault::Agent(fault)
+    }
+}
+
+/// Does what the command line says. Returns the exit status.
+pub fn run(arguments: Arguments) -> i32 {
+    if let Some(line) = &arguments.ask {
+        if let Some(words) = ctl::arguments_for(&arguments.control, line) {
+            return ctl::run(&words);
+        }
+        return ask::ask(&arguments.control, line).unwrap_or_else(|fault| fail(&text_of(&fault)));
+    }
+    match user_to_be(arguments.user.as_deref()) {
+        Err(fault) => wrong_arguments(&fault),
+        Ok(user) => match begin(arguments, user) {
+            Ok(live) => work(live),
+            Err(fault) => fail(&fault.to_string()),
+        },
+    }
+}
+
+fn fail(why: &str) -> i32 {
+    report(ERROR, why);
     1
 }
 
 /// Opens the sockets and files, gives up rights, and opens the agent if it can be opened already.
-fn begun(mut given: Given, user: Option<rights::User>, group: Option<u32>) -> Result<Live> {
-    given.control = absolute(&given.control);
-    given.state = given.state.as_deref().map(absolute);
-    given.log = given.log.as_deref().map(absolute);
-    given.config = given.config.iter().map(|path| absolute(path)).collect();
+fn begin(mut arguments: Arguments, user: Option<rights::User>) -> Result<Live, StartFault> {
+    make_absolute(&mut arguments);
+    arguments.refused.iter().for_each(|port| warn(&port.to_string()));
     let links = Links::open()?;
-    let may_grow = given.parts.iter().any(|part| patterns::gives(part)) && given.once.is_none();
-    let names = first_ports(&given, &links, may_grow && !given.only_existing)?;
-    let ports = Ports::open(&names, &given.parts, may_grow).map_err(needs_a_right)?;
-    let past = given.state.as_deref().map_or(Ok(state::Past::default()), |path| state::read(path, user));
-    let control = if given.once.is_none() { Some(Control::open(&given.control, group)?) } else { None };
-    given.log.as_deref().map_or(Ok(()), |path| files::enter(path, user))?;
+    let may_grow = arguments.selectors.iter().any(|one| patterns::gives(one)) && arguments.once.is_none();
+    let names = first_ports(&arguments, &links, may_grow && !arguments.only_existing)?;
+    let ports = Ports::open(&names, &arguments, may_grow).map_err(StartFault::NoSocket)?;
+    let state = arguments.state.as_deref().map_or(Ok(None), |path| state::open(path, user));
+    let group = control_group(&arguments);
+    let control = match arguments.once {
+        None => Some(Control::open(&arguments.control, group)?),
+        Some(_) => None,
+    };
+    arguments.log.as_deref().map_or(Ok(()), |path| files::enter(path, user))?;
     give_up(user)?;
-    given.log.as_deref().map_or(Ok(()), files::check)?;
-    let past = past.unwrap_or_else(|why| {
-        warn(&format!("{}: the state is not used: {why}", given.state.as_deref().unwrap_or("")));
-        state::Past::default()
+    arguments.log.as_deref().map_or(Ok(()), files::check)?;
+    let mut live = Live::new(arguments, links, ports, control)?;
+    if live.arguments.log.is_some() || live.arguments.state.is_some() {
+        live.log.start()?;
+    }
+    seccomp::install().unwrap_or_else(|fault| {
+        warn(&format!("system calls are not filtered: {}", text_of(&fault)));
     });
-    let mut live = Live::new(given, links, ports, control)?;
-    live.open(past).map_err(|fault| Error::new(ErrorKind::Other, fault.to_string()))?;
+    let saved = saved(live.arguments.state.as_deref().unwrap_or(""), state);
+    live.open(&saved)?;
     Ok(live)
 }
 
-fn absolute(path: &str) -> String {
-    std::env::current_dir().unwrap_or_default().join(path).to_string_lossy().into_owned()
+/// Lets paths stay valid after the current folder has changed.
+fn make_absolute(arguments: &mut Arguments) {
+    let absolute =
+        |path: &str| std::env::current_dir().unwrap_or_default().join(path).to_string_lossy().into_owned();
+    arguments.control = absolute(&arguments.control);
+    arguments.state = arguments.state.as_deref().map(absolute);
+    arguments.log = arguments.log.as_deref().map(absolute);
+    arguments.config = arguments.config.iter().map(|path| absolute(path)).collect();
 }
 
-fn needs_a_right(fault: Error) -> Error {
-    let text = format!("{} (opening packet sockets needs root or CAP_NET_RAW)", text_of(&fault));
-    Error::new(fault.kind(), if fault.kind() == ErrorKind::PermissionDenied { text } else { text_of(&fault) })
-}
-
-/// Returns the ports that names and patterns select, at most 64. Named ports have priority.
-fn first_ports(given: &Given, links: &Links, may_wait: bool) -> Result<Vec<String>> {
-    let wrong = |what: String| Err(Error::new(ErrorKind::Other, what));
-    let mut names = patterns::ports_of(&given.parts, links);
-    if names.is_empty() && !may_wait {
-        return wrong(format!("{}: no Ethernet interface is selected", given.parts.join(",")));
+/// Returns the number of the group that may use the control socket. Reports an unknown group, and
+/// goes on without it.
+fn control_group(arguments: &Arguments) -> Option<u32> {
+    let name = arguments.control_group.as_deref()?;
+    let group = group_of(name);
+    if group.is_none() {
+        let what = "is not known, so only root and the owner may use the control socket";
+        warn(&format!("group {name} {what}: {}", rights::KNOWN_GROUPS));
     }
-    for name in &names {
-        match links.named(name) {
-            Some(link) if !link.is_ethernet => return wrong(format!("{name}: not an Ethernet interface")),
-            None if given.only_existing => return wrong(format!("{name}: there is no such interface")),
-            _ => (),
-        }
+    group
+}
+
+/// Reads an earlier state. Reports it if it cannot be used.
+fn saved(path: &str, state: Result<Option<File>, StateFault>) -> Saved {
+    let saved = state.and_then(|file| file.map_or(Ok(Saved::default()), state::read));
+    saved.unwrap_or_else(|fault| {
+        warn(&format!("{path}: the state is not used: {fault}"));
+        Saved::default()
+    })
+}
+
+/// Returns the ports that names and patterns select, at most 64. Named ports have priority. An
+/// interface that cannot be used keeps no other from being used.
+fn first_ports(arguments: &Arguments, links: &Links, may_wait: bool) -> Result<Vec<String>, StartFault> {
+    let selectors = &arguments.selectors;
+    let mut names = patterns::ports_of(selectors, links);
+    let may_wait = may_wait || selectors.is_empty(); // only names that cannot be ports were given
+    if names.is_empty() && !may_wait {
+        return Err(StartFault::NothingSelected(selectors.clone()));
+    }
+    let missing = names.iter().find(|name| links.named(name).is_none());
+    if let (Some(name), true) = (missing, arguments.only_existing) {
+        return Err(StartFault::Missing(name.clone()));
     }
     if names.len() > MOST_PORTS {
-        names.sort_by_key(|name| !given.parts.contains(name)); // named ports first
+        names.sort_by_key(|name| !selectors.contains(name)); // named ports first
         names.truncate(MOST_PORTS);
     }
     Ok(names)
@@ -93,15 +168,15 @@ fn first_ports(given: &Given, links: &Links, may_wait: bool) -> Result<Vec<Strin
 
 /// Runs until a signal or a panic, then shuts down in order. Returns the exit status.
 fn work(mut live: Live) -> i32 {
-    let worked = catch_unwind(AssertUnwindSafe(|| match live.given.once {
+    let worked = catch_unwind(AssertUnwindSafe(|| match live.arguments.once {
         Some(seconds) => once(&mut live, seconds),
         None => {
-            while !turn(&mut live, i64::MAX) {}
+            while !turn(&mut live, None) {}
             0
         }
     }));
-    while live.signals.file.read(&mut [0u8; 128]).is_ok() {}
-    sys::block_signals(1); // unblocks them: a second signal ends lldpa-live at once
+    while signals::next(&mut live.wakers.signals.file).is_some() {}
+    signals::let_them_end(); // a second signal ends lldpa-live at once
     live.end();
     drop(live); // closes all files, even if the disk and the log's thread hang
     worked.unwrap_or_else(|_| {
@@ -111,20 +186,17 @@ fn work(mut live: Live) -> i32 {
 }
 
 /// Waits for input, at most until a deadline or `last`, and handles it. True at a signal to end.
-fn turn(live: &mut Live, last: i64) -> bool {
-    let has_more = live.control.as_ref().map_or(false, Control::has_more);
-    let turn = live.turn(if has_more { 0 } else { last }, false);
-    let is_asked = has_more || turn.is_asked;
-    if is_asked || clock::now() >= live.next_look {
-        live.serve(is_asked);
-    }
-    live.report_state();
-    let mut room = [0u8; 128];
-    while let Ok(128) = if turn.has_signal { live.signals.file.read(&mut room) } else { Ok(0) } {
-        if room[0] != SIGHUP {
-            return true;
+fn turn(live: &mut Live, last: Option<Moment>) -> bool {
+    let turn = live.turn(last);
+    live.serve(&turn);
+    live.report_status();
+    if turn.has_signal {
+        while let Some(signal) = signals::next(&mut live.wakers.signals.file) {
+            match signal {
+                Signal::End => return true,
+                Signal::Reload => live.reload(),
+            }
         }
-        live.reload();
     }
     false
 }
@@ -132,11 +204,11 @@ fn turn(live: &mut Live, last: i64) -> bool {
 /// Waits until each port has a neighbor, at most this many seconds, and prints the neighbors.
 /// Returns 1 if a port has none or printing fails, else 0. At a signal, returns 0 without printing.
 fn once(live: &mut Live, seconds: u64) -> i32 {
-    let last = clock::now() + seconds as i64 * SECOND;
+    let last = Moment::now() + Duration::from_secs(seconds);
     let are_complete =
-        |live: &Live| live.running.is_some() && live.ports.all.iter().all(|port| !port.held.is_empty());
-    while !are_complete(live) && clock::now() < last {
-        if turn(live, last) {
+        |live: &Live| live.running.is_some() && live.ports.all.iter().all(|port| !port.neighbors.is_empty());
+    while !are_complete(live) && Moment::now() < last {
+        if turn(live, Some(last)) {
             return 0;
         }
     }
@@ -146,21 +218,25 @@ fn once(live: &mut Live, seconds: u64) -> i32 {
 }
 
 impl Live {
-    /// Saves the state for the next lldpa-live and disables the ports, which send shutdown frames.
+    /// Disables the ports, which send shutdown frames. Then saves the state for the next lldpa-live.
     fn end(&mut self) {
-        self.manager.tell("STOPPING=1");
-        self.write_state();
+        let last = Moment::now() + LONGEST_END;
+        self.manager.send("STOPPING=1");
+        let state = self.state(); // disabled ports have no neighbors
         if let Some(running) = &mut self.running {
             let sent = running.agent.leave();
             for name in &running.names {
-                self.log.write(clock::now(), &set_status(name, Status::Disabled));
+                self.log.write(Moment::now(), &set_status(name, Status::Disabled));
             }
-            self.take_sent(&sent, clock::now());
+            self.queue_sent(&sent, Moment::now());
         }
         self.send();
-        if let Some(control) = &self.control {
+        if let Some(control) = &self.server.control {
             control.listening.close();
         }
-        self.log.close(FOR_THE_LOG);
+        if let (Some(path), Some(state)) = (self.arguments.state.clone(), state) {
+            self.log.write_last_state(&path, state);
+        }
+        self.log.close(last);
     }
 }

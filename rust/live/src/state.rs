@@ -3,144 +3,391 @@
 //! and where it ends. lldpa-live writes it each minute and at the end, to a new file that then
 //! replaces the old one.
 
-use crate::agent::{lines_text, Line};
-use crate::clock::{self, MILLISECOND};
-use crate::files::{O_NOFOLLOW, O_NONBLOCK};
+use crate::files::Progress;
+use crate::hex;
+use crate::identifiers;
+use crate::lines::Line;
 use crate::packet::LONGEST_FRAME;
-use crate::rights::{own_user, text_of, User};
-use crate::said;
-use crate::since::Held;
-use lldpa::Examined;
+use crate::rights::{at, own_user, text_of, User};
+use crate::time::{Moment, WallTime};
+use libc::{O_NOFOLLOW, O_NONBLOCK};
+use lldpa::{Examined, Msap};
 use std::collections::HashMap;
-use std::fs::{self, OpenOptions};
-use std::io::{ErrorKind, Read, Write};
+use std::fmt;
+use std::fs::{self, File, OpenOptions};
+use std::io::{BufWriter, Error, ErrorKind, Read, Write};
 use std::os::unix::fs::{MetadataExt, OpenOptionsExt};
+use std::time::Duration;
 
 const FRONT: &str = "# lldpa-live state 1 ";
 const END: &str = "# end\n";
-const INCOMPLETE: &str = "it is incomplete or damaged";
-const MOST_APART: i64 = 5_000; // milliseconds by which the clocks may differ within one boot
+const MOST_SHOWN: usize = 100; // characters of a malformed line
+/// By how much the clocks may differ within one boot.
+const MOST_APART: Duration = Duration::from_secs(5);
 const MOST_LINES: usize = 64 * 128 * 4; // for each neighbor two frames, one `since`, one `tick`
 const MOST_OCTETS: u64 = 64 * 128 * 2 * 4096;
+/// The seconds of all lines together: the longest time to live.
 const MOST_SECONDS: u32 = 65535;
+const PIECE: usize = 1 << 16; // octets that are written at once
 
+/// What an earlier lldpa-live has saved.
 #[derive(Debug, Default)]
-pub struct Past {
+pub struct Saved {
+    /// Lines that rebuild the tables.
     pub lines: Vec<Line>,
-    /// When each neighbor came (milliseconds since 1970), keyed by its port and MSAP identifier.
-    pub came: HashMap<(String, String), i64>,
+    /// When each neighbor came, keyed by its port and MSAP identifier.
+    pub arrivals: HashMap<Name, WallTime>,
     /// How many seconds pass in the lines.
     passed: u32,
-    pub seconds: u32, // how many have passed since the state was written
+    /// How many seconds have passed since the state was saved.
+    pub age: u32,
 }
 
-/// Reads the state at a path. The file must be private to `user` or to this process's user.
-pub fn read(path: &str, user: Option<User>) -> Result<Past, String> {
+/// Why a state is not used.
+#[derive(Debug)]
+pub enum StateFault {
+    Unreadable(Error),
+    NotPrivate,
+    Incomplete,
+    OfAnotherBoot,
+    TooManyLines,
+    Malformed(String),
+    NeighborsDiffer,
+    TooOld,
+}
+
+impl fmt::Display for StateFault {
+    fn fmt(&self, out: &mut fmt::Formatter<'_>) -> fmt::Result {
+        out.write_str(match self {
+            StateFault::Unreadable(fault) => return out.write_str(&text_of(fault)),
+            StateFault::NotPrivate => {
+                "it must be a regular file of lldpa-live's user, with mode 0600 and one hard link"
+            }
+            StateFault::Incomplete => "it is incomplete or damaged",
+            StateFault::OfAnotherBoot => {
+                "this host was rebooted since the state was written, or its clock was set"
+            }
+            StateFault::TooManyLines => "it has too many lines",
+            StateFault::Malformed(line) => return write!(out, "it has a malformed line: {line}"),
+            StateFault::NeighborsDiffer => "its comments and frames name different neighbors",
+            StateFault::TooOld => "no neighbor in it can still be present",
+        })
+    }
+}
+
+impl From<Error> for StateFault {
+    fn from(fault: Error) -> StateFault {
+        StateFault::Unreadable(fault)
+    }
+}
+
+/// Opens the state at a path. The file must be private to `user` or to this process's user. None if
+/// there is no file.
+pub fn open(path: &str, user: Option<User>) -> Result<Option<File>, StateFault> {
     let file = match OpenOptions::new().read(true).custom_flags(O_NOFOLLOW | O_NONBLOCK).open(path) {
-        Err(fault) if fault.kind() == ErrorKind::NotFound => return Ok(Past::default()),
-        opened => opened.map_err(|fault| text_of(&fault))?,
+        Err(fault) if fault.kind() == ErrorKind::NotFound => return Ok(None),
+        opened => opened?,
     };
-    let told = file.metadata().map_err(|fault| text_of(&fault))?;
-    let is_ours = told.uid() == own_user() || user.map_or(false, |user| told.uid() == user.user);
-    if !(told.is_file() && told.nlink() == 1 && is_ours && told.mode() & 0o077 == 0) {
-        return Err("it must be a regular file of lldpa-live's user, with mode 0600 and one hard link".into());
+    let found = file.metadata()?;
+    let is_ours = found.uid() == own_user() || user.map_or(false, |user| found.uid() == user.user);
+    if !(found.is_file() && found.nlink() == 1 && is_ours && found.mode() & 0o077 == 0) {
+        return Err(StateFault::NotPrivate);
     }
+    Ok(Some(file))
+}
+
+/// Reads a state. Somebody else may have written it, so this needs no right.
+pub fn read(file: File) -> Result<Saved, StateFault> {
     let mut octets = Vec::new();
-    file.take(MOST_OCTETS + 1).read_to_end(&mut octets).map_err(|fault| text_of(&fault))?;
-    past(&octets, clock::wall() / MILLISECOND, clock::now() / MILLISECOND)
+    file.take(MOST_OCTETS + 1).read_to_end(&mut octets)?;
+    saved_in(&octets, WallTime::now(), Moment::now())
 }
 
-/// Reads the octets of a state. `wall` and `now` are the clocks' present times in milliseconds.
-pub fn past(octets: &[u8], wall: i64, now: i64) -> Result<Past, String> {
+/// Reads the octets of a state. `wall` and `now` are the present time of two clocks.
+pub fn saved_in(octets: &[u8], wall: WallTime, now: Moment) -> Result<Saved, StateFault> {
     if octets.is_empty() {
-        return Ok(Past::default());
+        return Ok(Saved::default());
     }
-    let text = std::str::from_utf8(octets).map_err(|_| INCOMPLETE)?;
-    let text = text.strip_suffix(END).filter(|text| text.ends_with('\n')).ok_or(INCOMPLETE)?;
-    let (first, rest) = text.split_once('\n').ok_or(INCOMPLETE)?;
-    let (then_wall, then) =
-        first.strip_prefix(FRONT).and_then(|times| times.split_once(' ')).ok_or(INCOMPLETE)?;
-    let (then_wall, then) =
-        (milliseconds(then_wall).ok_or(INCOMPLETE)?, milliseconds(then).ok_or(INCOMPLETE)?);
-    if now < then || (wall - then_wall - (now - then)).abs() > MOST_APART {
-        return Err("this host was rebooted since the state was written, or its clock was set".into());
+    let (times, lines) = parts_of(octets).ok_or(StateFault::Incomplete)?;
+    let (then_wall, then) = times_of(times).ok_or(StateFault::Incomplete)?;
+    let age = now.since(then);
+    if now < then || wall.apart(then_wall + age) > MOST_APART {
+        return Err(StateFault::OfAnotherBoot);
     }
-    let mut past =
-        Past { seconds: u32::try_from((now - then) / 1000).unwrap_or(u32::MAX), ..Past::default() };
+    if lines.lines().count() > MOST_LINES {
+        return Err(StateFault::TooManyLines);
+    }
+    let mut saved = Saved { age: u32::try_from(age.as_secs()).unwrap_or(u32::MAX), ..Saved::default() };
     let mut ttls = HashMap::new();
-    if rest.lines().count() > MOST_LINES {
-        return Err("it has too many lines".into());
+    for text in lines.lines() {
+        let malformed = || StateFault::Malformed(text.chars().take(MOST_SHOWN).collect());
+        saved.add(StateLine::read(text).ok_or_else(malformed)?, &mut ttls);
+        if saved.passed > MOST_SECONDS {
+            return Err(malformed());
+        }
     }
-    for line in rest.lines() {
-        let malformed = || format!("it has a malformed line: {}", line.chars().take(100).collect::<String>());
-        past.take(line, &mut ttls).ok_or_else(malformed)?;
+    if ttls.len() != saved.arrivals.len() || !saved.arrivals.keys().all(|name| ttls.contains_key(name)) {
+        return Err(StateFault::NeighborsDiffer);
     }
-    if ttls.len() != past.came.len() || !past.came.keys().all(|name| ttls.contains_key(name)) {
-        return Err("its comments and frames name different neighbors".into());
+    if saved.age > ttls.values().copied().max().unwrap_or(0) {
+        return Err(StateFault::TooOld);
     }
-    if past.seconds > ttls.values().copied().max().unwrap_or(0) {
-        return Err("no neighbor in it can still be present".into());
-    }
-    Ok(past)
+    Ok(saved)
 }
 
-impl Past {
-    /// Adds seconds to the lines. None if all seconds together exceed the longest time to live.
-    fn pass(&mut self, seconds: u32) -> Option<()> {
-        self.passed = self.passed.checked_add(seconds).filter(|passed| *passed <= MOST_SECONDS)?;
-        self.lines.push(Line::Ticks(seconds));
-        Some(())
-    }
+/// Returns the times in a state's first line, and the lines between it and the last.
+fn parts_of(octets: &[u8]) -> Option<(&str, &str)> {
+    let text = std::str::from_utf8(octets).ok()?.strip_suffix(END)?;
+    let (first, lines) = text.split_once('\n')?;
+    let is_whole = lines.is_empty() || lines.ends_with('\n');
+    Some((first.strip_prefix(FRONT).filter(|_| is_whole)?, lines))
+}
 
-    /// Reads a line. Notes the time to live of a frame's neighbor. None if the line is malformed.
-    fn take(&mut self, line: &str, ttls: &mut HashMap<(String, String), u32>) -> Option<()> {
+/// Reads when a state was saved.
+fn times_of(text: &str) -> Option<(WallTime, Moment)> {
+    let (wall, moment) = text.split_once(' ')?;
+    Some((WallTime::after_1970(seconds_of(wall)?), Moment::after_boot(seconds_of(moment)?)))
+}
+
+/// The name of a neighbor: its port and its MSAP identifier.
+type Name = (String, String);
+
+/// A line of a state.
+enum StateLine {
+    /// When a neighbor came.
+    Arrival(Name, WallTime),
+    Ticks(u32),
+    /// An LLDPDU of a neighbor, with its time to live.
+    Frame(Name, u32, Vec<u8>),
+}
+
+impl StateLine {
+    /// Reads a line. None if it is malformed.
+    fn read(line: &str) -> Option<StateLine> {
         let words: Vec<&str> = line.split(' ').collect();
         match words[..] {
             ["#", "since", port, came, chassis, id] => {
-                self.came.insert((port.into(), format!("{chassis} {id}")), milliseconds(came)?);
+                let name = (port.into(), format!("{chassis} {id}"));
+                Some(StateLine::Arrival(name, WallTime::after_1970(seconds_of(came)?)))
             }
-            ["tick"] => self.pass(1)?,
-            ["tick", count] if count.len() <= 5 => self.pass(count.parse().ok()?)?,
+            ["tick"] => Some(StateLine::Ticks(1)),
+            ["tick", count] if count.len() <= 5 => Some(StateLine::Ticks(count.parse().ok()?)),
             ["rx", port, digits] if digits.len() <= 2 * LONGEST_FRAME => {
-                let frame = said::octets_of(digits)?;
-                match lldpa::examine(lldpa::frame_pdu(&frame)?).ok()? {
-                    Examined::Info(info) => {
-                        ttls.insert((port.into(), said::id(&info.msap())), info.ttl().into())
+                let frame = hex::octets_of(digits)?;
+                match lldpa::examine(lldpa::frame_pdu(&frame)?) {
+                    Ok(Examined::Info(info)) => {
+                        let name = (port.into(), identifiers::id(&info.msap()));
+                        let ttl = info.ttl().into();
+                        Some(StateLine::Frame(name, ttl, frame))
                     }
-                    Examined::Shutdown(_) => return None,
-                };
-                self.lines.push(Line::Frame(port.into(), frame));
+                    _ => None,
+                }
             }
-            _ => return None,
+            _ => None,
         }
-        Some(())
     }
 }
 
-/// Reads seconds with three decimals, and returns milliseconds.
-fn milliseconds(text: &str) -> Option<i64> {
+impl Saved {
+    /// Adds what a line says. Notes the time to live of a frame's neighbor.
+    fn add(&mut self, line: StateLine, ttls: &mut HashMap<Name, u32>) {
+        match line {
+            StateLine::Arrival(name, came) => {
+                self.arrivals.insert(name, came);
+            }
+            StateLine::Ticks(seconds) => {
+                self.passed = self.passed.saturating_add(seconds);
+                self.lines.push(Line::Ticks(seconds));
+            }
+            StateLine::Frame(name, ttl, frame) => {
+                self.lines.push(Line::Frame(name.0.clone(), frame));
+                ttls.insert(name, ttl);
+            }
+        }
+    }
+}
+
+/// Reads seconds with three decimals.
+fn seconds_of(text: &str) -> Option<Duration> {
     let (seconds, part) =
         text.split_once('.').filter(|(seconds, part)| seconds.len() <= 12 && part.len() == 3)?;
     let digits = seconds.to_string() + part;
-    digits.bytes().all(|octet| octet.is_ascii_digit()).then(|| digits.parse().ok())?
+    let is_number = digits.bytes().all(|octet| octet.is_ascii_digit());
+    is_number.then(|| digits.parse().ok().map(Duration::from_millis))?
 }
 
-/// Returns the text of a state: when each neighbor came, and the lines that rebuild the tables.
-pub fn text<'a>(lines: &[Line], held: impl Iterator<Item = (&'a str, &'a Held)>) -> Vec<u8> {
-    let seconds = |milliseconds: i64| format!("{}.{:03}", milliseconds / 1000, milliseconds % 1000);
-    let (wall, now) = (seconds(clock::wall() / MILLISECOND), seconds(clock::now() / MILLISECOND));
-    let since = |(port, one): (&str, &Held)| {
-        format!("# since {port} {} {}\n", seconds(one.came), said::id(&one.msap()))
-    };
-    let since: String = held.map(since).collect();
-    format!("{FRONT}{wall} {now}\n{since}{}{END}", lines_text(lines)).into_bytes()
+/// When a neighbor of a port came.
+pub struct Arrival {
+    pub port: String,
+    pub chassis: Vec<u8>,
+    pub port_id: Vec<u8>,
+    pub came: WallTime,
 }
 
-/// Replaces the file of the state. A symbolic link at the path is replaced, not followed.
-pub fn write(path: &str, octets: &[u8]) -> std::io::Result<()> {
-    let beside = format!("{path}.new");
-    let _ = fs::remove_file(&beside);
-    let mut options = OpenOptions::new();
-    let mut file = options.write(true).create_new(true).mode(0o600).custom_flags(O_NOFOLLOW).open(&beside)?;
-    file.write_all(octets).and_then(|()| fs::rename(&beside, path))
+/// What a state says: when each neighbor came, and the lines that rebuild the tables.
+pub struct State {
+    wall: WallTime,
+    now: Moment,
+    arrivals: Vec<Arrival>,
+    lines: Vec<Line>,
+}
+
+/// A file, and the count of the pieces that were written to it.
+struct Stepping<'a> {
+    file: File,
+    progress: &'a Progress,
+}
+
+impl Write for Stepping<'_> {
+    fn write(&mut self, octets: &[u8]) -> std::io::Result<usize> {
+        self.progress.step();
+        self.file.write(octets)
+    }
+
+    fn flush(&mut self) -> std::io::Result<()> {
+        self.file.flush()
+    }
+}
+
+/// Writes seconds with three decimals.
+fn seconds(duration: Duration) -> String {
+    format!("{}.{:03}", duration.as_secs(), duration.subsec_millis())
+}
+
+impl State {
+    pub fn new(arrivals: Vec<Arrival>, lines: Vec<Line>) -> State {
+        State { wall: WallTime::now(), now: Moment::now(), arrivals, lines }
+    }
+
+    /// Replaces the file of the state. A symbolic link at the path is replaced, not followed.
+    pub fn write(&self, path: &str, progress: &Progress) -> std::io::Result<()> {
+        let beside = format!("{path}.new");
+        let _ = fs::remove_file(&beside);
+        let mut options = OpenOptions::new();
+        let options = options.write(true).create_new(true).mode(0o600).custom_flags(O_NOFOLLOW);
+        let written = options.open(&beside).and_then(|file| {
+            let steps = Stepping { file, progress };
+            self.put(&mut BufWriter::with_capacity(PIECE, steps))
+        });
+        let replaced = written.and_then(|()| fs::rename(&beside, path));
+        if replaced.is_err() {
+            let _ = fs::remove_file(&beside); // it may fill the disk
+        }
+        replaced.map_err(at(path))
+    }
+
+    fn put(&self, out: &mut impl Write) -> std::io::Result<()> {
+        writeln!(out, "{FRONT}{} {}", seconds(self.wall.since_1970()), seconds(self.now.since_boot()))?;
+        for one in &self.arrivals {
+            let id = identifiers::id(&Msap { chassis: &one.chassis, port: &one.port_id });
+            writeln!(out, "# since {} {} {id}", one.port, seconds(one.came.since_1970()))?;
+        }
+        for line in &self.lines {
+            writeln!(out, "{line}")?;
+        }
+        write!(out, "{END}")?;
+        out.flush()
+    }
+}
+
+#[cfg(test)]
+mod tests {
+    use super::*;
+
+    const PDU: [u8; 20] = [2, 7, 4, 2, 0, 0, 0, 0, 1, 4, 3, 5, b'p', b' ', 6, 2, 0, 120, 0, 0];
+
+    fn frame() -> Vec<u8> {
+        [&b"\x01\x80\xc2\0\0\x0e\x02\0\0\0\0\x01\x88\xcc"[..], &PDU].concat()
+    }
+
+    #[test]
+    fn what_was_saved_is_read() {
+        let came = WallTime::after_1970(Duration::from_millis(1_234_567));
+        let (chassis, port_id) = (PDU[2..9].to_vec(), PDU[11..14].to_vec());
+        let arrival = Arrival { port: "eth0".into(), chassis, port_id, came };
+        let lines = vec![Line::Ticks(2), Line::Frame("eth0".into(), frame()), Line::Ticks(1)];
+        let state = State::new(vec![arrival], lines.clone());
+        let mut octets = Vec::new();
+        state.put(&mut octets).expect("room");
+        let later = Duration::from_secs(3);
+        let saved = saved_in(&octets, state.wall + later, state.now + later).expect("a state");
+        assert_eq!((saved.lines, saved.age, saved.passed), (lines, 3, 3));
+        let name = ("eth0".to_string(), "mac=02:00:00:00:00:01 ifname=p\\x20".to_string());
+        assert_eq!(saved.arrivals.get(&name), Some(&came));
+    }
+
+    /// Reads a state that was saved 110 s after 1970 and 50 s after the boot, 10 s before.
+    fn read(text: &str) -> Result<Saved, String> {
+        let (wall, now) = (Duration::from_secs(120), Duration::from_secs(60));
+        let saved = saved_in(text.as_bytes(), WallTime::after_1970(wall), Moment::after_boot(now));
+        saved.map_err(|fault| fault.to_string())
+    }
+
+    #[test]
+    fn first_and_last_lines_are_checked() {
+        let incomplete = "it is incomplete or damaged";
+        let other_boot = "this host was rebooted since the state was written, or its clock was set";
+        for (first, wanted) in [
+            ("# lldpa-live state 1 110.000 50.000", None),
+            ("# lldpa-live state 1 105.000 50.000", None), // the clocks may differ by 5 seconds
+            ("# lldpa-live state 1 115.000 50.000", None),
+            ("# lldpa-live state 1 104.999 50.000", Some(other_boot)),
+            ("# lldpa-live state 1 115.001 50.000", Some(other_boot)),
+            ("# lldpa-live state 1 120.000 60.000", None),
+            ("# lldpa-live state 1 120.001 60.001", Some(other_boot)),
+            ("# lldpa-live state 2 110.000 50.000", Some(incomplete)),
+            ("# lldpa-live state 1 110.00 50.000", Some(incomplete)),
+            ("# lldpa-live state 1 110.000", Some(incomplete)),
+            ("# lldpa-live state 1 +10.000 50.000", Some(incomplete)),
+            ("# lldpa-live state 1 0000000000110.000 50.000", Some(incomplete)),
+            ("", Some(incomplete)),
+        ] {
+            let digits: String = frame().iter().map(|octet| format!("{octet:02x}")).collect();
+            let rest = format!("# since eth0 99.000 mac=02:00:00:00:00:01 ifname=p\\x20\nrx eth0 {digits}\n");
+            let found = read(&format!("{first}\n{rest}# end\n"));
+            assert_eq!(found.err().as_deref(), wanted, "{first}");
+            for end in ["", "# end", "# end\n\n", "# end\n# end"] {
+                let found = read(&format!("{first}\n{rest}{end}"));
+                assert_eq!(found.err().as_deref(), Some(incomplete), "{first} {end:?}");
+            }
+        }
+        assert!(read("").expect("an empty state").lines.is_empty());
+    }
+
+    #[test]
+    fn lines_are_those_of_a_state() {
+        let digits: String = frame().iter().map(|octet| format!("{octet:02x}")).collect();
+        let shutdown = digits.replace("06020078", "06020000");
+        let since = "# since eth0 99.000 mac=02:00:00:00:00:01 ifname=p\\x20";
+        let whole = |line: &str| format!("{since}\nrx eth0 {digits}\n{line}");
+        let malformed = |line: &str| Some(format!("it has a malformed line: {line}"));
+        let others = Some("its comments and frames name different neighbors".to_string());
+        let too_old = Some("no neighbor in it can still be present".to_string());
+        let long = "x".repeat(101);
+        for (lines, wanted) in [
+            (whole(""), None),
+            (whole("tick\n"), None),
+            (whole("tick 65535\n"), None),
+            (whole("tick 65535\ntick\n"), malformed("tick")),
+            (whole("tick 65536\n"), malformed("tick 65536")),
+            (whole("tick 000001\n"), malformed("tick 000001")),
+            (whole("tick x\n"), malformed("tick x")),
+            (whole("tick 1 2\n"), malformed("tick 1 2")),
+            (whole("configure lldp tx-hold 4\n"), malformed("configure lldp tx-hold 4")),
+            (whole("rx eth0 00\n"), malformed("rx eth0 00")),
+            (whole(&format!("rx eth0 {shutdown}\n")), malformed(&format!("rx eth0 {shutdown}"))),
+            (whole(&format!("{long}\n")), malformed(&long[..100])),
+            (whole("# since eth0 99 a b\n"), malformed("# since eth0 99 a b")),
+            (whole("# since eth1 99.000 a b\n"), others.clone()),
+            (format!("{since}\n"), others.clone()),
+            (format!("rx eth0 {digits}\n"), others),
+            (String::new(), too_old.clone()),
+            (whole("").replace("06020078", "0602000a"), None),
+            (whole("").replace("06020078", "06020009"), too_old),
+        ] {
+            let lines = if lines.is_empty() || lines.ends_with('\n') { lines } else { lines + "\n" };
+            let found = read(&format!("# lldpa-live state 1 110.000 50.000\n{lines}# end\n"));
+            assert_eq!(found.err(), wanted, "{lines}");
+        }
+    }
 }

@@ -1,7 +1,7 @@
 //! Reads events for an agent, and prints what the program lldpa would print. Arguments and input
 //! are those of tools/library/c/transcript.c. A show command also compares structs with shows.
 
-use lldpa::{Agent, CommandFault, Neighbor, News, Options, Role, Sent, Show, Statistics};
+use lldpa::{Agent, Chassis, CommandFault, Neighbor, News, Options, Role, Sent, Show, Statistics};
 use std::io::{stdin, BufRead};
 use std::str::from_utf8;
 
@@ -50,6 +50,18 @@ fn counter_lines(port: &str, told: &Statistics) -> String {
     fields.map(|field| format!("lldp.{port}.{field}\n")).collect()
 }
 
+/// Returns the lines of `show chassis` for these values.
+fn chassis_lines(told: &Chassis) -> String {
+    let mac = told.mac.map(|octet| format!("{octet:02x}")).join(":");
+    let address = told.management.map(|address| address.map(|octet| octet.to_string()).join("."));
+    let escaped = |text: &str| lldpa::escape(text.as_bytes()).expect("at most 255 octets");
+    let (name, description) = (escaped(&told.hostname), escaped(&told.description));
+    let mut lines =
+        format!("local-chassis.mac={mac}\nlocal-chassis.name={name}\nlocal-chassis.descr={description}\n");
+    lines += &format!("local-chassis.caps={:?}:on\n", told.role);
+    lines + &address.map_or(String::new(), |address| format!("local-chassis.mgmt={address},1,0,\n"))
+}
+
 /// Checks that the counters and settings in the agent's structs are those in its shows.
 fn see_structs(agent: &Agent, ports: &[&str]) {
     let mut counters = String::new();
@@ -74,6 +86,7 @@ fn see_structs(agent: &Agent, ports: &[&str]) {
         told.status.len()
     );
     assert!(settings.starts_with(&lines));
+    assert_eq!(agent.show(Show::Chassis), chassis_lines(&agent.chassis()));
     assert!(agent.statistics(ports.len() as u8).is_err());
 }
 

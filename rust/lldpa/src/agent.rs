@@ -5,7 +5,7 @@ use crate::machine::Mark;
 use crate::neighbors::{Neighbors, News};
 use crate::options::Options;
 use crate::sys::{self, Statistics};
-use crate::told::{Commanded, Configuration, Sent, Show, Ticks};
+use crate::told::{Chassis, Commanded, Configuration, Sent, Show, Ticks};
 use alloc::boxed::Box;
 use alloc::vec;
 use alloc::vec::Vec;
@@ -131,6 +131,15 @@ impl Agent {
         // SAFETY: the handle is open, and the other pointer is to a local value.
         expect_ok(unsafe { sys::lldpa_configuration(&*self.handle, &mut told) });
         Configuration::of(&told)
+    }
+
+    /// Returns what the agent says about its host.
+    #[must_use]
+    pub fn chassis(&self) -> Chassis {
+        let mut told = sys::lldpa_chassis_told::default();
+        // SAFETY: the handle is open, and the other pointer is to a local value.
+        expect_ok(unsafe { sys::lldpa_chassis(&*self.handle, &mut told) });
+        Chassis::of(&told)
     }
 
     /// Passes a received frame to the agent, and returns the frames to send. Octets that are not an

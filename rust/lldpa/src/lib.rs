@@ -51,19 +51,22 @@ pub use reading::{
     Tlv,
 };
 pub use sys::Statistics;
-pub use told::{Commanded, Configuration, Sent, Show, Status, Ticks};
+pub use told::{Chassis, Commanded, Configuration, Sent, Show, Status, Ticks};
 
 /// Returns the version of the archive, major * 10000 + minor * 100 + patch. The build,
-/// [`Agent::open`] and [`Machine::new`] require this crate's major and minor version.
+/// [`Agent::open`] and [`Machine::new`] require this crate's version, or a later one of the same major
+/// version.
 #[must_use]
 pub fn version() -> u32 {
     // SAFETY: the call has no arguments.
     unsafe { sys::lldpa_version() }
 }
 
-/// True if the archive's major and minor version are those of this crate.
+/// True if this crate can use the archive: its major version is that of this crate, and its minor
+/// version is not smaller.
 fn is_of_this_version() -> bool {
-    version() / 100 == u32::from(sys::LLDPA_VERSION) / 100
+    let (own, found) = (u32::from(sys::LLDPA_VERSION), version());
+    found / 10000 == own / 10000 && found / 100 >= own / 100
 }
 
 #[cfg(doctest)]

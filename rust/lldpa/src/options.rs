@@ -1,14 +1,17 @@
 //! The options of an agent.
 
-/// The role that the agent announces in its System Capabilities.
-#[derive(Clone, Copy, Debug, PartialEq, Eq, Hash)]
-pub enum Role {
-    /// An end station.
-    Station = 0,
-    /// A bridge.
-    Bridge = 1,
-    /// A router.
-    Router = 2,
+use crate::numbers::numbered;
+
+numbered! {
+    /// The role that the agent announces in its System Capabilities.
+    Role {
+        /// An end station.
+        Station = 0,
+        /// A bridge.
+        Bridge = 1,
+        /// A router.
+        Router = 2,
+    }
 }
 
 /// The options of [`crate::Agent::open`].

@@ -431,7 +431,7 @@ pub struct lldpa_ticks_taken {
 extern "C" {
     #[doc = " Reports to the agent that `count` seconds have passed. The call stops early after the first second at which a port"]
     #[doc = " sends or a neighbor ages out. Returns 0 or LLDPA_NOT_OPEN."]
-    #[doc = "   count  the seconds that passed; do not pass LLDPA_NEVER, which could take minutes"]
+    #[doc = "   count  the seconds that passed; LLDPA_NEVER waits for the next event, and ends soon if nothing is ever due"]
     #[doc = "   marks  the frames to send at the last second counted, on success"]
     #[doc = "   told   written on success. Send the frames of marks; then, if told->taken is less than count, call lldpa_ticks"]
     #[doc = "          again for the remaining seconds. The neighbors that aged out had told->taken seconds left before the call."]
@@ -469,7 +469,8 @@ extern "C" {
     #[doc = " Passes to the agent a frame that a port received. You may pass any octets: if they are not an LLDP frame, nothing"]
     #[doc = " changes. Returns 0, LLDPA_NOT_OPEN or LLDPA_NO_PORT. First report the seconds that passed before the frame arrived"]
     #[doc = " (lldpa_ticks): the neighbor's time to live starts at this call, and seconds that you report later reduce it. A full"]
-    #[doc = " table accepts no new neighbor, but the neighbors in it are still refreshed."]
+    #[doc = " table accepts no new neighbor, but the neighbors in it are still refreshed. Your own frame becomes a neighbor too, so"]
+    #[doc = " do not pass frames that you sent."]
     #[doc = "   port   the number of the port, from 0, in the order of the options"]
     #[doc = "   marks  the frames to send, on success"]
     #[doc = "   news   what the frame did, on success; or NULL"]
@@ -483,11 +484,13 @@ extern "C" {
     ) -> u8;
 }
 extern "C" {
-    #[doc = " Reports that the link of a port came up or went down. port, marks and the results are as for lldpa_frame."]
+    #[doc = " Reports that the link of a port came up or went down. A port whose link is down neither sends nor receives, but keeps"]
+    #[doc = " its neighbors until they age out. port, marks and the results are as for lldpa_frame."]
     pub fn lldpa_link(agent: *mut lldpa_agent, port: u32, up: bool, marks: *mut lldpa_marks) -> u8;
 }
 extern "C" {
-    #[doc = " Disables every port. Call it before you close the agent, and send the frames of marks: lldpa_close sends none."]
+    #[doc = " Disables every port, which also removes all neighbors. Call it before you close the agent, and send the frames of"]
+    #[doc = " marks: lldpa_close sends none."]
     #[doc = " Returns 0 or LLDPA_NOT_OPEN."]
     #[doc = "   marks  on success: a shutdown frame on each port that was active, and no other frame"]
     pub fn lldpa_leave(agent: *mut lldpa_agent, marks: *mut lldpa_marks) -> u8;
@@ -594,6 +597,40 @@ extern "C" {
         told: *mut lldpa_configuration_told,
     ) -> u8;
 }
+#[doc = " What an agent says about its host."]
+#[repr(C)]
+#[derive(Debug, Copy, Clone, Hash, PartialEq, Eq)]
+pub struct lldpa_chassis_told {
+    #[doc = " the source address and the Chassis ID of each frame"]
+    pub mac: [u8; 6usize],
+    #[doc = " LLDPA_STATION, LLDPA_BRIDGE or LLDPA_ROUTER"]
+    pub role: u8,
+    #[doc = " whether there is a management address"]
+    pub managed: bool,
+    #[doc = " the IPv4 management address, or zeros"]
+    pub management: [u8; 4usize],
+    #[doc = " the number of octets of hostname"]
+    pub hostname_length: u8,
+    #[doc = " the number of octets of description"]
+    pub description_length: u8,
+    #[doc = " the System Name: printable ASCII, then zeros"]
+    pub hostname: [u8; 255usize],
+    #[doc = " the System Description: printable ASCII, then zeros"]
+    pub description: [u8; 255usize],
+}
+impl Default for lldpa_chassis_told {
+    fn default() -> Self {
+        let mut s = ::core::mem::MaybeUninit::<Self>::uninit();
+        unsafe {
+            ::core::ptr::write_bytes(s.as_mut_ptr(), 0, 1);
+            s.assume_init()
+        }
+    }
+}
+extern "C" {
+    #[doc = " Writes what an agent says about its host. Returns 0 or LLDPA_NOT_OPEN; told is written on success."]
+    pub fn lldpa_chassis(agent: *const lldpa_agent, told: *mut lldpa_chassis_told) -> u8;
+}
 extern "C" {
     #[doc = " Runs a command, \"configure ..\", \"update\" or \"show ..\", without a line feed; lldpa(1) describes the commands. A show"]
     #[doc = " command changes nothing: pass the number of the show to lldpa_show_lines to get the lines."]
@@ -639,7 +676,12 @@ extern "C" {
     ) -> u8;
 }
 extern "C" {
-    #[doc = " Writes the frame that a mark asks for, with the current settings. Send it on the port of the mark."]
+    #[doc = " Writes the frame that a mark asks for, with the current settings. Send it on the port of the mark. A frame has the"]
+    #[doc = " destination 01-80-C2-00-00-0E, the agent's MAC address as source, the EtherType 88-CC and the LLDPDU, and is not"]
+    #[doc = " padded to 60 octets: the driver does that. The Chassis ID is the MAC address (subtype 4), and the Port ID the name of"]
+    #[doc = " the port (subtype 5). An ordinary frame then has the time to live, a Port Description (the port's name again), System"]
+    #[doc = " Name (the hostname), System Description, System Capabilities (by the role) and, if there is one, the Management"]
+    #[doc = " Address. A shutdown frame has a time to live of 0 and no further TLVs."]
     #[doc = "   mark    LLDPA_ORDINARY or LLDPA_SHUTDOWN"]
     #[doc = "   room    LLDPA_FRAME_ROOM octets are always enough"]
     #[doc = "   length  the number of octets of the frame, on success"]

@@ -2,7 +2,9 @@
 
 use crate::machine::Mark;
 use crate::numbers::numbered;
+use crate::options::Role;
 use crate::sys;
+use alloc::string::String;
 use alloc::vec::Vec;
 
 /// A frame to send.
@@ -81,6 +83,35 @@ pub struct Configuration {
     pub max_neighbors: u32,
     /// The status of each port, in the order of the options.
     pub status: Vec<Status>,
+}
+
+/// What an agent says about its host.
+#[derive(Clone, Debug, PartialEq, Eq, Hash)]
+pub struct Chassis {
+    /// The source address and the chassis ID of every frame.
+    pub mac: [u8; 6],
+    /// The role that the System Capabilities announce.
+    pub role: Role,
+    /// The IPv4 management address.
+    pub management: Option<[u8; 4]>,
+    /// The system name, printable ASCII.
+    pub hostname: String,
+    /// The system description, printable ASCII.
+    pub description: String,
+}
+
+impl Chassis {
+    pub(crate) fn of(told: &sys::lldpa_chassis_told) -> Chassis {
+        let text =
+            |octets: &[u8], length: u8| String::from_utf8_lossy(&octets[..usize::from(length)]).into_owned();
+        Chassis {
+            mac: told.mac,
+            role: Role::of(told.role.into()),
+            management: told.managed.then_some(told.management),
+            hostname: text(&told.hostname, told.hostname_length),
+            description: text(&told.description, told.description_length),
+        }
+    }
 }
 
 impl Configuration {

@@ -30,7 +30,7 @@ fn unknown_answers_are_faults() {
     assert_eq!(agent.command("update"), Err(CommandFault::Unexpected));
     assert_eq!(CommandFault::Unknown.line(), "error: unknown command");
     assert!(panics(|| agent.tick()) && panics(|| agent.ticks(2)) && panics(|| agent.due()));
-    assert!(panics(|| agent.configuration()) && panics(|| fault_text(1)));
+    assert!(panics(|| agent.configuration()) && panics(|| agent.chassis()) && panics(|| fault_text(1)));
     assert!(panics(|| agent.show(Show::Chassis)) && panics(|| agent.show_line(Show::Chassis, 0)));
     std::env::set_var("LLDPA_STRANGE", "another version");
     assert_eq!(Agent::open(&options).err(), Some(OpenFault::Version));

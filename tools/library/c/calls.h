@@ -15,6 +15,7 @@ static lldpa_news news;
 static lldpa_held neighbor;
 static lldpa_statistics_told statistics;
 static lldpa_configuration_told configuration;
+static lldpa_chassis_told chassis;
 static lldpa_lines lines;
 static uint8_t room[1 << 16], fault, mark;
 static uint32_t number;
@@ -48,9 +49,9 @@ static uint8_t open_agent(void)
          lldpa_build(frame + 16, 7, frame + 25, 5, 120, &tlv, 1, &fault, 1, room, sizeof room, &length))               \
     CALL(lldpa_transmit_new, 1024, lldpa_transmit_new(&machine, 5, 4, 2, true))                                        \
     CALL(lldpa_transmit_event, 1024, lldpa_transmit_event(&machine, LLDPA_CAUSE_TICK, 30, &mark))                      \
-    CALL(chassis_text, 12288, lldpa_tlv_text(1, frame + 16, 7, room, sizeof room, &length))                            \
-    CALL(name_text, 12288, lldpa_tlv_text(5, frame, 9, room, sizeof room, &length))                                    \
-    CALL(lldpa_escape, 12288, lldpa_escape(frame, 9, room, sizeof room, &length))                                      \
+    CALL(chassis_text, 1024, lldpa_tlv_text(1, frame + 16, 7, room, sizeof room, &length))                            \
+    CALL(name_text, 1024, lldpa_tlv_text(5, frame, 9, room, sizeof room, &length))                                    \
+    CALL(lldpa_escape, 1024, lldpa_escape(frame, 9, room, sizeof room, &length))                                      \
     CALL(lldpa_fault_text, 1024, lldpa_fault_text(LLDPA_MEMORY, room, sizeof room, &length))
 
 /* Calls on an open agent, except lldpa_leave and lldpa_close. */
@@ -68,6 +69,7 @@ static uint8_t open_agent(void)
     CALL(lldpa_frame_of, 12288, lldpa_frame_of(&agent, 0, LLDPA_ORDINARY, room, sizeof room, &length))                 \
     CALL(lldpa_due, 1024, lldpa_due(&agent, &number))                                                                  \
     CALL(lldpa_statistics, 1024, lldpa_statistics(&agent, 0, &statistics))                                             \
-    CALL(lldpa_configuration, 1024, lldpa_configuration(&agent, &configuration))
+    CALL(lldpa_configuration, 1024, lldpa_configuration(&agent, &configuration))                                       \
+    CALL(lldpa_chassis, 2048, lldpa_chassis(&agent, &chassis))
 
 #endif

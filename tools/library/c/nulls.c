@@ -25,6 +25,7 @@ typedef struct written {
     lldpa_ticks_taken ticks;
     lldpa_statistics_told statistics;
     lldpa_configuration_told configuration;
+    lldpa_chassis_told chassis;
     lldpa_news news;
     lldpa_held held;
     size_t length;
@@ -243,6 +244,8 @@ static void step_nulls(void)
     ANSWERS(lldpa_statistics(&agent, 0, NULL), LLDPA_NULL);
     ANSWERS(lldpa_configuration(NULL, &now.configuration), LLDPA_NULL);
     ANSWERS(lldpa_configuration(&agent, NULL), LLDPA_NULL);
+    ANSWERS(lldpa_chassis(NULL, &now.chassis), LLDPA_NULL);
+    ANSWERS(lldpa_chassis(&agent, NULL), LLDPA_NULL);
     ANSWERS(lldpa_frame(NULL, 0, frame, 33, &now.marks, &now.news), LLDPA_NULL);
     ANSWERS(lldpa_frame(&agent, 0, NULL, 33, &now.marks, &now.news), LLDPA_NULL);
     ANSWERS(lldpa_frame(&agent, 0, frame, 33, NULL, &now.news), LLDPA_NULL);

@@ -128,6 +128,43 @@ static void see_configuration(void)
     }
 }
 
+/* Checks a line of `show chassis`: this key, and this text with its escapes. Zeros follow the text. */
+static void see_text(uint32_t line, const char *key, const uint8_t text[255], size_t length)
+{
+    static uint8_t room[4 * 255];
+    static char wanted[LLDPA_LINE_ROOM];
+    size_t size = 0;
+    must(lldpa_escape(text, length, room, sizeof room, &size) == LLDPA_OK, "a text is too long");
+    int end = snprintf(wanted, sizeof wanted, "local-chassis.%s=%.*s\n", key, (int)size, (const char *)room);
+    see_line(LLDPA_SHOW_CHASSIS, line, wanted, (size_t)end);
+    for (size_t at = length; at < 255; at++) {
+        must(text[at] == 0, "an octet after a text");
+    }
+}
+
+static void see_chassis(void)
+{
+    static const char *const words[] = {"Station", "Bridge", "Router"};
+    lldpa_chassis_told told;
+    char wanted[64];
+    must(lldpa_chassis(&agent, &told) == LLDPA_OK && told.role < 3, "the chassis");
+    const uint8_t *mac = told.mac, *host = told.management;
+    int length = snprintf(wanted, sizeof wanted, "local-chassis.mac=%02x:%02x:%02x:%02x:%02x:%02x\n", mac[0], mac[1],
+                          mac[2], mac[3], mac[4], mac[5]);
+    see_line(LLDPA_SHOW_CHASSIS, 0, wanted, (size_t)length);
+    see_text(1, "name", told.hostname, told.hostname_length);
+    see_text(2, "descr", told.description, told.description_length);
+    length = snprintf(wanted, sizeof wanted, "local-chassis.caps=%s:on\n", words[told.role]);
+    see_line(LLDPA_SHOW_CHASSIS, 3, wanted, (size_t)length);
+    if (told.managed) {
+        length = snprintf(wanted, sizeof wanted, "local-chassis.mgmt=%u.%u.%u.%u,1,0,\n", host[0], host[1], host[2],
+                          host[3]);
+        see_line(LLDPA_SHOW_CHASSIS, 4, wanted, (size_t)length);
+    } else {
+        must(memcmp(host, "\0\0\0\0", 4) == 0, "an address that is not there");
+    }
+}
+
 /* Writes a show, in parts of as many lines as fit into a buffer. Checks each line alone. */
 static void write_show(uint32_t show)
 {
@@ -213,6 +250,7 @@ static void command(const char *line, size_t length)
             see_statistics(port);
         }
         see_configuration();
+        see_chassis();
         write_show(show);
     }
 }

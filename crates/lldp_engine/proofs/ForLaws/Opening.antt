@@ -11,11 +11,11 @@ use Rattle.std.proofs.lemmas.List.Sums.{AllPass-from_list_all, list_all-from_All
 use Rattle.std.proofs.lemmas.Slice.Eq.{bytes_eq-Decides}
 use Rattle.lldp_engine.specs.declared.agent.open_fault.OpenFault.{OpenFault}
 use Rattle.lldp_engine.specs.declared.agent.open_fault.OpenFault.TheVariants.{Memory, NoPorts, TooManyPorts, PortName, SamePort, Text}
-use Rattle.lldp_engine.specs.Options.{Options, is_name_octet, is_port_name, has_same, checks, fault_of}
+use Rattle.lldp_engine.specs.Options.{Options, is_name_octet, is_port_name, has_same, checks, fault_of, IsRefusal}
 use Rattle.lldp_pdu.specs.Check.{Check, first_fault}
 use Rattle.lldp_text.specs.Text.{is_text}
 use Rattle.lldp_engine.specs.FixedNumbers.{number_of_refusal}
-use Rattle.lldp_engine.specs.Laws.Opening.{IsName, IsText, Passes, IsFirstFault}
+use Rattle.lldp_engine.specs.Laws.Opening.{IsName, IsText, Passes, IsFirstFault, Refuses}
 
 -- ## A Boolean test for each check
 
@@ -192,4 +192,33 @@ none_told o h (Some g) e = let first = fault_is_first o g e in absurd (first.fai
 pub passed_opens : (o : Options) → ((f : OpenFault) → Passes o f) → fault_of o ≡ None
 passed_opens o h = none_told o h (fault_of o) refl
 
-pub ruleset openings_tell_first_faults = (fault_is_first, first_is_fault, none_fails, passed_opens)
+-- Only lack of memory has the number 1.
+memory_alone : (f : OpenFault) → f ≡ Memory → nat_lt 1 (number_of_refusal f) ≡ true → ⊥
+memory_alone f e h = cc
+
+is_refused : (o : Options) (f : OpenFault) → IsRefusal o f → Refuses o f
+is_refused o Memory h = inr (refl, none_fails o h)
+is_refused o NoPorts h = inl (fault_is_first o NoPorts h)
+is_refused o TooManyPorts h = inl (fault_is_first o TooManyPorts h)
+is_refused o PortName h = inl (fault_is_first o PortName h)
+is_refused o SamePort h = inl (fault_is_first o SamePort h)
+is_refused o Text h = inl (fault_is_first o Text h)
+
+refuses : (o : Options) (f : OpenFault) → Refuses o f → IsRefusal o f
+refuses o Memory (inl first) = absurd (first.fails tt)
+refuses o Memory (inr passes) = passed_opens o passes.1
+refuses o NoPorts (inl first) = first_is_fault o NoPorts first
+refuses o NoPorts (inr passes) = absurd (memory_alone NoPorts passes.0 refl)
+refuses o TooManyPorts (inl first) = first_is_fault o TooManyPorts first
+refuses o TooManyPorts (inr passes) = absurd (memory_alone TooManyPorts passes.0 refl)
+refuses o PortName (inl first) = first_is_fault o PortName first
+refuses o PortName (inr passes) = absurd (memory_alone PortName passes.0 refl)
+refuses o SamePort (inl first) = first_is_fault o SamePort first
+refuses o SamePort (inr passes) = absurd (memory_alone SamePort passes.0 refl)
+refuses o Text (inl first) = first_is_fault o Text first
+refuses o Text (inr passes) = absurd (memory_alone Text passes.0 refl)
+
+pub refusals : (o : Options) (f : OpenFault) → (IsRefusal o f → Refuses o f) × (Refuses o f → IsRefusal o f)
+refusals o f = (is_refused o f, refuses o f)
+
+pub ruleset openings_tell_first_faults = (fault_is_first, first_is_fault, none_fails, passed_opens, refusals)

@@ -1,8 +1,12 @@
 -- Each show command prints exactly the lines of `whole_of`.
-use Rattle.std.proofs.Common.{◌≡◌, ℕ, ◌+◌, List, [], ◌∷◌, ◌++◌, map, take, Option, Some, None, refl, sym, ap, ◌∙◌, append_assoc}
+use Rattle.std.proofs.Common.{◌≡◌, ℕ, ◌+◌, ◌≤◌, length, arith, List, [], ◌∷◌, ◌++◌, map, take, Option, Some, None, refl, sym, ap, ◌∙◌, append_assoc}
 use Rattle.std.specs.Prelude.{codes, decimal}
 use Rattle.std.specs.List.{flat_map, enumerate_from}
-use Rattle.std.proofs.lemmas.List.{take-append-drop}
+use Rattle.std.specs.Borrow.{MutBor}
+use Rattle.std.proofs.lemmas.List.{take-append-drop, append-nil, length-append}
+use Rattle.lldp_text.specs.Text.{ended}
+use Rattle.lldp_engine.specs.Takes.{Takes}
+use Rattle.lldp_engine.specs.LineRoom.{TakesWritten, TakesAny}
 use Rattle.lldp_pdu.specs.Tlv.{TlvUnit}
 use Rattle.lldp_pdu.specs.Kept.{kept_of}
 use Rattle.lldp_table.specs.Events.{Neighbor}
@@ -18,7 +22,7 @@ use Rattle.lldp_engine.specs.Keys.{neighbor_key}
 use Rattle.lldp_engine.specs.NeighborLines.{kept_line, neighbor_lines, numbered_lines, port_lines}
 use Rattle.lldp_engine.specs.Lines.{lines_of}
 use Rattle.lldp_engine.specs.Laws.OnlyForms.{word_of}
-use Rattle.lldp_engine.specs.Laws.Shows.{line_of, lines_of_counts, first_lines, lines_of_neighbor, lines_of_port, lines_of_management, line_of_status, whole_of}
+use Rattle.lldp_engine.specs.Laws.Shows.{line_of, lines_of_counts, first_lines, lines_of_neighbor, lines_of_port, lines_of_management, line_of_status, whole_of, Adds}
 
 -- ## Lines about the agent
 
@@ -70,3 +74,24 @@ whole Neighbors agent = ports_alike agent.ports
 whole Statistics agent = refl
 whole Chassis agent = rw (management_alike agent.configuration.management) refl
 whole Configuration agent = rw (statuses_alike agent.ports) refl
+
+-- ## Sinks
+
+added : (before after lines : List (List ℕ)) → Takes Adds before after lines → after ≡ before ++ lines
+unfolding Takes
+added before after [] h = sym h ∙ sym (append-nil before)
+added before after (line ∷ lines) h = added h.0 after lines h.2 ∙ ap (λ ls. ls ++ lines) h.1 ∙ append_assoc before (line ∷ []) lines
+
+adds : (before after lines : List (List ℕ)) → after ≡ before ++ lines → Takes Adds before after lines
+unfolding Takes
+adds before after [] h = sym (h ∙ append-nil before)
+adds before after (line ∷ lines) h = (before ++ line ∷ [], refl, adds (before ++ line ∷ []) after lines (h ∙ sym (append_assoc before (line ∷ []) lines)))
+
+pub takes_all : (before after lines : List (List ℕ)) → (Takes Adds before after lines → after ≡ before ++ lines) × (after ≡ before ++ lines → Takes Adds before after lines)
+takes_all before after lines = (added before after lines, adds before after lines)
+
+pub takes_written : (before after : List (List ℕ)) (writer : MutBor (List ℕ)) (line : List ℕ) → length line ≤ 2048 → TakesWritten Adds before (Some writer) after (writer.now ++ ended line) → after ≡ before ++ line ∷ []
+takes_written before after writer line short h = h writer line refl refl (omega (arith, length-append writer.now (ended line), length-append line (10 ∷ [])))
+
+pub takes_any : (before after : List (List ℕ)) (line : List ℕ) → TakesAny Adds before None after → after ≡ before ++ line ∷ []
+takes_any before after line h = h line refl

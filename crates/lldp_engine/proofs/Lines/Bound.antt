@@ -16,7 +16,7 @@ use Rattle.lldp_engine.specs.NeighborLines.{neighbor_lines, numbered_lines, port
 use Rattle.lldp_engine.specs.StatisticsLines.{statistics_lines}
 use Rattle.lldp_engine.specs.ChassisLines.{management_lines, chassis_lines}
 use Rattle.lldp_engine.specs.ConfigurationLines.{status_line, configuration_lines}
-use Rattle.lldp_engine.specs.Lines.{lines_of, octets_of}
+use Rattle.lldp_engine.specs.Lines.{lines_of}
 use Rattle.lldp_engine.specs.declared.command.Show.{Show}
 use Rattle.lldp_engine.specs.declared.command.Show.TheVariants.{Neighbors, Statistics, Chassis, Configuration as Configured}
 use Rattle.lldp_engine.specs.declared.show.lines.TheConstants.{MOST_LINES}
@@ -57,6 +57,6 @@ few_lines Chassis agent h = let all = few_of_chassis agent.configuration agent.c
 few_lines Configured agent h = let all = few_of_configuration agent in omega (arith, all, h.few)
 
 -- If line i exists, i is below every bound on the number of lines.
-pub within : (given : Option (ArrayVec ℕ)) (lines : List (List ℕ)) (i most : ℕ) → option_map octets_of given ≡ slice_get lines i → length lines ≤ most → IsSome given → i < most
+pub within : (given : Option (ArrayVec ℕ)) (lines : List (List ℕ)) (i most : ℕ) → option_map (λ (line : ArrayVec ℕ). line.items) given ≡ slice_get lines i → length lines ≤ most → IsSome given → i < most
 within None lines i most e few some = cc
-within (Some line) lines i most e few some = let lt : i < length lines = slice_get_within lines i (octets_of line) (sym e) in omega (arith, lt, few)
+within (Some line) lines i most e few some = let lt : i < length lines = slice_get_within lines i line.items (sym e) in omega (arith, lt, few)

@@ -1,8 +1,9 @@
 -- The checks that options must pass to open an agent, and the agent that they open.
-use Rattle.std.specs.Prelude.{◌≡◌, ◌≢◌, ℕ, ◌<◌, ◌≤◌, true, false, List, length, codes}
+use Rattle.std.specs.Prelude.{◌≡◌, ◌≢◌, ℕ, ◌<◌, ◌≤◌, ◌⊎◌, true, false, List, length, map, codes}
 use Rattle.std.specs.List.{All, AllByRecursion, AllPass, AllPairs}
 use Rattle.lldp_engine.specs.declared.agent.open_fault.OpenFault.{OpenFault}
 use Rattle.lldp_engine.specs.declared.agent.open_fault.OpenFault.TheVariants.{Memory, NoPorts, TooManyPorts, PortName, SamePort, Text}
+use Rattle.lldp_engine.specs.declared.agent.options.Options.{Options as CodeOptions}
 use Rattle.lldp_engine.specs.declared.port.status.Status.TheVariants.{RxAndTx, RxOnly}
 use Rattle.lldp_engine.specs.Options.{Options, is_name_octet}
 use Rattle.lldp_engine.specs.Configuration.{Configuration}
@@ -35,9 +36,13 @@ pub record IsFirstFault (o : Options) (fault : OpenFault) : Type 0 where
   pub fails : Passes o fault → ⊥
   pub first : (other : OpenFault) → number_of_refusal other < number_of_refusal fault → Passes o other
 
+-- Opening is refused with the fault of the first check that fails; with Memory if none fails.
+abbrev pub Refuses : Options → OpenFault → Type 0
+Refuses o fault = IsFirstFault o fault ⊎ ((fault ≡ Memory) × ((other : OpenFault) → Passes o other))
+
 -- Each part has the value of its option. The last four have no option of their own: `lldpa`, a
 -- tx-interval of 30, a tx-hold of 4, and the greatest limit that is allowed.
-pub record IsConfiguredBy (o : Options) (c : Configuration) : Type 0 where
+pub record IsConfiguredBy (o : CodeOptions) (c : Configuration) : Type 0 where
   pub mac : c.mac ≡ o.mac
   pub role : c.role ≡ o.role
   pub management : c.management ≡ o.management
@@ -45,7 +50,7 @@ pub record IsConfiguredBy (o : Options) (c : Configuration) : Type 0 where
   pub fast_init : c.fast_init ≡ o.fast_init
   pub reinit : c.reinit ≡ o.reinit
   pub capacity : c.capacity ≡ o.max_neighbors
-  pub hostname : c.hostname ≡ o.hostname
+  pub hostname : c.hostname ≡ o.hostname.now
   pub description : c.description ≡ codes "lldpa"
   pub interval : c.interval ≡ 30
   pub hold : c.hold ≡ 4
@@ -53,7 +58,7 @@ pub record IsConfiguredBy (o : Options) (c : Configuration) : Type 0 where
 
 -- A port is RxAndTx, or RxOnly if the options ask for that. Its machine has the options'
 -- credit_max, fast_init and reinit.
-pub record IsPortOf (o : Options) (port : PortState) : Type 0 where
+pub record IsPortOf (o : CodeOptions) (port : PortState) : Type 0 where
   pub both : o.receive_only ≡ false → port.status ≡ RxAndTx
   pub receives : o.receive_only ≡ true → port.status ≡ RxOnly
   pub credit_max : port.machine.credit_max ≡ o.credit_max
@@ -61,7 +66,7 @@ pub record IsPortOf (o : Options) (port : PortState) : Type 0 where
   pub reinit : port.machine.reinit ≡ o.reinit
 
 -- The agent's configuration, port names and ports are those that the options give.
-pub record OpensWith (o : Options) (agent : AgentState) : Type 0 where
+pub record OpensWith (o : CodeOptions) (agent : AgentState) : Type 0 where
   pub configuration : IsConfiguredBy o agent.configuration
-  pub names : names_of agent ≡ o.names
+  pub names : names_of agent ≡ map (λ name. name.now) o.ports.now
   pub ports : AllByRecursion (IsPortOf o) agent.ports

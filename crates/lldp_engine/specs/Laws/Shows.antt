@@ -1,5 +1,5 @@
 -- All lines of each show command, in order.
-use Rattle.std.specs.Prelude.{ℕ, nat_lt, if◌then◌else◌, List, [], ◌∷◌, ◌++◌, Option, Some, None, codes, length, map, decimal, sum_by}
+use Rattle.std.specs.Prelude.{◌≡◌, ℕ, nat_lt, if◌then◌else◌, List, [], ◌∷◌, ◌++◌, Option, Some, None, codes, length, map, decimal, sum_by}
 use Rattle.std.specs.List.{flat_map, enumerate_from}
 use Rattle.lldp_pdu.specs.Kept.{kept_of}
 use Rattle.lldp_table.specs.Events.{Neighbor}
@@ -12,7 +12,6 @@ use Rattle.lldp_engine.specs.declared.command.Show.TheVariants.{Neighbors, Stati
 use Rattle.lldp_engine.specs.Configuration.{Configuration as Configured, sent_ttl}
 use Rattle.lldp_engine.specs.AgentState.{AgentState, PortState}
 use Rattle.lldp_engine.specs.ChassisLines.{role_text}
-use Rattle.lldp_engine.specs.StatisticsLines.{counter_lines}
 use Rattle.lldp_engine.specs.Laws.OnlyForms.{word_of}
 
 abbrev pub line_of : List ℕ → List ℕ → List ℕ
@@ -71,9 +70,23 @@ lines_of_configuration agent =
     ∷ (codes "configuration.ports=" ++ decimal (length agent.ports))
     ∷ map line_of_status agent.ports
 
+-- The lines of a port's counters.
+abbrev pub lines_of_counters : PortState → List (List ℕ)
+lines_of_counters port =
+    let c = port.counters in
+    line_of port.name (codes "sent=" ++ decimal c.sent) ∷ line_of port.name (codes "shutdowns=" ++ decimal c.shutdowns)
+    ∷ line_of port.name (codes "received=" ++ decimal c.received) ∷ line_of port.name (codes "discarded=" ++ decimal c.discarded)
+    ∷ line_of port.name (codes "errors=" ++ decimal c.errors) ∷ line_of port.name (codes "tlvs-discarded=" ++ decimal c.tlvs_discarded)
+    ∷ line_of port.name (codes "unrecognized=" ++ decimal c.unrecognized) ∷ line_of port.name (codes "ageouts=" ++ decimal c.ageouts)
+    ∷ line_of port.name (codes "drops=" ++ decimal c.drops) ∷ []
+
 -- THE SHOWS: neighbors of each port, counters of each port, own identity, and configuration.
 abbrev pub whole_of : Show → AgentState → List (List ℕ)
 whole_of Neighbors agent = flat_map lines_of_port agent.ports
-whole_of Statistics agent = flat_map counter_lines agent.ports
+whole_of Statistics agent = flat_map lines_of_counters agent.ports
 whole_of Chassis agent = lines_of_chassis agent.configuration
 whole_of Configuration agent = lines_of_configuration agent
+
+-- The sink adds the line to its list.
+abbrev pub Adds : List (List ℕ) → List (List ℕ) → List ℕ → Type 0
+Adds before after line = after ≡ before ++ line ∷ []

@@ -10,8 +10,11 @@ ghost use Rattle.lldp_engine.specs.Port.EventView.{port_event_of, whose_of};
 ghost use Rattle.lldp_engine.specs.Code.PortStep.{opened_port};
 ghost use Rattle.lldp_engine.specs.Code.Step.{ports_step, marks_step};
 ghost use Rattle.lldp_engine.specs.Code.Taking.{AllFit, CanTake};
+ghost use Rattle.lldp_engine.specs.Code.Telling.{ports_told};
+ghost use Rattle.lldp_engine.specs.Told.{told_of};
 
 use crate::agent::options::Options;
+use crate::agent::told::Told;
 use crate::port::Port;
 use crate::port::event::{PortEvent, Whose};
 use arrayvec::ArrayVec;
@@ -51,46 +54,54 @@ fn note(marks: &mut Marks, port: u8, mark: Mark)
 }
 
 /// Applies an event to the port or ports that it concerns. `interval` is the tx-interval in force
-/// after the event. Returns which ports send, and what.
-pub(crate) fn take_event<A: Allocator>(
+/// after the event. Writes which ports send, and what, and returns what the event tells.
+pub(crate) fn take_event<'a, A: Allocator>(
     ports: &mut [Port<A>],
-    event: &Whose<'_>,
+    event: &Whose<'a>,
     interval: u16,
-) -> Marks
+    marks: &mut Marks,
+) -> Told<'a>
     requires few { length ports.old ≤ 64 }
     requires can { CanTake (whose_of event.now) ports.old }
     ensures after { ports.new ≡ ports_step (whose_of event.now) interval 0 ports.old }
-    ensures marks { result.items ≡ marks_step (whose_of event.now) interval 0 ports.old }
+    ensures marks { marks.new.items ≡ marks_step (whose_of event.now) interval 0 ports.old }
+    ensures told { told_of result ≡ ports_told (whose_of event.now) ports.old }
 {
+    marks.clear();
+    let mut told = Told::Nothing;
     match event {
         Whose::OnePort(port, own) => {
-            let mark = ports[*port as usize].take(own, interval);
-            let mut marks = ArrayVec::new();
-            note(&mut marks, *port, mark);
-            marks
+            let mark = ports[*port as usize].take(own, interval, &mut told);
+            note(marks, *port, mark);
         }
         // Most events are ticks. They have their own loop, which need not check the kind of event.
-        Whose::EachPort(PortEvent::Tick) => each_takes(ports, &PortEvent::Tick, interval),
-        Whose::EachPort(each) => each_takes(ports, each, interval),
+        Whose::EachPort(PortEvent::Tick) => each_takes(ports, &PortEvent::Tick, interval, marks),
+        Whose::EachPort(each) => each_takes(ports, each, interval, marks),
     }
+    told
 }
 
-/// Applies an event to each port. Returns which ports send, and what.
+/// Applies an event to each port. Adds which ports send, and what, to the list, which is empty.
 #[inline(always)]
-fn each_takes<A: Allocator>(ports: &mut [Port<A>], event: &PortEvent<'_>, interval: u16) -> Marks
+fn each_takes<A: Allocator>(
+    ports: &mut [Port<A>],
+    event: &PortEvent<'_>,
+    interval: u16,
+    marks: &mut Marks,
+)
     requires few { length ports.old ≤ 64 }
     requires limits { AllFit (port_event_of event.now) ports.old }
+    requires none { marks.old.items ≡ [] }
     ensures after { ports.new
         ≡ ports_step (each_port (port_event_of event.now)) interval 0 ports.old }
-    ensures marks { result.items
+    ensures marks { marks.new.items
         ≡ marks_step (each_port (port_event_of event.now)) interval 0 ports.old }
 {
-    let mut marks = ArrayVec::new();
+    let mut told = Told::Nothing;
     for (i, port) in ports.iter_mut().enumerate() {
-        let mark = port.take(event, interval);
-        note(&mut marks, i as u8, mark);
+        let mark = port.take(event, interval, &mut told);
+        note(marks, i as u8, mark);
     }
-    marks
 }
 
 /// Returns whether every port holds at most this many neighbors.

@@ -1,7 +1,7 @@
 //! The lines of show commands.
 ghost use Rattle.std.specs.Prelude.{◌≡◌, ◌<◌, ◌≤◌, ℕ, List, length, IsSome, slice_get};
 ghost use Rattle.std.specs.Option.{option_map};
-ghost use Rattle.lldp_engine.specs.Lines.{octets_of, lines_of};
+ghost use Rattle.lldp_engine.specs.Lines.{lines_of};
 ghost use Rattle.lldp_engine.specs.Past.{Past, agent_of};
 ghost use Rattle.lldp_engine.specs.Standing.{Stands};
 ghost use Rattle.lldp_engine.specs.Takes.{Takes};
@@ -60,10 +60,10 @@ impl<A: Allocator> Agent<A> {
     /// Returns line `i` of a show, counted from 0, without its line feed, or None if the show has
     /// no such line. Goes through all earlier lines (no clause states this).
     pub fn show_line(&self, show: &Show, i: u32) -> Option<Line>
-        ensures line { option_map octets_of result ≡ slice_get (lines_of show.now self.now) i }
+        ensures line { option_map (λ line. line.items) result ≡ slice_get (lines_of show.now self.now) i }
         ensures few { IsSome result → i < 6127808 }
         ensures past { (past : Past) → Stands past self.now →
-            option_map octets_of result ≡ slice_get (lines_of show.now (agent_of past)) i }
+            option_map (λ line. line.items) result ≡ slice_get (lines_of show.now (agent_of past)) i }
     {
         let mut sink = OneLine::new();
         self.keep_line(show, i, &mut sink);

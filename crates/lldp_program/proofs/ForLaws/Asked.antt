@@ -13,6 +13,7 @@ use Rattle.lldp_program.specs.Trace.Lines.{ended}
 use Rattle.lldp_program.specs.Trace.Sent.{mark_line}
 use Rattle.lldp_program.specs.Trace.Work.{Work, skip, ticks, frame, link, command}
 use Rattle.lldp_program.specs.Laws.Asked.{AreItemsOf, AsksItsItems, AreLinesOf, TellsEachPort, TellsItem}
+use Rattle.lldp_program.specs.declared.line.LineFault.TheVariants.{TooLong, Hex, Command}
 use Rattle.lldp_program.specs.Laws.Lines.{joined}
 use Rattle.lldp_program.proofs.ForLaws.OnlyLines.{says_work}
 
@@ -60,4 +61,6 @@ ended_in_order (line ∷ lines) = append_assoc line (0x0a ∷ []) (flat_map ende
 pub tells_item : (past : Past) (item : Item) → TellsItem past item
 tells_item past (happens event) = refl
 tells_item past (shows what) = ended_in_order (show_lines what (agent_of past))
-tells_item past (refused fault) = refl
+tells_item past (refused TooLong) = refl
+tells_item past (refused Hex) = refl
+tells_item past (refused (Command fault)) = refl

@@ -1,10 +1,11 @@
 -- The lines of an input that arrives in pieces.
-use Rattle.std.proofs.Common.{◌≡◌, ℕ, suc, ◌+◌, ◌-◌, ◌<◌, ◌≤◌, false, eqb, List, [], ◌∷◌, ◌++◌, length, take, drop, refl, sym, ap, ◌∙◌, inl, inr, append_assoc, arith, Some, None, get_or, length-drop, length-take}
+use Rattle.std.proofs.Common.{◌≡◌, ℕ, suc, ◌+◌, ◌-◌, ◌<◌, ◌≤◌, false, eqb, List, [], ◌∷◌, ◌++◌, length, take, drop, refl, sym, ap, ◌∙◌, inl, inr, arith, Some, None, get_or, length-drop, length-take}
 use Rattle.std.proofs.lemmas.Bool.{cases_lt, cases_eq, ne_eqb, eqb-true, eq-eqb}
-use Rattle.std.proofs.lemmas.List.{get_or-drop, append-nil, take-append-drop, drop_more, drop-drop, get_or-take, take_all, take-take, take-append-le}
+use Rattle.std.proofs.lemmas.List.{drop-take, get_or-drop, append-nil, take-append-drop, drop_more, drop-drop, get_or-take, take_all, take-take, take-append-le}
 use Rattle.std.proofs.Math.Seq.{take-add}
-use Rattle.memchr.specs.Find.{IsFirstByte, Nowhere, Passes, is_byte}
+use Rattle.memchr.specs.Find.{IsFirstByte, IsLastByte, Nowhere, Passes, is_byte}
 use Rattle.lldp_program.specs.Trace.Lines.{ended_lines, unfinished, onto_lines, onto_rest, if_any}
+use Rattle.lldp_program.specs.Code.Plain.{EndsAt}
 
 pub ended_lines-other : (b : ℕ) (bs : List ℕ) → (b ≡ 10 → ⊥) → ended_lines (b ∷ bs) ≡ onto_lines b (ended_lines bs)
 ended_lines-other b bs ne = let e : eqb b 10 ≡ false = ne_eqb b 10 ne in rw e refl
@@ -105,44 +106,56 @@ pub none_before : (xs : List ℕ) (k : ℕ) → k < length xs → Nowhere (Passe
 none_before xs k within h =
     none_found (take k xs) (λ j low high. let lt : j < k = omega (arith, length-take k xs) in λ found. h j low lt (rw (get_or-take k xs j 0 lt) at found))
 
--- exactly one line ends between `start` and `end`, and its LF is at `end`
-pub record OneMore (xs : List ℕ) (start end : ℕ) : Type 0 where
-  pub within : end < length xs
-  pub lines : ended_lines (take (end + 1) xs) ≡ ended_lines (take start xs) ++ take (end - start) (drop start xs) ∷ []
-  pub whole : unfinished (take (end + 1) xs) ≡ []
+-- if LF is found, the first line ends there
+pub found_ends : (xs : List ℕ) (end : ℕ) → IsFirstByte (is_byte 10) xs (Some end) → EndsAt xs end
+found_ends xs end found = record { within = found.0.high; line_feed = eqb-true _ _ found.1; clear = none_before xs end found.0.high found.0.before }
 
-take_between : (xs : List ℕ) (start end : ℕ) → start ≤ end → end < length xs → get_or xs end 0 ≡ 10 → take (end + 1) xs ≡ take start xs ++ (take (end - start) (drop start xs) ++ 10 ∷ [])
-take_between xs start end low within is =
-    let n : start + (end - start) + 1 ≡ end + 1 = omega arith in
-    let here : start + (end - start) ≡ end = omega arith in
-    ap (λ k. take k xs) (sym n) ∙ take-add (start + (end - start)) 1 xs ∙ ap (λ t. t ++ take 1 (drop (start + (end - start)) xs)) (take-add start (end - start) xs)
-    ∙ append_assoc (take start xs) (take (end - start) (drop start xs)) (take 1 (drop (start + (end - start)) xs))
-    ∙ ap (λ k. take start xs ++ (take (end - start) (drop start xs) ++ take 1 (drop k xs))) here
-    ∙ ap (λ t. take start xs ++ (take (end - start) (drop start xs) ++ take 1 t)) (drop_more xs end 0 within)
-    ∙ ap (λ b. take start xs ++ (take (end - start) (drop start xs) ++ b ∷ [])) is
+-- a line that ends within the first n octets also ends in these octets
+pub ends_within : (xs : List ℕ) (end n : ℕ) → EndsAt xs end → end < n → EndsAt (take n xs) end
+ends_within xs end n e h = record {
+  within = omega (arith, e.within, length-take n xs);
+  line_feed = get_or-take n xs end 0 h ∙ e.line_feed;
+  clear = ap ended_lines (take-take end n xs (omega arith)) ∙ e.clear;
+}
 
-pub one_more_line : (xs : List ℕ) (start from at : ℕ) → start ≤ from → from ≤ length xs → ended_lines (take (from - start) (drop start xs)) ≡ [] → unfinished (take start xs) ≡ [] → IsFirstByte (is_byte 10) (drop from xs) (Some at) → OneMore xs start (from + at)
-one_more_line xs start from at low within none whole found =
-    let at_lf : get_or xs (from + at) 0 ≡ 10 = sym (get_or-drop from xs at 0) ∙ eqb-true _ _ found.1 in
-    let high : from + at < length xs = omega (arith, found.0.high, length-drop from xs) in
-    let far : start ≤ from + at = omega arith in
-    let line = take (from + at - start) (drop start xs) in
-    let before : ended_lines (take at (drop from xs)) ≡ [] = none_before (drop from xs) at found.0.high found.0.before in
-    let back : start + (from - start) ≡ from = omega arith in
-    let long : from - start + at ≡ from + at - start = omega arith in
-    let split : line ≡ take (from - start) (drop start xs) ++ take at (drop from xs) =
-    ap (λ k. take k (drop start xs)) (sym long) ∙ take-add (from - start) at (drop start xs)
-    ∙ ap (λ t. take (from - start) (drop start xs) ++ take at t) (drop-drop (from - start) start xs ∙ ap (λ k. drop k xs) back) in
-    let clear : ended_lines line ≡ [] = ap ended_lines split ∙ no_lf-append (take (from - start) (drop start xs)) (take at (drop from xs)) none before in
-    let whole_front : take (from + at + 1) xs ≡ take start xs ++ (line ++ 10 ∷ []) = take_between xs start (from + at) far high at_lf in
+pub line_and_rest : (xs : List ℕ) (end : ℕ) → EndsAt xs end → xs ≡ take end xs ++ 10 ∷ drop (end + 1) xs
+line_and_rest xs end e = sym (take-append-drop end xs) ∙ ap (λ t. take end xs ++ t) (drop_more xs end 0 e.within ∙ ap (λ b. b ∷ drop (end + 1) xs) e.line_feed)
+
+-- the line that ends there is the first one
+pub first_line : (xs : List ℕ) (end : ℕ) → EndsAt xs end → ended_lines xs ≡ take end xs ∷ ended_lines (drop (end + 1) xs)
+first_line xs end e = ap ended_lines (line_and_rest xs end e) ∙ line_ended (take end xs) (drop (end + 1) xs) e.clear
+
+-- exactly one line ends from `start` to `next`
+pub record OneMore (xs : List ℕ) (start next : ℕ) : Type 0 where
+  pub lines : ended_lines (take next xs) ≡ ended_lines (take start xs) ++ take 1 (ended_lines (drop start xs))
+  pub whole : unfinished (take next xs) ≡ []
+
+pub one_more_line : (xs : List ℕ) (start end : ℕ) → unfinished (take start xs) ≡ [] → EndsAt (drop start xs) end → OneMore xs start (start + (end + 1))
+one_more_line xs start end whole e =
+    let ys = drop start xs in
+    let line = take end ys in
+    let taken : take (end + 1) ys ≡ line ++ 10 ∷ [] =
+    take-add end 1 ys ∙ ap (λ t. line ++ take 1 t) (drop_more ys end 0 e.within ∙ ap (λ b. b ∷ drop (end + 1) ys) e.line_feed) in
+    let front : take (start + (end + 1)) xs ≡ take start xs ++ (line ++ 10 ∷ []) = take-add start (end + 1) xs ∙ ap (λ t. take start xs ++ t) taken in
     record {
-      within = high;
       lines =
-          ap ended_lines whole_front ∙ ended_lines-append (take start xs) (line ++ 10 ∷ [])
-          ∙ ap (λ t. ended_lines (take start xs) ++ ended_lines (t ++ (line ++ 10 ∷ []))) whole ∙ ap (λ t. ended_lines (take start xs) ++ t) (line_ended line [] clear);
+          ap ended_lines front ∙ ended_lines-append (take start xs) (line ++ 10 ∷ [])
+          ∙ ap (λ t. ended_lines (take start xs) ++ ended_lines (t ++ (line ++ 10 ∷ []))) whole
+          ∙ ap (λ t. ended_lines (take start xs) ++ t) (line_ended line [] e.clear ∙ sym (ap (take 1) (first_line ys end e)));
       whole =
-          ap unfinished whole_front ∙ unfinished-append (take start xs) (line ++ 10 ∷ []) ∙ ap (λ t. unfinished (t ++ (line ++ 10 ∷ []))) whole ∙ rest_begins line [] clear;
+          ap unfinished front ∙ unfinished-append (take start xs) (line ++ 10 ∷ []) ∙ ap (λ t. unfinished (t ++ (line ++ 10 ∷ []))) whole ∙ rest_begins line [] e.clear;
     }
+
+-- what is left of the first octets is the front of what is left
+pub front_left : (xs : List ℕ) (start held : ℕ) → start ≤ held → take (held - start) (drop start xs) ≡ drop start (take held xs)
+front_left xs start held order =
+    let whole : start + (held - start) ≡ held = omega arith in
+    sym (drop-take start (held - start) xs) ∙ ap (λ k. drop start (take k xs)) whole
+
+-- the lines that ended before `start`, and those after it
+pub lines_split : (xs : List ℕ) (start : ℕ) → unfinished (take start xs) ≡ [] → ended_lines xs ≡ ended_lines (take start xs) ++ ended_lines (drop start xs)
+lines_split xs start whole =
+    ap ended_lines (sym (take-append-drop start xs)) ∙ ended_lines-append (take start xs) (drop start xs) ∙ ap (λ t. ended_lines (take start xs) ++ ended_lines (t ++ drop start xs)) whole
 
 -- if no further LF is found, no further line ends
 pub no_lf_left : (xs : List ℕ) (start from : ℕ) → start ≤ from → ended_lines (take (from - start) (drop start xs)) ≡ [] → IsFirstByte (is_byte 10) (drop from xs) None → ended_lines (drop start xs) ≡ []
@@ -152,10 +165,17 @@ no_lf_left xs start from low none found =
     sym (take-append-drop (from - start) (drop start xs)) ∙ ap (λ t. take (from - start) (drop start xs) ++ t) (drop-drop (from - start) start xs ∙ ap (λ k. drop k xs) back) in
     ap ended_lines split ∙ no_lf-append (take (from - start) (drop start xs)) (drop from xs) none (none_found (drop from xs) found)
 
+-- no line ends after the last LF
+pub none_behind : (xs : List ℕ) (from last start : ℕ) → IsLastByte (is_byte 10) (drop from xs) (Some last) → from + last < start → ended_lines (drop start xs) ≡ []
+none_behind xs from last start found far =
+    none_found (drop start xs) (λ k low high here.
+    let place : from + (start + k - from) ≡ start + k = omega arith in
+    let same : get_or (drop start xs) k 0 ≡ get_or (drop from xs) (start + k - from) 0 =
+    get_or-drop start xs k 0 ∙ ap (λ j. get_or xs j 0) (sym place) ∙ sym (get_or-drop from xs (start + k - from) 0) in
+    found.0.after (start + k - from) (omega arith) (omega (arith, length-drop from xs, length-drop start xs)) (rw same at here))
+
 pub all_lines : (xs : List ℕ) (start : ℕ) → unfinished (take start xs) ≡ [] → ended_lines (drop start xs) ≡ [] → ended_lines xs ≡ ended_lines (take start xs)
-all_lines xs start whole none =
-    ap ended_lines (sym (take-append-drop start xs)) ∙ ended_lines-append (take start xs) (drop start xs) ∙ ap (λ t. ended_lines (take start xs) ++ ended_lines (t ++ drop start xs)) whole
-    ∙ ap (λ t. ended_lines (take start xs) ++ t) none ∙ append-nil (ended_lines (take start xs))
+all_lines xs start whole none = lines_split xs start whole ∙ ap (λ t. ended_lines (take start xs) ++ t) none ∙ append-nil (ended_lines (take start xs))
 
 pub the_rest : (xs : List ℕ) (start : ℕ) → unfinished (take start xs) ≡ [] → ended_lines (drop start xs) ≡ [] → unfinished xs ≡ drop start xs
 the_rest xs start whole none =

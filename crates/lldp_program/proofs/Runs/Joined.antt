@@ -1,24 +1,28 @@
 -- Two runs, one after the other.
-use Rattle.std.proofs.Common.{◌≡◌, ℕ, suc, zero, ◌+◌, ◌<◌, List, [], ◌∷◌, ◌++◌, replicate, refl, sym, ap, ◌∙◌, append_assoc, arith, Option, subst}
+use Rattle.std.proofs.Common.{◌≡◌, ℕ, suc, zero, ◌<◌, List, [], ◌∷◌, ◌++◌, ◌≤◌, take, drop, length-take, replicate, refl, sym, ap, ◌∙◌, append_assoc, arith, Option, subst}
 use Rattle.std.specs.Prelude.{Result, Ok, Err}
 use Rattle.std.specs.Io.KnownBytes.{Appends}
-use Rattle.std.proofs.lemmas.List.{append-nil}
+use Rattle.std.proofs.lemmas.List.{append-nil, take-append-drop, take-take}
 use Rattle.std.specs.List.{flat_map}
 use Rattle.lldp_engine.specs.declared.command.Show.{Show}
-use Rattle.lldp_engine.specs.Past.{Past}
+use Rattle.lldp_engine.specs.Past.{Past, agent_of}
 use Rattle.lldp_engine.specs.Standing.{Stands}
 use Rattle.lldp_engine.specs.Lines.{lines_of}
 use Rattle.lldp_engine.specs.AgentState.{AgentState}
 use Rattle.lldp_engine.proofs.Headline.{promised as keeps_promise}
 use Rattle.lldp_program.specs.declared.line.LineFault.{LineFault}
-use Rattle.lldp_program.specs.Trace.Lines.{ended}
-use Rattle.lldp_program.specs.Trace.Items.{Item, happens, shows, refused, after, after_all, text_of, text_of_all, items_of, items_of_lines}
+use Rattle.lldp_program.specs.Trace.Lines.{ended, ended_lines, unfinished}
+use Rattle.lldp_program.specs.Code.Plain.{EndsAt}
+use Rattle.lldp_program.proofs.Lines.Pieces.{ends_within, first_line, lines_split}
+use Rattle.lldp_program.specs.Trace.Items.{Item, happens, shows, refused, after, after_all, text_of, text_of_all, items_of, items_of_work, items_of_lines}
 use Rattle.lldp_program.specs.declared.device.DeviceFault.{DeviceFault}
 use Rattle.lldp_program.specs.Code.Output.{IsWritten, WrittenBy, Output, Writes}
 use Rattle.lldp_program.specs.Trace.Runs.{IsCutOff, Done, Failed}
 use Rattle.lldp_program.specs.Code.Parts.{Ended, RunsItems}
 use Rattle.lldp_engine.specs.Event.{tick}
-use Rattle.lldp_program.specs.Trace.Forms.{fault_text}
+use Rattle.lldp_engine.specs.Event as event
+use Rattle.lldp_program.specs.Trace.Work.{frame}
+use Rattle.lldp_program.specs.Trace.Forms.{fault_text, work_given}
 use Rattle.lldp_program.proofs.Texts.Taken.{same_then}
 use Rattle.lldp_program.proofs.Texts.Written.{appends_then, appends_nothing, appends_same}
 use Rattle.lldp_program.proofs.Runs.Items.{after_all-append, text_of_all-append, items_of_lines-append}
@@ -149,7 +153,44 @@ ticks_left (suc i) (suc n) lt = let left = ticks_left i n (omega arith) in (left
 
 -- ## Lines
 
--- one more line adds its items after those of the lines before it
-pub line_more : (ls : List (List ℕ)) (line : List ℕ) (past : Past) → items_of_lines past ls ++ items_of (after_all past (items_of_lines past ls)) line ≡ items_of_lines past (ls ++ line ∷ [])
-line_more ls line past =
-    ap (λ t. items_of_lines past ls ++ t) (sym (append-nil (items_of (after_all past (items_of_lines past ls)) line))) ∙ sym (items_of_lines-append past ls (line ∷ []))
+-- the first line of a text asks for these items
+pub first_items : (past : Past) (xs : List ℕ) (end : ℕ) → EndsAt xs end → items_of_lines past (take 1 (ended_lines xs)) ≡ items_of past (take end xs)
+first_items past xs end e = ap (λ ls. items_of_lines past (take 1 ls)) (first_line xs end e) ∙ append-nil (items_of past (take end xs))
+
+-- the same of a line that is found in a longer text
+pub line_items : (past : Past) (text : List ℕ) (held end : ℕ) → EndsAt (take held text) end → items_of past (take end text) ≡ items_of_lines past (take 1 (ended_lines (take held text)))
+line_items past text held end e =
+    let within : end ≤ held = omega (arith, e.within, length-take held text) in
+    ap (items_of past) (sym (take-take end held text within)) ∙ sym (first_items past (take held text) end e)
+
+-- a frame on that line is received
+pub frame_items : (past : Past) (agent : AgentState) (text octets : List ℕ) (held end port : ℕ) → EndsAt text end → end < held → work_given agent (take end text) ≡ Ok (frame port octets) → agent ≡ agent_of past
+    → happens (event.frame port octets) ∷ [] ≡ items_of_lines past (take 1 (ended_lines (take held text)))
+frame_items past agent text octets held end port e h work is =
+    ap items_of_work (sym work ∙ ap (λ seen. work_given seen (take end text)) is) ∙ line_items past text held end (ends_within text end held e h)
+
+-- the items of the next line follow those of the lines before it
+pub next_items : (past : Past) (xs rest : List ℕ) (start : ℕ) (lines : List (List ℕ)) → rest ≡ drop start xs → lines ≡ ended_lines (take start xs) ++ take 1 (ended_lines (drop start xs))
+    → items_of_lines past (ended_lines (take start xs)) ++ items_of_lines (after_all past (items_of_lines past (ended_lines (take start xs)))) (take 1 (ended_lines rest)) ≡ items_of_lines past lines
+next_items past xs rest start lines is all =
+    rw (is, all) (sym (items_of_lines-append past (ended_lines (take start xs)) (take 1 (ended_lines (drop start xs)))))
+
+-- the items of all lines begin with those
+pub later_items : (xs : List ℕ) (start : ℕ) → unfinished (take start xs) ≡ []
+    → (later : Past → List Item) × ((past : Past) → items_of_lines past (ended_lines (take start xs) ++ take 1 (ended_lines (drop start xs))) ++ later past ≡ items_of_lines past (ended_lines xs))
+later_items xs start whole =
+    let first = ended_lines (take start xs) ++ take 1 (ended_lines (drop start xs)) in
+    let later = drop 1 (ended_lines (drop start xs)) in
+    let all : first ++ later ≡ ended_lines xs =
+    append_assoc (ended_lines (take start xs)) (take 1 (ended_lines (drop start xs))) later ∙ ap (λ ls. ended_lines (take start xs) ++ ls) (take-append-drop 1 (ended_lines (drop start xs)))
+    ∙ sym (lines_split xs start whole) in
+    ((λ past. items_of_lines (after_all past (items_of_lines past first)) later), λ past. sym (items_of_lines-append past first later) ∙ ap (items_of_lines past) all)
+
+-- a part of a run that was done is done whatever it returns
+pub done_as : {T X : Type 0} (items : Past → List Item) (t : T) (x : X) (before agent : AgentState) (o p : Output) → RunsItems items (Ok t) before agent o p → RunsItems items (Ok x) before agent o p
+done_as items t x before agent o p h = record { ended = h.ended; same = record { failures = h.same.failures; place = h.same.place; sink = h.same.sink } }
+
+-- a run that failed is the same run with any fault and result
+pub failed_as : {T X : Type 0} (items : Past → List Item) (fault other : DeviceFault) (before agent : AgentState) (o p : Output) → RunsItems {T = T} items (Err fault) before agent o p → RunsItems {T = X} items (Err other) before agent o p
+failed_as items fault other before agent o p h =
+    runs_cut_off items (λ _. []) items fault other before agent o p (λ past. append-nil (items past)) h

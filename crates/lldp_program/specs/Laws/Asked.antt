@@ -1,5 +1,5 @@
 -- The items that lines ask for, and the text of each item: lines of frames or a show, or a fault.
-use Rattle.std.specs.Prelude.{◌≡◌, ℕ, List, [], ◌∷◌, ◌++◌, length, get_or, Err}
+use Rattle.std.specs.Prelude.{codes, ◌≡◌, ℕ, List, [], ◌∷◌, ◌++◌, length, get_or, Err}
 use Rattle.std.specs.List.{AllByRecursion}
 use Rattle.hex.specs.Hex.{encode_lower}
 use Rattle.lldp_engine.specs.Configuration.{Configuration}
@@ -9,10 +9,12 @@ use Rattle.lldp_engine.specs.Command.{show, set}
 use Rattle.lldp_engine.specs.Frames.{frame_of}
 use Rattle.lldp_engine.specs.Lines.{lines_of as show_lines}
 use Rattle.lldp_engine.specs.Past.{Past, Sending, agent_of, configuration_after, marks_of, with_event}
+use Rattle.lldp_text.specs.Fault.{text_of as command_fault_text}
 use Rattle.lldp_program.specs.declared.line.LineFault.{LineFault}
+use Rattle.lldp_program.specs.declared.line.LineFault.TheVariants.{TooLong, Hex, Command}
 use Rattle.lldp_program.specs.Laws.Lines.{joined}
 use Rattle.lldp_program.specs.Laws.OnlyLines.{IsLineOfWork}
-use Rattle.lldp_program.specs.Trace.Forms.{fault_text, work_given}
+use Rattle.lldp_program.specs.Trace.Forms.{work_given}
 use Rattle.lldp_program.specs.Trace.Items.{Item, happens, shows, refused, items_of, text_of}
 use Rattle.lldp_program.specs.Trace.Sent.{sent_text}
 use Rattle.lldp_program.specs.Trace.Work.{Work, skip, ticks, frame, link, command}
@@ -51,4 +53,6 @@ TellsEachPort past =
 abbrev pub TellsItem : Past → Item → Type 0
 TellsItem past (happens event) = text_of past (happens event) ≡ sent_text (with_event past event)
 TellsItem past (shows what) = text_of past (shows what) ≡ joined (show_lines what (agent_of past))
-TellsItem past (refused fault) = text_of past (refused fault) ≡ fault_text fault ++ 0x0a ∷ []
+TellsItem past (refused TooLong) = text_of past (refused TooLong) ≡ codes "error: line too long\n"
+TellsItem past (refused Hex) = text_of past (refused Hex) ≡ codes "error: bad hexadecimal\n"
+TellsItem past (refused (Command fault)) = text_of past (refused (Command fault)) ≡ command_fault_text fault ++ 0x0a ∷ []

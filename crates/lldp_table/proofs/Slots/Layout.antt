@@ -9,9 +9,11 @@ use Rattle.lldp_table.specs.Msap.{same_msap}
 use Rattle.lldp_table.specs.Events.{Neighbor}
 use Rattle.lldp_table.specs.Contents.{Contents, IsExtent, is_named, holds_name, names_of, IsSound, IsHeld}
 use Rattle.lldp_table.specs.Code.Steps.{fresh, refreshed, learned_as, after_forget}
-use Rattle.lldp_table.specs.Code.Layout.{neighbor_of, neighbor_at, neighbors_at, msap_at, blank, with_next, IsOrder, contents_of, IsLaidOut}
+use Rattle.lldp_table.specs.Code.Layout.{neighbor_of, neighbor_at, neighbors_at, octets_at, msap_at, blank, with_next, IsOrder, contents_of, IsLaidOut}
 use Rattle.lldp_table.specs.Code.Stored.{Stored}
 use Rattle.lldp_table.specs.declared.learned.Learned.TheVariants.{New, Refreshed}
+use Rattle.lldp_table.specs.Outcomes.{octets_held}
+use Rattle.lldp_table.proofs.Outcomes.{found_at}
 use Rattle.lldp_table.proofs.Msap.{same_msap-true, same_msap-refl}
 use Rattle.lldp_table.proofs.Standing.Sound.{sound_open, sound_new, sound_refreshed, sound_forgotten, sound_purged}
 use Rattle.lldp_table.proofs.Slots.Places.{at_place, all-weaker, all-both, all-take, all-out, others-out, map-agree, map-at_place, not_before, map-remove, take-moved, distinct-take, forgets_place, refreshes_place, IsOrder-forgotten, IsOrder-push, IsOrder-none}
@@ -91,6 +93,12 @@ module _ {capacity : ℕ} {slots : List Stored} {left : ℕ → ℕ} {order : Li
 
   pub get_at : (at : ℕ) → at < used → slice_get held at ≡ Some (neighbor_at slots left (get_or order at 0))
   get_at at l = slice_get-get_or held at (neighbor_of blank 0) (omega (arith, count)) ∙ ap Some (place at (neighbor_of blank 0) l)
+
+  -- the octets held for the MSAP identifier at a place are those in its slot
+  pub octets_there : {table : Contents} → shown ≡ table → (name : MsapId) (at : ℕ) → at < used → same_msap name (msap_at slots (get_or order at 0)) ≡ true → octets_held table name ≡ Some (octets_at slots (get_or order at 0))
+  octets_there is name at l e =
+      ap (λ (t : Contents). octets_held t name) (sym is)
+      ∙ ap (option_map (λ (x : Neighbor). x.octets)) (found_at name held at (neighbor_of blank 0) (omega (arith, count)) (at_named name at l e) h.sound.distinct ∙ ap Some (place at (neighbor_of blank 0) l))
 
   -- ### The place of an MSAP identifier
 

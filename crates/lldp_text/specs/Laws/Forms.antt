@@ -1,5 +1,5 @@
 -- How each value is written, whatever its octets.
-use Rattle.std.specs.Prelude.{codes, ◌≡◌, ℕ, ◌+◌, ◌<◌, ◌≤◌, ◌==◌, ◌⊎◌, if◌then◌else◌, List, [], ◌∷◌, ◌++◌, length, decimal, Some}
+use Rattle.std.specs.Prelude.{codes, ◌≡◌, ℕ, ◌+◌, ◌<◌, ◌≤◌, ◌==◌, ◌⊎◌, if◌then◌else◌, List, [], ◌∷◌, ◌++◌, length, map, decimal, Some}
 use Rattle.std.specs.List.{AllByRecursion}
 use Rattle.std.specs.Int.{bit_at}
 use Rattle.hex.specs.Hex.{encode_lower}
@@ -8,6 +8,7 @@ use Rattle.lldp_pdu.specs.Capabilities.{caps_of}
 use Rattle.lldp_pdu.specs.ManagementAddress.{Address, address_of}
 use Rattle.lldp_text.specs.Text.{escaped}
 use Rattle.lldp_text.specs.Addresses.{mac_text, ipv4_text, ipv6_text}
+use Rattle.lldp_text.specs.Identifier.{chassis_text, port_text}
 use Rattle.lldp_text.specs.Capabilities.{capabilities_text}
 use Rattle.lldp_text.specs.ManagementAddress.{management_text}
 use Rattle.lldp_text.specs.KeptTlv.{tlv_text}
@@ -93,3 +94,10 @@ pub record HasKeys (body : List ℕ) : Type 0 where
   -- `org.`, the OUI, a dot, the subtype, `=` and the rest of the body in hexadecimal
   pub specific : (a b c subtype : ℕ) →
       tlv_text (record { kind = 127; body = a ∷ b ∷ c ∷ subtype ∷ body }) ≡ (codes "org.") ++ encode_lower (a ∷ b ∷ c ∷ []) ++ (0x2e ∷ []) ++ decimal subtype ++ (0x3d ∷ []) ++ encode_lower body
+
+-- Every text is written, escaped, after the key of its subtype.
+pub record HasTextKeys (text : List ℕ) : Type 0 where
+  pub chassis : map (λ subtype. chassis_text (subtype ∷ text)) (1 ∷ 2 ∷ 3 ∷ 6 ∷ 7 ∷ [])
+      ≡ map (λ key. key ++ escaped text) (codes "component=" ∷ codes "ifalias=" ∷ codes "portcomp=" ∷ codes "ifname=" ∷ codes "local=" ∷ [])
+  pub port : map (λ subtype. port_text (subtype ∷ text)) (1 ∷ 2 ∷ 5 ∷ 6 ∷ 7 ∷ [])
+      ≡ map (λ key. key ++ escaped text) (codes "ifalias=" ∷ codes "component=" ∷ codes "ifname=" ∷ codes "circuit=" ∷ codes "local=" ∷ [])

@@ -6,7 +6,7 @@ ghost use Rattle.lldp_pdu.specs.ManagementAddress.{Address};
 ghost use Rattle.lldp_text.specs.Text.{is_text};
 ghost use Rattle.lldp_text.specs.Capabilities.{capability_names, capabilities_text};
 ghost use Rattle.lldp_text.specs.Identifier.{chassis_text, port_text};
-ghost use Rattle.lldp_text.specs.Laws.Forms.{IsText, IsEscaped, IsJoined, IsManaged, IsIdentified, shown_from, HasKeys};
+ghost use Rattle.lldp_text.specs.Laws.Forms.{IsText, IsEscaped, IsJoined, IsManaged, IsIdentified, shown_from, HasKeys, HasTextKeys};
 
 /// Octets are a text exactly if there are at most 255 and each is from the space to the tilde.
 pub fn texts_are_printable()
@@ -25,5 +25,6 @@ pub fn values_have_their_forms()
         IsIdentified 4 5 chassis_text subtype family octets }
     ensures ports { (subtype family : ℕ) (octets : List ℕ) →
         IsIdentified 3 4 port_text subtype family octets }
+    ensures identified { (text : List ℕ) → HasTextKeys text }
     ensures kept { (body : List ℕ) → HasKeys body }
 {}

@@ -5,4 +5,4 @@ use Rattle.lldp_program.proofs.trace.run_event.Goals as goal
 
 pub returns : goal.returns
 returns g c =
-    event_runs _ (event_of c.args.event) c.args.agent.now _ _ _ _ _ refl c.step-marks.ensures.stands c.step-marks.ensures.marks_past c.write_marks.ensures
+    event_runs _ (event_of c.args.event) c.args.agent.now _ _ _ _ _ refl c.step_told.ensures.stands c.step_told.ensures.marks_past c.write_marks.ensures

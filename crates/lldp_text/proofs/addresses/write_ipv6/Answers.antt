@@ -5,4 +5,4 @@ use Rattle.lldp_text.proofs.addresses.write_ipv6.Goals as goal
 use Rattle.std.proofs.lemmas.Grind.{common_steps}
 
 pub loop-i-preserved : goal.loop-i-preserved
-loop-i-preserved c = grind (arith, common_steps, grown, ipv6_more)
+loop-i-preserved g c = grind (arith, common_steps, grown, ipv6_more)

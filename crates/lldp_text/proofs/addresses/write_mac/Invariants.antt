@@ -3,4 +3,4 @@ use Rattle.lldp_text.specs.Addresses.{mac_text}
 use Rattle.lldp_text.proofs.addresses.write_mac.Given as goal
 
 abbrev pub invariant-loop-i : goal.invariant-loop-i
-invariant-loop-i l = (l.line ≡ l.fn.line ++ mac_text (take l.i l.octets)) × (length l.line ≤ length l.fn.line + 3 * l.i)
+invariant-loop-i g l = (g.L.Append.held l.line ≡ (g.L.Append.held l.fn.line) ++ mac_text (take l.i l.octets)) × (length (g.L.Append.held l.line) ≤ length (g.L.Append.held l.fn.line) + 3 * l.i)

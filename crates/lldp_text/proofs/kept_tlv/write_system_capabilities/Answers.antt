@@ -5,6 +5,6 @@ use Rattle.lldp_text.proofs.TextJoined.{behind}
 use Rattle.lldp_text.proofs.kept_tlv.write_system_capabilities.Goals as goal
 
 pub returns-clause-value : goal.returns-clause-value
-returns-clause-value c =
+returns-clause-value g c =
     let e : c.unwrap.result ≡ caps_fields c.args.body.now = cc in
-    behind _ _ _ _ _ _ c.text.ensures.value c.write_capabilities.ensures.value (ap capabilities_text e)
+    behind _ _ _ _ _ _ c.text.ensures c.write_capabilities.ensures.value (ap capabilities_text e)

@@ -46,4 +46,4 @@ pub returns-clause-given : goal.returns-clause-given
 returns-clause-given c = record { causes = causes; marks = marks; shows = shows; roles = roles }
 
 pub returns-clause-told : goal.returns-clause-told
-returns-clause-told c = record { marks = refl; shows = refl; pdu_faults = refl; build_faults = refl; refusals = refl; command_faults = refl; answers = refl; news = refl; statuses = refl; never = refl }
+returns-clause-told c = record { marks = refl; shows = refl; pdu_faults = refl; build_faults = refl; refusals = refl; command_faults = refl; answers = refl; news = refl; statuses = refl; roles = refl; never = refl }

@@ -1,6 +1,9 @@
-use Rattle.std.proofs.Common.{◌≡◌, ℕ, Bool, true, false, List, Some, None, refl, ap, arith}
-use Rattle.std.specs.Prelude.{if◌then◌else◌, length, slice_index}
+use Rattle.std.proofs.Common.{◌≡◌, ℕ, zero, suc, ◌+◌, ◌-◌, ◌<◌, ◌≤◌, Bool, true, false, List, [], ◌∷◌, ◌++◌, map, drop, Some, None, refl, sym, ap, ◌∙◌, append_assoc, arith}
+use Rattle.std.specs.Prelude.{if◌then◌else◌, length, codes, replicate, slice_get, slice_index}
+use Rattle.std.specs.Option.{option_map}
 use Rattle.std.proofs.lemmas.Bool.{lt-ltb, ltb-true, not-false, le-leb, ne_eqb}
+use Rattle.std.proofs.lemmas.List.{length-replicate, get_or-replicate}
+use Rattle.std.proofs.lemmas.Option.{slice_get_past, slice_get-map, slice_get-get_or, get_or_from_slice_get}
 use Rattle.lldp_pdu.specs.declared.fields.Caps.{Caps}
 use Rattle.lldp_pdu.specs.Tlv.{TlvUnit}
 use Rattle.lldp_pdu.specs.Msap.{IsIdentifier}
@@ -8,15 +11,74 @@ use Rattle.lldp_pdu.specs.Kept.{IsKeptTlv}
 use Rattle.lldp_pdu.specs.WellFormed.{is_well_formed}
 use Rattle.lldp_pdu.specs.Capabilities.{caps_fields}
 use Rattle.lldp_pdu.specs.ManagementAddress.{Address, address_fields}
+use Rattle.lldp_engine.specs.declared.port.status.Status.{Status}
+use Rattle.lldp_engine.specs.declared.port.status.Status.TheVariants.{RxAndTx, RxOnly, TxOnly, Disabled}
+use Rattle.lldp_engine.specs.AgentState.{AgentState, PortState, names_of, name_of}
+use Rattle.lldp_engine.specs.ConfigurationLines.{status_text, status_line}
+use Rattle.lldp_engine.specs.ChassisLines.{role_text}
+use Rattle.lldp_engine.specs.declared.agent.options.Role.{Role}
+use Rattle.lldp_engine.specs.declared.agent.options.Role.TheVariants.{Station, Bridge, Router}
+use Rattle.lldp_engine.specs.Frames.{frame_of}
 use Rattle.lldpa_c.specs.Bodies.{caps_told, address_told}
+use Rattle.lldpa_c.specs.Settings.{status_number}
+use Rattle.lldpa_c.specs.Chassis.{role_number}
 use Rattle.lldpa_c.specs.Values.{may_write}
+use Rattle.lldpa_c.specs.Laws.Shown.{word_numbered, statuses_told, role_worded}
 use Rattle.lldpa_c.proofs.laws.told_values_are_shown.Goals as goal
+
+-- ---- statuses
+
+word_is : (s : Status) → word_numbered (status_number s) ≡ status_text s
+word_is RxAndTx = refl
+word_is RxOnly = refl
+word_is TxOnly = refl
+word_is Disabled = refl
+
+line_is : (port : PortState) → codes "configuration." ++ (port.name ++ (codes ".status=" ++ word_numbered (status_number port.status))) ≡ status_line port
+line_is port =
+    let moved = sym (append_assoc port.name (codes ".") (codes "status=" ++ word_numbered (status_number port.status))) in
+    ap (λ rest. codes "configuration." ++ rest) moved ∙ ap (λ word. codes "configuration." ++ ((port.name ++ codes ".") ++ (codes "status=" ++ word))) (word_is port.status)
+
+lines_are : (ports : List PortState) → statuses_told (map (λ port. port.name) ports) (map (λ port. status_number port.status) ports) ≡ map status_line ports
+lines_are [] = refl
+lines_are (port ∷ ports) = rw (line_is port, lines_are ports) refl
+
+role_is : (role : Role) → role_worded (role_number role) ≡ role_text role
+role_is Station = refl
+role_is Bridge = refl
+role_is Router = refl
+
+-- ---- the numbers behind the last port
+
+behind : {X : Type 0} (xs : List X) (n i : ℕ) → slice_get (drop n xs) i ≡ slice_get xs (n + i)
+behind xs zero i = let at : i ≡ 0 + i = omega arith in ap (slice_get xs) at
+behind [] (suc n) i = refl
+behind (x ∷ xs) (suc n) i = let at : suc (n + i) ≡ suc n + i = omega arith in behind xs n i ∙ ap (slice_get (x ∷ xs)) at
+
+zeros : (n i : ℕ) → i < n → slice_get {X = ℕ} (replicate n 0) i ≡ Some 0
+zeros n i lt = let none : ℕ = 0 in slice_get-get_or (replicate n none) i none (omega (arith, lt, length-replicate n none)) ∙ ap Some (get_or-replicate n i none none lt)
+
+others : (status : List ℕ) (n i : ℕ) → drop n status ≡ drop n (replicate 64 0) → n ≤ i → i < 64 → slice_get status i ≡ Some 0
+others status n i e le lt =
+    let at : n + (i - n) ≡ i = omega (arith, le) in
+    ap (slice_get status) (sym at) ∙ sym (behind status n (i - n)) ∙ ap (λ xs. slice_get xs (i - n)) e ∙ behind (replicate 64 0) n (i - n) ∙ ap (slice_get (replicate 64 0)) at ∙ zeros 64 i lt
+
+-- ---- names
+
+named : (agent : AgentState) (i : ℕ) (port : PortState) → slice_get agent.ports i ≡ Some port → name_of agent i ≡ port.name
+named agent i port e = get_or_from_slice_get (names_of agent) i port.name [] (slice_get-map (λ port. port.name) agent.ports i ∙ ap (option_map (λ port. port.name)) e)
 
 pub returns-clause-shown : goal.returns-clause-shown
 returns-clause-shown c = record {
   counters = λ port. refl;
-  settings = λ agent told t. rw (t.interval, t.hold, t.ttl, t.reinit, t.fast_init, t.credit_max, t.max_neighbors, t.ports) refl;
+  settings = λ agent told t. rw (t.interval, t.hold, t.ttl, t.reinit, t.fast_init, t.credit_max, t.max_neighbors, t.status, lines_are agent.ports, t.ports) refl;
+  others = λ agent told i t le lt. others told.status told.ports i t.others (omega (arith, le, t.ports)) lt;
+  chassis = λ agent told t. rw (t.mac, t.hostname, t.description, t.role, t.management, role_is agent.configuration.role) refl;
   left = λ name room number neighbor told t. rw t.left refl;
+  neighbors = λ agent i port e. rw e refl;
+  count = λ agent i port e. rw e refl;
+  nowhere = λ agent port h. rw (slice_get_past agent.ports port h) refl;
+  frames = λ agent i port mark octets e w. w.are ∙ ap (λ name. frame_of agent.configuration name mark) (named agent i port e);
   ports = λ agent port. (λ h. ltb-true _ _ (not-false _ h), λ lt. rw (lt-ltb _ _ lt) refl);
 }
 

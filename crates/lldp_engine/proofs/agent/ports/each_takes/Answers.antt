@@ -7,7 +7,7 @@ use Rattle.lldp_engine.proofs.AllPorts.EachPort.{one_more, at_turn, all_taken}
 use Rattle.lldp_engine.proofs.agent.ports.each_takes.Goals as goal
 
 pub loop-i-init : goal.loop-i-init
-loop-i-init g c = record { ports = refl; marks = c.new-marks.ensures; few = rw c.new-marks.ensures (omega arith) }
+loop-i-init g c = record { ports = refl; marks = c.requires.none; few = rw c.requires.none (omega arith) }
 
 pub take-mark-requires : goal.take-mark-requires
 take-mark-requires g c =

@@ -26,4 +26,4 @@ returns-in-OnePort-clause-marks g c =
     let q = c.in-OnePort.port in
     let can = rw c.in-OnePort.is at c.requires.can in
     let mark = c.take-mark.ensures.mark ∙ ap (port_mark e c.args.interval) (sym c.index-ports-port.is) in
-    rw (c.in-OnePort.is, c.note.ensures.noted, c.new-marks.ensures, mark) (one_port_marks e c.args.interval q c.args.ports.now c.index-ports-port.result can.0 c.index-ports-port.is)
+    rw (c.in-OnePort.is, c.note.ensures.noted, c.clear.ensures, mark) (one_port_marks e c.args.interval q c.args.ports.now c.index-ports-port.result can.0 c.index-ports-port.is)

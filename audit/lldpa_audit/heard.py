@@ -1,0 +1,115 @@
+"""Finds the links that neighbors show, without a plan."""
+from collections import defaultdict
+from typing import Iterable, NamedTuple, Sequence
+
+from .names import End, Names, Seen
+from .seen.tables import KnownPort, Tables
+
+
+class Link(NamedTuple):
+    """A link that one or both of its ends hear. `keys` has the normalized ends, `ends` their names
+    as they are shown. The first end hears `seen`, and if `is_mutual` the other hears the first."""
+
+    keys: tuple[End, End]
+    ends: tuple[End, End]
+    seen: Seen
+    is_mutual: bool
+
+
+def links_of(tables: Tables) -> list[Link]:
+    """Returns a link for each two ends that hear each other, and for each other neighbor. A link is
+    repeated if an end hears the other more than once. From here on, the ports in the tables count
+    as planned: a Port ID that is one of them is meant."""
+    names = tables.names
+    names.planned, names.planned_ports = tables.ends, {key.port for key in tables.ends}
+    hearers = Hearers(tables)
+    links, alone = [], []
+    for key, told in tables.ends.items():
+        mutual = [(seen, hearers.mutual(key, seen)) for seen in told.neighbors]
+        alone += [(key, told, seen) for seen, fars in mutual if not fars]
+        fars = [far for _, some in mutual for far in some]
+        links += [Link((key, far), (told.end, tables.ends[far].end), seen, True)
+                  for seen, some in mutual for far in some if key < far or fars.count(far) > 1]
+    shown = Shown(tables, [seen for _, _, seen in alone])
+    return links + [shown.link(*one) for one in alone]
+
+
+class Hearers:
+    """Finds the ends that hear an end, or a host if a neighbor names an aggregate of the host."""
+
+    def __init__(self, tables: Tables) -> None:
+        self._names = tables.names
+        self._of_ends: dict[End, list[End]] = defaultdict(list)
+        self._of_hosts: dict[str, list[End]] = defaultdict(list)
+        for key, told in tables.ends.items():
+            for seen in told.neighbors:
+                for end in set(self._names.ends(seen)) & tables.ends.keys():
+                    self._of_ends[end].append(key)
+                for host in members_of(self._names, seen):
+                    self._of_hosts[host].append(key)
+
+    def mutual(self, key: End, seen: Seen) -> Sequence[End]:
+        """Returns the ends that may be the neighbor `seen` of an end, and that hear this end."""
+        hearers = (*self._of_ends.get(key, ()), *self._of_hosts.get(key.host, ()))
+        return [far for far in dict.fromkeys(hearers)
+                if far != key and self._names.answers(seen, far)]
+
+
+def members_of(names: Names, seen: Seen) -> Iterable[str]:
+    """Returns the hosts at which a neighbor may be any port, since it names an aggregate."""
+    return {host for host in names.hosts_of(seen) if names.is_any_member(seen, host)}
+
+
+class Shown:
+    """Names the neighbors that do not hear the end that hears them. A host has the name in the
+    tables, or the first one that it announces. A port has its Port ID, or the Port Description if
+    that is more readable and names one port of its host only."""
+
+    def __init__(self, tables: Tables, some: Iterable[Seen]) -> None:
+        self._tables = tables
+        self._hosts = dict(tables.hosts)
+        ids: dict[str, set[str]] = defaultdict(set)
+        told: dict[str, list[tuple[str, str]]] = defaultdict(list)
+        for seen in some:
+            host = self.host_of(seen)
+            ids[host].add(id_of(seen))
+            told[host].append((best_of(seen), id_of(seen)))
+        self._by_id = {host for host, pairs in told.items()
+                       if are_unclear(pairs, ids[host])}
+
+    def host_of(self, seen: Seen) -> str:
+        """Returns a neighbor's host, normalized: one in the tables, or its first name."""
+        hosts = self._tables.names.hosts_of(seen) or ("",)
+        return next((host for host in hosts if host in self._tables.hosts), hosts[0])
+
+    def link(self, key: End, told: KnownPort, seen: Seen) -> Link:
+        """Returns the link of an end that hears a neighbor, which does not hear this end."""
+        host = self.host_of(seen)
+        names = self._tables.names
+        known = next((end for port in names.heeded(seen) for end in
+                      (End(host, name) for name in names.ports(host, port))
+                      if end in self._tables.ends), None)
+        if known is not None:
+            far, shown = known, self._tables.ends[known].end
+        else:
+            port = id_of(seen) if host in self._by_id else best_of(seen)
+            far = names.end(End(host, id_of(seen)))
+            shown = End(self._hosts.setdefault(host, (seen.hosts or ("",))[0]), port)
+        return Link((key, far), (told.end, shown), seen, False)
+
+
+def id_of(seen: Seen) -> str:
+    """Returns what identifies a neighbor's port."""
+    return seen.port_id or best_of(seen)
+
+
+def best_of(seen: Seen) -> str:
+    return seen.ports[0] if seen.ports else ""
+
+
+def are_unclear(pairs: Sequence[tuple[str, str]], ids: set[str]) -> bool:
+    """Returns whether a name is that of two ports: of pairs of a port's best name and its ID, two
+    have the same name, or one has the ID of another as its name."""
+    of_names: dict[str, str] = {}
+    return any(of_names.setdefault(name, number) != number or name != number and name in ids
+               for name, number in pairs)

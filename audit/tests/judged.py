@@ -1,0 +1,237 @@
+"""For tests: cables that were judged wrongly, each with what its audit prints."""
+import json
+import os
+import time
+from pathlib import Path
+from typing import Any
+
+from auditing import HEAD, Row
+from shapes import cable_between
+from situations import CABLES, DC, SIDES, SW1, situation
+
+TWO = HEAD + "leaf1,swp7,host07,eth0\nleaf1,swp8,host08,eth0\n"
+ONE_LIST = {"leaf1": "swp7\nswp8 host08 eth0\nswp17 host07 eth0"}
+BOTH_LISTS = {**ONE_LIST, "host07": "eth0 leaf1 swp17"}
+MOVED = "moved: host07 eth0 is at {0}swp17, wants {0}swp7"
+ONE_WRONG = "2 cables: 1 right, 1 wrong"
+MOVES = (
+    situation("a moved cable", TWO, ONE_LIST, 1, [f"swp7  {MOVED.format('')}", ONE_WRONG]),
+    situation("a moved cable, by planned ports alone", TWO, ONE_LIST, 1,
+              [f"swp7  {MOVED.format('')}", ONE_WRONG], "--planned-only"),
+    situation("a moved cable that both ends see", TWO, BOTH_LISTS, 1,
+              [f"leaf1 swp7  {MOVED.format('leaf1 ')}", ONE_WRONG]),
+    situation("a cable moved to another switch", TWO, {
+        "leaf1": "swp7\nswp8 host08 eth0", "leaf2": "swp17 host07 eth0"}, 1, [
+            "plan has no cable of the host leaf2 that can be judged: if the file is of another "
+            "host, write HOST:FILE, such as leaf1:lists/leaf2",
+            "leaf1 swp7  moved: host07 eth0 is at leaf2 swp17, wants leaf1 swp7", ONE_WRONG]),
+    situation("a moved cable whose other end hears somebody else", TWO,
+              {**ONE_LIST, "host07": "eth0 x y"}, 1, [
+                  f"leaf1 swp7  {MOVED.format('leaf1 ')}; host07 eth0 has x y", ONE_WRONG]),
+    situation("a moved cable whose other end hears nobody", TWO, {**ONE_LIST, "host07": "eth0"}, 1,
+              [f"leaf1 swp7  {MOVED.format('leaf1 ')}; host07 eth0 hears nobody", ONE_WRONG]),
+    situation("a host that is seen at two ports was not moved", TWO,
+              {"leaf1": ONE_LIST["leaf1"] + "\nswp18 host07 eth0"}, 1, [
+                  "swp7   silent: wants host07 eth0 (seen at swp17)",
+                  "swp17  unplanned: has host07 eth0 (planned at swp7)",
+                  "swp18  unplanned: has host07 eth0 (planned at swp7)",
+                  f"{ONE_WRONG}; 2 unplanned ports"]),
+    situation("nor one in another cable's place", TWO, {"leaf1": "swp8 host07 eth0"}, 1, [
+        "swp7  silent: wants host07 eth0 (seen at swp8)",
+        "swp8  wrong: wants host08 eth0, has host07 eth0 (planned at swp7)",
+        "2 cables: 0 right, 2 wrong"]),
+    situation("nor one that a planned port hears, too", TWO,
+              {"leaf1": "swp8 host07 eth0\nswp17 host07 eth0"}, 1, [
+                  "swp7   silent: wants host07 eth0 (seen at swp8)",
+                  "swp8   wrong: wants host08 eth0, has host07 eth0 (planned at swp7)",
+                  "swp17  unplanned: has host07 eth0 (planned at swp7)",
+                  "2 cables: 0 right, 2 wrong; 1 unplanned port"]),
+    situation("nor one behind a hub", TWO, {
+        "leaf1": "swp8 host08 eth0\nswp17 host07 eth0\nswp17 x y"}, 1, [
+            "swp7   silent: wants host07 eth0 (seen at swp17)",
+            "swp17  unplanned: has host07 eth0 (planned at swp7) and x y",
+            f"{ONE_WRONG}; 1 unplanned port"]),
+    situation("nor a port in another spelling", TWO, {"leaf1": "Swp7 host07 eth0\nswp8 host08 eth0"
+                                                      }, 1, [
+        "Swp7  unplanned: has host07 eth0 (planned at swp7)",
+        "swp7  silent: wants host07 eth0 (seen at Swp7) (there is a port Swp7: only the case "
+        "differs)", f"{ONE_WRONG}; 1 unplanned port"]),
+)
+OF_1 = CABLES + 'a,Ethernet1/1,b,"1,2",aoc,connected\n'
+BREAKOUTS = (
+    situation("the port beside a breakout is not a lane of it",
+              OF_1 + "a,Ethernet1/2,c,1,aoc,connected\n",
+              {"a": "Ethernet1/1/1 b 1\nEthernet1/2 c 1"}, 1, [
+                  "Ethernet1/1:?1  silent: wants b 2", "3 cables: 2 right, 1 wrong"], "--all"),
+    situation("a lane's cable in the port beside it", OF_1,
+              {"a": "Ethernet1/1/1 b 1\nEthernet1/3 b 2"}, 1, [
+                  "Ethernet1/1:?1  moved: b 2 is at Ethernet1/3, wants Ethernet1/1:?1",
+                  "2 cables: 1 right, 1 wrong"], "--all"),
+    situation("and seen from its side", OF_1, {"b": "1 a Ethernet1/1/1\n2 a Ethernet1/3"}, 1, [
+        "2  wrong: wants a Ethernet1/1:?1, has a Ethernet1/3", "2 cables: 1 right, 1 wrong"]),
+    situation("a planned port is not a lane", OF_1 + "a,Ethernet1/1/2,c,1,aoc,connected\n",
+              {"a": "Ethernet1/1/1 b 1\nEthernet1/1/2 b 2"}, 1, [
+                  "Ethernet1/1/2   wrong: wants c 1, has b 2 (planned at Ethernet1/1:?1)",
+                  "Ethernet1/1:?1  silent: wants b 2 (seen at Ethernet1/1/2)",
+                  "3 cables: 1 right, 2 wrong"]),
+    situation("a lane that nobody saw has the name of no other lane", OF_1.replace("/1", ""),
+              {"b": "1 a Ethernet1:2\n2 x y"}, 1, [
+                  "2  wrong: wants a Ethernet1:?1, has x y", "2 cables: 1 right, 1 wrong"]),
+    situation("two ends hear the same lane", OF_1,
+              {"b": "1 a Ethernet1/1/2\n2 a Ethernet1/1/2"}, 1, [
+                  "2  wrong: wants a Ethernet1/1:?1, has a Ethernet1/1/2 (planned at 1)",
+                  "2 cables: 1 right, 1 wrong"]),
+    situation("an end of a breakout is planned twice", OF_1 + "c,1,b,2,aoc,connected\n", {"a": ""},
+              2, [
+        "plan: line 2: b 2 is already planned in line 3"]),
+    situation("a Port ID that a breakout plans counts before a description", OF_1, {
+        "a": "Ethernet1/1/1 b 2 c 1\nEthernet1/1/2 b 1 c 2"}, 0, ["2 cables: 2 right, 0 wrong"]),
+    situation("aliases beside a breakout", OF_1 + "c,1,d,1,aoc,connected\n", {
+        "a": "Ethernet1/1 b 1\nEthernet1/1 b 2", "b": "1 a Ethernet1/1\n2 a Ethernet1/1",
+        "c": "1 d uplink"}, 0, ["3 cables: 3 right, 0 wrong"], "--aliases aliases",
+              {"aliases": "host,port,alias\nd,1,uplink\n"}),
+    situation("a port of too many lanes",
+              CABLES + f'a,1,b,"{",".join(map(str, range(17)))}",aoc,connected\n', {"a": ""}, 2,
+              ["plan: line 2: a 1 has more than 16 lanes"]),
+)
+CISCO = {"a": "1 sw1.lab p1 001c.7341.2b3c -\n2 sw1.lab p2 001c.7341.2b3d -"}
+ONE_DEVICE = "doubled: one device is heard for sw1.dc1 (at a 1) and sw1.dc2 (at a 2)"
+BOTH_WRONG = "2 cables: 0 right, 2 wrong"
+DOMAINS = (
+    situation("a chassis ID of Cisco's has no domain", SW1, CISCO, 0, [
+        "sw1 is heard with 2 chassis IDs (001c.7341.2b3c at a 1 and 001c.7341.2b3d at a 2): two "
+        "devices may have the same name", "2 cables: 2 right, 0 wrong"], "--short-names"),
+    situation("nor has a chassis ID that is a text", SW1,
+              {"a": "1 sw1.lab p1 card.1 -\n2 sw1.lab p2 card.2 -"}, 0, [
+                  "sw1 is heard with 2 chassis IDs (card.1 at a 1 and card.2 at a 2): two devices "
+                  "may have the same name", "2 cables: 2 right, 0 wrong"], "--short-names"),
+    situation("nor if it is the neighbor's only name", HEAD + "a,1,001c.7341.2b3c,1\n",
+              {"a": "1 001c.9999.9999 1"}, 1, [
+                  "1  wrong: wants 001c.7341.2b3c 1, has 001c.9999.9999 1",
+                  "1 cable: 0 right, 1 wrong"], "--short-names"),
+    situation("one device for hosts of two domains", DC, {"a": "1 sw1 p1\n2 sw1 p1"}, 1,
+              [f"sw1  {ONE_DEVICE}", BOTH_WRONG], "--short-names"),
+    situation("that one has two spellings of its chassis ID", DC,
+              {"a": "1 sw1 p1 02:00:00:00:00:01 -\n2 sw1 p1 0200.0000.0001 -"}, 1,
+              [f"sw1  {ONE_DEVICE}", BOTH_WRONG], "--short-names"),
+    situation("that one is heard with a chassis ID and without", DC,
+              {"a": "1 sw1 p1 02:00:00:00:00:01 -", "a2": "2 sw1 p1"}, 1,
+              ["sw1  doubled: one device is heard for sw1.dc1 (at a 1) and sw1.dc2 (at a2 2)",
+               BOTH_WRONG], "--short-names", {"plan": DC.replace("a,2", "a2,2")}),
+    situation("two devices for hosts of two domains", DC,
+              {"a": "1 sw1 p1 02:00:00:00:00:01 -\n2 sw1 p1 02:00:00:00:00:02 -"}, 0,
+              ["2 cables: 2 right, 0 wrong"], "--short-names"),
+)
+SPELLINGS = ("02:00:00:00:00:B2", "02:00:00:00:00:b2", "0200.0000.00b2", "02-00-00-00-00-B2",
+             "0x0200000000b2", "02 00 00 00 00 b2", "")
+CHASSIS = (
+    Row("one chassis ID in several spellings", {
+        "plan": HEAD + "".join(f"a,{at},sw1,p{at}\n" for at in range(len(SPELLINGS))),
+        "a": json.dumps({at: [{"hostname": "sw1", "port": f"p{at}", "remote_chassis_id": chassis,
+                               "remote_system_name": "sw1", "remote_port": f"p{at}",
+                               "remote_port_description": ""}]
+                         for at, chassis in enumerate(SPELLINGS)})}, "plan a", 0,
+        ["7 cables: 7 right, 0 wrong"]),
+)
+UNPAIRED = CABLES + SIDES + 'a,"7,8",b,"7,8,9",cat6,connected\n'
+NOT_PAIRED = ("plan: 1 cable cannot be judged, since the ends cannot be paired; the first ends are "
+              "a 7, a 8, b 7")
+NOT_JUDGED = "2 cables: 1 right, 0 wrong, 1 not judged"
+ALL_DATA = "ID,Label,Termination A,Termination B,Device A,Device B,Rack A,Rack B,Status,Type\n"
+PANELED = ALL_DATA + "".join(f"{at},,{one},{other},{host},{peer},r1,r2,Connected,CAT6\n"
+                             for at, (host, one, peer, other) in enumerate((
+                                 ("leaf1", "swp1", "pp1", "F1"), ("pp1", "R1", "pp2", "R1"),
+                                 ("pp2", "F1", "srv1", "e0"), ("leaf1", "swp2", "pp1", "F2"),
+                                 ("pp1", "R2", "pp2", "R2"), ("pp2", "F2", "srv2", "e0"),
+                                 ("leaf1", "swp3", "srv3", "e0"), ("leaf1", "swp4", "nas", "e0"))))
+
+
+def page(ids: range, count: int, following: Any = None) -> Any:
+    """Returns a page of the API's cables, `a N` to `b N` for each of these numbers N."""
+    return {"count": count, "next": following, "results": [
+        cable_between(at, [("a", str(at))], [("b", str(at))]) for at in ids]}
+
+
+def of_the_api(name: str, tree: Any, status: int, lines: Any) -> Row:
+    seen = json.dumps({str(at): [{"hostname": "b", "port": str(at)}] for at in range(3)})
+    return Row(name, {"plan": json.dumps(tree), "a": seen}, "--all plan a", status, lines)
+
+
+def old_list(path: Path) -> None:
+    """Writes a list that is somewhat older than two days."""
+    path.write_text("{}")
+    seconds = time.time() - 2.5 * 86400
+    os.utime(path, (seconds, seconds))
+
+
+GET_ALL = "ask NetBox with ?limit=0, or put all pages into one list"
+SENDS_NONE = {"known": "host,port,reason,until\nsrv1,,sends no LLDP,\n"}
+ALL_MEANS_ALL = (
+    situation("ends that cannot be paired", UNPAIRED, {"a": "1 b 1\n7 b 8"}, 0,
+              [NOT_PAIRED, NOT_JUDGED]),
+    situation("ends that cannot be paired, with --all", UNPAIRED, {"a": "1 b 1"}, 1,
+              [NOT_PAIRED, NOT_JUDGED], "--all"),
+    of_the_api("a whole answer", page(range(3), 3), 0, ["3 cables: 3 right, 0 wrong"]),
+    of_the_api("all pages of an answer", [page(range(2), 3, "x"), page(range(2, 3), 3)], 0,
+               ["3 cables: 3 right, 0 wrong"]),
+    of_the_api("a page is missing", page(range(2), 3), 2,
+               [f"plan: it has 2 of 3 cables: {GET_ALL}"]),
+    of_the_api("a page comes twice", [page(range(2), 4, "x"), page(range(2), 4)], 2,
+               [f"plan: it has 2 of 4 cables: {GET_ALL}"]),
+    situation("all data with panels, and without --panels", PANELED, {
+        "leaf1": "swp1 srv1 e0\nswp2 srv2 e0\nswp3 srv3 e0"}, 1, [
+            "plan: 4 cables end at what look like patch panels and cannot be judged: give --panels "
+            "with NetBox's export of front ports", "swp4  silent: wants nas e0",
+            "4 cables: 1 right, 1 wrong, 2 not judged"]),
+    situation("a wrong cable beside panels", PANELED, {
+        "leaf1": "swp1 srv1 e0\nswp2 srv2 e0\nswp3 x y\nswp4 srv3 e0"}, 1, [
+            "plan: 4 cables end at what look like patch panels and cannot be judged: give --panels "
+            "with NetBox's export of front ports",
+            "swp3  wrong: wants srv3 e0 (seen at swp4), has x y",
+            "swp4  wrong: wants nas e0, has srv3 e0 (planned at swp3)",
+            "4 cables: 0 right, 2 wrong, 2 not judged"]),
+    situation("a wrong cable without panels", ALL_DATA + "1,,p1,e0,leaf1,nas1,r,r,Connected,CAT6\n"
+              "2,,p2,e0,leaf1,nas2,r,r,Connected,CAT6\n3,,e0,e0,srv9,nas3,r,r,Connected,CAT6\n",
+              {"leaf1": "p1 srv9 e0\np2 x y"}, 1, [
+                  "p1  wrong: wants nas1 e0, has srv9 e0 (planned at nas3 e0)",
+                  "p2  wrong: wants nas2 e0, has x y",
+                  "3 cables: 0 right, 2 wrong, 1 not looked at (nas3, srv9)"]),
+    Row("an old list is not excused by a known server", {
+        "plan": HEAD + "leaf1,swp1,srv1,e0\n", "leaf1": old_list, **SENDS_NONE},
+        "--stale-after 1d --known known plan leaf1", 1, [
+            "swp1  no data: wants srv1 e0 (leaf1: it is 2 days old)",
+            "1 cable: 0 right, 0 wrong, 1 not looked at (srv1)"]),
+    situation("silence at the same end is", HEAD + "leaf1,swp1,srv1,e0\n", {"leaf1": ""}, 0,
+              ["1 cable: 0 right, 0 wrong, 1 known"], "--known known", SENDS_NONE),
+    situation("a list of another host that cannot be read is not", HEAD + "leaf1,swp1,srv1,e0\n",
+              {"leaf1": "{"}, 1, [
+                  "lists/leaf1: it begins like JSON, but is not valid JSON",
+                  "swp1  no data: wants srv1 e0 (lists/leaf1: it begins like JSON, but is not "
+                  "valid JSON)", "1 cable: 0 right, 0 wrong, 1 not looked at (srv1)"],
+              "--known known", SENDS_NONE),
+)
+ONE = HEAD + "leaf1,swp1,srv1,eth0\n"
+SPELLED = (
+    situation("a letter of another alphabet", ONE, {"leaf1": "swp1 \u0455rv1 eth0"}, 1, [
+        "swp1  wrong: wants srv1 eth0, has \u0455rv1 eth0 (\u0455 is CYRILLIC SMALL LETTER DZE)",
+        "1 cable: 0 right, 1 wrong"]),
+    situation("one in the plan", HEAD + "leaf1,swp1,srv1,\u0435th0\n", {"leaf1": "swp1 srv1 eth0"},
+              1, ["swp1  wrong: wants srv1 \u0435th0, has srv1 eth0 (\u0435 is CYRILLIC SMALL "
+                  "LETTER IE)", "1 cable: 0 right, 1 wrong"]),
+    situation("another letter besides", ONE, {"leaf1": "swp1 \u0455rv2 eth0"}, 1, [
+        "swp1  wrong: wants srv1 eth0, has \u0455rv2 eth0", "1 cable: 0 right, 1 wrong"]),
+    *[situation(f"{name} is Ethernet1 if case is ignored", HEAD + f"leaf1,{name},srv1,eth0\n",
+                {"leaf1": "Ethernet1 srv1 eth0\neth1 srv2 eth0"}, 1, [
+                    "eth1  unplanned: has srv2 eth0", "1 cable: 1 right, 0 wrong; 1 unplanned port"
+                ], "--vendor-names --ignore-case") for name in ("Eth1", "ETHERNET1", "et1")],
+    situation("a loop of ports that the plan spells in another way",
+              HEAD + "leaf1,Et1,srv1,eth0\nleaf1,Et2,srv2,eth0\n",
+              {"leaf1": "Ethernet1 leaf1 Ethernet2\nEthernet2 leaf1 Ethernet1"}, 1, [
+                  "Et1  a loop: joined to Et2, of the same host", "2 cables: 0 right, 2 wrong"],
+              "--vendor-names"),
+    situation("a loop to a port that is not planned", HEAD + "leaf1,Et1,srv1,eth0\n",
+              {"leaf1": "Ethernet1 leaf1 Ethernet2\nEthernet2 leaf1 Ethernet1"}, 1, [
+                  "Et1  a loop: joined to Ethernet2, of the same host",
+                  "1 cable: 0 right, 1 wrong; 1 unplanned port"], "--vendor-names"),
+)
+ROWS = (*MOVES, *BREAKOUTS, *DOMAINS, *CHASSIS, *ALL_MEANS_ALL, *SPELLED)

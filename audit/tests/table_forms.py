@@ -1,0 +1,145 @@
+"""For tests: lists in forms that no device or tool printed here. Each is written by hand after the
+source that its name has: a YANG model, or a page of the vendor. All have the neighbors of WANTED.
+"""
+import json
+from typing import Any, Mapping, Sequence, Tuple
+
+import vendors
+from vendors import PORTS, chassis_of, each
+
+MODEL_OF_XR = "Cisco-IOS-XR-ethernet-lldp-oper"
+XE = "Cisco-IOS-XE-lldp-oper"
+# the names of PORTS' neighbors
+WANTED = {port: [*some] for port, some in PORTS.items()}
+
+
+def srlinux(ports: vendors.Ports) -> Any:
+    """Writes the tree of the YANG model srl_nokia-lldp."""
+    return [{"name": port, "admin-state": "enable", "neighbor": [{
+        "id": chassis_of(host), "first-message": "now", "system-name": host,
+        "chassis-id": chassis_of(host), "chassis-id-type": "MAC_ADDRESS", "port-id": at,
+        "port-id-type": "INTERFACE_NAME", "port-description": vendors.TO,
+        "management-address": [{"address": "10.0.0.1", "type": "IPv4"}]} for host, at in some]}
+        for port, some in ports.items()]
+
+
+def xe(ports: vendors.Ports) -> Any:
+    return each(ports, lambda port, host, at: {
+        "device-id": host, "local-interface": port, "connecting-interface": at, "ttl": 120,
+        "capabilities": {"bridge": [None]}})
+
+
+def xr(ports: vendors.Ports) -> Any:
+    """Writes the nodes of an IOS-XR device, with the neighbors of each in detail."""
+    detail = [{"interface-name": port, "device-id": host, "lldp-neighbor": [{
+        "receiving-interface-name": port, "device-id": host, "chassis-id": chassis_of(host),
+        "port-id-detail": at, "hold-time": 120, "mib": {"port-id-sub-type": 5}, "detail": {
+            "system-name": host, "port-description": vendors.TO, "network-addresses": {
+                "lldp-addr-entry": [{"address": {"ipv4-address": "10.0.0.1"}}]}}}]}
+        for port, some in ports.items() for host, at in some]
+    return {"nodes": {"node": [{"node-name": "0/RP0/CPU0",
+                                "neighbors": {"details": {"detail": detail}}}]}}
+
+
+def suzieq(ports: vendors.Ports, host: str = "leaf1", namespace: str = "dc1") -> Any:
+    return each(ports, lambda port, peer, at: {
+        "namespace": namespace, "hostname": host, "ifname": port, "peerHostname": peer,
+        "peerIfname": at, "description": "Cumulus Linux", "mgmtIP": "10.0.0.1", "timestamp": 1})
+
+
+def unifi(ports: vendors.Ports) -> Any:
+    """Writes the neighbors of a UniFi device. It announces no System Names."""
+    return each(ports, lambda port, host, at: {
+        "chassis_id": host, "is_wired": True, "local_port_idx": int(port[3:]), "port_id": at})
+
+
+def mikrotik(ports: vendors.Ports, protocols: str = "cdp,lldp,mndp") -> Any:
+    return each(ports, lambda port, host, at: {
+        ".id": "*1", "address4": "10.0.0.1", "discovered-by": protocols, "identity": host,
+        "interface": port, "interface-name": at, "mac-address": "02:00:00:00:00:01"})
+
+
+def updates(values: Sequence[Tuple[str, Any]], source: str = "leaf1:57400") -> Any:
+    """Writes an answer of `gnmic get`."""
+    return [{"source": source, "timestamp": 1, "time": "2026-11-27T00:00:00Z", "updates": [
+        {"Path": path, "values": {path.partition("[")[0]: value}} for path, value in values]}]
+
+
+def by_interface(ports: vendors.Ports, end: str = "") -> Sequence[Tuple[str, Any]]:
+    found = vendors.openconfig(ports)["openconfig-lldp:interface"]
+    return [(f"openconfig-lldp:lldp/interfaces/interface[name={one['name']}]{end}",
+             {f"openconfig-lldp:{name}": part for name, part in (
+                 one["neighbors"] if end else one).items()}) for one in found]
+
+
+OF_SR_LINUX = {"system": {"lldp": {"interface": srlinux(PORTS)}}}
+# each form with its source
+READ: Mapping[str, Any] = {
+    "SR Linux, `info from state system lldp | as json` (YANG model srl_nokia-lldp)": OF_SR_LINUX,
+    "SR Linux through gnmic (the same)": updates([
+        ("srl_nokia-system:system/srl_nokia-lldp:lldp", {"interface": srlinux(PORTS)})]),
+    "IOS-XE, RESTCONF (YANG model Cisco-IOS-XE-lldp-oper)": {
+        f"{XE}:lldp-entries": {"lldp-entry": xe(PORTS)}},
+    "IOS-XE, RESTCONF of the list (the same)": {f"{XE}:lldp-entry": xe(PORTS)},
+    "IOS-XR, RESTCONF (YANG model Cisco-IOS-XR-ethernet-lldp-oper)": {
+        f"{MODEL_OF_XR}:lldp": xr(PORTS)},
+    "MikroTik, /rest/ip/neighbor (help.mikrotik.com, Neighbor discovery)": mikrotik(PORTS),
+    "MikroTik, a neighbor that MNDP alone hears": [
+        *mikrotik(PORTS), *mikrotik({"swp1": [("far", "ether1")]}, "mndp")],
+    "Ansible's command, JSON in stdout (docs.ansible.com, ansible.builtin.command)": {
+        "changed": True, "rc": 0, "stdout": json.dumps(vendors.EOS), "stdout_lines": ["{"]},
+    "Ansible's ios_command, a list of texts (docs.ansible.com, cisco.ios.ios_command)": {
+        "changed": False, "stdout": [json.dumps(vendors.NXOS)], "stdout_lines": [["{"]]},
+    "a walk in stdout": {"stdout": vendors.walk(PORTS).strip(), "rc": 0},
+}
+# the same, of which nothing is known beyond the listed ports
+OF_SOME_PORTS: Mapping[str, Any] = {
+    "gnmic, an update for each interface (gnmic.openconfig.net, get)": updates(by_interface(PORTS)),
+    "gnmic, an answer for each interface": [
+        one for pair in by_interface(PORTS) for one in updates([pair])],
+    "gnmic, the neighbors of each interface": updates(by_interface(PORTS, "/neighbors")),
+    "gnmic, SR Linux by interface": updates([
+        (f"system/lldp/interface[name={one['name']}]", one) for one in srlinux(PORTS)]),
+}
+OTHER = {"swp9": [("host09", "eth9")]}
+# files of several hosts, each of which has PORTS and leaf2 OTHER
+MANY: Mapping[str, Any] = {
+    "Suzieq, `lldp show --format=json` (suzieq.readthedocs.io, schema lldp)": [
+        *suzieq(PORTS), *suzieq(OTHER, "leaf2")],
+    "rows of ntc-templates with a column for the host": [
+        {"host": host, **row} for host, ports in (("leaf1", PORTS), ("leaf2", OTHER))
+        for row in vendors.textfsm(ports)],
+    "UniFi, stat/device (pkg.go.dev/github.com/unpoller/unifi, USW)": {"meta": {}, "data": [
+        {"name": "leaf1", "mac": "x", "lldp_table": unifi(PORTS)}, {"name": "access point"},
+        {"name": "leaf2", "mac": "y", "lldp_table": unifi(OTHER)}]},
+    "gnmic of two targets": [
+        *updates([("lldp", {"interfaces": vendors.OPENCONFIG})], "leaf1:57400"),
+        *updates([("lldp", {"interfaces": vendors.openconfig(OTHER)})], "[leaf2]:57400")],
+}
+GNMIC = "use `gnmic get --path /lldp/interfaces`"
+FACTS = {"ansible_facts": {"lldp": {"eth0": {"via": "LLDP", "rid": "1", "chassis": {
+    "mac": "02:00:00:00:00:01", "name": "host01"}, "port": {"ifname": "eth1", "ttl": "120"}}}}}
+EVENTS = [{"name": "default", "timestamp": 1, "tags": {
+    "interface_name": "swp1", "source": "leaf1:57400", "subscription-name": "default"},
+    "values": {"/lldp/interfaces/interface/neighbors/neighbor/state/port-id": "eth0"}}]
+# what is refused, and why
+REFUSED: Sequence[Tuple[Any, str]] = (
+    (FACTS, "it is Ansible's facts `lldp`, in which a port has only one neighbor: use `lldpcli -f "
+            "json show neighbors details`"),
+    (EVENTS, f"it is gnmic's events: {GNMIC}"),
+    (updates([("a/interface[name=x]/state/name", "x")]),
+     f"it is an answer of gnmic, but not to a request for neighbors: {GNMIC}"),
+    (updates([*by_interface(PORTS), ("lldp/config", {"enabled": True})]), "not to a request for"),
+    (updates([*by_interface(PORTS), *by_interface(OTHER), *by_interface(PORTS)]),
+     "the port 'swp1' is in it twice: as entries 1 and 4"),
+    ([{"source": "x", "updates": [{"Path": "a"}]}],
+     f"it is an answer of gnmic whose update has no value: {GNMIC}"),
+    ({f"{MODEL_OF_XR}:lldp": {"nodes": {"node": [{"neighbors": {"devices": {}}}]}}},
+     "it is IOS-XR's neighbors without `details`: ask for nodes/node/neighbors/details"),
+    (mikrotik(PORTS, ""), "has a neighbor without a protocol: use RouterOS 7.7 or later"),
+    ([*suzieq(PORTS), *suzieq(OTHER, "leaf1", "dc2")],
+     "'leaf1' is in two namespaces, 'dc1' and 'dc2': give only one"),
+    ([{**vendors.ROWS[0], "host": "leaf1"}, vendors.ROWS[1]], "only some of its rows have a host"),
+    ({"rc": 0, "stdout": "Local Intf: x"}, "it looks like a switch's plain text"),
+    ({"rc": 0, "stdout": ["{}", "{}"]}, "it is JSON, but not a known list of neighbors"),
+)

@@ -1,0 +1,30 @@
+-- Which options `lldpa_open` reads, and the agent that it opens.
+use Rattle.std.specs.Prelude.{◌≡◌, ℕ, ◌≤◌, [], ◌∷◌, map, take, Some, slice_get}
+use Rattle.std.specs.List.{All}
+use Rattle.std.specs.Str.{IsAscii}
+use Rattle.lldp_engine.specs.AgentState.{AgentState, names_of}
+use Rattle.lldp_engine.specs.Past.{configuration_after}
+use Rattle.lldpa_c.specs.declared.options.LldpaOptions.{LldpaOptions}
+use Rattle.lldpa_c.specs.declared.options.LldpaText.{LldpaText}
+use Rattle.lldpa_c.specs.Opening.{asked, IsRead, Opens}
+use Rattle.lldpa_c.specs.Ticks.{neighbors_held}
+
+-- the four numbers in their ranges, and the number of a role
+pub record AreInRange (o : LldpaOptions) : Type 0 where
+  pub role : o.role ≤ 2
+  pub max_neighbors : (1 ≤ o.max_neighbors) × (o.max_neighbors ≤ 128)
+  pub credit_max : (1 ≤ o.credit_max) × (o.credit_max ≤ 10)
+  pub fast_init : (1 ≤ o.fast_init) × (o.fast_init ≤ 8)
+  pub reinit : (1 ≤ o.reinit) × (o.reinit ≤ 10)
+
+-- Options are read if their numbers are in range and their texts are ASCII, and only if their
+-- numbers are in range. They are not read if the hostname or one of the first 65 names is the octet
+-- 255, which is not UTF-8.
+pub record AreOptions (o : LldpaOptions) : Type 0 where
+  pub read : AreInRange o → All (λ text. IsAscii text.octets.now) o.ports.now → IsAscii o.hostname.octets.now → IsRead o
+  pub range : IsRead o → AreInRange o
+  pub hostname : o.hostname.octets.now ≡ 255 ∷ [] → ¬ (IsRead o)
+  pub names : (i : ℕ) (text : LldpaText) → slice_get (take 65 o.ports.now) i ≡ Some text → text.octets.now ≡ 255 ∷ [] → ¬ (IsRead o)
+  pub agent : (agent : AgentState) → Opens o agent →
+      (names_of agent ≡ map (λ text. text.octets.now) o.ports.now) × (agent.configuration ≡ configuration_after (asked o) [])
+      × (neighbors_held agent ≡ 0)

@@ -1,0 +1,134 @@
+"""For tests: makes random answers of lldpa-live. A seed makes the same ones again."""
+
+import random
+from itertools import zip_longest
+from typing import List, Sequence, Tuple
+
+from lldpa import Neighbor, Port
+from lldpa.agent.show import (CHASSIS_KINDS, PORT_KINDS, STATUSES, Configuration, Counters,
+                              Identifier, Show, lines_of)
+from lldpa.texts import shown_text
+from tlvs import SAMPLES
+from served import LIVE_LINES
+
+LIVE = [line.decode() for line in LIVE_LINES]
+VALUES = ("0078", "0079", "0000", "05f2", "ffff", "00", "", "zz00")  # of TLVs of organizations
+WORDS = ("", "x", "lldp.eth0.neighbors=2", "lldp.eth0.1.ttl=07", "a.b='\"\\")  # lines out of place
+
+
+class Made:
+    """Random answers."""
+
+    LETTERS = "aZ9 .-_\\\"'é京🐧\u0301\u202e\u200b\u3164\x1b\n\r\u0600"
+
+    def __init__(self, seed: int) -> None:
+        self.random = random.Random(seed)
+
+    def octets(self) -> bytes:
+        text = "".join(self.random.choices(self.LETTERS, k=self.random.choice((0, 1, 3, 8, 40))))
+        noise = self.random.randbytes(self.random.choice((0, 0, 0, 1, 4)))
+        return text.encode() + noise
+
+    def text(self) -> str:
+        return shown_text(self.octets())
+
+    def address(self) -> str:
+        groups = [self.random.choice((0, 0, 0, 1, 0xffff, 0xc000)) for _ in range(8)]
+        long = ":".join(f"{group:04x}" for group in groups)
+        return self.random.choice((long, "192.0.2.7", "af6:525400a1", "", self.text()))
+
+    def identifier(self, kinds: Sequence[str]) -> Identifier:
+        kind = self.random.choice(sorted(kinds))
+        return Identifier(kind, self.address() if kind == "ip" else self.text())
+
+    def tlv(self) -> Tuple[str, str]:
+        key = self.random.choice(("port.descr", "chassis.name", "chassis.descr", "chassis.caps",
+                                  "chassis.mgmt", "unknown.120", "later.key", "org.0080c2.1",
+                                  "org.0080c2.1", "org.00120f.4", "org.001122.5", "org"))
+        if key == "chassis.mgmt":
+            return key, f"{self.address()},2,7,"
+        if key == "org":
+            return self.organizational()
+        if key.startswith("org."):
+            return key, self.random.choice(VALUES)
+        return key, self.text()
+
+    def organizational(self) -> Tuple[str, str]:
+        """Returns a TLV of a sample, or of one with other octets, or more or less of them."""
+        sample = self.random.choice(SAMPLES)
+        octets = bytearray(bytes.fromhex(sample.octets))
+        ignored = bytes.fromhex(sample.ignored)
+        way = self.random.randrange(5)
+        if way == 0:
+            pairs = zip_longest(octets, ignored, fillvalue=0)
+            octets = bytearray(one ^ other for one, other in pairs)
+        elif way == 1:
+            octets[self.random.randrange(len(octets))] = self.random.randrange(256)
+        elif way == 2:
+            del octets[self.random.randrange(len(octets)):]
+        elif way == 3 and self.random.random() < 0.3:
+            octets += self.random.randbytes(self.random.randrange(1, 4))
+        return "org.{}.{}".format(*sample.kind), octets.hex()
+
+    def described(self, port: str, place: int) -> Neighbor:
+        """Returns a neighbor that has sent TLVs of organizations."""
+        tlvs = tuple(self.organizational() for _ in range(self.random.randrange(12)))
+        chassis, port_id = Identifier("local", "a"), Identifier("local", f"{place}")
+        return Neighbor(port, place, chassis, port_id, 9, 8, tlvs)
+
+    def neighbor(self, port: str, place: int) -> Neighbor:
+        tlvs = tuple(self.tlv() for _ in range(self.random.randrange(7)))
+        return Neighbor(port, place, self.identifier(CHASSIS_KINDS), self.identifier(PORT_KINDS),
+                        self.random.randrange(70000), self.random.randrange(70000), tlvs)
+
+    def ports(self) -> Tuple[Port, ...]:
+        ports = []
+        for number in range(self.random.randrange(4)):
+            name = f"eth{number}"
+            neighbors = tuple(self.neighbor(name, place)
+                              for place in range(1, 1 + self.random.choice((0, 1, 2, 9))))
+            ports.append(Port(name, len(neighbors), 7, self.random.random() < 0.3, neighbors))
+        return tuple(ports)
+
+    def later(self, ports: Sequence[Port]) -> Tuple[Port, ...]:
+        """Returns ports whose neighbors have partly left, changed or come."""
+        found = []
+        for port in ports:
+            kept = [self.changed(one) for one in port.neighbors if self.random.random() < 0.7]
+            kept += [self.neighbor(port.name, 1)] if self.random.random() < 0.5 else []
+            kept = [one._replace(place=place) for place, one in enumerate(kept, 1)]
+            found.append(port._replace(neighbors_held=len(kept), neighbors=tuple(kept)))
+        return tuple(found)
+
+    def changed(self, one: Neighbor) -> Neighbor:
+        if self.random.random() < 0.5:
+            return one._replace(expires=one.expires + 1)
+        tlvs = [tlv for tlv in one.said if self.random.random() < 0.7] + [self.tlv()]
+        return one._replace(ttl=self.random.choice((one.ttl, 9)), said=tuple(tlvs))
+
+    def counters(self) -> Counters:
+        return Counters(*(self.random.choice((0, 1, 4294967295)) for _ in Counters._fields))
+
+    def shows(self) -> Tuple[Tuple[Port, ...], List[str], List[str], List[str], List[str]]:
+        """Returns ports, and the answers about neighbors, counters, settings and lldpa-live."""
+        ports = self.ports()
+        names = [port.name for port in ports]
+        statuses = {name: self.random.choice(STATUSES) for name in names}
+        settings = Configuration(30, 4, 121, 2, 4, 5, 32, statuses)
+        live = [line for line in LIVE if self.random.random() < 0.8]
+        port, link = self.random.choice(("eth2", "chassis")), self.random.choice(("up", "down"))
+        live.append(f"live.{port}.link={link}")
+        return (ports, lines_of(Show(ports=ports)),
+                lines_of(Show(counters={name: self.counters() for name in names})),
+                lines_of(Show(configuration=settings)), live)
+
+    def spoiled(self, lines: Sequence[str]) -> List[str]:
+        """Returns the lines with one that is lost, doubled, cut or replaced."""
+        found = list(lines)
+        place = self.random.randrange(len(found) + 1)
+        word = self.random.choice(WORDS)
+        line = found[place] if place < len(found) else word
+        other = self.random.choice(([], [line, line], [line[:-2]], [word], [line + "0"],
+                                    [line.replace(".", "", 1)], [line.replace("=", "", 1)]))
+        found[place:place + 1] = other
+        return found

@@ -1,0 +1,88 @@
+"""Tests how clients wait for a change of a neighbor, with a real lldpa-live."""
+
+import select
+import signal
+import socket
+import subprocess
+import time
+
+from patience import SECONDS, eventually
+from running_live import OnLinks
+from served import CTL, numbered, tlv
+
+MOST_WAITING = 16
+
+
+class Waiting(OnLinks):
+    """Each client waits until the count of changes is another one than the one that it knows."""
+
+    def asking(self, control: str, line: str) -> socket.socket:
+        connection = socket.socket(socket.AF_UNIX)
+        self.addCleanup(connection.close)
+        connection.connect(control)
+        connection.sendall(f"{line}\n".encode())
+        return connection
+
+    def answer(self, connection: socket.socket) -> bytes:
+        connection.settimeout(SECONDS)
+        return connection.recv(4096)
+
+    def test_a_client_waits_until_a_neighbor_comes_changes_or_leaves(self) -> None:
+        live, peer = self.live("eth0"), self.peer("peer0")
+        for count, frame in enumerate((numbered(1), numbered(1, 120, tlv(5, b"a")), numbered(1, 0))):
+            self.assertEqual(live.ask("changes"), [f"live.changes={count}"])
+            connection = self.asking(live.control, f"changes {count}")
+            self.assertFalse(select.select([connection], [], [], 0.5)[0], "nothing has changed")
+            peer.send(frame)
+            self.assertEqual(self.answer(connection), b"=1\nlive.changes=%d\n" % (count + 1))
+        peer.send(numbered(2))
+        self.assertTrue(eventually(lambda: live.ask("changes") == ["live.changes=4"]))
+        peer.send(numbered(2))
+        self.assertEqual(self.answer(self.asking(live.control, "changes 7")), b"=1\nlive.changes=4\n")
+        self.assertFalse(select.select([self.asking(live.control, "changes 4")], [], [], 1)[0])
+
+    def test_some_may_wait_and_others_are_still_answered(self) -> None:
+        live = self.live("eth0")
+        waiting = [self.asking(live.control, "changes 0") for _ in range(MOST_WAITING)]
+        self.assertTrue(eventually(lambda: self.answer(
+            self.asking(live.control, "changes 0")) == b"=1\nerror: too many clients\n"))
+        self.assertEqual(live.ask("changes"), ["live.changes=0"])
+        waiting[0].sendall(b"live\n")
+        self.assertEqual(self.answer(waiting[0]), b"", "it did not wait")
+        waiting.pop().close()
+        place = self.asking(live.control, "changes 0")
+        self.assertFalse(select.select([place], [], [], 0.5)[0])
+        self.peer("peer0").send(numbered(1))
+        for one in (*waiting[1:], place):
+            self.assertEqual(self.answer(one), b"=1\nlive.changes=1\n")
+
+    def test_a_quiet_watch_costs_nothing(self) -> None:
+        live, peer = self.live("eth0"), self.peer("peer0")
+        peer.send(numbered(1, 600))
+        self.assertTrue(eventually(lambda: live.neighbors("eth0")))
+        watch = subprocess.Popen([CTL, "--control", live.control, "watch"], stdout=subprocess.PIPE,
+                                 text=True)
+        self.addCleanup(watch.communicate)
+        self.addCleanup(watch.kill)
+        assert watch.stdout is not None
+        self.assertTrue(eventually(lambda: self.sleeps(watch.pid)))
+        before = self.woken(watch.pid)
+        for _ in range(3):
+            peer.send(numbered(1, 600))
+            self.assertFalse(select.select([watch.stdout], [], [], 1)[0])
+        self.assertEqual(self.woken(watch.pid), before)
+        peer.send(numbered(1, 0))
+        self.assertRegex(watch.stdout.readline(), " eth0 gone: 02:00:00:00:00:01 p1\n$")
+        watch.send_signal(signal.SIGINT)
+        self.assertEqual(watch.wait(SECONDS), 130)
+
+    def sleeps(self, number: int) -> bool:
+        before = self.woken(number)
+        time.sleep(1)
+        return self.woken(number) == before
+
+    def woken(self, number: int) -> int:
+        """Returns how often a process has begun to wait."""
+        with open(f"/proc/{number}/status", encoding="ascii") as lines:
+            return next(int(line.split()[1]) for line in lines
+                        if line.startswith("voluntary_ctxt_switches"))

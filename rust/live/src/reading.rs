@@ -1,0 +1,211 @@
+//! Reads the ports' sockets, fairly, within the share of a processor. Keeps the accepted frames in
+//! the order of their stamps.
+
+use crate::neighbors::Digests;
+use crate::packet::{self, Rooms, LONGEST_FRAME};
+use crate::port::Port;
+use crate::ports::Ports;
+use crate::reports::{notice, warn};
+use crate::rights::text_of;
+use crate::time::{Clock, Moment, SECOND};
+use crate::waiting::IN;
+use std::collections::VecDeque;
+use std::fs::File;
+use std::io::{Error, ErrorKind};
+use std::os::unix::io::{AsRawFd, RawFd};
+use std::time::Duration;
+
+const LEAST_FRAME: usize = 14;
+const MOST_ACCEPTED: usize = 64; // frames for the agent, after which a turn reads no further ones
+const LONGEST_READING: Duration = Duration::from_millis(10); // in one turn
+/// How long a port rests that had too many frames: then few calls read many frames.
+const REST: Duration = Duration::from_millis(1);
+/// The kernel reports once that an interface went down; frames may follow.
+const MOST_FAILURES: u32 = 2;
+const REST_AFTER_FAILURES: Duration = SECOND;
+
+/// A received frame.
+pub struct Frame {
+    pub moment: Moment,
+    pub port: usize,
+    pub octets: Vec<u8>,
+}
+
+/// What all ports need for reading.
+pub struct Reader<'a> {
+    pub rooms: &'a mut Rooms,
+    pub digests: &'a Digests,
+    pub clock: &'a Clock,
+}
+
+impl Port {
+    /// Reads a few frames, and adds those that are accepted. If some were not accepted and no others
+    /// wait, the port rests. `before` is a moment before the socket was found ready. Returns true if
+    /// frames were left out, or may be left.
+    fn read(
+        &mut self,
+        number: usize,
+        reader: &mut Reader<'_>,
+        before: Moment,
+        frames: &mut VecDeque<Frame>,
+    ) -> bool {
+        let refused = self.counts.limit_drops + self.counts.other_frames;
+        let lengths = match packet::receive(&self.socket.file, reader.rooms) {
+            Err(fault) if fault.kind() != ErrorKind::WouldBlock => {
+                self.fail(&fault);
+                return false;
+            }
+            received => received.unwrap_or_default(),
+        };
+        self.reception.failures = 0;
+        self.reception.has_more = lengths.len() == reader.rooms.len();
+        let now = Moment::now();
+        for ((length, stamp), room) in lengths.into_iter().zip(&*reader.rooms) {
+            let (octets, moment) = (&room[..length.min(LONGEST_FRAME)], reader.clock.moment(stamp, now));
+            if self.accept(octets, moment, reader.digests) {
+                frames.push_back(Frame { moment, port: number, octets: octets.to_vec() });
+            }
+        }
+        let is_over = self.counts.limit_drops + self.counts.other_frames > refused;
+        if !self.reception.has_more {
+            self.reception.read_to = self.reception.read_to.max(before);
+            self.reception.rests_until = if is_over { now + REST } else { self.reception.rests_until };
+        }
+        self.reception.has_more || is_over
+    }
+
+    /// True if the agent is given this frame. False if the interface is gone or the frame is only
+    /// counted.
+    fn accept(&mut self, octets: &[u8], moment: Moment, digests: &Digests) -> bool {
+        self.reception.read_to = self.reception.read_to.max(moment);
+        if !self.is_present() {
+            return false;
+        }
+        if octets.len() < LEAST_FRAME {
+            self.count_other();
+            return false;
+        }
+        let is_accepted = self.reception.allowances.accept(octets, moment, &mut self.neighbors, digests);
+        self.counts.limit_drops += u64::from(!is_accepted);
+        is_accepted
+    }
+
+    fn count_other(&mut self) {
+        self.counts.other_frames += 1;
+        if self.counts.other_frames == 1 {
+            let what = "tagged, to another address or longer than 1,514 octets";
+            notice(&format!("{}: ignores LLDP frames that are {what}", self.name));
+        }
+    }
+
+    /// Notes that the socket could not be read. After some failures in a row the port rests.
+    fn fail(&mut self, fault: &Error) {
+        let reception = &mut self.reception;
+        reception.failures = reception.failures.saturating_add(1);
+        if reception.failures > MOST_FAILURES {
+            reception.has_more = false;
+            reception.rests_until = Moment::now() + REST_AFTER_FAILURES;
+        }
+        if reception.failures == MOST_FAILURES + 1 {
+            warn(&format!("{}: frames cannot be received: {}", self.name, text_of(fault)));
+        }
+    }
+
+    /// True if the socket could be read at the last try, or failed for a moment.
+    fn is_able(&self) -> bool {
+        self.reception.failures <= MOST_FAILURES
+    }
+}
+
+impl Ports {
+    /// Registers the sockets to wait for. A port is not read while it rests or while frames from it
+    /// are queued, so that few frames are queued even in a flood. A question waits for no rest.
+    pub fn await_frames(&mut self, epoll: &File, now: Moment, is_question: bool) {
+        let all_rest = self.all_rest_until(now, is_question) > now;
+        for (number, port) in self.all.iter_mut().enumerate() {
+            let rests = now < port.reception.rests_until && !(is_question && port.is_able());
+            let is_read = !all_rest && !rests && !self.frames.iter().any(|frame| frame.port == number);
+            port.socket.wait_for(epoll, if is_read { IN } else { 0 });
+        }
+        for socket in &mut self.spare {
+            socket.wait_for(epoll, 0); // it may be that of a port that was removed
+        }
+    }
+
+    /// Returns until when no port is read.
+    pub fn all_rest_until(&self, now: Moment, is_question: bool) -> Moment {
+        self.share.rests_until(now, is_question).max(self.paused_until)
+    }
+
+    /// Returns the ports whose sockets are ready, the next one to be read first.
+    fn ready(&self, found: &[RawFd]) -> VecDeque<usize> {
+        let is_ready = |number: &usize| found.contains(&self.all[*number].socket.file.as_raw_fd());
+        let mut ready: VecDeque<usize> = (0..self.all.len()).filter(is_ready).collect();
+        let sooner = ready.iter().filter(|number| **number < self.first).count();
+        ready.rotate_left(sooner);
+        ready
+    }
+
+    /// Returns how many of these files are sockets of ports.
+    pub fn count_of(&self, found: &[RawFd]) -> usize {
+        self.all.iter().filter(|port| found.contains(&port.socket.file.as_raw_fd())).count()
+    }
+
+    /// Reads the ports whose sockets were found ready after `before`, a few frames of each in turn. If
+    /// frames may be left, returns the moment up to which all were read.
+    pub fn read(&mut self, clock: &mut Clock, found: &[RawFd], before: Moment) -> Option<Moment> {
+        let (begin, count) = (Moment::now(), self.frames.len());
+        let mut ready = self.ready(found);
+        if !ready.is_empty() {
+            clock.note_wall_clock();
+        }
+        self.note_ready(&ready, before);
+        let mut reader = Reader { rooms: &mut self.rooms, digests: &self.digests, clock };
+        while let Some(number) = ready.pop_front() {
+            let is_enough = self.frames.len() - count >= MOST_ACCEPTED;
+            if is_enough || Moment::now().since(begin) > LONGEST_READING {
+                self.first = number;
+                break;
+            }
+            let port = &mut self.all[number];
+            if port.read(number, &mut reader, before, &mut self.frames) {
+                self.drop_report_at.get_or_insert(Moment::now() + SECOND);
+            }
+            ready.extend(port.reception.has_more.then_some(number));
+        }
+        self.frames.make_contiguous().sort_by_key(|frame| frame.moment);
+        let is_left = |port: &&Port| port.is_able() && (port.reception.has_more || !port.socket.is_awaited());
+        self.all.iter().filter(is_left).map(|port| port.reception.read_to).min()
+    }
+
+    /// Notes for each port that was waited for whether frames wait there.
+    fn note_ready(&mut self, ready: &VecDeque<usize>, before: Moment) {
+        for (number, port) in self.all.iter_mut().enumerate().filter(|one| one.1.socket.is_awaited()) {
+            port.reception.has_more = ready.contains(&number);
+            if !port.reception.has_more {
+                port.reception.read_to = port.reception.read_to.max(before); // no frame waited
+            }
+        }
+    }
+
+    /// Removes and returns the next of the frames that arrived by this moment.
+    pub fn next_until(&mut self, moment: Moment) -> Option<Frame> {
+        self.frames.front().filter(|frame| frame.moment <= moment)?;
+        self.frames.pop_front()
+    }
+
+    pub fn have_more(&self) -> bool {
+        !self.frames.is_empty() || self.all.iter().any(|port| port.reception.has_more)
+    }
+
+    /// Returns when to read again, if frames may be left, a port rests, or frames are queued.
+    pub fn deadline(&self, now: Moment, is_question: bool) -> Option<Moment> {
+        let all_rest = self.all_rest_until(now, is_question);
+        let receptions = self.all.iter().map(|port| &port.reception);
+        let left = receptions.filter(|one| one.has_more || one.rests_until > now);
+        let next = left.map(|one| one.rests_until.max(all_rest)).min();
+        // Queued frames wait for those that other ports may have received before them.
+        let is_due = !self.frames.is_empty() || all_rest > now;
+        next.or_else(|| is_due.then_some(all_rest))
+    }
+}

@@ -1,0 +1,130 @@
+//! Gives the agent a received frame. Records and reports how the neighbors of its port change.
+
+use crate::changes;
+use crate::live::Live;
+use crate::neighbors::{self, Neighbor};
+use crate::reading::Frame;
+use lldpa::{Examined, Info, News};
+
+impl Live {
+    /// Gives the agent the seconds before a frame, then the frame.
+    pub fn receive(&mut self, frame: &Frame) {
+        self.give_seconds(frame.moment);
+        let port = &self.ports.all[frame.port];
+        self.log.write_frame(frame.moment, &port.name, &frame.octets);
+        let lldpdu = self.ports.digests.of_lldpdu(&frame.octets);
+        let is_repeated = port.neighbors.iter().any(|one| one.lldpdu == lldpdu);
+        // The old LLDPDU is wanted only for a line that will be written.
+        let is_reported = !is_repeated && self.events.have_room(&port.name);
+        let before = if is_reported { self.last_lldpdu(frame) } else { None };
+        let running = match &mut self.running {
+            Some(running) => running,
+            None => return,
+        };
+        let (sent, news) = match running.agent.frame_news(frame.port as u8, &frame.octets) {
+            Ok(given) => given,
+            Err(_) => return,
+        };
+        self.server.forget_tables();
+        self.queue_sent(&sent, frame.moment);
+        match news {
+            News::Gone(_) => self.remove_gone(),
+            _ if is_repeated => (),
+            _ => {
+                let examined = lldpa::frame_pdu(&frame.octets).map(lldpa::examine);
+                if let Some(Ok(Examined::Info(info))) = examined {
+                    self.record(frame, lldpdu, &news, &info, before.as_deref());
+                }
+            }
+        }
+    }
+
+    /// Returns the present LLDPDU of the neighbor that a frame is from.
+    fn last_lldpdu(&self, frame: &Frame) -> Option<Vec<u8>> {
+        let msap = lldpa::examine(lldpa::frame_pdu(&frame.octets)?).ok()?.msap();
+        let neighbors = &self.ports.all[frame.port].neighbors;
+        let number = neighbors.iter().position(|one| one.msap() == msap)?;
+        let same = self.running.as_ref()?.agent.neighbors(frame.port as u8).ok()?.nth(number)?;
+        same.info().filter(|info| info.msap() == msap)?;
+        Some(same.octets().to_vec())
+    }
+
+    /// Records and reports how a frame changed a table. `before` is the neighbor's previous LLDPDU.
+    fn record(
+        &mut self,
+        frame: &Frame,
+        lldpdu: u64,
+        news: &News<'_>,
+        info: &Info<'_>,
+        before: Option<&[u8]>,
+    ) {
+        let summary = if self.arguments.events { changes::summary(info) } else { String::new() };
+        self.server.changes += u64::from(matches!(news, News::New(_) | News::Changed(_) | News::Same(_)));
+        match news {
+            News::New(_) => self.record_new(frame.port, lldpdu, info, summary),
+            News::Changed(_) | News::Same(_) => {
+                let port = &mut self.ports.all[frame.port];
+                let msap = info.msap();
+                if let Some(one) = port.neighbors.iter_mut().find(|one| one.msap() == msap) {
+                    one.lldpdu = lldpdu;
+                    one.summary = summary.clone();
+                }
+                self.report_changes(frame.port, before, info, &summary);
+            }
+            News::Dropped(_) => self.record_dropped(frame.port, info.ttl()),
+            _ => (),
+        }
+    }
+
+    fn record_new(&mut self, port: usize, lldpdu: u64, info: &Info<'_>, summary: String) {
+        let msap = info.msap();
+        let name = self.ports.all[port].name.clone();
+        self.events.report(&name, &format!("{name} came: {summary}"));
+        let chassis_number = self.chassis_number(msap.chassis);
+        let neighbor = Neighbor::new(&msap, &self.ports.digests, chassis_number, lldpdu, summary);
+        self.ports.all[port].neighbors.push(neighbor);
+    }
+
+    fn report_changes(&mut self, port: usize, before: Option<&[u8]>, info: &Info<'_>, summary: &str) {
+        let changes = match before.map(lldpa::examine) {
+            Some(Ok(Examined::Info(old))) => changes::changes(&old, info).join("; "),
+            _ => String::new(),
+        };
+        if !changes.is_empty() {
+            let name = &self.ports.all[port].name;
+            self.events.report(name, &format!("{name} changed: {summary}; {changes}"));
+        }
+    }
+
+    /// Notes that a neighbor had no room, and reports it unless another had none just before.
+    fn record_dropped(&mut self, port: usize, ttl: u16) {
+        let port = &mut self.ports.all[port];
+        if port.full_until <= self.clock.given {
+            self.events.report(&port.name, &format!("{} has no room for a neighbor", port.name));
+        }
+        port.full_until = port.full_until.max(self.clock.given + u64::from(ttl));
+    }
+
+    /// Returns the number of a chassis: that of a neighbor with this chassis, else a new number.
+    pub fn chassis_number(&mut self, chassis: &[u8]) -> u32 {
+        let same = self.ports.neighbors().find(|(_, one)| one.msap().chassis == chassis);
+        let same = same.map(|(_, one)| one.chassis_number);
+        self.last_chassis += u32::from(same.is_none());
+        same.unwrap_or(self.last_chassis)
+    }
+
+    /// Removes and reports the neighbors that the agent no longer has.
+    pub fn remove_gone(&mut self) {
+        let agent = match &self.running {
+            Some(running) => &running.agent,
+            None => return,
+        };
+        for (number, port) in self.ports.all.iter_mut().enumerate() {
+            let digests = &self.ports.digests;
+            for gone in neighbors::remove_gone(&mut port.neighbors, agent, number as u8, digests) {
+                self.events.report(&port.name, &format!("{} gone: {}", port.name, gone.summary));
+                self.server.changes += 1;
+            }
+        }
+    }
+}

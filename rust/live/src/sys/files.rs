@@ -1,0 +1,65 @@
+//! Files, folders and patterns.
+
+use super::{checked, opened};
+use libc::{c_char, c_int};
+use std::ffi::CString;
+use std::fs::File;
+use std::io::Result;
+use std::os::unix::io::AsRawFd;
+
+extern "C" {
+    fn fnmatch(pattern: *const c_char, text: *const c_char, flags: c_int) -> c_int;
+}
+
+/// Locks a file for this process. Fails at once if another process has it.
+pub fn lock(file: &File) -> Result<()> {
+    // SAFETY: the call takes only numbers.
+    checked(unsafe { libc::flock(file.as_raw_fd(), libc::LOCK_EX | libc::LOCK_NB) }).map(drop)
+}
+
+/// Makes a folder the process's current one.
+pub fn change_folder(folder: &File) -> Result<()> {
+    // SAFETY: the call takes only a number.
+    checked(unsafe { libc::fchdir(folder.as_raw_fd()) }).map(drop)
+}
+
+/// Sets the bits that new files lack. Returns the former ones.
+pub fn set_umask(mask: u32) -> u32 {
+    // SAFETY: the call takes only a number, and cannot fail.
+    unsafe { libc::umask(mask) }
+}
+
+/// Returns a file that becomes ready when the file at a path is removed, renamed or has a new mode.
+pub fn watch(path: &str) -> Result<File> {
+    let path = CString::new(path)?;
+    // SAFETY: the call takes only a number.
+    let file = unsafe { opened(libc::inotify_init1(libc::IN_CLOEXEC | libc::IN_NONBLOCK)) }?;
+    let events = libc::IN_ATTRIB | libc::IN_MOVE_SELF;
+    // SAFETY: the path ends with a zero and outlives the call.
+    checked(unsafe { libc::inotify_add_watch(file.as_raw_fd(), path.as_ptr(), events) })?;
+    Ok(file)
+}
+
+/// Changes the owner and the group of a file. None leaves either as it is.
+pub fn give(path: &str, user: Option<u32>, group: Option<u32>) -> Result<()> {
+    let path = CString::new(path)?;
+    // SAFETY: the path ends with a zero and outlives the call.
+    checked(unsafe { libc::chown(path.as_ptr(), user.unwrap_or(u32::MAX), group.unwrap_or(u32::MAX)) })
+        .map(drop)
+}
+
+/// Returns an error if this process may not create files in a folder.
+pub fn may_write(path: &str) -> Result<()> {
+    let path = CString::new(path)?;
+    // SAFETY: the path ends with a zero and outlives the call.
+    checked(unsafe { libc::access(path.as_ptr(), libc::W_OK | libc::X_OK) }).map(drop)
+}
+
+/// True if a pattern with `*`, `?` and `[..]` matches a text.
+pub fn matches(pattern: &str, text: &str) -> bool {
+    match (CString::new(pattern), CString::new(text)) {
+        // SAFETY: both texts end with a zero and outlive the call.
+        (Ok(pattern), Ok(text)) => unsafe { fnmatch(pattern.as_ptr(), text.as_ptr(), 0) == 0 },
+        _ => false,
+    }
+}

@@ -1,0 +1,326 @@
+//! The filter of system calls. After the start lldpa-live needs few calls; the kernel refuses all
+//! others with EPERM, also to code that takes the process over.
+
+use libc::{c_int, c_long, sock_filter};
+use std::io::{Error, ErrorKind, Result};
+
+/// The architecture whose numbers of calls the filter knows (linux/audit.h).
+const ARCHITECTURE: Option<u32> = if cfg!(target_arch = "x86_64") {
+    Some(0xc000_003e)
+} else if cfg!(target_arch = "aarch64") {
+    Some(0xc000_00b7)
+} else {
+    None
+};
+
+/// Calls that are allowed with any arguments. The most frequent ones come first.
+const ALLOWED: &[c_long] = &[
+    libc::SYS_epoll_pwait,
+    libc::SYS_recvmmsg,
+    libc::SYS_clock_gettime,
+    libc::SYS_write,
+    libc::SYS_read,
+    libc::SYS_epoll_ctl,
+    libc::SYS_futex,
+    libc::SYS_sendto,
+    libc::SYS_recvfrom,
+    // further calls on sockets
+    libc::SYS_accept4,
+    libc::SYS_bind,
+    libc::SYS_connect,
+    libc::SYS_getsockopt,
+    libc::SYS_listen,
+    libc::SYS_recvmsg,
+    libc::SYS_sendmsg,
+    libc::SYS_shutdown,
+    // files
+    libc::SYS_chdir,
+    libc::SYS_close,
+    libc::SYS_faccessat,
+    libc::SYS_faccessat2,
+    libc::SYS_fchdir,
+    libc::SYS_fchmodat,
+    libc::SYS_fchownat,
+    libc::SYS_fcntl,
+    libc::SYS_flock,
+    libc::SYS_fstat,
+    libc::SYS_ftruncate,
+    libc::SYS_getcwd,
+    libc::SYS_getdents64,
+    libc::SYS_lseek,
+    libc::SYS_mkdirat,
+    libc::SYS_newfstatat,
+    libc::SYS_openat,
+    libc::SYS_readlinkat,
+    libc::SYS_renameat,
+    libc::SYS_renameat2,
+    libc::SYS_statx,
+    libc::SYS_umask,
+    libc::SYS_unlinkat,
+    libc::SYS_writev,
+    // waiting
+    libc::SYS_clock_nanosleep,
+    libc::SYS_epoll_create1,
+    libc::SYS_inotify_add_watch,
+    libc::SYS_inotify_init1,
+    libc::SYS_nanosleep,
+    libc::SYS_ppoll,
+    // memory, threads and signals of this process
+    libc::SYS_brk,
+    libc::SYS_exit,
+    libc::SYS_exit_group,
+    libc::SYS_getrandom,
+    libc::SYS_madvise,
+    libc::SYS_mremap,
+    libc::SYS_munmap,
+    libc::SYS_restart_syscall,
+    libc::SYS_rseq,
+    libc::SYS_rt_sigaction,
+    libc::SYS_rt_sigprocmask,
+    libc::SYS_rt_sigreturn,
+    libc::SYS_sched_getaffinity,
+    libc::SYS_sched_yield,
+    libc::SYS_set_robust_list,
+    libc::SYS_sigaltstack,
+    // what this process and host are
+    libc::SYS_geteuid,
+    libc::SYS_getpid,
+    libc::SYS_gettid,
+    libc::SYS_gettimeofday,
+    libc::SYS_uname,
+];
+
+/// Older forms of these calls, which only this architecture has.
+#[cfg(target_arch = "x86_64")]
+const OLDER: &[c_long] = &[
+    libc::SYS_epoll_wait,
+    libc::SYS_access,
+    libc::SYS_chmod,
+    libc::SYS_chown,
+    libc::SYS_lstat,
+    libc::SYS_mkdir,
+    libc::SYS_open,
+    libc::SYS_poll,
+    libc::SYS_readlink,
+    libc::SYS_rename,
+    libc::SYS_stat,
+    libc::SYS_time,
+    libc::SYS_unlink,
+];
+#[cfg(not(target_arch = "x86_64"))]
+const OLDER: &[c_long] = &[];
+
+/// What an argument must be.
+enum Argument {
+    Is(c_int),
+    /// None of these bits is set.
+    Lacks(c_int),
+}
+
+/// Calls that are allowed if each of these arguments, counted from 0, is as stated.
+const LIMITED: &[(c_long, &[(usize, Argument)])] = &[
+    // no other kind of socket: the packet and netlink sockets are open already
+    (libc::SYS_socket, &[(0, Argument::Is(libc::AF_UNIX))]),
+    // no packet ring, no filter, and no other option. (Joining a group and promiscuous mode are one
+    // option, whose value is behind a pointer.)
+    (
+        libc::SYS_setsockopt,
+        &[(1, Argument::Is(libc::SOL_PACKET)), (2, Argument::Is(libc::PACKET_ADD_MEMBERSHIP))],
+    ),
+    (libc::SYS_ioctl, &[(1, Argument::Is(libc::FIONBIO as c_int))]),
+    (libc::SYS_mmap, &[(2, Argument::Lacks(libc::PROT_EXEC))]),
+    (libc::SYS_mprotect, &[(2, Argument::Lacks(libc::PROT_EXEC))]),
+    (libc::SYS_prctl, &[(0, Argument::Is(libc::PR_SET_NAME))]),
+];
+
+const NUMBER: u32 = 0; // the offsets in `struct seccomp_data`
+const ARCHITECTURE_AT: u32 = 4;
+const ARGUMENTS: u32 = 16;
+const ALLOW: u32 = libc::SECCOMP_RET_ALLOW;
+const REFUSE: u32 = libc::SECCOMP_RET_ERRNO | libc::EPERM as u32;
+
+fn load(offset: u32) -> sock_filter {
+    let code = (libc::BPF_LD | libc::BPF_W | libc::BPF_ABS) as u16;
+    sock_filter { code, jt: 0, jf: 0, k: offset }
+}
+
+/// Skips this many steps if the loaded number is, or has a bit of, `k`, and else those in `jf`.
+fn jump(kind: u32, k: u32, jt: u8, jf: u8) -> sock_filter {
+    sock_filter { code: (libc::BPF_JMP | kind | libc::BPF_K) as u16, jt, jf, k }
+}
+
+fn answer(k: u32) -> sock_filter {
+    sock_filter { code: (libc::BPF_RET | libc::BPF_K) as u16, jt: 0, jf: 0, k }
+}
+
+/// Returns the steps of the filter, or None if the numbers of this architecture are not known.
+fn steps() -> Option<Vec<sock_filter>> {
+    let architecture = ARCHITECTURE?;
+    let mut steps =
+        vec![load(ARCHITECTURE_AT), jump(libc::BPF_JEQ, architecture, 1, 0), answer(REFUSE), load(NUMBER)];
+    for number in ALLOWED.iter().chain(OLDER) {
+        steps.extend([jump(libc::BPF_JEQ, *number as u32, 0, 1), answer(ALLOW)]);
+    }
+    for (number, arguments) in LIMITED {
+        limit(&mut steps, *number, arguments);
+    }
+    // `abort` sends a signal to its own thread
+    let own = std::process::id() as c_int;
+    limit(&mut steps, libc::SYS_tgkill, &[(0, Argument::Is(own)), (2, Argument::Is(libc::SIGABRT))]);
+    steps.push(answer(REFUSE));
+    Some(steps)
+}
+
+/// Adds the steps that allow a call with these arguments, and refuse it with others.
+fn limit(steps: &mut Vec<sock_filter>, number: c_long, arguments: &[(usize, Argument)]) {
+    let length = 3 * arguments.len() as u8 + 1;
+    steps.push(jump(libc::BPF_JEQ, number as u32, 0, length));
+    for (place, wanted) in arguments {
+        // All limited arguments fit in 32 bits, which are the lower half of the place.
+        steps.push(load(ARGUMENTS + 8 * *place as u32));
+        steps.push(match wanted {
+            Argument::Is(value) => jump(libc::BPF_JEQ, *value as u32, 1, 0),
+            Argument::Lacks(bits) => jump(libc::BPF_JSET, *bits as u32, 0, 1),
+        });
+        steps.push(answer(REFUSE));
+    }
+    steps.push(answer(ALLOW));
+}
+
+/// Installs the filter for all threads of this process, for good. The process must have set
+/// `no_new_privs`.
+pub fn install() -> Result<()> {
+    let mut steps = steps().ok_or_else(|| Error::from(ErrorKind::Unsupported))?;
+    let len = u16::try_from(steps.len()).map_err(|_| Error::from(ErrorKind::InvalidInput))?;
+    let program = libc::sock_fprog { len, filter: steps.as_mut_ptr() };
+    let (mode, flags) = (libc::SECCOMP_SET_MODE_FILTER, libc::SECCOMP_FILTER_FLAG_TSYNC);
+    // SAFETY: the program has the number of steps that it states, outlives the call, and is copied.
+    match unsafe { libc::syscall(libc::SYS_seccomp, mode, flags, &program) } {
+        0 => Ok(()),
+        thread if thread > 0 => {
+            Err(Error::new(ErrorKind::Other, format!("the kernel cannot filter thread {thread}")))
+        }
+        _ => Err(Error::last_os_error()),
+    }
+}
+
+#[cfg(test)]
+mod tests {
+    use super::*;
+    use std::os::unix::process::ExitStatusExt;
+    use std::process::{Command, Output, Stdio};
+    use std::ptr::null_mut;
+
+    /// Runs in a process of its own: sets the filter, and says of each call how it ended.
+    #[test]
+    #[ignore = "only a_process_that_is_taken_over_is_refused runs it, in a child"]
+    fn in_a_child() {
+        // SAFETY: the calls take only numbers. (Without CAP_NET_RAW there is no packet socket.)
+        let packets = unsafe {
+            libc::prctl(libc::PR_SET_NO_NEW_PRIVS, 1, 0, 0, 0);
+            libc::socket(libc::AF_PACKET, libc::SOCK_RAW, 0)
+        };
+        install().expect("a filter");
+        println!(); // ends the line that the test program has begun
+        let path = b"/dev/null\0".as_ptr();
+        let words = [path, std::ptr::null()];
+        let ring = [4096u32, 1, 2048, 2];
+        let exec = libc::PROT_READ | libc::PROT_EXEC;
+        let anonymous = libc::MAP_PRIVATE | libc::MAP_ANONYMOUS;
+        let say = |name: &str, answer: c_long| {
+            let errno = Error::last_os_error().raw_os_error().filter(|_| answer < 0);
+            println!("{name}: {}", errno.map_or("done".into(), |number| number.to_string()));
+        };
+        // SAFETY: all pointers are to values that outlive the calls, and no result is used as a pointer.
+        unsafe {
+            say("execve", libc::syscall(libc::SYS_execve, path, words.as_ptr(), words.as_ptr()));
+            say("execveat", libc::syscall(libc::SYS_execveat, -1, path, words.as_ptr(), words.as_ptr(), 0));
+            say("mknodat", libc::syscall(libc::SYS_mknodat, -1, path, libc::S_IFIFO | 0o600, 0));
+            say("clone", libc::syscall(libc::SYS_clone, libc::CLONE_NEWUSER | libc::SIGCHLD, 0, 0, 0, 0));
+            say("clone3", libc::syscall(libc::SYS_clone3, 0, 0));
+            say("unshare", libc::syscall(libc::SYS_unshare, libc::CLONE_NEWUSER));
+            say("ptrace", libc::syscall(libc::SYS_ptrace, 0, 0, 0, 0));
+            say("kill", libc::syscall(libc::SYS_kill, libc::getpid(), 0));
+            let thread = libc::syscall(libc::SYS_gettid);
+            say("another signal", libc::syscall(libc::SYS_tgkill, libc::getpid(), thread, libc::SIGTERM));
+            say("another process", libc::syscall(libc::SYS_tgkill, libc::getppid(), thread, libc::SIGABRT));
+            say("bpf", libc::syscall(libc::SYS_bpf, 0, 0, 0));
+            say("mmap to execute", libc::syscall(libc::SYS_mmap, 0, 4096, exec, anonymous, -1, 0));
+            for (name, domain) in [
+                ("inet", libc::AF_INET),
+                ("inet6", libc::AF_INET6),
+                ("packet", libc::AF_PACKET),
+                ("netlink", libc::AF_NETLINK),
+                ("vsock", libc::AF_VSOCK),
+                ("alg", libc::AF_ALG),
+            ] {
+                say(name, libc::socket(domain, libc::SOCK_RAW, 0).into());
+            }
+            for (name, option) in [("ring to receive", 5), ("ring to send", 13), ("fanout", 18)] {
+                let answer = libc::setsockopt(packets, libc::SOL_PACKET, option, ring.as_ptr().cast(), 16);
+                say(name, answer.into());
+            }
+            let filter = libc::sock_fprog { len: 0, filter: null_mut() };
+            let start = (&filter as *const libc::sock_fprog).cast();
+            let attached = libc::setsockopt(packets, libc::SOL_SOCKET, libc::SO_ATTACH_FILTER, start, 16);
+            say("filter", attached.into());
+        }
+    }
+
+    /// Runs in a process of its own, which must end by SIGABRT, as without the filter.
+    #[test]
+    #[ignore = "only a_process_can_abort runs it, in a child"]
+    fn aborts_in_a_child() {
+        // SAFETY: the call takes only numbers.
+        unsafe { libc::prctl(libc::PR_SET_NO_NEW_PRIVS, 1, 0, 0, 0) };
+        install().expect("a filter");
+        std::process::abort();
+    }
+
+    /// Runs one of these tests in a child.
+    fn child(name: &str) -> Output {
+        let program = std::env::current_exe().expect("this program");
+        let name = format!("sys::seccomp::tests::{name}");
+        let words = ["--exact", &name, "--ignored", "--nocapture", "--test-threads=1"];
+        Command::new(program).args(words).stderr(Stdio::inherit()).output().expect("a child")
+    }
+
+    #[test]
+    fn a_process_can_abort() {
+        assert_eq!(child("aborts_in_a_child").status.signal(), Some(libc::SIGABRT));
+    }
+
+    #[test]
+    fn a_process_that_is_taken_over_is_refused() {
+        let child = child("in_a_child");
+        let said = String::from_utf8_lossy(&child.stdout);
+        let told: Vec<_> = said.lines().filter_map(|line| line.split_once(": ")).collect();
+        let refused = format!("{}", libc::EPERM);
+        for call in [
+            "execve",
+            "execveat",
+            "mknodat",
+            "clone",
+            "clone3",
+            "unshare",
+            "ptrace",
+            "kill",
+            "another signal",
+            "another process",
+            "bpf",
+            "mmap to execute",
+            "inet",
+            "inet6",
+            "packet",
+            "netlink",
+            "vsock",
+            "alg",
+            "ring to receive",
+            "ring to send",
+            "fanout",
+            "filter",
+        ] {
+            assert!(told.iter().any(|one| *one == (call, &refused[..])), "{call} is not refused: {said}");
+        }
+    }
+}

@@ -1,0 +1,65 @@
+//! The signals that lldpa-live reads from a file: SIGHUP, SIGINT and SIGTERM.
+
+use super::opened;
+use std::fs::File;
+use std::io::{Read, Result};
+use std::mem::{size_of, MaybeUninit};
+use std::ptr::null_mut;
+
+const READ: [libc::c_int; 3] = [libc::SIGHUP, libc::SIGINT, libc::SIGTERM];
+const ENDS: [libc::c_int; 2] = [libc::SIGINT, libc::SIGTERM];
+
+/// A signal that was read.
+#[derive(Clone, Copy, PartialEq, Eq)]
+pub enum Signal {
+    Reload,
+    End,
+}
+
+/// Returns the set of these signals, without those that the parent process has set to be ignored.
+fn set_of(signals: &[libc::c_int]) -> libc::sigset_t {
+    let mut set = MaybeUninit::<libc::sigset_t>::zeroed();
+    // SAFETY: all zeros are a valid set. (`sigemptyset` writes only the part that the kernel knows.)
+    let mut set = unsafe {
+        libc::sigemptyset(set.as_mut_ptr());
+        set.assume_init()
+    };
+    for number in signals {
+        let mut action = MaybeUninit::<libc::sigaction>::zeroed();
+        // SAFETY: the call writes the action, for which all zeros are a valid value, and changes none.
+        let handler = unsafe {
+            libc::sigaction(*number, std::ptr::null(), action.as_mut_ptr());
+            action.assume_init().sa_sigaction
+        };
+        if handler != libc::SIG_IGN {
+            // SAFETY: the set is initialized.
+            unsafe { libc::sigaddset(&mut set, *number) };
+        }
+    }
+    set
+}
+
+/// Blocks the signals in this thread, and in those that it starts later. Returns a file that becomes
+/// ready when one of them arrives.
+pub fn open() -> Result<File> {
+    let set = set_of(&READ);
+    // SAFETY: the set is initialized, and the former mask is not wanted.
+    unsafe { libc::sigprocmask(libc::SIG_BLOCK, &set, null_mut()) };
+    // SAFETY: the set is initialized, the kernel copies it, and the call opens a descriptor.
+    unsafe { opened(libc::signalfd(-1, &set, libc::SFD_CLOEXEC | libc::SFD_NONBLOCK)) }
+}
+
+/// Reads the next signal. None if none waits.
+pub fn next(file: &mut File) -> Option<Signal> {
+    let mut room = [0; size_of::<libc::signalfd_siginfo>()];
+    let length = file.read(&mut room).ok()?;
+    let number = u32::from_ne_bytes(room.get(..4).filter(|_| length == room.len())?.try_into().ok()?);
+    Some(if number == libc::SIGHUP as u32 { Signal::Reload } else { Signal::End })
+}
+
+/// Unblocks SIGINT and SIGTERM, so that either ends the process at once.
+pub fn let_them_end() {
+    let set = set_of(&ENDS);
+    // SAFETY: the set is initialized, and the former mask is not wanted.
+    unsafe { libc::sigprocmask(libc::SIG_UNBLOCK, &set, null_mut()) };
+}

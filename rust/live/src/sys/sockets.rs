@@ -1,0 +1,212 @@
+//! Packet, netlink and datagram sockets, and what `std` does not say of a Unix stream.
+
+use super::{checked, opened};
+use crate::time::WallTime;
+use libc::{c_int, c_void, socklen_t};
+use std::fs::File;
+use std::io::{Error, ErrorKind, Result};
+use std::mem::{size_of, zeroed};
+use std::os::unix::io::AsRawFd;
+use std::os::unix::net::UnixStream;
+use std::ptr::{null_mut, NonNull};
+use std::time::Duration;
+
+pub const LONGEST_FRAME: usize = 1514;
+pub const ROOMS: usize = 64; // frames that one call reads
+pub type Rooms = [[u8; LONGEST_FRAME]; ROOMS];
+/// A group address of Ethernet.
+pub type GroupAddress = [u8; 6];
+
+// linux/if_packet.h
+const PACKET_STATISTICS: c_int = 6;
+const PACKET_IGNORE_OUTGOING: c_int = 23;
+const MOST_GROUPS: usize = 256;
+
+#[repr(C)]
+#[derive(Clone, Copy)]
+struct PacketStatistics {
+    _packets: u32,
+    drops: u32,
+}
+
+fn socket(domain: c_int, kind: c_int) -> Result<File> {
+    // SAFETY: the call takes only numbers.
+    unsafe { opened(libc::socket(domain, kind | libc::SOCK_CLOEXEC | libc::SOCK_NONBLOCK, 0)) }
+}
+
+/// Sets an option whose value the kernel copies. `T` must be the option's type, without pointers.
+fn set<T: Copy>(file: &File, level: c_int, name: c_int, value: &T) -> Result<()> {
+    let (start, length) = ((value as *const T).cast::<c_void>(), size_of::<T>() as socklen_t);
+    // SAFETY: the stated length is that of the value.
+    checked(unsafe { libc::setsockopt(file.as_raw_fd(), level, name, start, length) }).map(drop)
+}
+
+/// Reads an option into the value, and returns how many octets the kernel wrote. Any octets must be
+/// a value of `T`, as they are for numbers.
+fn get<T: Copy>(file: &impl AsRawFd, level: c_int, name: c_int, value: &mut T) -> Result<usize> {
+    let (start, mut length) = ((value as *mut T).cast::<c_void>(), size_of::<T>() as socklen_t);
+    // SAFETY: the kernel writes at most the stated length, which is that of the value.
+    checked(unsafe { libc::getsockopt(file.as_raw_fd(), level, name, start, &mut length) })?;
+    Ok(length as usize)
+}
+
+/// Binds a socket to an address, or connects it. `T` must be one of libc's `sockaddr` structs.
+fn address<T: Copy>(file: &File, address: &T, length: usize, is_peer: bool) -> Result<()> {
+    let call = if is_peer { libc::connect } else { libc::bind };
+    let start = (address as *const T).cast::<libc::sockaddr>();
+    // SAFETY: the length is at most that of the address.
+    let answer = unsafe { call(file.as_raw_fd(), start, length.min(size_of::<T>()) as socklen_t) };
+    checked(answer).map(drop)
+}
+
+/// Opens a packet socket that receives nothing yet. It keeps the frames that the filter selects, for
+/// which the kernel gives it up to `room` octets, and notes when each arrived. Nobody can remove or
+/// replace the filter. Needs CAP_NET_RAW.
+pub fn open_packet(filter: &[libc::sock_filter], room: usize) -> Result<File> {
+    let file = socket(libc::AF_PACKET, libc::SOCK_RAW)?;
+    let room = c_int::try_from(room).unwrap_or(c_int::MAX);
+    set(&file, libc::SOL_SOCKET, libc::SO_RCVBUF, &room)?;
+    let _ = set(&file, libc::SOL_SOCKET, libc::SO_RCVBUFFORCE, &room); // only with CAP_NET_ADMIN
+    set(&file, libc::SOL_SOCKET, libc::SO_TIMESTAMPNS, &1)?;
+    let _ = set(&file, libc::SOL_PACKET, PACKET_IGNORE_OUTGOING, &1); // since Linux 4.20
+    attach(&file, filter)?;
+    set(&file, libc::SOL_SOCKET, libc::SO_LOCK_FILTER, &1)?;
+    Ok(file)
+}
+
+fn attach(file: &File, filter: &[libc::sock_filter]) -> Result<()> {
+    let len = u16::try_from(filter.len()).map_err(|_| Error::from(ErrorKind::InvalidInput))?;
+    // The kernel only reads the steps; libc declares the pointer as for both directions.
+    let program = libc::sock_fprog { len, filter: filter.as_ptr() as *mut libc::sock_filter };
+    set(file, libc::SOL_SOCKET, libc::SO_ATTACH_FILTER, &program)
+}
+
+/// Binds a packet socket to an interface and an EtherType.
+pub fn bind_packet(file: &File, interface: c_int, protocol: u16) -> Result<()> {
+    let place = libc::sockaddr_ll {
+        sll_family: libc::AF_PACKET as u16,
+        sll_protocol: protocol.to_be(),
+        sll_ifindex: interface,
+        sll_hatype: 0,
+        sll_pkttype: 0,
+        sll_halen: 0,
+        sll_addr: [0; 8],
+    };
+    address(file, &place, size_of::<libc::sockaddr_ll>(), false)
+}
+
+/// Lets an interface accept frames to a group address while this socket is open.
+pub fn join(file: &File, interface: c_int, group: GroupAddress) -> Result<()> {
+    let mut place = [0; 8];
+    place[..6].copy_from_slice(&group);
+    let wanted = libc::packet_mreq {
+        mr_ifindex: interface,
+        mr_type: libc::PACKET_MR_MULTICAST as u16,
+        mr_alen: group.len() as u16,
+        mr_address: place,
+    };
+    set(file, libc::SOL_PACKET, libc::PACKET_ADD_MEMBERSHIP, &wanted)
+}
+
+/// Returns how many frames the kernel has dropped at a packet socket since the last call.
+pub fn drops(file: &File) -> u64 {
+    let mut told = PacketStatistics { _packets: 0, drops: 0 };
+    get(file, libc::SOL_PACKET, PACKET_STATISTICS, &mut told).map_or(0, |_| told.drops.into())
+}
+
+/// The room for the time stamp of a frame, aligned as the kernel writes it.
+#[repr(C, align(8))]
+#[derive(Clone, Copy)]
+struct Note([u8; NOTE]);
+// SAFETY: the macro only computes with a number.
+const NOTE: usize = unsafe { libc::CMSG_SPACE(size_of::<libc::timespec>() as u32) } as usize;
+
+/// Reads waiting frames, each into one of the rooms. Returns the length of each frame and, if the
+/// kernel reports it, its time of arrival.
+pub fn receive(file: &File, rooms: &mut Rooms) -> Result<Vec<(usize, Option<WallTime>)>> {
+    let mut notes = [Note([0; NOTE]); ROOMS];
+    let mut pieces = [libc::iovec { iov_base: null_mut(), iov_len: 0 }; ROOMS];
+    // SAFETY: these structs of numbers and pointers may be all zero.
+    let mut messages: [libc::mmsghdr; ROOMS] = unsafe { zeroed() };
+    for place in 0..ROOMS {
+        let room = &mut rooms[place];
+        pieces[place] = libc::iovec { iov_base: room.as_mut_ptr().cast(), iov_len: room.len() };
+        let head = &mut messages[place].msg_hdr;
+        head.msg_iov = &mut pieces[place];
+        head.msg_iovlen = 1;
+        head.msg_control = notes[place].0.as_mut_ptr().cast();
+        head.msg_controllen = NOTE as _;
+    }
+    let (start, most) = (messages.as_mut_ptr(), ROOMS as u32);
+    // SAFETY: all rooms, pieces and notes outlive the call, and are as long as the messages say.
+    let count = checked(unsafe { libc::recvmmsg(file.as_raw_fd(), start, most, 0, null_mut()) })? as usize;
+    Ok(messages[..count.min(ROOMS)].iter().map(|one| (one.msg_len as usize, stamp(&one.msg_hdr))).collect())
+}
+
+/// Returns the time stamp in a message that the kernel has filled.
+fn stamp(head: &libc::msghdr) -> Option<WallTime> {
+    // SAFETY: the kernel has set the pointer and the length of the note, which is still alive.
+    let note = NonNull::new(unsafe { libc::CMSG_FIRSTHDR(head) })?;
+    // SAFETY: the macro answers null unless the note has a whole header, and notes are aligned.
+    let told = unsafe { note.as_ref() };
+    let is_stamp = told.cmsg_level == libc::SOL_SOCKET && told.cmsg_type == libc::SCM_TIMESTAMPNS;
+    // SAFETY: the macro only computes with a number.
+    let whole = unsafe { libc::CMSG_LEN(size_of::<libc::timespec>() as u32) } as usize;
+    if !is_stamp || (told.cmsg_len as usize) < whole {
+        return None;
+    }
+    // SAFETY: a note of this kind and length has a `timespec` after its header.
+    let time = unsafe { libc::CMSG_DATA(note.as_ptr()).cast::<libc::timespec>().read_unaligned() };
+    Some(WallTime::after_1970(Duration::new(time.tv_sec as u64, time.tv_nsec as u32)))
+}
+
+/// Opens a netlink socket that hears of these groups of news.
+pub fn open_netlink(groups: c_int) -> Result<File> {
+    let file = socket(libc::AF_NETLINK, libc::SOCK_RAW)?;
+    // SAFETY: this struct of numbers may be all zero.
+    let mut place: libc::sockaddr_nl = unsafe { zeroed() };
+    place.nl_family = libc::AF_NETLINK as u16;
+    place.nl_groups = groups as u32;
+    address(&file, &place, size_of::<libc::sockaddr_nl>(), false)?;
+    Ok(file)
+}
+
+/// Opens a socket for datagrams to processes of this host.
+pub fn open_datagrams() -> Result<File> {
+    socket(libc::AF_UNIX, libc::SOCK_DGRAM)
+}
+
+/// Connects a socket to a Unix address: a path, or octets that begin with a zero.
+pub fn connect_datagrams(file: &File, name: &[u8]) -> Result<()> {
+    // SAFETY: this struct of numbers may be all zero.
+    let mut place: libc::sockaddr_un = unsafe { zeroed() };
+    if name.len() >= place.sun_path.len() {
+        return Err(ErrorKind::InvalidInput.into());
+    }
+    place.sun_family = libc::AF_UNIX as u16;
+    for (room, octet) in place.sun_path.iter_mut().zip(name) {
+        *room = *octet as _;
+    }
+    let front = size_of::<libc::sockaddr_un>() - place.sun_path.len();
+    address(file, &place, front + name.len(), true)
+}
+
+/// Connects to a Unix socket at a path. Fails with `WouldBlock` if its queue is full.
+pub fn connect_stream(path: &str) -> Result<UnixStream> {
+    let file = socket(libc::AF_UNIX, libc::SOCK_STREAM)?;
+    connect_datagrams(&file, path.as_bytes())?;
+    Ok(UnixStream::from(std::os::unix::io::OwnedFd::from(file)))
+}
+
+/// Returns the user and the groups that a client's process had when it connected.
+pub fn peer_of(stream: &UnixStream) -> (u32, Vec<u32>) {
+    let mut told = libc::ucred { pid: 0, uid: u32::MAX, gid: u32::MAX };
+    if get(stream, libc::SOL_SOCKET, libc::SO_PEERCRED, &mut told).is_err() {
+        return (u32::MAX, Vec::new());
+    }
+    let mut further = [0u32; MOST_GROUPS];
+    let length = get(stream, libc::SOL_SOCKET, libc::SO_PEERGROUPS, &mut further).unwrap_or(0);
+    let mut groups = further[..length / size_of::<u32>()].to_vec();
+    groups.push(told.gid);
+    (told.uid, groups)
+}

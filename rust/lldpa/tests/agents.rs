@@ -1,0 +1,103 @@
+//! Tests what an agent says of frames and commands, and that its memory is freed.
+
+use lldpa::{Agent, Mark, Msap, News, Options, PduFault, Show};
+
+/// An Ethernet header, and a Chassis ID and a Port ID whose last octet is `port`.
+fn frame(port: u8, ttl: u8, more: &[u8]) -> Vec<u8> {
+    let head = b"\x01\x80\xc2\0\0\x0e\0\x11\x22\x33\x44\x55\x88\xcc\x02\x07\x04\0\x11\x22\x33\x44\x55\x04\x05\x05eth";
+    [&head[..], &[port, 6, 2, 0, ttl], more].concat()
+}
+
+/// Returns the identifiers in such a frame.
+fn name(frame: &[u8]) -> Msap<'_> {
+    Msap { chassis: &frame[16..23], port: &frame[25..30] }
+}
+
+/// Returns what a frame does on the first port.
+fn news<'f>(agent: &mut Agent, frame: &'f [u8]) -> News<'f> {
+    agent.frame_news(0, frame).expect("the first port").1
+}
+
+fn opened(max_neighbors: u8) -> Agent {
+    let ports = &["eth0", "eth1", "eth2", "eth3", "eth4", "eth5", "eth6", "eth7"];
+    Agent::open(&Options { ports, max_neighbors, ..Options::default() }).expect("options in their ranges")
+}
+
+#[test]
+fn frames_have_news() {
+    let mut agent = opened(1);
+    let (first, other, long) =
+        (frame(b'0', 120, b""), frame(b'1', 120, b""), frame(b'0', 120, b"\x0a\x01a\0\0"));
+    let (leaves, unknown) = (frame(b'0', 0, b""), frame(b'1', 0, b""));
+    assert_eq!(news(&mut agent, b""), News::NotLldp);
+    assert_eq!(news(&mut agent, &first), News::New(name(&first)));
+    assert_eq!(news(&mut agent, &first), News::Same(name(&first)));
+    assert_eq!(news(&mut agent, &long), News::Changed(name(&long)));
+    assert_eq!(news(&mut agent, &long), News::Same(name(&long)));
+    assert_eq!(news(&mut agent, &other), News::Dropped(name(&other)));
+    assert_eq!(news(&mut agent, &unknown), News::Unknown(name(&unknown)));
+    assert_eq!(news(&mut agent, &leaves), News::Gone(name(&leaves)));
+    assert_eq!(news(&mut agent, &first[..15]), News::Refused(PduFault::Truncated));
+    assert_eq!(news(&mut agent, &frame(b'0', 120, b"\x02\x02\x07a")), News::Refused(PduFault::Repeated));
+    agent.link(0, false).expect("the first port");
+    assert_eq!(news(&mut agent, &first), News::Deaf);
+}
+
+#[test]
+fn a_port_holds_32_neighbors_by_default() {
+    let mut agent =
+        Agent::open(&Options { ports: &["eth0"], ..Options::default() }).expect("options in their ranges");
+    let frames: Vec<_> = (1..=33).map(|port| frame(port, 120, b"")).collect();
+    for frame in &frames[..32] {
+        assert_eq!(news(&mut agent, frame), News::New(name(frame)));
+    }
+    assert_eq!(news(&mut agent, &frames[32]), News::Dropped(name(&frames[32])));
+}
+
+#[test]
+fn each_port_has_its_neighbors() {
+    let mut agent = opened(2);
+    agent.frame(1, &frame(b'0', 120, b"")).expect("the second port");
+    let counts: Vec<_> = (0..8).map(|port| agent.neighbors(port).expect("a port").len()).collect();
+    assert_eq!(counts, [0, 1, 0, 0, 0, 0, 0, 0]);
+}
+
+#[test]
+fn settings_have_no_show() {
+    let mut agent = opened(2);
+    assert_eq!(agent.command("show chassis").expect("a show").show, Some(Show::Chassis));
+    assert_eq!(agent.command("configure lldp tx-interval 3600").expect("a setting").show, None);
+    assert_eq!(agent.tick().len(), 8);
+    let left = agent.leave();
+    assert!(left.len() == 8 && left.iter().all(|sent| sent.mark == Mark::Shutdown));
+}
+
+#[test]
+fn an_agent_says_when_it_acts_next() {
+    let mut agent = opened(2);
+    assert_eq!(agent.due(), Some(1));
+    let _ = agent.leave();
+    assert_eq!(agent.due(), None);
+    agent.command("configure ports eth0 lldp status rx-only").expect("a setting");
+    agent.frame(0, &frame(b'0', 90, b"")).expect("the first port");
+    assert_eq!(agent.due(), Some(90));
+}
+
+/// An agent of eight ports with 128 neighbors each has more than 1.6 MB.
+#[test]
+#[cfg(target_os = "linux")]
+fn dropped_agents_are_freed() {
+    let pages = || -> i64 {
+        let told = std::fs::read_to_string("/proc/self/statm").expect("the pages of this process");
+        told.split(' ').next().expect("the first of seven numbers").parse().expect("a number")
+    };
+    drop(opened(128));
+    let before = pages();
+    for _ in 0..1000 {
+        drop(opened(128));
+    }
+    assert!(
+        pages() - before < 1000 * 1_600_000 / 4096 / 2,
+        "agents that were dropped still have their memory"
+    );
+}

@@ -1,0 +1,163 @@
+//! What lldpd's users type: the command that means the same here, or a sentence that says what to do.
+
+/// The beginning of a command of lldpd, and what to do instead.
+type Sentence = (&'static str, &'static str);
+
+const NOT_SENT: &str = "such TLVs are received and shown, but not sent";
+const IN_DEFAULT: &str = "take the option away in /etc/default/lldpa, and restart lldpa";
+const SENTENCES: [Sentence; 37] = [
+    ("configure system chassisid", "the chassis ID is --mac in AGENT_OPTIONS of /etc/default/lldpa"),
+    ("configure system max-neighbors", "write: configure lldp max-neighbors N"),
+    (
+        "configure system ip management pattern",
+        "the address is --management in AGENT_OPTIONS, or --management-pattern in LIVE_OPTIONS",
+    ),
+    (
+        "configure system interface pattern",
+        "PORTS in /etc/default/lldpa has names and patterns of interfaces",
+    ),
+    (
+        "configure system interface permanent",
+        "a port that PORTS in /etc/default/lldpa names stays while its interface is away",
+    ),
+    (
+        "configure system interface description",
+        "lldpa changes no interface: lldpa-ctl shows who is behind it",
+    ),
+    (
+        "configure system interface promiscuous",
+        "each port hears LLDP's group address, and needs nothing more",
+    ),
+    (
+        "configure system capabilities",
+        "the capabilities are --role in AGENT_OPTIONS: station, bridge or router",
+    ),
+    ("configure system platform", "write a text instead: configure system description TEXT"),
+    ("configure system bond-slave-src-mac-type", "each frame has the address of its interface as its source"),
+    ("configure system hostname .", "a dot has no special meaning: write the name"),
+    ("configure lldp portidsubtype", "the port ID cannot be changed: it is the name of the interface"),
+    ("configure lldp portdescription", "the description cannot be changed: it is the name of the interface"),
+    ("configure lldp agent-type", "frames go to the nearest-bridge address, and to no other"),
+    (
+        "configure lldp capabilities-advertisements",
+        "the capabilities are always announced: --role says which",
+    ),
+    (
+        "configure lldp management-addresses-advertisements",
+        "an address is announced unless LIVE_OPTIONS has --no-management",
+    ),
+    ("configure lldp vlan-tx", "frames are sent without a VLAN tag"),
+    ("configure lldp custom-tlv", NOT_SENT),
+    ("configure lldp status", "name the ports: configure ports PORT,.. lldp status STATUS"),
+    ("configure med", NOT_SENT),
+    ("configure dot3", NOT_SENT),
+    ("configure inventory", NOT_SENT),
+    ("unconfigure system hostname", "write the name: configure system hostname NAME"),
+    ("unconfigure system description", "write the text: configure system description TEXT"),
+    ("unconfigure system chassisid", IN_DEFAULT),
+    ("unconfigure system capabilities", IN_DEFAULT),
+    ("unconfigure system ip", IN_DEFAULT),
+    ("unconfigure system interface pattern", IN_DEFAULT),
+    ("unconfigure system interface permanent", IN_DEFAULT),
+    ("unconfigure lldp management-addresses-advertisements", "write --no-management in LIVE_OPTIONS"),
+    ("unconfigure", "nothing is to be undone, since lldpa has no such setting"),
+    ("pause", "write: configure ports PORT,.. lldp status disabled"),
+    ("resume", "write: configure ports PORT,.. lldp status rx-and-tx"),
+    ("exit", "each lldpa-ctl runs one command, so there is nothing to leave"),
+    ("watch limit", "end watch with Ctrl-C, or write: lldpa-ctl watch | head -n N"),
+    ("watch protocol", "the only protocol is LLDP: write watch"),
+    ("show neighbors protocol", "the only protocol is LLDP: write show neighbors"),
+];
+
+/// Words of lldpd that say how much is shown.
+const AMOUNTS: [&str; 3] = ["details", "summary", "hidden"];
+const LEAST_SHORTENED: usize = 3; // letters of a word that stands for a longer one
+
+fn begins(words: &[String], front: &str) -> bool {
+    let stands_for = |(word, front): (&String, &str)| {
+        word == front || word.len() >= LEAST_SHORTENED && front.starts_with(&word[..])
+    };
+    words.len() >= front.split(' ').count() && words.iter().zip(front.split(' ')).all(stands_for)
+}
+
+/// Returns the words of the command that means the same here.
+pub fn same(words: &[String]) -> Vec<String> {
+    let words: Vec<&str> = words.iter().map(|word| &word[..]).collect();
+    let (front, rest) = match words[..] {
+        ["watch", ref rest @ ..] => ("watch", rest),
+        ["show", what, ref rest @ ..] => (what, rest),
+        _ => ("", &words[..]),
+    };
+    let is_amount = |word: &&&str| AMOUNTS.contains(*word);
+    let has = |amount: &str| rest.contains(&amount);
+    let ours: &[&str] = match front {
+        "watch" => &["watch"],
+        "interfaces" => &["interfaces"],
+        "neighbors" if has("details") => &["details"],
+        "neighbors" if has("summary") => &["neighbors"],
+        "neighbors" if has("hidden") => &["show", "neighbors"],
+        "statistics" if rest == ["summary"] => return ["statistics", "summary"].map(String::from).to_vec(),
+        "statistics" if has("summary") => &["statistics"],
+        "chassis" if has("details") || has("summary") => &["show", "chassis"],
+        "running-configuration" => &["show", "configuration"],
+        _ => return words.into_iter().map(String::from).collect(),
+    };
+    let rest = rest.iter().filter(|word| !is_amount(word));
+    ours.iter().chain(rest).map(|word| word.to_string()).collect()
+}
+
+/// Returns what to do instead of a command of lldpd, if it has no counterpart here.
+pub fn instead(words: &[String]) -> Option<&'static str> {
+    let mut words = words.to_vec();
+    if words.len() > 3 && words[0].ends_with("configure") && words[1] == "ports" {
+        words.drain(1..3); // the ports of which the command is
+        if begins(&words, "configure lldp status") {
+            return None;
+        }
+    }
+    SENTENCES.iter().find(|(front, _)| begins(&words, front)).map(|(_, sentence)| *sentence)
+}
+
+#[cfg(test)]
+mod tests {
+    use super::*;
+    use crate::arguments::all_commands;
+    use crate::refused::words_of;
+
+    /// The commands of lldpcli(8), and the command here or the beginning of the sentence.
+    const COMMANDS: &str = include_str!("lldpd.rows");
+
+    #[test]
+    fn commands_of_lldpd_are_done_or_explained() {
+        let mut count = 0;
+        for row in COMMANDS.lines() {
+            let (line, wanted) = row.split_once(" | ").expect(row);
+            let words = same(&words_of(line));
+            let found = instead(&words).map_or_else(|| words.join(" "), String::from);
+            assert!(found.starts_with(wanted), "{line}: {found}");
+            let is_command = words.first().map_or(false, |word| all_commands().contains(&&word[..]));
+            assert!(is_command || instead(&words).is_some(), "{line}");
+            count += 1;
+        }
+        assert!(count > 77, "{count}");
+    }
+
+    #[test]
+    fn commands_of_lldpa_stay() {
+        for line in [
+            "configure system hostname a",
+            "configure system description a",
+            "configure lldp tx-hold 4",
+            "configure lldp max-neighbors 4",
+            "configure ports eth0 lldp status disabled",
+            "show neighbors eth0",
+            "show statistics",
+            "watch eth0",
+            "update",
+            "statistics summary",
+        ] {
+            let words = words_of(line);
+            assert_eq!((same(&words), instead(&words)), (words, None));
+        }
+    }
+}

@@ -1,0 +1,207 @@
+//! Tests what is made of answers of lldpa-live: tables, changes and metrics.
+
+use lldpa_people::changes::Watch;
+use lldpa_people::live_lines::LiveLines;
+use lldpa_people::metrics::{metrics, up};
+use lldpa_people::show::{Show, COUNTERS};
+use lldpa_people::table::{reasons, table};
+use lldpa_people::texts::width_of;
+
+/// Returns the lines of a port with neighbors. A neighbor is a chassis ID, a port ID, and further lines.
+fn port(name: &str, too_many: bool, neighbors: &[&[&str]]) -> String {
+    let count = neighbors.len();
+    let too_many = if too_many { "yes" } else { "no" };
+    let mut text =
+        format!("lldp.{name}.neighbors={count}\nlldp.{name}.octets=20\nlldp.{name}.too-many={too_many}\n");
+    for (place, said) in neighbors.iter().enumerate() {
+        let front = format!("lldp.{name}.{}.", place + 1);
+        let times = ["ttl=120", "expires=98"];
+        let lines = said[..2].iter().chain(&times).chain(&said[2..]);
+        lines.for_each(|line| text += &format!("{front}{line}\n"));
+    }
+    text
+}
+
+const MAC: &str = "chassis.mac=02:00:00:00:00:01";
+
+fn named<'a>(name: &'a str, port: &'a str, more: &[&'a str]) -> Vec<&'a str> {
+    [&[MAC, port, name], more].concat()
+}
+
+fn table_of(answer: &str, width: usize) -> Vec<String> {
+    table(&Show::read(answer.lines().collect()).expect(answer).ports, width)
+}
+
+#[test]
+fn a_line_a_neighbor_and_a_count() {
+    let first = named(
+        "chassis.name=switch-2",
+        "port.ifname=swp1",
+        &["chassis.mgmt=192.0.2.2,2,2,", "chassis.mgmt=192.0.2.3,2,2,"],
+    );
+    let second = named("chassis.name=b", "port.ifname=swp12", &[]);
+    let answer = port("eth0", false, &[&first]) + &port("eth1", false, &[]) + &port("p2", false, &[&second]);
+    let lines = [
+        "PORT  NEIGHBOR  ITS PORT  MANAGEMENT  LEFT",
+        "eth0  switch-2  swp1      192.0.2.2   98 s",
+        "p2    b         swp12                 98 s",
+        "2 neighbors on 3 ports.",
+    ];
+    assert_eq!(table_of(&answer, 80), lines);
+}
+
+#[test]
+fn a_table_is_as_wide_as_the_terminal() {
+    let (name, its_port) =
+        (format!("chassis.name={}", "n".repeat(300)), format!("port.ifname={}", "p".repeat(30)));
+    let wide = named(&name, &its_port, &["chassis.mgmt=192.0.2.2,2,2,"]);
+    let answer = port("eth0", false, &[&wide]);
+    for width in 1..400 {
+        let lines = table_of(&answer, width);
+        assert!(lines[..2].iter().all(|line| width_of(line) <= width));
+        assert_eq!(lines[1].contains("192.0.2.2"), width >= 356, "{width}");
+        assert_eq!(lines[1].contains('…'), width < 344, "{width}");
+    }
+}
+
+#[test]
+fn vlans_have_a_column_where_one_is_said() {
+    let vlan = |name, vlan| named(name, "port.ifname=p", &[vlan]);
+    let rows = [
+        vlan("chassis.name=a", "org.0080c2.1=0078"),
+        vlan("chassis.name=b", "org.0080c2.1=0000"),
+        vlan("chassis.name=c", "org.0080c2.1=ffff"),
+    ];
+    let neighbors: Vec<&[&str]> = rows.iter().map(|row| &row[..]).collect();
+    let lines = [
+        "PORT  NEIGHBOR  ITS PORT  VLAN  MANAGEMENT  LEFT",
+        "eth0  a         p         120               98 s",
+        "eth0  b         p                           98 s",
+        "eth0  c         p                           98 s",
+    ];
+    assert_eq!(table_of(&port("eth0", false, &neighbors), 80)[..4], lines);
+    assert_eq!(table_of(&port("eth0", false, &neighbors), 47)[0], "PORT  NEIGHBOR  ITS PORT  VLAN  LEFT");
+    assert!(!table_of(&port("eth0", false, &neighbors[1..]), 80)[0].contains("VLAN"));
+}
+
+#[test]
+fn what_stands_for_a_name_or_a_port() {
+    for (said, row) in [
+        (&[MAC, "port.unhandled=ff01", "port.descr=to the roof"][..], "02:00:00:00:00:01  to the roof"),
+        (&[MAC, "port.ifname=swp1", "port.descr=to the roof"], "02:00:00:00:00:01  swp1"),
+        (&["chassis.local=a", "port.mac=02:00:00:00:00:02", "port.descr=up"], "a  up"),
+        (&["chassis.local=a", "port.ip=2001:0db8:0000:0000:0000:0000:0000:0001"], "a  2001:db8::1"),
+        (&["chassis.ip=0000:0000:0000:0000:0000:0000:c000:0207", "port.local=7"], "::192.0.2.7  7"),
+        (&[MAC, "port.local=7", "chassis.name=\\xe4\\xba\\xac\\xe9\\x83\\xbd"], "京都  7"),
+        (&[MAC, "port.local=7", "chassis.name=\\x1b[31m\\xe2\\x80\\xae"], "\\x1b[31m\\xe2\\x80\\xae  7"),
+    ] {
+        let line = table_of(&port("eth0", false, &[said]), 200)[1].clone();
+        let parts: Vec<&str> = line.split("  ").filter(|part| !part.is_empty()).map(str::trim).collect();
+        assert_eq!(parts[1..3].join("  "), row);
+    }
+}
+
+#[test]
+fn full_ports_and_silent_ones_are_told() {
+    let answer = port("eth0", true, &[]) + &port("eth1", false, &[]) + &port("p2", false, &[]);
+    let settings = "configuration.tx-interval=30\nconfiguration.tx-hold=4\nconfiguration.ttl=121\n\
+        configuration.reinit-delay=2\nconfiguration.tx-fast-init=4\nconfiguration.tx-credit-max=5\n\
+        configuration.max-neighbors=32\nconfiguration.ports=3\nconfiguration.eth0.status=rx-and-tx\n\
+        configuration.eth1.status=disabled\nconfiguration.p2.status=disabled\n";
+    let lines: Vec<&str> = answer.lines().chain(settings.lines()).collect();
+    let show = Show::read(lines).expect("two answers");
+    let full = "no neighbors on 3 ports. eth0 had no room for a neighbor: raise --max-neighbors; \
+        a port holds at most 128.";
+    assert_eq!(table(&show.ports, 1000), [full]);
+    let live = LiveLines::read(&["live.eth0.link=down"]);
+    assert_eq!(reasons(&show, &live, 80), ["eth0 has no link", "eth1, p2 are disabled"]);
+    let live = LiveLines::read(&["live.eth1.interface=awaited"]);
+    let why = ["eth1: no such interface", "p2 is disabled"];
+    assert_eq!(reasons(&show, &live, 80), why);
+}
+
+#[test]
+fn changes_are_told_once() {
+    let state = |neighbors: &[&[&str]]| port("eth0", false, neighbors);
+    let first = named("chassis.name=a", "port.ifname=p1", &["org.0080c2.1=0078"]);
+    let second = named("chassis.name=b", "port.ifname=p1", &["org.0080c2.1=0079", "port.descr=up"]);
+    let other = named("chassis.name=c", "port.ifname=p2", &[]);
+    let steps: [(Vec<&[&str]>, &[&str]); 5] = [
+        (vec![&first], &["eth0 came: a p1"]),
+        (vec![&first], &[]),
+        (
+            vec![&second],
+            &["eth0 changed: b p1; chassis.name: a -> b; pvid: 120 -> 121; port.descr: nothing -> up"],
+        ),
+        (vec![&other], &["eth0 gone: b p1", "eth0 came: c p2"]),
+        (vec![], &["eth0 gone: c p2"]),
+    ];
+    let nobody = state(&[]);
+    let mut watch = Watch::of(&Show::read(nobody.lines().collect()).expect("nobody"));
+    for (neighbors, lines) in steps {
+        let answer = state(&neighbors);
+        assert_eq!(watch.news(&Show::read(answer.lines().collect()).expect("a port")), lines);
+    }
+}
+
+#[test]
+fn metrics_have_labels_and_headings() {
+    let text = "chassis.name=a \"quoted\" \\\\ \\x0a";
+    let answer = port("eth0", true, &[&named(text, "port.ifname=swp1", &["org.00120f.4=05f2"])]);
+    let show = Show::read(answer.lines().collect()).expect("a port");
+    let live = LiveLines::read(&["live.agent=waiting", "live.eth0.link=up", "live.eth0.unsent=4"]);
+    let told = metrics(&show, &live).expect("numbers");
+    for line in [
+        "lldpa_up 0",
+        "# TYPE lldpa_link_up gauge",
+        "lldpa_agent_state{state=\"waiting\"} 1",
+        "lldpa_link_up{port=\"eth0\"} 1",
+        "lldpa_unsent_total{port=\"eth0\"} 4",
+        "lldpa_neighbors{port=\"eth0\"} 1",
+        "lldpa_too_many{port=\"eth0\"} 1",
+        "lldpa_neighbor_info{port=\"eth0\",chassis_kind=\"mac\",chassis=\"02:00:00:00:00:01\",\
+            port_id_kind=\"ifname\",port_id=\"swp1\",name=\"a \\\"quoted\\\" \\\\\\\\ \\\\x0a\",port_descr=\"\",\
+            management=\"\",pvid=\"\",max_frame_size=\"1522\"} 1",
+    ] {
+        assert!(told.lines().any(|one| one == line), "{line}\n{told}");
+    }
+    assert_eq!(up(false).lines().last(), Some("lldpa_up 0"));
+    assert!(metrics(&show, &LiveLines::read(&["live.began=now"])).is_err());
+}
+
+#[test]
+fn what_is_no_answer_is_refused_with_its_line() {
+    let answer = port("eth0", false, &[&named("chassis.name=a", "port.ifname=p", &[])]);
+    for (from, to, why) in [
+        (
+            "octets=20",
+            "octets=020",
+            "line 2: expected lldp.eth0.octets= and a number, but found 'lldp.eth0.octets=020'",
+        ),
+        ("neighbors=1", "neighbors=2", "line 9: expected lldp.eth0.2.chassis.KIND=, but found the end"),
+        (
+            "chassis.name",
+            "Chassis.name",
+            "line 8: expected a key of a neighbor, but found 'lldp.eth0.1.Chassis.name=a'",
+        ),
+    ] {
+        let spoiled = answer.replace(from, to);
+        assert_eq!(Show::read(spoiled.lines().collect()).expect_err(to), why);
+    }
+}
+
+#[test]
+fn counters_of_a_newer_agent_are_skipped() {
+    let known: Vec<String> = COUNTERS.iter().map(|(key, _)| format!("lldp.eth0.{key}=7")).collect();
+    for (further, is_read) in [
+        ("lldp.eth0.frames-too-long=3", true),
+        ("lldp.eth0.frames-too-long=03", false),
+        ("lldp.eth0.Frames=3", false),
+        ("lldp.eth0.drops=3", false),
+        ("lldp.eth1.more=3", false),
+    ] {
+        let lines = known.iter().map(String::as_str).chain([further]).collect();
+        let read = Show::read(lines).map(|show| show.counters);
+        assert_eq!(read.ok(), is_read.then_some(vec![("eth0", [7; 9])]), "{further}");
+    }
+}

@@ -1,0 +1,187 @@
+#!/usr/bin/env python3
+"""Tests the tests of lldpa-live and of the crate for Rust: which wrong bodies does no test see?
+
+    tools/by-hand/mutate_rust.py --room DIR [--seed N] [--count N] [--jobs N] [--only TEXT] [--cargo]
+
+A wrong body differs from rust/live or rust/lldpa by one small change of one line, outside tests. The
+seed draws from all files, so that each has its share. A change is `refused` by the compiler and then
+not counted, seen by `cargo test`, or, unless --cargo is given, seen by the tests of python/tests that
+run lldpa-live (as root), or by tools/library/check-library.py for the crate. Otherwise it SURVIVED.
+Needs the library (tools/library/library.sh) and the program. DIR keeps copies and a line of JSON for
+each change; a later call goes on there.
+"""
+from __future__ import annotations
+
+import argparse
+import json
+import os
+import pathlib
+import queue
+import random
+import re
+import shutil
+import subprocess
+import threading
+from typing import Iterator, NamedTuple
+
+TOP = pathlib.Path(__file__).resolve().parents[2]
+# pairs of texts that are exchanged for one another, in both directions
+PAIRS = ((" < ", " <= "), (" > ", " >= "), (" == ", " != "), (" && ", " || "), (" + ", " - "), ("true", "false"),
+         (".min(", ".max("), ("is_some()", "is_none()"), (".any(", ".all("), ("Ok(())", "return Ok(())"))
+STATEMENT = re.compile(r"^ +[a-z_.*&]+[\w.]*(\(.*\))?(\.\w+\(.*\))*\??;$|^ +[\w.]+ [-+|]?= .*;$")
+
+
+# cargo with the crates that are installed, in the folder of a crate
+CARGO = ("sh", "-c", '. ../../tools/release/crates.sh && cargo_with_crates "$@"', "sh")
+
+
+class Change(NamedTuple):
+    file: str
+    line: int
+    what: str
+    old: str
+    new: str
+
+
+def wrong_lines(line: str) -> Iterator[tuple[str, str]]:
+    """Yields what is changed, and the changed line."""
+    for one, two in PAIRS:
+        for old, new in ((one, two), (two, one)):
+            if old in line:
+                yield f"{old.strip()} to {new.strip()}", line.replace(old, new, 1)
+    for found in re.finditer(r"(?<![\w.\"'])(\d[\d_]*)(?![\w.\"'])", line):
+        number = int(found[1].replace("_", ""))
+        for other in (number + 1, max(number - 1, 0)):
+            if other != number:
+                yield "number", f"{line[:found.start()]}{other}{line[found.end():]}"
+    if STATEMENT.match(line) and "let " not in line:
+        yield "statement left out", ""
+    condition = re.match(r"( +(?:\} else )?if )(?!let )(.*)( \{)$", line)
+    if condition:
+        yield "condition turned", f"{condition[1]}!({condition[2]}){condition[3]}"
+
+
+def changes() -> list[Change]:
+    found = []
+    for path in sorted([*TOP.glob("rust/live/src/**/*.rs"), *TOP.glob("rust/lldpa/src/**/*.rs")]):
+        if path.name in ("fuzz.rs",) or path == TOP / "rust/lldpa/src/sys.rs":
+            continue
+        text = re.split(r"(?m)^#\[cfg\(test\)\]", path.read_text())[0]
+        for number, line in enumerate(text.splitlines()):
+            if not line.lstrip().startswith(("//", "#[", "use ", "assert")):
+                name = str(path.relative_to(TOP))
+                found += [Change(name, number, what, line, new) for what, new in wrong_lines(line)]
+    return found
+
+
+def drawn(options: argparse.Namespace) -> list[Change]:
+    """Draws changes, of each file its share."""
+    everything = [change for change in changes() if re.search(options.only, f"{change.file} {change.old}")]
+    found = []
+    for name in sorted({change.file for change in everything}):
+        of_file = [change for change in everything if change.file == name]
+        random.Random(f"{options.seed} {name}").shuffle(of_file)
+        # one change of a line: otherwise lines of numbers would have most of them
+        of_lines = list({change.line: change for change in of_file}.values())
+        found += of_lines[:max(1, round(options.count * len(of_file) / len(everything)))]
+    print(f"seed {options.seed}: {len(found)} of {len(everything)} changes", flush=True)
+    return found
+
+
+def modules_of_live() -> list[str]:
+    """Returns the modules of python/tests that run lldpa-live."""
+    tests = TOP / "python" / "tests"
+    helpers = [path.stem for path in tests.glob("*.py") if "LIVE" in path.read_text()]
+    words = re.compile(rf"^(?:from|import) (?:{'|'.join(helpers)})\b", re.M)
+    return sorted(path.stem for path in tests.glob("test_*.py") if words.search(path.read_text()) or path.stem in helpers)
+
+
+class Run:
+    """Tries changes, in a copy of the checkout for each thread."""
+
+    def __init__(self, options: argparse.Namespace) -> None:
+        self.room, self.cargo_alone = pathlib.Path(options.room), options.cargo
+        self.room.mkdir(parents=True, exist_ok=True)
+        self.record = self.room / "changes.jsonl"
+        self.record.touch()
+        self.lock = threading.Lock()
+        done = [json.loads(line) for line in self.record.read_text().splitlines()]
+        self.rows = {(row["file"], row["line"], row["new"]): row for row in done}
+        self.left: queue.SimpleQueue[Change] = queue.SimpleQueue()
+        for change in drawn(options):
+            if (change.file, change.line, change.new) not in self.rows:
+                self.left.put(change)
+
+    def copy(self, thread: int) -> pathlib.Path:
+        copy = self.room / f"checkout-{thread}"
+        if not copy.is_dir():
+            shutil.copytree(TOP, copy, symlinks=True, ignore=shutil.ignore_patterns("target", "proofs", "*.oantt", "incremental"))
+        return copy
+
+    def work(self, thread: int) -> None:
+        copy = self.copy(thread)
+        while True:
+            try:
+                change = self.left.get_nowait()
+            except queue.Empty:
+                return
+            path = copy / change.file
+            text = path.read_text()
+            lines = text.splitlines()
+            lines[change.line] = change.new
+            path.write_text("\n".join(lines) + "\n")
+            verdict = self.verdict(change, copy)
+            path.write_text(text)
+            with self.lock, open(self.record, "a", encoding="utf-8") as file:
+                file.write(json.dumps({**change._asdict(), "verdict": verdict}) + "\n")
+                print(f"{verdict}\n    {change.file}:{change.line + 1} {change.what}\n    -{change.old}\n    +{change.new}", flush=True)
+
+    def verdict(self, change: Change, copy: pathlib.Path) -> str:
+        crate = copy / "/".join(change.file.split("/")[:2])
+        settings = {**os.environ, "LLDPA_LIB_DIR": str(copy / "crates/lldpa_c/out/lib"), "RUSTFLAGS": "-A warnings",
+                    "CARGO_TARGET_DIR": str(copy / "target"), "LLDPA": str(copy / "crates/lldpa/out/lldpa"),
+                    "LLDPA_LIVE": str(copy / "rust/live/out/lldpa-live")}
+
+        def is_refused(words: list[str], folder: pathlib.Path, seconds: int) -> bool:
+            try:
+                ran = subprocess.run(words, cwd=folder, env=settings, stdin=subprocess.DEVNULL, stdout=subprocess.DEVNULL,
+                                     stderr=subprocess.DEVNULL, timeout=seconds, check=False)
+            except subprocess.TimeoutExpired:
+                return True
+            return ran.returncode != 0
+
+        if is_refused([*CARGO, "build", "--tests", "--quiet"], crate, 600):
+            return "refused"
+        if is_refused([*CARGO, "test", "--quiet"], crate, 300):
+            return "seen by cargo test"
+        if self.cargo_alone:
+            return "SURVIVED cargo test"
+        if crate.name == "lldpa" and is_refused(["python3", "tools/library/check-library.py"], copy, 3000):
+            return "seen by check-library.py"
+        if is_refused(["tools/release/live.sh"], copy, 600):
+            return "refused"
+        for module in modules_of_live():
+            if is_refused(["python3", "-m", "unittest", "-q", module], copy / "python/tests", 900):
+                return f"seen by {module}"
+        return "SURVIVED"
+
+
+def main() -> None:
+    parser = argparse.ArgumentParser(description="tests the tests of lldpa-live and of the crate for Rust")
+    parser.add_argument("--room", required=True, help="a folder for copies and results, kept for a later call")
+    parser.add_argument("--seed", type=int, default=1)
+    parser.add_argument("--count", type=int, default=60, help="how many changes are drawn")
+    parser.add_argument("--jobs", type=int, default=1)
+    parser.add_argument("--only", default="", help="a pattern of file and line")
+    parser.add_argument("--cargo", action="store_true", help="only cargo test")
+    options = parser.parse_args()
+    run = Run(options)
+    threads = [threading.Thread(target=run.work, args=(number,)) for number in range(options.jobs)]
+    for thread in threads:
+        thread.start()
+    for thread in threads:
+        thread.join()
+
+
+if __name__ == "__main__":
+    main()

@@ -1,0 +1,172 @@
+/*
+ * Tests the ends of ranges, calls with two wrong arguments, and long lists and waits: what the
+ * rows and transcripts of examples/ leave out. Each number and its limit is from lldpa.h.
+ *     ranges
+ * Failed checks are reported; the last line is `N passed, M failed`.
+ */
+#include "checks.h"
+#include "lldpa.h"
+
+#define MANY 700
+
+static const uint8_t frame[] = "\1\200\302\0\0\16\0\21\"3DU\210\314\2\7\4\0\21\"3DU\4\5\5eth0\6\2\0x\0";
+static const lldpa_text names[] = {{(const uint8_t *)"eth0", 4}, {(const uint8_t *)"eth1", 4}};
+static lldpa_agent agent, closed;
+static lldpa_marks marks;
+static uint8_t room[2100];
+static size_t length;
+
+static lldpa_options options_of(const lldpa_text *ports, size_t count)
+{
+    lldpa_options options = LLDPA_OPTIONS_INIT;
+    options.ports = ports;
+    options.port_count = count;
+    return options;
+}
+
+/* Checks what opening answers. An agent that is opened is closed again. */
+static void opens(const lldpa_options *options, uint8_t wanted, const char *what)
+{
+    lldpa_agent handle = {0};
+    uint8_t answer = lldpa_open(options, &handle);
+    holds(answer == wanted && handle.open == (wanted == LLDPA_OK), what);
+    lldpa_close(&handle);
+}
+
+static void try_options(void)
+{
+    static uint8_t text[256];
+    lldpa_options options = options_of(names, 2);
+    memset(text, 'a', sizeof text);
+    options.hostname = (lldpa_text){text, 255};
+    opens(&options, LLDPA_OK, "a hostname of 255 octets");
+    options.hostname.length = 256;
+    opens(&options, LLDPA_TEXT, "a hostname of 256 octets");
+    options.hostname.length = 0;
+    options.size += 8;
+    opens(&options, LLDPA_OUT_OF_RANGE, "options of a later library");
+    options.size -= 16;
+    opens(&options, LLDPA_OUT_OF_RANGE, "options of an earlier library");
+    options.size += 8;
+    options.max_neighbors = 129;
+    options.port_count = 0;
+    opens(&options, LLDPA_OUT_OF_RANGE, "a number out of range, and no port");
+    lldpa_text strange[] = {{(const uint8_t *)"eth0", 4}, {(const uint8_t *)"\xff", 1}};
+    options = options_of(strange, 2);
+    opens(&options, LLDPA_OUT_OF_RANGE, "a name that is not UTF-8");
+    strange[1] = (lldpa_text){(const uint8_t *)"\xc3\xa9", 2};
+    opens(&options, LLDPA_PORT_NAME, "a name that is UTF-8, but not ASCII");
+    strange[1] = strange[0];
+    options.hostname = (lldpa_text){(const uint8_t *)"\n", 1};
+    opens(&options, LLDPA_SAME_PORT, "two names that are the same, and a hostname that is not a text");
+}
+
+/* Checks that the first check of lldpa.h's list decides if two arguments are wrong. */
+static void try_two_wrong(void)
+{
+    lldpa_options wrong = options_of(NULL, 2);
+    lldpa_held held;
+    lldpa_lines lines;
+    lldpa_news news;
+    uint32_t number;
+    wrong.size--;
+    holds(lldpa_open(&wrong, &agent) == LLDPA_OUT_OF_RANGE, "another size, NULL, and an agent that is open");
+    wrong = options_of(names, 0);
+    wrong.role = 3;
+    holds(lldpa_open(&wrong, &agent) == LLDPA_IS_OPEN, "an agent that is open, and options that are wrong");
+    holds(lldpa_frame(&closed, 64, frame, 33, &marks, NULL) == LLDPA_NOT_OPEN, "a frame, no agent and no port");
+    holds(lldpa_frame(&closed, 64, frame, 33, &marks, &news) == LLDPA_NOT_OPEN, "news, no agent and no port");
+    holds(lldpa_link(&closed, 64, true, &marks) == LLDPA_NOT_OPEN, "a link, no agent and no port");
+    holds(lldpa_neighbor_count(&closed, 64, &number) == LLDPA_NOT_OPEN, "a count, no agent and no port");
+    holds(lldpa_neighbor(&closed, 64, 9, room, 0, &held) == LLDPA_NOT_OPEN, "a neighbor, no agent and no port");
+    holds(lldpa_neighbor(&agent, 2, 9, room, 0, &held) == LLDPA_NO_PORT, "a neighbor, no port and no index");
+    holds(lldpa_neighbor(&agent, 0, 1, room, 0, &held) == LLDPA_OUT_OF_RANGE, "a neighbor, no index and no room");
+    holds(lldpa_command(&closed, (const uint8_t *)"x", 1, &number, &marks) == LLDPA_NOT_OPEN, "a command and no agent");
+    holds(lldpa_show_lines(&closed, 5, 0, room, 0, &lines) == LLDPA_OUT_OF_RANGE, "lines, no show and no agent");
+    holds(lldpa_show_lines(&closed, 1, 0, room, 0, &lines) == LLDPA_NOT_OPEN, "lines, no agent and no room");
+    holds(lldpa_frame_of(&closed, 64, 3, room, 0, &length) == LLDPA_OUT_OF_RANGE, "a frame to send, no mark and no agent");
+    holds(lldpa_frame_of(&closed, 64, 1, room, 0, &length) == LLDPA_NOT_OPEN, "a frame to send, no agent and no port");
+    holds(lldpa_frame_of(&agent, 2, 1, room, 0, &length) == LLDPA_NO_PORT, "a frame to send, no port and no room");
+    holds(lldpa_tlv_text(3, frame, 2, room, 0, &length) == LLDPA_OUT_OF_RANGE, "a TLV that is not written, and no room");
+    holds(lldpa_fault_text(9, room, 0, &length) == LLDPA_OUT_OF_RANGE, "no fault and no room");
+}
+
+/* Checks the longest text that is escaped, and the longest TLV that is written. */
+static void try_texts(void)
+{
+    static uint8_t text[512];
+    memset(text, 1, sizeof text);
+    for (size_t count = 250; count <= 511; count++) {
+        int is_so = lldpa_escape(text, count, room, sizeof room, &length) == LLDPA_OK && length == 4 * count;
+        holds(is_so && memcmp(room + length - 4, "\\x01", 4) == 0, "a text of up to 511 octets");
+    }
+    holds(lldpa_escape(text, 511, room, 2043, &length) == LLDPA_NO_ROOM, "a text of 511 octets, with one octet too few");
+    holds(lldpa_escape(text, 512, room, 0, &length) == LLDPA_OUT_OF_RANGE, "a text of 512 octets, and no room");
+    holds(lldpa_tlv_text(9, text, 511, room, sizeof room, &length) == LLDPA_OK && length == 10 + 2 * 511,
+          "a TLV of 511 octets");
+    holds(lldpa_tlv_text(9, text, 512, room, sizeof room, &length) == LLDPA_OUT_OF_RANGE, "a TLV of 512 octets");
+}
+
+/* Checks that each of many TLVs is built or has a fault. */
+static void try_many_tlvs(void)
+{
+    static lldpa_tlv tlvs[MANY];
+    static uint8_t faults[MANY];
+    for (size_t count = 60; count <= MANY; count += 5) {
+        size_t put = 0, full = 0;
+        for (size_t at = 0; at < count; at++) {
+            tlvs[at] = (lldpa_tlv){frame, 1, 9};
+        }
+        memset(faults, 77, sizeof faults);
+        uint8_t answer = lldpa_build(frame + 16, 7, frame + 25, 5, 120, tlvs, count, faults, count, room, 1500, &length);
+        for (size_t at = 0; at < count; at++) {
+            put += faults[at] == LLDPA_OK;
+            full += faults[at] == LLDPA_FULL;
+        }
+        /* 22 octets without these TLVs, and 3 for each of them. */
+        holds(answer == LLDPA_OK && length == 22 + 3 * put && put == (count < 492 ? count : 492), "many TLVs");
+        holds(put + full == count, "a number for each of many TLVs");
+    }
+}
+
+/* Checks that seconds are neither lost nor counted twice, and that a setting has no show. */
+static void try_many_seconds(void)
+{
+    static const uint32_t counts[] = {0, 1, 999, 1001, 65535, 65536, 65537, 200000, LLDPA_NEVER};
+    lldpa_options options = options_of(names, 2);
+    lldpa_agent quiet = {0};
+    lldpa_ticks_taken told;
+    uint32_t seconds;
+    options.receive_only = true;
+    holds(lldpa_open(&options, &quiet) == LLDPA_OK, "an agent that sends nothing");
+    for (size_t at = 0; at < sizeof counts / sizeof *counts; at++) {
+        int is_so = lldpa_ticks(&quiet, counts[at], &marks, &told) == LLDPA_OK && told.taken == counts[at];
+        holds(is_so && told.aged_out == 0 && marks.count == 0, "many seconds");
+    }
+    holds(lldpa_due(&quiet, &seconds) == LLDPA_OK && seconds == LLDPA_NEVER, "nothing is due");
+    static const char *const settings[] = {"configure lldp tx-interval 3600", "update", "configure lldp tx-hold 1"};
+    for (size_t at = 0; at < sizeof settings / sizeof *settings; at++) {
+        uint32_t show = 7;
+        uint8_t answer = lldpa_command(&quiet, (const uint8_t *)settings[at], strlen(settings[at]), &show, &marks);
+        holds(answer == LLDPA_OK && show == LLDPA_SHOW_NOTHING, "a setting, which shows nothing");
+    }
+    lldpa_close(&quiet);
+}
+
+int main(void)
+{
+    lldpa_options options = options_of(names, 2);
+    lldpa_news news;
+    holds(lldpa_open(&options, &agent) == LLDPA_OK, "an agent");
+    holds(lldpa_frame(&agent, 1, frame, sizeof frame - 1, &marks, &news) == LLDPA_OK, "a frame on the second port");
+    uint32_t counts[2] = {9, 9};
+    holds(lldpa_neighbor_count(&agent, 0, &counts[0]) == LLDPA_OK && counts[0] == 0, "no neighbor on the first port");
+    holds(lldpa_neighbor_count(&agent, 1, &counts[1]) == LLDPA_OK && counts[1] == 1, "a neighbor on the second port");
+    try_options();
+    try_two_wrong();
+    try_texts();
+    try_many_tlvs();
+    try_many_seconds();
+    lldpa_close(&agent);
+    return end();
+}
