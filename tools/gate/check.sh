@@ -23,7 +23,6 @@ cheap() {
     part "names of tools/named.txt" python3 tools/gate/check-named.py
     part "definitions that a second statement reaches" python3 tools/gate/reach.py
     part "manual pages and units" tools/gate/manuals-and-units.sh
-    part "completions" python3 tools/gate/completions.py
     part "memory and accesses, in the sources" python3 tools/gate/check-memory.py
     part "types of the Python packages" tools/gate/types.sh
 }
@@ -35,6 +34,7 @@ built() {
     fi
     part "rust/people" tools/gate/check-people.sh
     part "lldpa-live" tools/gate/check-live.sh
+    part "completions" python3 tools/gate/completions.py
     part "transcripts, and examples of the pages" python3 tools/gate/examples.py "$program"
     part "statements of the pages, by the programs" python3 tools/gate/statements.py --built "$program"
     part "arguments and streams" tools/gate/words.sh "$program"

@@ -66,23 +66,24 @@ def main() -> int:
     counts = Counts()
     os.environ["PATH"] = f"{TOP / 'bin'}{os.pathsep}{os.environ['PATH']}"
     links = set(os.listdir("/sys/class/net"))
-    programs = [one for one in PROGRAMS if one != "lldpa-live" or LIVE.exists()]
+    native = {"lldpa-live", "lldpa-ctl"}
+    programs = [one for one in PROGRAMS if one not in native or LIVE.exists()]
     if programs != [*PROGRAMS]:
-        print("skipped: completions for lldpa-live, which tools/release/live.sh builds")
+        print("skipped: completions for lldpa-live and lldpa-ctl, which tools/release/live.sh builds")
     for program in programs:
         missing = [one for one in sorted(options_of(program)) if not is_in_manual(program, one)]
         counts.judge(f"it lacks {missing}" if missing else None, f"the manual page of {program}")
     commands = {program: set(re.findall(pattern, help_of(program).partition("ommands")[2], re.M))
-                for program, pattern in COMMANDS.items()}
+                for program, pattern in COMMANDS.items() if program in programs}
     if LIBRARY.exists():
         for program in programs:
             options = options_of(program)
             counts.that(f"the options of {program} in bash", offered(program, "--") >= options > set())
-        for program in COMMANDS:
+        for program in commands:
             counts.that(f"the commands of {program} in bash", offered(program, "") == commands[program] | links)
     else:
         print(f"skipped: completions for bash, since {LIBRARY} is missing")
-    for program in COMMANDS:
+    for program in commands:
         found = re.search(rf"^    1{program}\) commands=\((.*)\)", IN_ZSH.read_text(), re.M)
         counts.that(f"the commands of {program} in zsh", found and set(found[1].split()) == commands[program])
     if shutil.which("zsh"):
