@@ -16,16 +16,22 @@ KINDS = {
 # a title, and the parts that a frame passes through, each with what is known of it
 LANES = (
     ("lldpa, the program", (
-        ("the kernel,|the C library", "trusted"), ("streams of|Rattle's std", "trusted"),
+        ("the kernel,|the C library", "trusted"),
+        ("in the package:|platform.c, memory.c", "tested"),
+        ("streams of Rattle's|std, in and out", "trusted"),
         ("lines are read:|run_trace", "proved"), ("the agent:|Agent::step", "proved"),
-        ("lines are written:|run_trace", "proved"), ("streams of|Rattle's std", "trusted"))),
-    ("lldpa-live, the service, and lldpa-ctl", (
+        ("lines are written:|run_trace", "proved"))),
+    ("lldpa-live, the service", (
         ("the kernel,|its packet filter", "trusted"),
         ("sockets: unsafe in|rust/live/src/sys", "tested"),
         ("the service:|rust/live", "types"), ("the crate rust/lldpa,|in part unsafe", "tested"),
-        ("the front in C", "tested"), ("the agent: exports|of liblldpa", "proved"))),
+        ("the front and|memory.c, in C", "tested"),
+        ("the agent: exports|of liblldpa", "proved"))),
+    ("lldpa-ctl, which shows what lldpa-live answers", (
+        ("sockets: unsafe in|rust/live/src/sys", "tested"),
+        ("asks and waits:|rust/live", "types"), ("texts for people:|rust/people", "types"))),
     ("liblldpa, in your own process", (
-        ("your program", "trusted"), ("the front in C", "tested"),
+        ("your program", "trusted"), ("the front and|memory.c, in C", "tested"),
         ("the agent, reader,|builder: exports", "proved"))),
     ("lldpctl, lldpa-capture and lldpa-audit, which show what neighbors said", (
         ("answers, captures:|python/lldpa", "tested"),
