@@ -1,48 +1,22 @@
 """Tests the files of a log: replays, sizes, and disks that must not stop lldpa-live."""
 
-import ctypes
 import os
 import shutil
 import signal
 import socket
 import subprocess
-import threading
 import time
 
-from running_live import Live, OnLinks
+from running_live import OnLinks
 from patience import by_the_clock, eventually
 from replays import Moments, differing
 from served import numbered, tlv
+from stopped import StoppedWriter
 from wires import flood
 
-PTRACE_DETACH, PTRACE_SEIZE, PTRACE_INTERRUPT = 17, 0x4206, 0x4207  # linux/ptrace.h
-WALL = 0x40000000  # waits for a thread, too
 # frames of 25 neighbors, whose LLDPDU changes with each frame
 LONG = [numbered(number % 25, 600 + number, tlv(5, b"n%d" % number)).ljust(1514, b"\0")
         for number in range(200)]
-
-
-class StoppedWriter:
-    """Stops the thread that writes lldpa-live's log, as a hanging disk would."""
-
-    def __init__(self, live: Live) -> None:
-        threads = {*os.listdir(f"/proc/{live.process.pid}/task")} - {str(live.process.pid)}
-        self.thread = int(threads.pop())
-        self.libc = ctypes.CDLL(None, use_errno=True)
-        self.trace(PTRACE_SEIZE)
-        self.trace(PTRACE_INTERRUPT)
-        os.waitpid(self.thread, WALL)
-
-    def trace(self, what: int) -> None:
-        if self.libc.ptrace(what, self.thread, None, None):
-            raise OSError(ctypes.get_errno(), "ptrace")
-
-    def release(self) -> None:
-        self.trace(PTRACE_DETACH)
-
-    def bury(self) -> None:
-        """Reaps the traced thread in the background, since lldpa-live cannot end before that."""
-        threading.Thread(target=os.waitpid, args=[self.thread, WALL], daemon=True).start()
 
 
 class TestFiles(OnLinks):

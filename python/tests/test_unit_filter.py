@@ -68,8 +68,10 @@ class UnitFilter(OnLinks):
         settings = self.folder / "settings"
         settings.write_text("configure lldp tx-interval 17\n")
         self.folder.chmod(0o777)
+        metrics = self.folder / "lldpa.prom"
         live = self.live("--log", str(self.log), "--state", str(self.folder / "state"), "--config",
-                         str(settings), "--control-group", "daemon", "--events", "eth0",
+                         str(settings), "--control-group", "daemon", "--events", "--metrics",
+                         str(metrics), "eth0",
                          before=[*AS_THE_UNIT, sys.executable, "-c", LIMIT, filter_of_unit().hex()])
         self.becomes_neighbor(live)
         for status in Path(f"/proc/{live.process.pid}/task").glob("*/status"):
@@ -78,6 +80,7 @@ class UnitFilter(OnLinks):
         live.signal(signal.SIGHUP)
         live.comes_to("configuration.tx-interval=19", "show configuration")
         self.assertTrue(eventually((self.folder / "state").exists))
+        self.assertTrue(eventually(metrics.exists))
         self.assertEqual(live.ended(), 0)
         said = live.errors().splitlines()
         self.assertEqual([line for line in said if "came: " not in line and "link is" not in line

@@ -8,7 +8,7 @@ use crate::queries::{LineFault, Query};
 use crate::tables::{Lines, Tables, Writer};
 use crate::time::{processor_time, Moment, INEXACT};
 use lldpa::Show;
-use std::rc::{Rc, Weak};
+use std::sync::{Arc, Weak};
 use std::time::Duration;
 
 /// The longest time in which clients are answered before other work continues.
@@ -172,7 +172,7 @@ impl Live {
     }
 
     /// Returns the present tables of one port, or of all.
-    fn tables(&mut self, only: Option<usize>) -> Rc<Tables> {
+    pub fn tables(&mut self, only: Option<usize>) -> Arc<Tables> {
         if let (None, Some(tables)) = (only, self.server.tables.as_ref().and_then(Weak::upgrade)) {
             return tables;
         }
@@ -183,9 +183,9 @@ impl Live {
                 tables.add(&running.agent, number, &port.name, has_too_many, &port.neighbors);
             }
         }
-        let tables = Rc::new(tables);
+        let tables = Arc::new(tables);
         if only.is_none() {
-            self.server.tables = Some(Rc::downgrade(&tables));
+            self.server.tables = Some(Arc::downgrade(&tables));
         }
         tables
     }
@@ -200,17 +200,27 @@ impl Live {
         }
     }
 
-    fn statistics(&mut self, only: Option<usize>) -> Answer {
+    /// Returns the lines of `show statistics` for each port, or for one.
+    pub fn statistics_lines(&self, only: Option<usize>) -> impl Iterator<Item = String> + '_ {
         let agent = self.running.as_ref().map(|running| &running.agent);
-        let lines = self.chosen(only).filter_map(|(number, port)| {
+        self.chosen(only).filter_map(move |(number, port)| {
             let statistics = agent?.statistics(number).ok()?;
             Some(port.counters.lines(&port.name, &statistics))
-        });
-        Answer::of(&lines.collect::<String>())
+        })
+    }
+
+    fn statistics(&mut self, only: Option<usize>) -> Answer {
+        Answer::of(&self.statistics_lines(only).collect::<String>())
     }
 
     /// Returns the answer to `live`, or to `live PORT`.
     fn status(&mut self, only: Option<usize>) -> Answer {
+        let lines = self.status_lines(only);
+        Answer::new(&lines, Some(Writer::new(self.tables(only), Lines::Since)))
+    }
+
+    /// Returns the lines of `live` that are not about neighbors.
+    pub fn status_lines(&mut self, only: Option<usize>) -> String {
         self.ports.count_drops();
         let own = [
             ("began", self.began.to_string()),
@@ -220,9 +230,10 @@ impl Live {
             ("ports-refused", self.ports.count_refused().to_string()),
             ("log", self.log.state().into()),
             ("log-lines-lost", self.log.lost.to_string()),
+            ("metrics-unwritten", self.metrics.unwritten.to_string()),
         ];
         let mut text: String = own.iter().map(|(key, value)| format!("live.{key}={value}\n")).collect();
         text.extend(self.chosen(only).map(|one| one.1.status_lines()));
-        Answer::new(&text, Some(Writer::new(self.tables(only), Lines::Since)))
+        text
     }
 }

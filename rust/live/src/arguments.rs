@@ -33,6 +33,8 @@ options:
   --management-pattern PATTERNS
                          announce only an address that a pattern matches, such
                          as '192.0.2.*,!172.17.*'; '!' excludes addresses
+  --metrics FILE         write metrics for Prometheus to FILE when something
+                         changes, and each half minute
   --no-description       do not announce the operating system of this host
   --no-management        do not announce an address of this host
   --once N               wait until each port has a neighbor, at most N seconds,
@@ -64,6 +66,7 @@ pub struct Arguments {
     pub log: Option<String>,
     pub log_most: u64,
     pub log_keep: u64,
+    pub metrics: Option<String>,
     pub once: Option<u64>,
     pub ask: Option<String>,
     pub events: bool,
@@ -220,6 +223,7 @@ impl Arguments {
             ("--user", _) => self.user = Some(value()?),
             ("--state", _) => self.state = Some(value()?),
             ("--log", _) => self.log = Some(value()?),
+            ("--metrics", _) => self.metrics = Some(value()?),
             ("--management-pattern", _) => self.addresses.extend(address_patterns(&value()?)?),
             ("--log-most", _) => self.log_most = number_of(value()?, 1_000_000)?,
             ("--log-keep", _) => self.log_keep = number_of(value()?, 1_000_000)?,
@@ -328,7 +332,7 @@ mod tests {
     fn options_have_values_or_none() {
         let all = "--events --forget-on-down --no-description --no-management --only-existing --stay \
             --own-source --config a --config=b --control c --control-group=d --user e --state f --log g \
-            --log-most 3 --log-keep=1000000 --once 86400 eth0";
+            --log-most 3 --log-keep=1000000 --metrics h --once 86400 eth0";
         let found = read(all).expect("arguments");
         assert!(found.events && found.forget_on_down && found.no_description);
         assert!(found.no_management && found.only_existing);
@@ -336,11 +340,13 @@ mod tests {
         assert_eq!((found.control_group.as_deref(), found.user.as_deref()), (Some("d"), Some("e")));
         assert_eq!((found.state.as_deref(), found.log.as_deref()), (Some("f"), Some("g")));
         assert_eq!((found.log_most, found.log_keep, found.once), (3, 1_000_000, Some(86_400)));
+        assert_eq!(found.metrics.as_deref(), Some("h"));
         let least = read("eth0").expect("arguments");
         assert!(!(least.events || least.forget_on_down || least.no_description));
         assert!(!(least.no_management || least.only_existing));
         assert_eq!((&least.control[..], least.log_most, least.log_keep), ("/run/lldpa/control", 64, 1024));
         assert_eq!((least.once, least.ask, least.log, least.state), (None, None, None, None));
+        assert_eq!(least.metrics, None);
         assert_eq!(read("--ask live").expect("arguments").ask.as_deref(), Some("live"));
     }
 

@@ -11,7 +11,7 @@ use crate::waiting::{IN, OUT};
 use std::fs::File;
 use std::io::{ErrorKind, Read, Result, Write};
 use std::os::unix::net::UnixStream;
-use std::rc::Rc;
+use std::sync::Arc;
 use std::time::Duration;
 
 const MOST_CLIENTS: usize = 64;
@@ -192,8 +192,8 @@ impl Control {
         let own: usize = self.clients.iter().map(|client| client.answer.memory()).sum();
         let mut tables: Vec<_> =
             self.clients.iter().filter_map(|client| Some(client.answer.rest.as_ref()?.tables())).collect();
-        tables.sort_by_key(|one| Rc::as_ptr(one));
-        tables.dedup_by_key(|one| Rc::as_ptr(one));
+        tables.sort_by_key(|one| Arc::as_ptr(one));
+        tables.dedup_by_key(|one| Arc::as_ptr(one));
         own + tables.iter().map(|one| one.memory()).sum::<usize>()
     }
 

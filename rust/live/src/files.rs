@@ -9,10 +9,10 @@ use crate::time::WallTime;
 use libc::{O_DIRECTORY, O_NOFOLLOW};
 use std::collections::VecDeque;
 use std::fmt;
-use std::fs::{self, DirBuilder, DirEntry, File, OpenOptions};
+use std::fs::{self, DirBuilder, DirEntry, File, OpenOptions, Permissions};
 use std::io::{Error, ErrorKind, Result, Write};
 use std::ops::RangeInclusive;
-use std::os::unix::fs::{DirBuilderExt, MetadataExt, OpenOptionsExt};
+use std::os::unix::fs::{DirBuilderExt, MetadataExt, OpenOptionsExt, PermissionsExt};
 use std::path::Path;
 use std::sync::atomic::{AtomicU64, Ordering};
 use std::sync::Arc;
@@ -136,6 +136,24 @@ pub fn check(path: &str) -> Result<()> {
 
 fn new_file(name: &str, mode: u32) -> Result<File> {
     OpenOptions::new().append(true).create_new(true).mode(mode).custom_flags(O_NOFOLLOW).open(name)
+}
+
+/// Replaces a file by one with this mode that `put` fills, so that no reader sees a part of it. A
+/// symbolic link at the path is replaced, not followed.
+pub fn replace(path: &str, mode: u32, put: impl FnOnce(File) -> Result<()>) -> Result<()> {
+    let beside = format!("{path}.new");
+    let _ = fs::remove_file(&beside);
+    let mut options = OpenOptions::new();
+    let options = options.write(true).create_new(true).mode(0o600).custom_flags(O_NOFOLLOW);
+    let written = options.open(&beside).and_then(|file| {
+        file.set_permissions(Permissions::from_mode(mode))?; // the umask does not matter
+        put(file)
+    });
+    let replaced = written.and_then(|()| fs::rename(&beside, path));
+    if replaced.is_err() {
+        let _ = fs::remove_file(&beside); // it may fill the disk
+    }
+    replaced.map_err(at(path))
 }
 
 pub fn names(path: &str) -> Result<Vec<String>> {

@@ -277,6 +277,7 @@ impl Live {
             self.manager.deadline(),
             self.events.deadline(),
             self.log.deadline(now),
+            self.metrics_deadline(),
             of_agent(self.arguments.state.as_ref().map(|_| self.next_state)),
             self.server.deadline(now),
         ];

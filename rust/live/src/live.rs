@@ -9,6 +9,7 @@ use crate::following::{Announced, Following};
 use crate::lines::Line;
 use crate::links::{Link, Links};
 use crate::log::Log;
+use crate::metrics::Metrics;
 use crate::notify::Manager;
 use crate::outbox::Outbox;
 use crate::ports::Ports;
@@ -74,6 +75,7 @@ pub struct Live {
     pub manager: Manager,
     pub events: Events,
     pub log: Log,
+    pub metrics: Metrics,
     /// When to save the state next.
     pub next_state: Moment,
     /// The last number that was given to a chassis.
@@ -99,6 +101,7 @@ impl Live {
             manager: Manager::new(),
             events: Events::default(),
             log: Log::new(arguments.log.clone(), arguments.log_most, arguments.log_keep),
+            metrics: Metrics::new(arguments.metrics.clone()),
             next_state: Moment::default(),
             last_chassis: 0,
             outbox: Outbox::default(),

@@ -26,6 +26,7 @@ mod links;
 mod listening;
 mod live;
 mod log;
+mod metrics;
 mod neighbors;
 mod netlink;
 mod notify;

@@ -107,6 +107,7 @@ fn begin(mut arguments: Arguments, user: Option<rights::User>) -> Result<Live, S
     if live.arguments.log.is_some() || live.arguments.state.is_some() {
         live.log.start()?;
     }
+    live.metrics.start()?;
     seccomp::install().unwrap_or_else(|fault| {
         warn(&format!("system calls are not filtered: {}", text_of(&fault)));
     });
@@ -122,6 +123,7 @@ fn make_absolute(arguments: &mut Arguments) {
     arguments.control = absolute(&arguments.control);
     arguments.state = arguments.state.as_deref().map(absolute);
     arguments.log = arguments.log.as_deref().map(absolute);
+    arguments.metrics = arguments.metrics.as_deref().map(absolute);
     arguments.config = arguments.config.iter().map(|path| absolute(path)).collect();
 }
 
@@ -190,6 +192,7 @@ fn turn(live: &mut Live, last: Option<Moment>) -> bool {
     let turn = live.turn(last);
     live.serve(&turn);
     live.report_status();
+    live.publish();
     if turn.has_signal {
         while let Some(signal) = signals::next(&mut live.wakers.signals.file) {
             match signal {
@@ -237,6 +240,8 @@ impl Live {
         if let (Some(path), Some(state)) = (self.arguments.state.clone(), state) {
             self.log.write_last_state(&path, state);
         }
+        self.metrics.begin_end();
         self.log.close(last);
+        self.metrics.end();
     }
 }

@@ -3,18 +3,18 @@
 //! and where it ends. lldpa-live writes it each minute and at the end, to a new file that then
 //! replaces the old one.
 
-use crate::files::Progress;
+use crate::files::{replace, Progress};
 use crate::hex;
 use crate::identifiers;
 use crate::lines::Line;
 use crate::packet::LONGEST_FRAME;
-use crate::rights::{at, own_user, text_of, User};
+use crate::rights::{own_user, text_of, User};
 use crate::time::{Moment, WallTime};
 use libc::{O_NOFOLLOW, O_NONBLOCK};
 use lldpa::{Examined, Msap};
 use std::collections::HashMap;
 use std::fmt;
-use std::fs::{self, File, OpenOptions};
+use std::fs::{File, OpenOptions};
 use std::io::{BufWriter, Error, ErrorKind, Read, Write};
 use std::os::unix::fs::{MetadataExt, OpenOptionsExt};
 use std::time::Duration;
@@ -259,21 +259,11 @@ impl State {
         State { wall: WallTime::now(), now: Moment::now(), arrivals, lines }
     }
 
-    /// Replaces the file of the state. A symbolic link at the path is replaced, not followed.
+    /// Replaces the file of the state.
     pub fn write(&self, path: &str, progress: &Progress) -> std::io::Result<()> {
-        let beside = format!("{path}.new");
-        let _ = fs::remove_file(&beside);
-        let mut options = OpenOptions::new();
-        let options = options.write(true).create_new(true).mode(0o600).custom_flags(O_NOFOLLOW);
-        let written = options.open(&beside).and_then(|file| {
-            let steps = Stepping { file, progress };
-            self.put(&mut BufWriter::with_capacity(PIECE, steps))
-        });
-        let replaced = written.and_then(|()| fs::rename(&beside, path));
-        if replaced.is_err() {
-            let _ = fs::remove_file(&beside); // it may fill the disk
-        }
-        replaced.map_err(at(path))
+        replace(path, 0o600, |file| {
+            self.put(&mut BufWriter::with_capacity(PIECE, Stepping { file, progress }))
+        })
     }
 
     fn put(&self, out: &mut impl Write) -> std::io::Result<()> {

@@ -7,7 +7,7 @@ use crate::neighbors;
 use crate::time::WallTime;
 use lldpa::{examine, tlv_text, Agent, Examined, Info};
 use std::mem::size_of;
-use std::rc::Rc;
+use std::sync::Arc;
 
 const SHOWN_IDENTIFIERS: usize = 4; // lines of a neighbor before its kept TLVs: two IDs, ttl, expires
 const LINES_OF_PORT: usize = 3;
@@ -69,6 +69,18 @@ impl Tables {
         self.ports.push(Table { port: port.into(), has_too_many, neighbors });
     }
 
+    /// Returns for each port the lines of `show neighbors` about it.
+    pub fn lines_by_port(&self) -> impl Iterator<Item = String> + '_ {
+        self.ports.iter().map(|table| {
+            let mut lines = Vec::new();
+            put_port(&mut lines, table);
+            for (place, one) in table.neighbors.iter().enumerate() {
+                put_neighbor(&mut lines, &table.port, place + 1, one);
+            }
+            String::from_utf8_lossy(&lines).into_owned()
+        })
+    }
+
     /// Returns how many octets of memory the tables take.
     pub fn memory(&self) -> usize {
         let count: usize = self.ports.iter().map(|table| table.neighbors.len()).sum();
@@ -87,7 +99,7 @@ pub enum Lines {
 
 /// An answer that is written piece by piece.
 pub struct Writer {
-    tables: Rc<Tables>,
+    tables: Arc<Tables>,
     lines: Lines,
     port: usize,
     /// The next neighbor of this port.
@@ -97,7 +109,7 @@ pub struct Writer {
 }
 
 impl Writer {
-    pub fn new(tables: Rc<Tables>, lines: Lines) -> Writer {
+    pub fn new(tables: Arc<Tables>, lines: Lines) -> Writer {
         let mut chassis = Vec::new();
         if lines == Lines::Since {
             for (port, table) in tables.ports.iter().enumerate() {
@@ -111,7 +123,7 @@ impl Writer {
         Writer { tables, lines, port: 0, neighbor: 0, chassis }
     }
 
-    pub fn tables(&self) -> &Rc<Tables> {
+    pub fn tables(&self) -> &Arc<Tables> {
         &self.tables
     }
 
@@ -259,12 +271,13 @@ mod tests {
                 let name = ["eth0", "eth1", "e2"][port];
                 tables.add(&agent, port as u8, name, too_many[port] > second, known);
             }
-            let mut writer = Writer::new(Rc::new(tables), Lines::Neighbors);
+            let mut writer = Writer::new(Arc::new(tables), Lines::Neighbors);
             let (count, mut text) = (writer.count(), Vec::new());
             while writer.write(&mut text) {}
             let text = String::from_utf8(text).expect("ASCII");
             assert_eq!(text, agent.show(Show::Neighbors), "second {second}");
             assert_eq!(count, text.lines().count());
+            assert_eq!(writer.tables().lines_by_port().collect::<String>(), text);
             most = most.max(count);
         }
         assert!(most > 50, "the tables were nearly empty: {most}");

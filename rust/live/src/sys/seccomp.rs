@@ -39,6 +39,7 @@ const ALLOWED: &[c_long] = &[
     libc::SYS_faccessat,
     libc::SYS_faccessat2,
     libc::SYS_fchdir,
+    libc::SYS_fchmod,
     libc::SYS_fchmodat,
     libc::SYS_fchownat,
     libc::SYS_fcntl,
