@@ -24,6 +24,7 @@ tshark                    tshark                frames as another program reads 
 valgrind                  valgrind              memory of the library, and instructions
 qemu-user                 qemu-aarch64          arm64, and old processors
 gcc-aarch64-linux-gnu     aarch64-linux-gnu-gcc arm64
+libc6-dev-arm64-cross     /usr/aarch64-linux-gnu/include/stdint.h  arm64
 debhelper                 dh                    the packages
 dh-python                 dh_python3            the packages
 lintian                   lintian               the packages
