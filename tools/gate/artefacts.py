@@ -74,7 +74,7 @@ def counts() -> dict[str, tuple[str, str, str]]:
         "`lldpa` of `rt run`": (none, none, none),
         "`lldpa` of the package": (package, none, none),
         "`lldpa-static`": (package, none, none),
-        "either for arm64": (package, none, none),
+        "`lldpa`, `lldpa-static` for arm64": (package, none, none),
         "`liblldpa`": (library, none, none),
         "the crate `rust/lldpa`": (library, f"{unsafe}", f"{by_hand:,} of Rust"),
         "`lldpa-live`, `lldpa-ctl`": (library, f"{unsafe + blocks_of(live.values())}", f"{of_live:,} of Rust"),
