@@ -1,14 +1,18 @@
 #!/usr/bin/env python3
 """Tests the tests of lldpa-live and of the crate for Rust: which wrong bodies does no test see?
 
-    tools/by-hand/mutate_rust.py --room DIR [--seed N] [--count N] [--jobs N] [--only TEXT] [--cargo]
+    tools/by-hand/mutate_rust.py --room DIR [--seed N] [--count N] [--jobs N] [--only TEXT]
+                                 [--cargo | --modules NAME..]
 
 A wrong body differs from rust/live or rust/lldpa by one small change of one line, outside tests. The
 seed draws from all files, so that each has its share. A change is `refused` by the compiler and then
 not counted, seen by `cargo test`, or, unless --cargo is given, seen by the tests of python/tests that
 run lldpa-live (as root), or by tools/library/check-library.py for the crate. Otherwise it SURVIVED.
-Needs the library (tools/library/library.sh) and the program. DIR keeps copies and a line of JSON for
-each change; a later call goes on there.
+Needs the library (tools/library/library.sh) and the program.
+
+DIR keeps a checkout for each job and a line of JSON for each change; a later call goes on there, and
+tries what survived cargo alone again if it may run more. The checkouts are given the sources of this
+clone at each call, and must pass `cargo test` before anything is changed.
 """
 from __future__ import annotations
 
@@ -19,20 +23,24 @@ import pathlib
 import queue
 import random
 import re
+import resource
 import shutil
+import signal
 import subprocess
+import sys
 import threading
-from typing import Iterator, NamedTuple
+from typing import Any, Iterator, NamedTuple
 
 TOP = pathlib.Path(__file__).resolve().parents[2]
 # pairs of texts that are exchanged for one another, in both directions
 PAIRS = ((" < ", " <= "), (" > ", " >= "), (" == ", " != "), (" && ", " || "), (" + ", " - "), ("true", "false"),
          (".min(", ".max("), ("is_some()", "is_none()"), (".any(", ".all("), ("Ok(())", "return Ok(())"))
+MOST_MEMORY = 8 << 30  # octets of a program: a wrong body may ask for more and more
 STATEMENT = re.compile(r"^ +[a-z_.*&]+[\w.]*(\(.*\))?(\.\w+\(.*\))*\??;$|^ +[\w.]+ [-+|]?= .*;$")
-
 
 # cargo with the crates that are installed, in the folder of a crate
 CARGO = ("sh", "-c", '. ../../tools/release/crates.sh && cargo_with_crates "$@"', "sh")
+BY_CARGO_ALONE = "SURVIVED cargo test"
 
 
 class Change(NamedTuple):
@@ -44,7 +52,13 @@ class Change(NamedTuple):
 
 
 def wrong_lines(line: str) -> Iterator[tuple[str, str]]:
-    """Yields what is changed, and the changed line."""
+    """Yields what is changed, and the changed line. Its comment stays."""
+    code = line.split("//")[0].rstrip()
+    for what, other in wrong_codes(code):
+        yield what, other + line[len(code):]
+
+
+def wrong_codes(line: str) -> Iterator[tuple[str, str]]:
     for one, two in PAIRS:
         for old, new in ((one, two), (two, one)):
             if old in line:
@@ -96,27 +110,62 @@ def modules_of_live() -> list[str]:
     return sorted(path.stem for path in tests.glob("test_*.py") if words.search(path.read_text()) or path.stem in helpers)
 
 
+def limit_memory() -> None:
+    resource.setrlimit(resource.RLIMIT_AS, (MOST_MEMORY, MOST_MEMORY))
+
+
+def renew(copy: pathlib.Path) -> None:
+    """Gives a checkout the sources of this clone. Only files that differ are written, so that cargo
+    builds what has changed and nothing else. What the clone has built is linked."""
+    listed = subprocess.run(["git", "ls-files", "-co", "--exclude-standard"], cwd=TOP, text=True,
+                            stdout=subprocess.PIPE, check=True)
+    names = {name for name in listed.stdout.splitlines() if (TOP / name).is_file()}
+    for folder in ("rust", "python", "tools"):
+        for path in [path for path in (copy / folder).rglob("*") if path.is_file()]:
+            own = path.relative_to(copy)
+            if str(own) not in names and not {"out", "target"} & set(own.parts):
+                path.unlink()
+    for name in names:
+        new = copy / name
+        if not new.is_file() or new.read_bytes() != (TOP / name).read_bytes():
+            new.parent.mkdir(parents=True, exist_ok=True)
+            shutil.copyfile(TOP / name, new)
+            shutil.copymode(TOP / name, new)
+    for crate in ("lldpa", "lldpa_c"):
+        if not (copy / "crates" / crate / "out").exists():
+            (copy / "crates" / crate / "out").symlink_to(TOP / "crates" / crate / "out")
+
+
 class Run:
     """Tries changes, in a copy of the checkout for each thread."""
 
     def __init__(self, options: argparse.Namespace) -> None:
-        self.room, self.cargo_alone = pathlib.Path(options.room), options.cargo
+        self.room, self.cargo_alone, self.modules = pathlib.Path(options.room), options.cargo, options.modules
         self.room.mkdir(parents=True, exist_ok=True)
         self.record = self.room / "changes.jsonl"
         self.record.touch()
         self.lock = threading.Lock()
         done = [json.loads(line) for line in self.record.read_text().splitlines()]
-        self.rows = {(row["file"], row["line"], row["new"]): row for row in done}
+        self.rows = {(row["file"], row["line"], row["old"], row["new"]): row["verdict"] for row in done}
         self.left: queue.SimpleQueue[Change] = queue.SimpleQueue()
         for change in drawn(options):
-            if (change.file, change.line, change.new) not in self.rows:
+            verdict = self.rows.get((change.file, change.line, change.old, change.new))
+            if verdict is None or verdict == BY_CARGO_ALONE and not options.cargo:
                 self.left.put(change)
 
     def copy(self, thread: int) -> pathlib.Path:
-        copy = self.room / f"checkout-{thread}"
-        if not copy.is_dir():
-            shutil.copytree(TOP, copy, symlinks=True, ignore=shutil.ignore_patterns("target", "proofs", "*.oantt", "incremental"))
-        return copy
+        return self.room / f"checkout-{thread}"
+
+    def prepare(self, jobs: int) -> None:
+        """Renews the checkouts. Ends this program if a crate fails in one without any change."""
+        for thread in range(jobs):
+            copy = self.copy(thread)
+            copy.mkdir(exist_ok=True)
+            renew(copy)
+            for crate in ("rust/live", "rust/lldpa"):
+                for words in (["build", "--tests"], ["test"]):
+                    if self.fails([*CARGO, *words, "--quiet"], copy / crate, copy, 1800, sys.stderr):
+                        sys.exit(f"{crate}: cargo {' '.join(words)} fails before anything is changed")
 
     def work(self, thread: int) -> None:
         copy = self.copy(thread)
@@ -136,32 +185,33 @@ class Run:
                 file.write(json.dumps({**change._asdict(), "verdict": verdict}) + "\n")
                 print(f"{verdict}\n    {change.file}:{change.line + 1} {change.what}\n    -{change.old}\n    +{change.new}", flush=True)
 
+    def fails(self, words: list[str], folder: pathlib.Path, copy: pathlib.Path, seconds: int, output: Any = subprocess.DEVNULL) -> bool:
+        """True if a program fails, or is not done in time. Then it is ended with all that it started."""
+        settings = {**os.environ, "LLDPA_LIB_DIR": str(TOP / "crates/lldpa_c/out/lib"), "RUSTFLAGS": "-A warnings",
+                    "CARGO_TARGET_DIR": str(copy / "target"), "LLDPA": str(TOP / "crates/lldpa/out/lldpa"),
+                    "LLDPA_LIVE": str(copy / "rust/live/out/lldpa-live")}
+        with subprocess.Popen(words, cwd=folder, env=settings, stdin=subprocess.DEVNULL, stdout=output, stderr=output,
+                              start_new_session=True, preexec_fn=limit_memory) as program:
+            try:
+                return program.wait(seconds) != 0
+            except subprocess.TimeoutExpired:
+                os.killpg(program.pid, signal.SIGKILL)
+                return True
+
     def verdict(self, change: Change, copy: pathlib.Path) -> str:
         crate = copy / "/".join(change.file.split("/")[:2])
-        settings = {**os.environ, "LLDPA_LIB_DIR": str(copy / "crates/lldpa_c/out/lib"), "RUSTFLAGS": "-A warnings",
-                    "CARGO_TARGET_DIR": str(copy / "target"), "LLDPA": str(copy / "crates/lldpa/out/lldpa"),
-                    "LLDPA_LIVE": str(copy / "rust/live/out/lldpa-live")}
-
-        def is_refused(words: list[str], folder: pathlib.Path, seconds: int) -> bool:
-            try:
-                ran = subprocess.run(words, cwd=folder, env=settings, stdin=subprocess.DEVNULL, stdout=subprocess.DEVNULL,
-                                     stderr=subprocess.DEVNULL, timeout=seconds, check=False)
-            except subprocess.TimeoutExpired:
-                return True
-            return ran.returncode != 0
-
-        if is_refused([*CARGO, "build", "--tests", "--quiet"], crate, 600):
+        if self.fails([*CARGO, "build", "--tests", "--quiet"], crate, copy, 900):
             return "refused"
-        if is_refused([*CARGO, "test", "--quiet"], crate, 300):
+        if self.fails([*CARGO, "test", "--quiet"], crate, copy, 300):
             return "seen by cargo test"
         if self.cargo_alone:
-            return "SURVIVED cargo test"
-        if crate.name == "lldpa" and is_refused(["python3", "tools/library/check-library.py"], copy, 3000):
+            return BY_CARGO_ALONE
+        if crate.name == "lldpa" and self.fails(["python3", "tools/library/check-library.py"], copy, copy, 3000):
             return "seen by check-library.py"
-        if is_refused(["tools/release/live.sh"], copy, 600):
+        if self.fails(["tools/release/live.sh"], copy, copy, 900):
             return "refused"
-        for module in modules_of_live():
-            if is_refused(["python3", "-m", "unittest", "-q", module], copy / "python/tests", 900):
+        for module in self.modules or modules_of_live():
+            if self.fails(["python3", "-m", "unittest", "-q", module], copy / "python/tests", copy, 900):
                 return f"seen by {module}"
         return "SURVIVED"
 
@@ -174,8 +224,10 @@ def main() -> None:
     parser.add_argument("--jobs", type=int, default=1)
     parser.add_argument("--only", default="", help="a pattern of file and line")
     parser.add_argument("--cargo", action="store_true", help="only cargo test")
+    parser.add_argument("--modules", nargs="+", metavar="NAME", help="only these modules of python/tests")
     options = parser.parse_args()
     run = Run(options)
+    run.prepare(options.jobs)
     threads = [threading.Thread(target=run.work, args=(number,)) for number in range(options.jobs)]
     for thread in threads:
         thread.start()
