@@ -111,6 +111,19 @@ class TestSettings(OnLinks):
         self.assertIn("configuration.eth2.status=rx-only", live.ask("show configuration"))
         self.assertIn("lldp.eth2.sent=0", live.ask("show statistics"))
 
+    def test_a_wrong_line_counts_once_although_its_port_comes_again(self) -> None:
+        wrong = "configure ports eth1 lldp status on"
+        self.file.write_text(f"{wrong}\nconfigure ports eth1 lldp status rx-only\n")
+        live = self.live(*self.words(), "eth0", "eth[1-9]")
+        self.assertEqual(live.number("settings-refused"), 1)
+        self.wires.remove_link("eth1")
+        self.assertTrue(eventually(lambda: not live.has("live.eth1.interface=present")
+                                   and not live.has("live.eth1.interface=awaited")))
+        self.wires.add_link(1)
+        live.comes_to("configuration.eth1.status=rx-only", "show configuration")
+        self.assertEqual(live.number("settings-refused"), 1)
+        self.assertEqual(live.errors().count(wrong), 1)
+
     def test_while_it_waits_for_an_interface_no_wrong_line_and_no_reload_is_lost(self) -> None:
         self.file.write_text("configure lldp tx-interval 7\n")
         live = self.live(*self.words(), "eth7", awaits=False)

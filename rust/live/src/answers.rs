@@ -226,7 +226,7 @@ impl Live {
             ("began", self.began.to_string()),
             ("agent", if self.running.is_some() { "running" } else { "waiting" }.into()),
             ("seconds", self.clock.given.to_string()),
-            ("settings-refused", self.settings.refused.to_string()),
+            ("settings-refused", self.settings.count_refused().to_string()),
             ("ports-refused", self.ports.count_refused().to_string()),
             ("log", self.log.state().into()),
             ("log-lines-lost", self.log.lost.to_string()),

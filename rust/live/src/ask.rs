@@ -2,9 +2,10 @@
 //! is kept only until it is printed, so that no answer takes much memory.
 
 use crate::listening::connect;
-use crate::reports::{readable, report, ERROR};
+use crate::reports::{report, ERROR};
 use crate::rights::{at, give_up, user_to_be};
 use crate::time::Moment;
+use lldpa_people::texts::printable;
 use std::io::{BufWriter, Error, ErrorKind, Read, Result, Write};
 use std::os::unix::net::UnixStream;
 use std::time::Duration;
@@ -31,10 +32,10 @@ pub fn ask(path: &str, line: &str) -> Result<i32> {
         let line = answer.line().map_err(at(path))?;
         match line.strip_prefix(REFUSAL) {
             Some(text) if number == 0 => {
-                report(ERROR, &readable(text));
+                report(ERROR, &printable(text));
                 return Ok(1);
             }
-            _ => writeln!(out, "{}", readable(&line))?,
+            _ => writeln!(out, "{}", printable(&line))?,
         }
     }
     out.flush()?;
@@ -121,7 +122,7 @@ mod tests {
         let mut answer = Answer { stream, last, octets: Vec::new(), begin: 0, allowance: 100_000 };
         let mut lines = || -> Result<Vec<String>> {
             let count = answer.count()?;
-            (0..count).map(|_| Ok(readable(&answer.line()?))).collect()
+            (0..count).map(|_| Ok(printable(&answer.line()?))).collect()
         };
         lines().map_err(|fault| fault.to_string())
     }

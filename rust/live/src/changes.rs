@@ -1,8 +1,9 @@
 //! Describes in plain text what a neighbor says, and what has changed in it.
 
 use crate::identifiers::{name_of, shown, CHASSIS_ID, PORT_ID};
-use crate::reports::{counted, readable};
+use crate::reports::counted;
 use lldpa::{Info, Tlv};
+use lldpa_people::texts::printable;
 use std::collections::btree_map::Entry;
 use std::collections::{BTreeMap, BTreeSet};
 
@@ -21,16 +22,16 @@ const MOST_OF_A_FIELD: usize = 1000;
 pub fn summary(info: &Info<'_>) -> String {
     let first = |kind| info.kept().find(|tlv| tlv.kind == kind && !tlv.body.is_empty()).map(|tlv| tlv.body);
     let msap = info.msap();
-    let name = first(SYSTEM_NAME).map_or_else(|| name_of(CHASSIS_ID, msap.chassis).0, readable);
+    let name = first(SYSTEM_NAME).map_or_else(|| name_of(CHASSIS_ID, msap.chassis).0, printable);
     let (port, kind) = name_of(PORT_ID, msap.port);
     let described = first(PORT_DESCRIPTION).filter(|_| kind == "port.mac" || kind == "port.unhandled");
     let management = first(MANAGEMENT).map_or(String::new(), |body| name_of(MANAGEMENT, body).0);
-    format!("{name} {} {management}", described.map_or(port, readable)).trim_end().into()
+    format!("{name} {} {management}", described.map_or(port, printable)).trim_end().into()
 }
 
 /// Returns the field that people read in a TLV, and its value. None for other TLVs.
 fn field(tlv: &Tlv<'_>) -> Option<(&'static str, String)> {
-    let text = |body: &[u8]| if body.is_empty() { "empty".into() } else { readable(body) };
+    let text = |body: &[u8]| if body.is_empty() { "empty".into() } else { printable(body) };
     match tlv.kind {
         PORT_DESCRIPTION => Some(("port.descr", text(tlv.body))),
         SYSTEM_NAME => Some(("chassis.name", text(tlv.body))),

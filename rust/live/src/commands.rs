@@ -4,9 +4,10 @@
 use crate::live::Live;
 use crate::patterns;
 use crate::reports::{counted, notice, warn};
-use crate::settings::{self, explained, first_word, Setting, LONGEST_LINE};
+use crate::settings::{self, explained, first_word, Place, Setting, LONGEST_LINE};
 use crate::time::Moment;
 use lldpa::{CommandFault, Status};
+use std::collections::BTreeSet;
 use std::fmt;
 
 /// The settings in force.
@@ -14,8 +15,26 @@ use std::fmt;
 pub struct Settings {
     /// The settings of ports in the files, kept for ports that are added later.
     of_ports: Vec<Setting>,
-    /// How many were not applied.
-    pub refused: usize,
+    /// How many files could not be read.
+    unread: usize,
+    /// The places of the settings that were not applied. A setting of a port is tried again each
+    /// time that the port is added.
+    refused: BTreeSet<Place>,
+}
+
+impl Settings {
+    pub fn count_refused(&self) -> usize {
+        self.unread + self.refused.len()
+    }
+
+    /// Notes whether a setting is refused. Returns true if it is, and was not before.
+    fn note(&mut self, place: Place, is_refused: bool) -> bool {
+        if is_refused {
+            return self.refused.insert(place);
+        }
+        self.refused.remove(&place);
+        false
+    }
 }
 
 /// Why a command is refused.
@@ -68,9 +87,9 @@ impl Live {
         let (settings, unread) = settings::read(&self.arguments.config);
         unread.iter().for_each(|line| warn(line));
         let of_ports = settings.iter().filter(|setting| setting.port().is_some()).cloned().collect();
-        self.settings = Settings { of_ports, refused: unread.len() };
+        self.settings = Settings { of_ports, unread: unread.len(), ..Settings::default() };
         self.apply(&settings);
-        match self.settings.refused {
+        match self.settings.count_refused() {
             0 if is_first => (),
             0 => notice("the settings were read again"),
             1 => warn("1 setting was not applied"),
@@ -96,9 +115,9 @@ impl Live {
 
     fn apply(&mut self, settings: &[Setting]) {
         for setting in settings {
-            if let Some(why) = self.why_refused(setting) {
-                warn(&setting.refused(&why));
-                self.settings.refused += 1;
+            let why = self.why_refused(setting);
+            if self.settings.note(setting.place(), why.is_some()) {
+                warn(&setting.refused(&why.unwrap_or_default()));
             }
         }
     }
@@ -121,5 +140,28 @@ impl Live {
     /// True if a pattern may still add the port of a setting.
     fn may_come(&self, setting: &Setting) -> bool {
         setting.port().map_or(false, |port| patterns::may_give(&self.arguments.selectors, &port))
+    }
+}
+
+#[cfg(test)]
+mod tests {
+    use super::*;
+
+    #[test]
+    fn a_setting_that_is_refused_again_counts_once() {
+        let mut settings = Settings { unread: 1, ..Settings::default() };
+        // the line, whether it is refused, whether that is news, and how many are refused then
+        for (line, is_refused, is_news, count) in [
+            (1, false, false, 1),
+            (2, true, true, 2),
+            (2, true, false, 2),
+            (3, true, true, 3),
+            (2, false, false, 2),
+            (2, true, true, 3),
+        ] {
+            assert_eq!(settings.note(("a.conf".into(), line), is_refused), is_news, "{line}");
+            assert_eq!(settings.count_refused(), count, "{line}");
+        }
+        assert!(settings.note(("b.conf".into(), 2), true), "the same line of another file");
     }
 }

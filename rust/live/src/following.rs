@@ -250,15 +250,15 @@ impl Live {
     pub fn report_status(&mut self) {
         if self.running.is_some() && self.manager.is_there() {
             let (neighbors, ports) = (self.ports.neighbors().count(), self.ports.all.len());
-            let refused = match self.settings.refused {
+            let refused = match self.settings.count_refused() {
                 0 => String::new(),
                 count => format!("; {} refused", counted(count, "setting")),
             };
             let status = format!("{} on {}{refused}", counted(neighbors, "neighbor"), counted(ports, "port"));
-            self.manager.show(status);
+            self.manager.set_status(status);
         }
         self.events.end_minute();
-        self.manager.give_sign(Moment::now());
+        self.manager.send_keepalive(Moment::now());
     }
 
     /// Returns when the wait for input must end. `due` is when the agent next acts without input.

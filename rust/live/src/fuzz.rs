@@ -91,11 +91,13 @@ fn fuzz_control_lines() {
 #[test]
 fn fuzz_settings() {
     feed(&[SETTINGS.as_bytes()], |octets| {
-        for setting in settings::settings_in("a.conf", octets) {
+        let settings = settings::settings_in("a.conf", octets);
+        settings.iter().for_each(|setting| drop(setting.port()));
+        // one line of each input, since explaining takes longer than all else
+        if let Some(setting) = settings.get(octets.len() % settings.len().max(1)) {
             let why = settings::explained(&setting.line, CommandFault::Unknown);
             assert!(setting.refused(&why).len() < 4000);
             settings::explained(&setting.line, CommandFault::Range);
-            setting.port();
         }
     });
 }

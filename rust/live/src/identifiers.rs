@@ -1,7 +1,7 @@
 //! Identifiers of neighbors, as `show` prints them and as text for people.
 
-use crate::reports::readable;
 use lldpa::{tlv_text, Msap};
+use lldpa_people::texts::printable;
 use std::net::Ipv6Addr;
 
 pub const CHASSIS_ID: u8 = 1;
@@ -38,7 +38,7 @@ pub fn name_of(kind: u8, body: &[u8]) -> (String, String) {
             let address = value.split(',').next().unwrap_or("");
             address.parse::<Ipv6Addr>().map_or(address.into(), |address| address.to_string())
         }
-        _ => readable(body.get(1..).unwrap_or(&[])),
+        _ => printable(body.get(1..).unwrap_or(&[])),
     };
     (name, key)
 }

@@ -298,7 +298,7 @@ impl Live {
             up: bits(&|port| port.interface.is_up == Some(true)),
             full: bits(&|port| port.full_until > self.clock.given),
             log: self.log.state(),
-            settings_refused: self.settings.refused,
+            settings_refused: self.settings.count_refused(),
         }
     }
 

@@ -8,14 +8,14 @@ use std::fs::File;
 use std::io::Write;
 use std::time::Duration;
 
-const LEAST_BETWEEN_SIGNS: Duration = Duration::from_millis(10);
-const SIGNS_A_SPAN: u32 = 4; // signs of life in the time that the watchdog allows
+const LEAST_BETWEEN_KEEPALIVES: Duration = Duration::from_millis(10);
+const KEEPALIVES_A_SPAN: u32 = 4; // in the time that the watchdog allows
 
 /// The service manager that started this service, if there is one.
 pub struct Manager {
     socket: Option<(File, Vec<u8>)>,
     span: Option<Duration>,
-    next_sign: Moment,
+    next_keepalive: Moment,
     status: String,
 }
 
@@ -41,7 +41,7 @@ impl Manager {
     pub fn new() -> Manager {
         let address = var("NOTIFY_SOCKET").ok().and_then(|name| address_of(&name));
         let socket = address.and_then(|address| Some((sockets::open_datagrams().ok()?, address)));
-        Manager { socket, span: watchdog_span(), next_sign: Moment::default(), status: String::new() }
+        Manager { socket, span: watchdog_span(), next_keepalive: Moment::default(), status: String::new() }
     }
 
     pub fn is_there(&self) -> bool {
@@ -62,22 +62,22 @@ impl Manager {
     }
 
     /// Sets the status that `systemctl status` shows, if it has changed.
-    pub fn show(&mut self, status: String) {
+    pub fn set_status(&mut self, status: String) {
         if status != self.status {
             self.send(&format!("STATUS={status}"));
             self.status = status;
         }
     }
 
-    /// Gives a sign of life if one is due.
-    pub fn give_sign(&mut self, now: Moment) {
-        if let Some(span) = self.span.filter(|_| now >= self.next_sign) {
-            self.next_sign = now + (span / SIGNS_A_SPAN).max(LEAST_BETWEEN_SIGNS);
+    /// Sends a sign of life to the watchdog if one is due.
+    pub fn send_keepalive(&mut self, now: Moment) {
+        if let Some(span) = self.span.filter(|_| now >= self.next_keepalive) {
+            self.next_keepalive = now + (span / KEEPALIVES_A_SPAN).max(LEAST_BETWEEN_KEEPALIVES);
             self.send("WATCHDOG=1");
         }
     }
 
     pub fn deadline(&self) -> Option<Moment> {
-        self.span.filter(|_| self.socket.is_some()).map(|_| self.next_sign)
+        self.span.filter(|_| self.socket.is_some()).map(|_| self.next_keepalive)
     }
 }

@@ -86,7 +86,7 @@ impl Live {
             "{awaited}: no such interface yet; waiting for one, and until then nothing is sent or received"
         ));
         self.manager.send("READY=1"); // so that it does not hold up the start of the system
-        self.manager.show(format!("waiting for an interface: {awaited}"));
+        self.manager.set_status(format!("waiting for an interface: {awaited}"));
     }
 
     /// Gives the agent the neighbors of an earlier lldpa-live. Sends and reports nothing.

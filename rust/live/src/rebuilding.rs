@@ -60,7 +60,7 @@ fn fill(port: &str, seconds: u32) -> [Line; 4] {
 impl Running {
     /// Returns lines that rebuild the tables of these ports, and how many seconds pass in these
     /// lines.
-    pub fn tables(&self, names: &[String]) -> (Vec<Line>, u32) {
+    pub fn table_lines(&self, names: &[String]) -> (Vec<Line>, u32) {
         let (mut lines, mut last) = (Vec::new(), Vec::new());
         for (port, name) in self.names.iter().enumerate().filter(|one| names.contains(one.1)) {
             for one in self.agent.neighbors(port as u8).into_iter().flatten() {
@@ -88,7 +88,7 @@ impl Running {
     /// too-many-neighbors condition and the seconds until its end, `downs` those without a link.
     pub fn head(&self, names: &[String], new: Status, full: &[(String, u32)], downs: &[String]) -> Vec<Line> {
         let configuration = self.agent.configuration();
-        let (tables, passed) = self.tables(names);
+        let (tables, passed) = self.table_lines(names);
         let mut lines = Vec::new();
         let name = Some(self.chassis("name")).filter(|name| !name.contains('"')); // no command can set it
         lines.extend(name.map(|name| set_text("hostname", &name)));

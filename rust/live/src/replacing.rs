@@ -123,7 +123,7 @@ impl Live {
             let (chassis, port_id) = (msap.chassis.to_vec(), msap.port.to_vec());
             Arrival { port: port.into(), chassis, port_id, came: one.came }
         });
-        let (lines, _) = running.tables(&running.names);
+        let (lines, _) = running.table_lines(&running.names);
         Some(State::new(arrivals.collect(), lines))
     }
 }

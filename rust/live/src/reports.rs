@@ -3,6 +3,7 @@
 
 use crate::time::Moment;
 use crate::waiting::{epoll, ready, Awaited, OUT};
+use lldpa_people::texts::printable;
 use std::collections::BTreeMap;
 use std::fs::File;
 use std::io::Write;
@@ -21,8 +22,7 @@ const LONGEST: usize = 1000; // characters of such a line
 
 pub fn report(level: u8, text: &str) {
     let front = if is_journal() { format!("<{level}>") } else { "lldpa-live: ".into() };
-    let text = text.replace(|letter: char| letter != ' ' && !is_shown(letter), "?");
-    let mut line = (front + &text).into_bytes();
+    let mut line = (front + &printable(text.as_bytes())).into_bytes();
     line.truncate(MOST_AT_ONCE);
     line.push(b'\n');
     if can_take() {
@@ -56,32 +56,8 @@ fn is_journal() -> bool {
         .map_or(false, |file| journal == format!("{}:{}", file.dev(), file.ino()))
 }
 
-/// Letters that are invisible on a terminal.
-const HIDDEN: [char; 5] = ['\u{115f}', '\u{1160}', '\u{3164}', '\u{ffa0}', '\u{2800}'];
-
-/// True if a terminal shows this character, and the character has no other effect.
-fn is_shown(letter: char) -> bool {
-    letter.is_ascii_graphic() || (!letter.is_ascii() && letter.is_alphanumeric() && !HIDDEN.contains(&letter))
-}
-
-/// Makes a stranger's text printable: octets that a terminal would not show become `\x` and digits.
-pub fn readable(octets: &[u8]) -> String {
-    let escaped = |octets: &[u8]| octets.iter().map(|octet| format!("\\x{octet:02x}")).collect::<String>();
-    let one = |letter: char| match letter {
-        _ if letter == ' ' || is_shown(letter) => letter.to_string(),
-        _ => escaped(letter.to_string().as_bytes()),
-    };
-    let octet = |octet: &u8| if octet.is_ascii() { one(char::from(*octet)) } else { escaped(&[*octet]) };
-    std::str::from_utf8(octets)
-        .map_or_else(|_| octets.iter().map(octet).collect(), |text| text.chars().map(one).collect())
-}
-
 pub fn counted(count: usize, what: &str) -> String {
-    match count {
-        0 => format!("no {what}s"),
-        1 => format!("1 {what}"),
-        _ => format!("{count} {what}s"),
-    }
+    lldpa_people::texts::counted(count as u128, what)
 }
 
 /// Reports when neighbors and links come, change or go, as a history in the journal.

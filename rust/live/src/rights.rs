@@ -45,7 +45,7 @@ fn group_named(name: &str) -> Option<u32> {
 
 #[cfg(not(target_feature = "crt-static"))]
 fn group_named(name: &str) -> Option<u32> {
-    sys::group_number(name)
+    crate::sys::groups::number_of(name)
 }
 
 /// Says where `group_of` has looked for a group.

@@ -1,9 +1,10 @@
 //! Reads the settings, which are `configure` lines in files and so outlive a restart.
 
 use crate::files::names;
-use crate::reports::readable;
 use crate::rights::{at, text_of};
 use lldpa::CommandFault;
+use lldpa_people::refused;
+use lldpa_people::texts::printable;
 use std::fs::{self, OpenOptions};
 use std::io::{Error, ErrorKind, Read, Result};
 use std::os::unix::fs::OpenOptionsExt;
@@ -11,6 +12,9 @@ use std::os::unix::fs::OpenOptionsExt;
 const MOST_OCTETS: u64 = 1_000_000; // of a file
 const MOST_SHOWN: usize = 200; // characters of a refused line
 pub const LONGEST_LINE: usize = 4096;
+
+/// The path and the number of a line.
+pub type Place = (String, usize);
 
 #[derive(Clone, Debug)]
 pub struct Setting {
@@ -22,7 +26,11 @@ pub struct Setting {
 impl Setting {
     pub fn refused(&self, why: &str) -> String {
         let shown = |text: &str| text.trim().chars().take(MOST_SHOWN).collect::<String>();
-        format!("{}:{}: {}: {}", self.path, self.number, shown(&readable(&self.line)), shown(why))
+        format!("{}:{}: {}: {}", self.path, self.number, shown(&printable(&self.line)), shown(why))
+    }
+
+    pub fn place(&self) -> Place {
+        (self.path.clone(), self.number)
     }
 
     pub fn port(&self) -> Option<String> {
@@ -93,70 +101,21 @@ pub fn first_word(line: &[u8]) -> String {
 
 /// Returns the words of a line. A text in quotes is one word.
 fn words_of(line: &[u8]) -> Vec<String> {
-    let text = readable(line).replace("\\x09", " ");
-    let mut words = Vec::new();
-    let mut rest = text.trim_matches(' ');
-    while !rest.is_empty() {
-        let (word, further) = match rest.strip_prefix('"') {
-            Some(quoted) => quoted.split_once('"').unwrap_or((quoted, "")),
-            None => rest.split_once(' ').unwrap_or((rest, "")),
-        };
-        words.push(word.to_string());
-        rest = further.trim_start_matches(' ');
-    }
-    words
+    refused::words_of(&text_of_line(line))
 }
 
-const A_TEXT: &str = "up to 255 printable characters, in quotes if it has spaces";
-const STATUSES: &str = "rx-and-tx, rx-only, tx-only, disabled";
-/// The forms of settings, and what the last word may be. Words in capitals are placeholders.
-const FORMS: [(&[&str], &str); 6] = [
-    (&["configure", "system", "hostname", "TEXT"], A_TEXT),
-    (&["configure", "system", "description", "TEXT"], A_TEXT),
-    (&["configure", "lldp", "tx-interval", "N"], "seconds between frames, 1 to 3600"),
-    (&["configure", "lldp", "tx-hold", "N"], "intervals that peers keep a frame, 1 to 100"),
-    (&["configure", "lldp", "max-neighbors", "N"], "1 to the number of --max-neighbors"),
-    (&["configure", "ports", "PORT", "lldp", "status", "STATUS"], STATUSES),
-];
-
-fn is_value(word: &str) -> bool {
-    word.bytes().all(|octet| octet.is_ascii_uppercase())
-}
-
-/// Returns how many of the first words match the form.
-fn fitting(form: &[&str], words: &[String]) -> usize {
-    let fits = |(wanted, word): &(&&str, &String)| match **wanted {
-        "STATUS" => STATUSES.split(", ").any(|status| status == *word),
-        wanted => is_value(wanted) || wanted == *word,
-    };
-    form.iter().zip(words).take_while(fits).count()
+/// Returns a line as a text in which only tabs do not become visible.
+fn text_of_line(line: &[u8]) -> String {
+    printable(line).replace("\\x09", "\t")
 }
 
 /// Adds the wrong word and what is allowed in its place to the agent's refusal of a line: `out of
 /// range` becomes `out of range: 0 (seconds between frames, 1 to 3600)`.
 pub fn explained(line: &[u8], fault: CommandFault) -> String {
-    let words = words_of(line);
-    let most = FORMS.iter().map(|form| fitting(form.0, &words)).max().unwrap_or(0);
-    let forms: Vec<_> = FORMS.iter().filter(|form| fitting(form.0, &words) == most).collect();
-    let place = match fault {
-        CommandFault::Quote | CommandFault::InUse => return fault.to_string(),
-        CommandFault::Unknown | CommandFault::Extra => most,
-        _ => forms[0].0.iter().position(|word| is_value(word)).unwrap_or(most),
-    };
-    let allowed = |form: &&(&[&'static str], &'static str)| match form.0.get(place) {
-        None => "no word is allowed here",
-        Some(&"PORT") => "must be a port of this agent",
-        Some(word) if is_value(word) => form.1,
-        Some(word) => word,
-    };
-    let mut wanted: Vec<&str> = forms.iter().map(allowed).collect();
-    wanted.dedup();
-    let found = match words.get(place).map(|word| &word[..]) {
-        None => "a word is missing",
-        Some("") => "empty word",
-        Some(word) => word,
-    };
-    format!("{fault}: {found} ({})", wanted.join(" or "))
+    match fault {
+        CommandFault::Quote | CommandFault::InUse => fault.to_string(),
+        _ => refused::explained(&text_of_line(line), &fault.to_string()),
+    }
 }
 
 #[cfg(test)]

@@ -3,7 +3,7 @@
 use crate::sys::wait::set_events;
 pub use crate::sys::wait::{epoll, ready, IN, OUT, PRIORITY};
 use std::fs::File;
-use std::os::unix::io::AsRawFd;
+use std::os::unix::io::AsFd;
 
 /// A file, and the events that are awaited from it (0 for none).
 pub struct Awaited<F> {
@@ -11,13 +11,13 @@ pub struct Awaited<F> {
     wanted: u32,
 }
 
-impl<F: AsRawFd> Awaited<F> {
+impl<F: AsFd> Awaited<F> {
     pub fn new(file: F) -> Awaited<F> {
         Awaited { file, wanted: 0 }
     }
 
     pub fn wait_for(&mut self, epoll: &File, wanted: u32) {
-        if self.wanted != wanted && set_events(epoll, self.file.as_raw_fd(), self.wanted, wanted).is_ok() {
+        if self.wanted != wanted && set_events(epoll, self.file.as_fd(), self.wanted, wanted).is_ok() {
             self.wanted = wanted;
         }
     }

@@ -1,7 +1,10 @@
 //! Safe functions for what the C library has and `std` lacks. All `unsafe` code of the program is
-//! in this folder. Each public function may be called with any arguments: no call can harm memory.
+//! in this folder. Each safe function may be called with any arguments: no call can harm memory.
+#![deny(unsafe_op_in_unsafe_fn)]
 
 pub mod files;
+#[cfg(not(target_feature = "crt-static"))]
+pub mod groups;
 pub mod rights;
 pub mod seccomp;
 pub mod signals;
@@ -28,7 +31,9 @@ fn checked(answer: c_int) -> Result<c_int> {
 /// # Safety
 /// The answer is negative, or a descriptor that nothing else owns.
 unsafe fn opened(answer: c_int) -> Result<File> {
-    Ok(File::from_raw_fd(checked(answer)?))
+    let number = checked(answer)?;
+    // SAFETY: it is a descriptor that nothing else owns.
+    Ok(unsafe { File::from_raw_fd(number) })
 }
 
 /// A clock of the kernel.

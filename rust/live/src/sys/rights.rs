@@ -31,9 +31,23 @@ pub fn own_user() -> u32 {
     unsafe { libc::geteuid() }
 }
 
-fn option(name: c_int, value: c_ulong) -> Result<()> {
+/// What is asked of `prctl`.
+enum Wish {
+    DropFromBoundingSet(c_ulong),
+    NoNewPrivileges,
+    NoAmbientCapabilities,
+    NotDumpable,
+}
+
+fn ask(wish: &Wish) -> Result<()> {
+    let (name, value) = match wish {
+        Wish::DropFromBoundingSet(capability) => (libc::PR_CAPBSET_DROP, *capability),
+        Wish::NoNewPrivileges => (libc::PR_SET_NO_NEW_PRIVS, 1),
+        Wish::NoAmbientCapabilities => (libc::PR_CAP_AMBIENT, libc::PR_CAP_AMBIENT_CLEAR_ALL as c_ulong),
+        Wish::NotDumpable => (libc::PR_SET_DUMPABLE, 0),
+    };
     let none: c_ulong = 0;
-    // SAFETY: the options of this module take only numbers.
+    // SAFETY: each of these options takes only numbers.
     checked(unsafe { libc::prctl(name, value, none, none, none) }).map(drop)
 }
 
@@ -42,7 +56,7 @@ fn option(name: c_int, value: c_ulong) -> Result<()> {
 /// Only the calling thread loses its capabilities, so there must be no other.
 pub fn keep_no_right(user: Option<(u32, u32)>) -> Result<()> {
     for one in 0..=LAST_CAPABILITY {
-        let _ = option(libc::PR_CAPBSET_DROP, one); // refused without CAP_SETPCAP
+        let _ = ask(&Wish::DropFromBoundingSet(one)); // refused without CAP_SETPCAP
     }
     // SAFETY: without a name the call reads no memory.
     unsafe { libc::syscall(libc::SYS_keyctl, libc::KEYCTL_JOIN_SESSION_KEYRING, null::<u8>()) };
@@ -55,10 +69,10 @@ pub fn keep_no_right(user: Option<(u32, u32)>) -> Result<()> {
         // SAFETY: as above.
         checked(unsafe { libc::setresuid(user, user, user) })?;
     }
-    option(libc::PR_SET_NO_NEW_PRIVS, 1)?;
-    option(libc::PR_CAP_AMBIENT, libc::PR_CAP_AMBIENT_CLEAR_ALL as c_ulong)?;
+    ask(&Wish::NoNewPrivileges)?;
+    ask(&Wish::NoAmbientCapabilities)?;
     drop_capabilities()?;
-    option(libc::PR_SET_DUMPABLE, 0)
+    ask(&Wish::NotDumpable)
 }
 
 fn drop_capabilities() -> Result<()> {
@@ -67,14 +81,4 @@ fn drop_capabilities() -> Result<()> {
     // sets. (It writes the header only if the version is unknown.)
     let answer = unsafe { libc::syscall(libc::SYS_capset, &header, &sets) };
     checked(answer as c_int).map(drop)
-}
-
-/// Returns the number of a group by its name, from the name service. A program that is linked
-/// statically has no name service, and knows only the groups in /etc/group.
-#[cfg(not(target_feature = "crt-static"))]
-pub fn group_number(name: &str) -> Option<u32> {
-    let name = std::ffi::CString::new(name).ok()?;
-    // SAFETY: the name ends with a zero. The result is null or valid until the next such call, and
-    // no other thread runs yet.
-    unsafe { libc::getgrnam(name.as_ptr()).as_ref().map(|group| group.gr_gid) }
 }

@@ -5,6 +5,7 @@ use crate::time::WallTime;
 use libc::{c_int, c_void, socklen_t};
 use std::fs::File;
 use std::io::{Error, ErrorKind, Result};
+use std::marker::PhantomData;
 use std::mem::{size_of, zeroed};
 use std::os::unix::io::AsRawFd;
 use std::os::unix::net::UnixStream;
@@ -29,32 +30,84 @@ struct PacketStatistics {
     drops: u32,
 }
 
+/// An option of sockets, with the type of its value.
+struct SocketOption<T> {
+    level: c_int,
+    name: c_int,
+    value: PhantomData<T>,
+}
+
+impl<T: Copy> SocketOption<T> {
+    /// # Safety
+    /// The kernel knows this option with values of `T`, whose octets may be any, and keeps no
+    /// pointer of a value that it is given.
+    const unsafe fn new(level: c_int, name: c_int) -> SocketOption<T> {
+        SocketOption { level, name, value: PhantomData }
+    }
+
+    /// Gives the kernel a value, which it copies.
+    fn set(&self, file: &impl AsRawFd, value: &T) -> Result<()> {
+        let (start, length) = ((value as *const T).cast::<c_void>(), size_of::<T>() as socklen_t);
+        // SAFETY: the stated length is that of the value, whose type is the option's.
+        checked(unsafe { libc::setsockopt(file.as_raw_fd(), self.level, self.name, start, length) }).map(drop)
+    }
+
+    /// Reads the option into a value, and returns how many octets the kernel wrote.
+    fn get(&self, file: &impl AsRawFd, value: &mut T) -> Result<usize> {
+        let (start, mut length) = ((value as *mut T).cast::<c_void>(), size_of::<T>() as socklen_t);
+        // SAFETY: the kernel writes at most the stated length, which is that of the value, and any
+        // octets are a value of the option's type.
+        checked(unsafe { libc::getsockopt(file.as_raw_fd(), self.level, self.name, start, &mut length) })?;
+        Ok(length as usize)
+    }
+}
+
+// SAFETY: socket(7) has these options with a number.
+const RECEIVE_ROOM: SocketOption<c_int> = unsafe { SocketOption::new(libc::SOL_SOCKET, libc::SO_RCVBUF) };
+// SAFETY: as above.
+const RECEIVE_ROOM_BY_FORCE: SocketOption<c_int> =
+    unsafe { SocketOption::new(libc::SOL_SOCKET, libc::SO_RCVBUFFORCE) };
+// SAFETY: as above.
+const TIME_STAMPS: SocketOption<c_int> = unsafe { SocketOption::new(libc::SOL_SOCKET, libc::SO_TIMESTAMPNS) };
+// SAFETY: as above.
+const LOCK_FILTER: SocketOption<c_int> = unsafe { SocketOption::new(libc::SOL_SOCKET, libc::SO_LOCK_FILTER) };
+// SAFETY: packet(7) has it with a number.
+const IGNORE_OUTGOING: SocketOption<c_int> =
+    unsafe { SocketOption::new(libc::SOL_PACKET, PACKET_IGNORE_OUTGOING) };
+// SAFETY: packet(7) has it with this struct of numbers.
+const MEMBERSHIP: SocketOption<libc::packet_mreq> =
+    unsafe { SocketOption::new(libc::SOL_PACKET, libc::PACKET_ADD_MEMBERSHIP) };
+// SAFETY: packet(7) has it with this struct of numbers.
+const STATISTICS: SocketOption<PacketStatistics> =
+    unsafe { SocketOption::new(libc::SOL_PACKET, PACKET_STATISTICS) };
+// SAFETY: unix(7) has it with this struct of numbers.
+const PEER: SocketOption<libc::ucred> = unsafe { SocketOption::new(libc::SOL_SOCKET, libc::SO_PEERCRED) };
+// SAFETY: the kernel writes numbers of groups, as many as there are and have room.
+const PEER_GROUPS: SocketOption<[u32; MOST_GROUPS]> =
+    unsafe { SocketOption::new(libc::SOL_SOCKET, libc::SO_PEERGROUPS) };
+
 fn socket(domain: c_int, kind: c_int) -> Result<File> {
     // SAFETY: the call takes only numbers.
     unsafe { opened(libc::socket(domain, kind | libc::SOCK_CLOEXEC | libc::SOCK_NONBLOCK, 0)) }
 }
 
-/// Sets an option whose value the kernel copies. `T` must be the option's type, without pointers.
-fn set<T: Copy>(file: &File, level: c_int, name: c_int, value: &T) -> Result<()> {
-    let (start, length) = ((value as *const T).cast::<c_void>(), size_of::<T>() as socklen_t);
-    // SAFETY: the stated length is that of the value.
-    checked(unsafe { libc::setsockopt(file.as_raw_fd(), level, name, start, length) }).map(drop)
-}
+/// A struct for addresses, of which the kernel reads a number of octets.
+///
+/// # Safety
+/// It is one of libc's `sockaddr` structs.
+unsafe trait Address {}
+// SAFETY: it is one of them.
+unsafe impl Address for libc::sockaddr_ll {}
+// SAFETY: it is one of them.
+unsafe impl Address for libc::sockaddr_nl {}
+// SAFETY: it is one of them.
+unsafe impl Address for libc::sockaddr_un {}
 
-/// Reads an option into the value, and returns how many octets the kernel wrote. Any octets must be
-/// a value of `T`, as they are for numbers.
-fn get<T: Copy>(file: &impl AsRawFd, level: c_int, name: c_int, value: &mut T) -> Result<usize> {
-    let (start, mut length) = ((value as *mut T).cast::<c_void>(), size_of::<T>() as socklen_t);
-    // SAFETY: the kernel writes at most the stated length, which is that of the value.
-    checked(unsafe { libc::getsockopt(file.as_raw_fd(), level, name, start, &mut length) })?;
-    Ok(length as usize)
-}
-
-/// Binds a socket to an address, or connects it. `T` must be one of libc's `sockaddr` structs.
-fn address<T: Copy>(file: &File, address: &T, length: usize, is_peer: bool) -> Result<()> {
+/// Binds a socket to an address, or connects it.
+fn address<T: Address>(file: &File, address: &T, length: usize, is_peer: bool) -> Result<()> {
     let call = if is_peer { libc::connect } else { libc::bind };
     let start = (address as *const T).cast::<libc::sockaddr>();
-    // SAFETY: the length is at most that of the address.
+    // SAFETY: the address is a `sockaddr`, and at least as long as the stated length.
     let answer = unsafe { call(file.as_raw_fd(), start, length.min(size_of::<T>()) as socklen_t) };
     checked(answer).map(drop)
 }
@@ -65,12 +118,12 @@ fn address<T: Copy>(file: &File, address: &T, length: usize, is_peer: bool) -> R
 pub fn open_packet(filter: &[libc::sock_filter], room: usize) -> Result<File> {
     let file = socket(libc::AF_PACKET, libc::SOCK_RAW)?;
     let room = c_int::try_from(room).unwrap_or(c_int::MAX);
-    set(&file, libc::SOL_SOCKET, libc::SO_RCVBUF, &room)?;
-    let _ = set(&file, libc::SOL_SOCKET, libc::SO_RCVBUFFORCE, &room); // only with CAP_NET_ADMIN
-    set(&file, libc::SOL_SOCKET, libc::SO_TIMESTAMPNS, &1)?;
-    let _ = set(&file, libc::SOL_PACKET, PACKET_IGNORE_OUTGOING, &1); // since Linux 4.20
+    RECEIVE_ROOM.set(&file, &room)?;
+    let _ = RECEIVE_ROOM_BY_FORCE.set(&file, &room); // only with CAP_NET_ADMIN
+    TIME_STAMPS.set(&file, &1)?;
+    let _ = IGNORE_OUTGOING.set(&file, &1); // since Linux 4.20
     attach(&file, filter)?;
-    set(&file, libc::SOL_SOCKET, libc::SO_LOCK_FILTER, &1)?;
+    LOCK_FILTER.set(&file, &1)?;
     Ok(file)
 }
 
@@ -78,7 +131,9 @@ fn attach(file: &File, filter: &[libc::sock_filter]) -> Result<()> {
     let len = u16::try_from(filter.len()).map_err(|_| Error::from(ErrorKind::InvalidInput))?;
     // The kernel only reads the steps; libc declares the pointer as for both directions.
     let program = libc::sock_fprog { len, filter: filter.as_ptr() as *mut libc::sock_filter };
-    set(file, libc::SOL_SOCKET, libc::SO_ATTACH_FILTER, &program)
+    // SAFETY: the kernel copies the steps during the call, and there are as many as the program says.
+    let attach = unsafe { SocketOption::new(libc::SOL_SOCKET, libc::SO_ATTACH_FILTER) };
+    attach.set(file, &program)
 }
 
 /// Binds a packet socket to an interface and an EtherType.
@@ -105,13 +160,13 @@ pub fn join(file: &File, interface: c_int, group: GroupAddress) -> Result<()> {
         mr_alen: group.len() as u16,
         mr_address: place,
     };
-    set(file, libc::SOL_PACKET, libc::PACKET_ADD_MEMBERSHIP, &wanted)
+    MEMBERSHIP.set(file, &wanted)
 }
 
 /// Returns how many frames the kernel has dropped at a packet socket since the last call.
 pub fn drops(file: &File) -> u64 {
     let mut told = PacketStatistics { _packets: 0, drops: 0 };
-    get(file, libc::SOL_PACKET, PACKET_STATISTICS, &mut told).map_or(0, |_| told.drops.into())
+    STATISTICS.get(file, &mut told).map_or(0, |_| told.drops.into())
 }
 
 /// The room for the time stamp of a frame, aligned as the kernel writes it.
@@ -140,14 +195,21 @@ pub fn receive(file: &File, rooms: &mut Rooms) -> Result<Vec<(usize, Option<Wall
     let (start, most) = (messages.as_mut_ptr(), ROOMS as u32);
     // SAFETY: all rooms, pieces and notes outlive the call, and are as long as the messages say.
     let count = checked(unsafe { libc::recvmmsg(file.as_raw_fd(), start, most, 0, null_mut()) })? as usize;
-    Ok(messages[..count.min(ROOMS)].iter().map(|one| (one.msg_len as usize, stamp(&one.msg_hdr))).collect())
+    let read = messages[..count.min(ROOMS)].iter().map(|one| {
+        // SAFETY: the kernel has filled the message, whose note is aligned and still alive.
+        (one.msg_len as usize, unsafe { stamp(&one.msg_hdr) })
+    });
+    Ok(read.collect())
 }
 
-/// Returns the time stamp in a message that the kernel has filled.
-fn stamp(head: &libc::msghdr) -> Option<WallTime> {
-    // SAFETY: the kernel has set the pointer and the length of the note, which is still alive.
+/// Returns the time stamp in a message.
+///
+/// # Safety
+/// The kernel has filled the message, and its room for notes is aligned as `Note` and still alive.
+unsafe fn stamp(head: &libc::msghdr) -> Option<WallTime> {
+    // SAFETY: the kernel has set the length of the notes, whose room is alive.
     let note = NonNull::new(unsafe { libc::CMSG_FIRSTHDR(head) })?;
-    // SAFETY: the macro answers null unless the note has a whole header, and notes are aligned.
+    // SAFETY: the macro answers null unless the room has a whole header, and the room is aligned.
     let told = unsafe { note.as_ref() };
     let is_stamp = told.cmsg_level == libc::SOL_SOCKET && told.cmsg_type == libc::SCM_TIMESTAMPNS;
     // SAFETY: the macro only computes with a number.
@@ -201,11 +263,11 @@ pub fn connect_stream(path: &str) -> Result<UnixStream> {
 /// Returns the user and the groups that a client's process had when it connected.
 pub fn peer_of(stream: &UnixStream) -> (u32, Vec<u32>) {
     let mut told = libc::ucred { pid: 0, uid: u32::MAX, gid: u32::MAX };
-    if get(stream, libc::SOL_SOCKET, libc::SO_PEERCRED, &mut told).is_err() {
+    if PEER.get(stream, &mut told).is_err() {
         return (u32::MAX, Vec::new());
     }
     let mut further = [0u32; MOST_GROUPS];
-    let length = get(stream, libc::SOL_SOCKET, libc::SO_PEERGROUPS, &mut further).unwrap_or(0);
+    let length = PEER_GROUPS.get(stream, &mut further).unwrap_or(0);
     let mut groups = further[..length / size_of::<u32>()].to_vec();
     groups.push(told.gid);
     (told.uid, groups)

@@ -38,7 +38,8 @@ pub fn width() -> Option<usize> {
 pub fn local_time() -> String {
     let mut time = MaybeUninit::<libc::tm>::zeroed();
     // SAFETY: the first call takes no address. The second reads the seconds and writes one `tm`, for
-    // which all zeros are a valid value. No other thread changes the environment.
+    // which all zeros are a valid value. It also reads the time zone in the environment, which
+    // nothing in this program changes.
     let time = unsafe {
         let seconds = libc::time(std::ptr::null_mut());
         libc::localtime_r(&seconds, time.as_mut_ptr());
