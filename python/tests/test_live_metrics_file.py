@@ -157,7 +157,7 @@ class MetricsFile(OnLinks):
         self.assertEqual(self.file.stat().st_mtime, last)
         self.assertIn("lldpa_up 1\n", self.text())
         self.writing()
-        self.assertGreater(self.file.stat().st_mtime, last)
+        self.assertTrue(eventually(lambda: self.file.stat().st_mtime > last, SOON))
 
     def test_a_folder_that_is_missing_is_told_and_tried_again(self) -> None:
         live = self.writing()

@@ -70,7 +70,7 @@ struct Groups(Vec<Group>);
 impl Groups {
     /// Adds the metrics of a text. A new one comes after the one that it follows in the text.
     fn add(&mut self, text: &str) {
-        let (mut place, mut lines) = (0, text.split_inclusive('\n').peekable());
+        let (mut place, mut lines) = (self.0.len(), text.split_inclusive('\n').peekable());
         while lines.peek().is_some() {
             let mut group = Group::default();
             while let Some(line) = lines.next_if(|line| line.starts_with('#')) {
@@ -378,7 +378,7 @@ mod tests {
             (&["#a\na 1\n#c\nc 1\n", "#a\na 2\n#b\nb 2\n#c\nc 2\n"], "#a\na 1\na 2\n#b\nb 2\n#c\nc 1\nc 2\n"),
             (
                 &["#b\nb 1\n", "#a\na 2\n#b\nb 2\n", "#b\nb 3\n#c\nc 3\n"],
-                "#a\na 2\n#b\nb 1\nb 2\nb 3\n#c\nc 3\n",
+                "#b\nb 1\nb 2\nb 3\n#c\nc 3\n#a\na 2\n",
             ),
         ];
         for (texts, wanted) in rows {
