@@ -29,12 +29,14 @@ import signal
 import subprocess
 import sys
 import threading
+import time
 from typing import Any, Iterator, NamedTuple
 
 TOP = pathlib.Path(__file__).resolve().parents[2]
 # pairs of texts that are exchanged for one another, in both directions
 PAIRS = ((" < ", " <= "), (" > ", " >= "), (" == ", " != "), (" && ", " || "), (" + ", " - "), ("true", "false"),
          (".min(", ".max("), ("is_some()", "is_none()"), (".any(", ".all("), ("Ok(())", "return Ok(())"))
+LEAST_PATIENCE, TIMES = 30, 3  # seconds, and how often as long as the unchanged tests a test may take
 MOST_MEMORY = 8 << 30  # octets of a program: a wrong body may ask for more and more
 STATEMENT = re.compile(r"^ +[a-z_.*&]+[\w.]*(\(.*\))?(\.\w+\(.*\))*\??;$|^ +[\w.]+ [-+|]?= .*;$")
 
@@ -147,6 +149,7 @@ class Run:
         self.lock = threading.Lock()
         done = [json.loads(line) for line in self.record.read_text().splitlines()]
         self.rows = {(row["file"], row["line"], row["old"], row["new"]): row["verdict"] for row in done}
+        self.patience = 0  # seconds for `cargo test`
         self.left: queue.SimpleQueue[Change] = queue.SimpleQueue()
         for change in drawn(options):
             verdict = self.rows.get((change.file, change.line, change.old, change.new))
@@ -164,8 +167,11 @@ class Run:
             renew(copy)
             for crate in ("rust/live", "rust/lldpa"):
                 for words in (["build", "--tests"], ["test"]):
+                    began = time.monotonic()
                     if self.fails([*CARGO, *words, "--quiet"], copy / crate, copy, 1800, sys.stderr):
                         sys.exit(f"{crate}: cargo {' '.join(words)} fails before anything is changed")
+                tested = round(time.monotonic() - began)  # nothing was left to build
+                self.patience = max(self.patience, LEAST_PATIENCE + TIMES * tested)
 
     def work(self, thread: int) -> None:
         copy = self.copy(thread)
@@ -202,7 +208,7 @@ class Run:
         crate = copy / "/".join(change.file.split("/")[:2])
         if self.fails([*CARGO, "build", "--tests", "--quiet"], crate, copy, 900):
             return "refused"
-        if self.fails([*CARGO, "test", "--quiet"], crate, copy, 300):
+        if self.fails([*CARGO, "test", "--quiet"], crate, copy, self.patience):
             return "seen by cargo test"
         if self.cargo_alone:
             return BY_CARGO_ALONE
