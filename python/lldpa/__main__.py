@@ -5,7 +5,7 @@ from . import __version__
 TEXT = f"""\
 lldpa {__version__}, the Python package of an LLDP agent
 
-  python3 -m lldpa.commands.ctl      lldpa-ctl, asks a running lldpa-live
+  python3 -m lldpa.commands.details  lldpa-details, prints details and JSON for lldpa-ctl
   python3 -m lldpa.commands.capture  lldpa-capture, converts captures to a trace
   python3 -m lldpa_audit             lldpa-audit, checks cabling against a plan
   python3 -m lldpa.commands.lldpctl  lldpctl, prints answers as lldpd's lldpctl does

@@ -109,18 +109,15 @@ class Made:
     def counters(self) -> Counters:
         return Counters(*(self.random.choice((0, 1, 4294967295)) for _ in Counters._fields))
 
-    def shows(self) -> Tuple[Tuple[Port, ...], List[str], List[str], List[str], List[str]]:
-        """Returns ports, and the answers about neighbors, counters, settings and lldpa-live."""
+    def shows(self) -> Tuple[Tuple[Port, ...], List[str], List[str], List[str]]:
+        """Returns ports, and the answers about neighbors, counters and settings."""
         ports = self.ports()
         names = [port.name for port in ports]
         statuses = {name: self.random.choice(STATUSES) for name in names}
         settings = Configuration(30, 4, 121, 2, 4, 5, 32, statuses)
-        live = [line for line in LIVE if self.random.random() < 0.8]
-        port, link = self.random.choice(("eth2", "chassis")), self.random.choice(("up", "down"))
-        live.append(f"live.{port}.link={link}")
         return (ports, lines_of(Show(ports=ports)),
                 lines_of(Show(counters={name: self.counters() for name in names})),
-                lines_of(Show(configuration=settings)), live)
+                lines_of(Show(configuration=settings)))
 
     def spoiled(self, lines: Sequence[str]) -> List[str]:
         """Returns the lines with one that is lost, doubled, cut or replaced."""

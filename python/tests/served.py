@@ -19,7 +19,7 @@ from lldpa.client import Client
 REPOSITORY = Path(__file__).resolve().parents[2]
 PROGRAM = os.environ.get("LLDPA") or str(REPOSITORY / "crates" / "lldpa" / "out" / "lldpa")
 BIN = REPOSITORY / "bin"
-# lldpctl runs `lldpa --help`, and lldpa-ctl runs lldpa-details; both find it by PATH
+# lldpctl runs lldpa-ctl, which finds lldpa-details by PATH
 os.environ["PATH"] = os.pathsep.join(  # lldpd's lldpcli comes before ours
     [os.path.dirname(PROGRAM), os.environ.get("PATH", os.defpath), str(BIN)])
 CTL = str(BIN / "lldpa-ctl")
@@ -71,6 +71,10 @@ class Served:
         self.waits = False  # whether the agent waits for an interface
         self.asked: list[bytes] = []
         self.hidden: set[bytes] = set()  # questions whose answers are empty
+        self.refused = ""  # the reason for which all but shows are refused
+        self.counts = False  # whether it answers `changes`
+        self.changed = threading.Condition()
+        self.changes = 0
         self.live_lines = LIVE_LINES
         self.agent = Agent.start(ports, PROGRAM, receive_only=True, **options)
         self.asking = threading.Lock()
@@ -104,6 +108,12 @@ class Served:
             return []
         if line.split(b" ")[0] in (b"tick", b"rx", b"up", b"down"):
             return [b"error: for lldpa-live alone"]
+        if self.refused and not line.startswith(b"show"):
+            return [b"error: " + self.refused.encode()]
+        if self.counts and line.startswith(b"changes"):
+            with self.changed:
+                self.changed.wait_for(lambda: line != b"changes %d" % self.changes)
+                return [b"live.changes=%d" % self.changes]
         if self.waits and line.startswith(b"show"):
             self.live_lines = [*LIVE_LINES, b"live.agent=waiting"]
             return [b"error: waiting for an interface: eth0"]
@@ -121,6 +131,9 @@ class Served:
     def frame(self, port: str, octets: bytes) -> None:
         with self.asking:
             self.agent.frame(port, octets)
+        with self.changed:
+            self.changes += 1
+            self.changed.notify_all()
 
     def tick(self, seconds: int) -> None:
         with self.asking:

@@ -8,15 +8,13 @@ import re
 import socket
 import struct
 import subprocess
-import sys
 import termios
 import threading
 from contextlib import ExitStack
 
 from lldpa.client import Client
-from lldpa.client.people import port_vlan_of
 from lldpa.organizational import organizational_object, said_by
-from served import CTL, HOSTILE, LIVE_LINES, REPOSITORY, Program, frame, numbered, tlv
+from served import CTL, HOSTILE, LIVE_LINES, Program, frame, numbered, tlv
 
 
 class Answers(Program):
@@ -37,25 +35,26 @@ class Answers(Program):
         lines = [one.decode() for one in LIVE_LINES]
         self.assertEqual(self.run_ctl("live").splitlines(), lines)
 
-    def test_a_question_loads_what_it_needs_alone(self) -> None:
-        self.served.frame("eth0", numbered(1, 120, tlv(127, bytes.fromhex("0080c2010078"))))
-        text = (f"import sys; sys.path.insert(0, {str(REPOSITORY / 'python')!r})\n"
-                f"from lldpa.commands.ctl import main\nmain(['--control', {self.served.path!r}])\n"
-                "print(*sys.modules)")
-        told = subprocess.run([sys.executable, "-I", "-S", "-c", text], capture_output=True,
-                              text=True, check=True).stdout
-        *table, modules = told.splitlines()
-        self.assertIn("120", table[1])
-        self.assertEqual({*modules.split()} & {
-            "argparse", "ast", "asyncio", "calendar", "dataclasses", "datetime", "dis", "importlib",
-            "inspect", "ipaddress", "json", "locale", "subprocess", "tempfile", "textwrap",
-            "lldpa.client.details", "lldpa.client.metrics", "lldpa.organizational"}, set())
-
     def test_the_vlan_of_the_table_is_the_one_of_the_details(self) -> None:
         for tlvs in ([], ["0078"], ["0000"], ["0ffe"], ["0fff"], ["0078", "0078"], ["0078", "0079"],
-                     ["0078", "007800"], ["0078", "zz"], ["00"]):
-            org = [("0080c2.1", digits) for digits in tlvs]
-            self.assertEqual(port_vlan_of(org), said_by(org).pvid, tlvs)
+                     ["0078", "007800"], ["00"]):
+            said = [tlv(127, bytes.fromhex("0080c201" + digits)) for digits in tlvs]
+            self.served.frame("eth0", numbered(1, 120, *said))
+            neighbor = json.loads(self.run_ctl("--json"))["ports"][0]["neighbors"][0]
+            vlan = neighbor["vlan"]["pvid"]
+            rows = self.run_ctl().splitlines()
+            self.assertEqual(rows[1].split()[3:-2], [str(vlan)] if vlan else [], tlvs)
+            self.assertEqual("VLAN" in rows[0], bool(vlan), tlvs)
+
+    def test_json_of_a_command_that_answers_nothing(self) -> None:
+        for words in (["update"], ["configure", "lldp", "tx-hold", "5"]):
+            self.assertEqual(self.run_ctl("--json", *words), "{}\n")
+        self.assertIn("configuration.tx-hold=5", self.run_ctl("show", "configuration"))
+        for words, said in ((["show", "x"], "unknown command: x (neighbors, statistics, chassis, "
+                             "configuration, interfaces)"),
+                            (["show", "chassis", "x"], "extra word: x (no word is allowed here)"),
+                            (["live", "x"], "extra word: x (no word is allowed here)")):
+            self.run_ctl("--json", *words, status=1, said=said)
 
     def test_json_tells_the_same(self) -> None:
         self.served.frame("eth0", numbered(1, 120, tlv(5, HOSTILE), tlv(7, b"\0\x14\0\4"),
@@ -84,7 +83,6 @@ class Answers(Program):
         self.assertEqual(configuration["configuration"]["tx_interval"], 30)
         chassis = json.loads(self.run_ctl("--json", "show", "chassis"))["chassis"]
         self.assertEqual(chassis["name"], "localhost")
-        self.assertEqual(json.loads(self.run_ctl("--json", "update")), {})
         self.assertEqual(json.loads(self.run_ctl("--json", "live"))["live.eth0.kernel-drops"],
                          "7")
 

@@ -10,7 +10,7 @@ from judges import SLIPS, flat
 from lldpa import Agent
 from lldpa.agent.framing import Refused
 from lldpa.lldpcli_forms.shows import Depth, Told, age, neighbors
-from lldpa.lldpcli_forms.words import Lines, Question, Watching, of_lldpcli, of_lldpctl
+from lldpa.lldpcli_forms.words import Passed, Question, Watching, of_lldpcli, of_lldpctl
 from lldpa.lldpcli_forms.writing import FORMS, whole
 from lldpa.node import Node
 from lldpa.organizational.location import fixed
@@ -156,7 +156,11 @@ class Commands(unittest.TestCase):
                 ("show chassis summary", Question("chassis", Depth.SUMMARY, None)),
                 ("sh conf", Question("configuration", Depth.NORMAL, None)),
                 ("wat det lim 2 ports a", Watching(Depth.DETAILS, ["a"], 2)),
-                ("u", Lines(["update"])),
+                ("u", Passed(["update"])),
+                ("conf lldp tx-h 4", Passed(["configure", "lldp", "tx-h", "4"])),
+                ("unconfigure med", Passed(["unconfigure", "med"])),
+                ("update now", Passed(["update", "now"])),
+                ("pause", Passed(["pause"])),
                 ("show statistics summary ports a", Question("statistics", Depth.SUMMARY, ["a"]))):
             self.assertEqual(of_lldpcli(words.split()), wanted)
 
@@ -167,8 +171,8 @@ class Commands(unittest.TestCase):
         self.assertEqual(of_lldpctl(["show", "chassis"]), Question("chassis", Depth.NORMAL, None))
 
     def test_what_there_is_not(self) -> None:
-        for words in ("pause", "watch limit", "watch limit x", "show", "show configuration ports a",
-                      "show bogus", "watch ports", "update now",
+        for words in ("exit", "watch limit", "watch limit x", "show", "show configuration ports a",
+                      "show bogus", "watch ports",
                       "show neighbors details summary", "show neighbors ports",
                       "show chassis ports a", "show statistics details",
                       "show neighbors ports a ports b", "s x"):

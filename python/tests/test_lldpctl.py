@@ -4,6 +4,7 @@ import json
 import os
 import pty
 import subprocess
+import time
 import unittest
 
 from patience import SECONDS, eventually
@@ -96,7 +97,7 @@ class Handed(Program):
                       "configure ports eth0,eth1 lldp status rx-only", "up"):
             self.assertEqual(self.run_it(LLDPCLI, "-d", "-s", *words.split()), "")
         self.run_it(LLDPCLI, "configure", "system", "hostname", "a b")
-        self.assertEqual(self.served.asked, [
+        self.assertEqual([line for line in self.served.asked if line != b"configure lldp tx-ho 3"], [
             b"configure lldp tx-interval 20", b"configure lldp tx-hold 3",
             b"configure ports eth0 lldp status rx-only",
             b"configure ports eth1 lldp status rx-only",
@@ -106,12 +107,16 @@ class Handed(Program):
             "tx-delay=20", "tx-delay-ms=20000", "tx-hold=3", "max-neighbors=32", "rx-only=yes"])
 
     def test_watch(self) -> None:
+        self.served.counts = True
         self.served.frame("eth0", numbered(3))
         words = [LLDPCLI, "-u", self.served.path, "-f", "keyvalue", "watch", "limit", "3", "ports",
                  "eth1"]
         with subprocess.Popen(words, stdout=subprocess.PIPE, text=True) as watch:
             assert watch.stdout is not None
-            self.assertTrue(eventually(lambda: b"live" in self.served.asked))
+            self.assertTrue(eventually(lambda: b"changes 2" in self.served.asked))
+            asked = self.served.asked.count(b"show neighbors")
+            time.sleep(1.2)
+            self.assertEqual(self.served.asked.count(b"show neighbors"), asked)
             self.served.frame("eth0", numbered(3, 0))
             for name, ttl in (b"new", 120), (b"other", 120), (b"other", 0):
                 self.served.frame("eth1", numbered(8, ttl, tlv(5, name)))
@@ -164,10 +169,13 @@ class Refusals(Program):
         for words, said in (
                 (["show", "bogus"], f"wrong word: bogus ({shows})"),
                 (["show"], f"a word is missing after show ({shows})"),
-                (["resume"], "wrong word: resume (show, watch, configure, update)"),
-                (["update", "x"], "wrong word: x (no word is allowed here)"),
+                (["resume"], "write: configure ports PORT,.. lldp status rx-and-tx"),
+                (["unconfigure", "med"], "nothing is to be undone, since lldpa has no such setting"),
+                (["update", "x"], "extra word: x (no word is allowed here)"),
                 (["watch", "limit", "0"], "not a number from 1 to 999999999: 0"),
-                (["configure", "med", "x"], "unknown command: med (system or lldp or ports)"),
+                (["configure", "med", "x"], "such TLVs are received and shown, but not sent"),
+                (["configure", "x"], "unknown command: x (system or lldp or ports)"),
+                (["configure", "a\"b"], "a word must be ASCII without double quotes: a\"b"),
                 (["conf", "lldp", "tx-h", "0"],
                  "out of range: 0 (intervals that peers keep a frame, 1 to 100)"),
                 (["-f", "xml"], "unknown format: xml (plain, keyvalue, json, json0)"),

@@ -5,9 +5,8 @@ import shutil
 import subprocess
 import unittest
 
-from lldpa import read_show
-from lldpa.client.metrics import escaped, metrics
 from lldpa.agent.show import Counters
+from lldpa.texts import shown_text
 from served import LIVE_LINES, CTL, REPOSITORY, Served, ctl, frame, numbered, tlv
 
 FOLDER = REPOSITORY / "share" / "prometheus"
@@ -44,9 +43,7 @@ class Metrics(unittest.TestCase):
         self.addCleanup(self.served.close)
 
     def shown(self) -> Series:
-        with self.served.client() as client:
-            lines = client.ask("show neighbors") + client.ask("show statistics")
-            return series_of(metrics(read_show(lines), client.ask("live")))
+        return series_of(ctl(self.served.path, "metrics").stdout.splitlines())
 
     def test_ports_and_their_counters(self) -> None:
         for number in range(4):
@@ -145,9 +142,11 @@ class Metrics(unittest.TestCase):
         self.assertEqual(names.count("lldpa_expires_seconds"), 2)
 
     def test_values_are_escaped(self) -> None:
-        for value in ("", '"', "\\", "\n", '\\"', "\\n", "a\\\\n\"\n", "é"):
-            self.assertEqual(read(escaped(value)), value)
-            self.assertNotRegex(escaped(value), r'(^|[^\\])(\\\\)*"|\n')
+        for value in ('"', "\\", "\n", '\\"', "\\n", "a\\\\n\"\n", "é"):
+            self.served.frame("eth0", numbered(1, 90, tlv(5, value.encode())))
+            names = [dict(labels)["name"] for name, labels in self.shown()
+                     if name == "lldpa_neighbor_info"]
+            self.assertEqual(names, [shown_text(value.encode())])
 
     @has_promtool
     def test_promtool_says_nothing(self) -> None:

@@ -1,22 +1,19 @@
-"""Compares rust/people with the functions in Python, on recorded, random and hostile answers."""
+"""Compares rust/people with the functions in Python, on random and hostile answers."""
 
 import os
 import subprocess
 import unittest
-from functools import lru_cache
 from pathlib import Path
 from typing import Callable, List, NamedTuple, Sequence
 
 from lldpa import Port
 from lldpa.agent.framing import Refused
 from lldpa.agent.show import Show, ShowFault, lines_of, read_show
-from lldpa.client.metrics import metrics
-from lldpa.client.questions import ask_interfaces, ask_neighbors, ask_statistics
-from lldpa.client.refused import explained, forms_of
-from lldpa.client.watching import Watch, news_line
-from lldpa.texts import cut, readable, shown_text, width_of, wrapped
-from made_answers import LIVE, Made
-from served import PROGRAM, REPOSITORY
+from lldpa.client.people import address_text, name_of, port_of
+from lldpa.client.watching import NeighborNews, Watch
+from lldpa.texts import cut, printable, readable, shown_text, width_of, wrapped
+from made_answers import Made
+from served import REPOSITORY
 
 PEOPLE = Path(os.environ.get("LLDPA_PEOPLE") or REPOSITORY / "rust/people/out/people")
 Answers = Sequence[Sequence[str]]
@@ -54,25 +51,23 @@ def said(questions: Sequence[Question]) -> List[str]:
 
 
 def questions_of(seed: int, spoils: bool) -> List[Question]:
-    """Returns questions about random answers, of which one may be spoiled."""
+    """Returns questions about random answers, of which one line may be spoiled."""
     made = Made(seed)
-    ports, neighbors, statistics, settings, live = made.shows()
-    width = made.random.choice((1, 9, 30, 80, 1_000_000))
-    some = made.random.choice(([], [], ["eth0"], ["eth1", "eth0"], ["eth9"], [""]))
+    ports, *answers = made.shows()
     after = lines_of(Show(ports=made.later(ports)))
     if spoils:
-        neighbors, statistics, settings = map(made.spoiled, (neighbors, statistics, settings))
-    words = " ".join([str(width), *some])
-    about = [neighbors, live, settings]
-    return [
-        by_python(f"table {words}", about, lambda: ask_neighbors(some).text(about, width)),
-        by_python(f"interfaces {words}", about,
-                  lambda: ask_interfaces(some).text([neighbors, settings, live], width)),
-        by_python(f"statistics {words}", [statistics],
-                  lambda: ask_statistics(some).text([statistics], width)),
-        by_python("metrics", [neighbors, statistics, live],
-                  lambda: metrics(read_show([*neighbors, *statistics]), live)),
-        by_python("changes", [neighbors, after], lambda: changes(neighbors, after))]
+        answers = [made.spoiled(answer) for answer in answers]
+    whole = [line for answer in answers for line in answer]
+    questions = [by_python("changes", [answers[0], after], lambda: changes(answers[0], after))]
+    for answer in (*answers, whole):
+        questions.append(by_python("read", [answer], lambda lines=answer: read(lines)))
+    return questions
+
+
+def read(lines: Sequence[str]) -> List[str]:
+    """Reads an answer, and returns the names of its ports."""
+    show = read_show(lines)
+    return list(dict.fromkeys([*(port.name for port in show.ports), *show.counters]))
 
 
 def changes(before: Sequence[str], after: Sequence[str]) -> List[str]:
@@ -80,19 +75,12 @@ def changes(before: Sequence[str], after: Sequence[str]) -> List[str]:
     return [news_line(news) for news in watch.news(read_show(after).ports)]
 
 
-@lru_cache()
-def recorded() -> List[List[str]]:
-    """Returns the answers to `show neighbors` in the examples."""
-    found = []
-    for file in sorted((REPOSITORY / "examples").glob("*.expect")):
-        text = file.read_text(errors="replace")
-        lines = [line for line in text.split("\n") if line.startswith("lldp.")]
-        try:
-            read_show(lines)
-        except ShowFault:
-            continue
-        found.append(lines)
-    return found
+def news_line(news: NeighborNews) -> str:
+    """Returns what happened to a neighbor, as `lldpa-ctl watch` prints it after the time."""
+    one = news.neighbor
+    management = address_text(one.management[0]) if one.management else ""
+    summary = " ".join([name_of(one), port_of(one), management]).rstrip()
+    return printable("; ".join([f"{one.port} {news.what}: {summary}", *news.changes]))
 
 
 @unittest.skipUnless(PEOPLE.exists(), "tools/gate/check-people.sh builds rust/people/out/people")
@@ -110,18 +98,6 @@ class Native(unittest.TestCase):
 
     def test_spoiled_answers(self) -> None:
         self.compare([one for seed in SEEDS for one in questions_of(seed, True)])
-
-    def test_recorded_answers(self) -> None:
-        questions = []
-        for lines in recorded():
-            about = [lines, LIVE, []]
-            for width in (40, 80, 1_000_000):
-                text = lambda width=width, about=about: ask_neighbors([]).text(about, width)
-                questions.append(by_python(f"table {width}", about, text))
-            questions.append(by_python("metrics", [lines, [], LIVE],
-                                       lambda lines=lines: metrics(read_show(lines), LIVE)))
-        self.assertGreater(len(questions), 40)
-        self.compare(questions)
 
     def test_every_character(self) -> None:
         letters = [chr(number) for number in (*range(0xD800), *range(0xE000, 0x30000),
@@ -154,20 +130,6 @@ class Native(unittest.TestCase):
                 made.described("p", place) for place in range(1, 10))),))) for _ in range(2))
             questions.append(by_python("changes", [before, after], lambda: changes(before, after)))
         self.compare(questions)
-
-    def test_refusals(self) -> None:
-        forms = forms_of(PROGRAM)
-        self.assertGreater(len(forms), 5)
-        reasons = ("unknown command", "extra word", "no such port", "not a number", "out of range",
-                   "bad text", "bad quote")
-        rows = []
-        for form in forms:
-            for end in range(len(form) + 1):
-                for more in ("", " x", ' "" x', ' "a b"', " 0 rx-only"):
-                    rows += [(text, " ".join(form[:end]) + more) for text in reasons]
-        rows = [row for row in rows if row[1].strip()]
-        self.compare([by_python("refused", [[f"{text}|{line}" for text, line in rows]], lambda: [
-            explained(line, text, PROGRAM) for text, line in rows])])
 
 
 if __name__ == "__main__":

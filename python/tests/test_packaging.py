@@ -17,7 +17,7 @@ SECTIONS = {"lldpa-audit": 1, "lldpa-capture": 1, "lldpa-ctl": 8, "lldpctl": 1}
 if os.access(LIVE, os.X_OK):
     SECTIONS["lldpa-live"] = 8
 WHEEL = str(REPOSITORY / "tools" / "release" / "wheel.sh")
-PROGRAMS = ("lldpa-audit", "lldpa-capture", "lldpa-ctl")
+PROGRAMS = ("lldpa-audit", "lldpa-capture", "lldpa-details")
 TYPED = """\
 from typing import List, Optional
 

@@ -3,7 +3,7 @@
 import json
 from typing import Any
 
-from lldpa.client.questions import explanation, listed
+from lldpa.client.answers import listed
 from lldpa.agent.shown import Counters
 from served import Program, numbered, tlv
 
@@ -123,4 +123,5 @@ class Words(Program):
 
     def test_refusals_of_whole_lines_stay(self) -> None:
         for text in ("no permission", "waiting for an interface", "too many held"):
-            self.assertEqual(explanation(["configure", "lldp", "tx-hold", "0"], text), text)
+            self.served.refused = text
+            self.run_ctl("configure", "lldp", "tx-hold", "0", status=1, said=text)

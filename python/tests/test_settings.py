@@ -7,7 +7,6 @@ import unittest
 
 from heard import Heard
 from running_live import OnLinks
-from lldpa.client.refused import explained
 from patience import eventually
 from served import PROGRAM, numbered
 
@@ -32,14 +31,6 @@ REFUSED = (
 def whole(text: str, place: str) -> str:
     """Returns the whole message about a refused line."""
     return f"{text}: {place}" if place else text
-
-
-class TestExplained(unittest.TestCase):
-    def test_words_and_ranges(self) -> None:
-        for line, text, place in REFUSED:
-            self.assertEqual(explained(line, text, PROGRAM), whole(text, place))
-        self.assertEqual(explained("configure lldp tx-hold x", "not a number", "/no/lldpa"),
-                         "not a number")
 
 
 class TestSettings(OnLinks):

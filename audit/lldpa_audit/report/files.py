@@ -1,5 +1,6 @@
 """Writes the files of a report."""
 import os
+from contextlib import suppress
 from pathlib import Path
 from typing import Iterable
 
@@ -13,7 +14,6 @@ def write(file: str, texts: Iterable[str]) -> None:
             with path.open("w", encoding="utf-8") as opened:
                 opened.writelines(texts)
         else:
-            from lldpa.client.publishing import replace  # slow to load
             replace(file, texts)
     except OSError as fault:
         raise OSError(fault.errno, fault.strerror, file) from None
@@ -23,3 +23,21 @@ def is_written_in_place(path: Path) -> bool:
     """Returns whether a path is a pipe, a device or a link to one, and belongs to root or this
     user. Such a path is written in place, any other is replaced."""
     return path.exists() and not path.is_file() and path.lstat().st_uid in (0, os.geteuid())
+
+
+def replace(file: str, texts: Iterable[str]) -> None:
+    """Writes these texts to a temporary file, and then replaces the file with it."""
+    import tempfile  # slow to load
+    folder, name = os.path.split(os.path.abspath(file))
+    number, path = tempfile.mkstemp(prefix=f".{name}.", dir=folder)
+    try:
+        with open(number, "w", encoding="utf-8") as new:
+            os.fchmod(new.fileno(), 0o644)  # so that the collector, another user, can read it
+            new.writelines(texts)
+            new.flush()
+            os.fsync(new.fileno())
+        os.replace(path, file)
+    except BaseException:
+        with suppress(OSError):
+            os.unlink(path)
+        raise

@@ -112,7 +112,7 @@ class Port(NamedTuple):
 
 
 class Counters(NamedTuple):
-    """A port's counters; see `COUNTED`. After 4,294,967,295 each begins again at 0."""
+    """A port's counters; lldpa(1) says what each counts. After 4,294,967,295 each begins again at 0."""
     sent: int
     shutdowns: int
     received: int
@@ -124,17 +124,6 @@ class Counters(NamedTuple):
     drops: int
 
 
-COUNTED = {
-    "sent": "Ordinary frames sent.",
-    "shutdowns": "Shutdown frames sent.",
-    "received": "LLDP frames received while the port was up and could receive.",
-    "discarded": "LLDPDUs refused.",
-    "errors": "LLDPDUs that were refused or had a discarded TLV.",
-    "tlvs_discarded": "TLVs discarded.",
-    "unrecognized": "TLVs that were kept although their meaning is unknown.",
-    "ageouts": "Neighbors that aged out.",
-    "drops": "LLDPDUs dropped because the table was full.",
-}
 NO_COUNTERS: Mapping[str, Counters] = {}
 
 

@@ -11,7 +11,7 @@ import os
 import socket
 import struct
 import time
-from typing import Any, Callable
+from typing import Any, Callable, Optional
 
 from ..faults import LldpaFault
 from ..agent.framing import Refused, checked
@@ -20,6 +20,8 @@ from ..texts import printable
 
 DEFAULT_PATH = "/run/lldpa/control"
 SECONDS_TO_ANSWER = 30.0
+WITHOUT_END = float(1 << 30)  # seconds
+LONGEST_WAIT = 86_400.0  # seconds of one call, as a socket's timeout is limited
 LONGEST_LINE = 64 * 1024  # of a line in an answer, in octets
 MOST_OCTETS = 25 * 1024 * 1024  # of an answer: 64 ports with 128 neighbors of 1,500 octets each
 MOST_SKIPPED = 512 * 1024 * 1024  # of the rest of a larger answer
@@ -95,6 +97,18 @@ class Client:
         lines = [one for name in names for one in self.ask_once(f"{line} {name}")]
         return list({one.partition("=")[0]: one for one in lines}.values())
 
+    def changes(self, known: Optional[str] = None) -> Optional[str]:
+        """Returns how often neighbors came, changed or left. Waits until this number is not
+        `known`. Returns None at once if lldpa-live refuses the question. Raises as `ask` does."""
+        patience, self.seconds = self.seconds, WITHOUT_END
+        try:
+            count = "".join(self.ask_once(f"changes {known or ''}".rstrip())).partition("=")[2]
+        except Refused:
+            return None
+        finally:
+            self.seconds = patience
+        return count if count.isdecimal() else None
+
     def skip(self) -> None:
         """Receives the rest of an answer, and keeps none of it."""
         self.room = MOST_SKIPPED
@@ -144,9 +158,8 @@ class Client:
 
     def in_time(self, call: Callable[[Any], Any], argument: Any) -> Any:
         """Calls a socket method. Raises TimeoutError, also in Python 3.9, if the time is over."""
-        left = self.last - time.monotonic()
-        if left > 0:
-            self.connection.settimeout(left)
+        while (left := self.last - time.monotonic()) > 0:
+            self.connection.settimeout(min(left, LONGEST_WAIT))
             with contextlib.suppress(socket.timeout):
                 return call(argument)
         raise TimeoutError(f"no complete answer within {self.seconds:g} "

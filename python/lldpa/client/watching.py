@@ -1,20 +1,19 @@
-"""Finds out and prints which neighbors come, change and leave."""
+"""Finds out which neighbors come, change and leave."""
 
 import json
 import time
 from typing import Dict, Iterable, Iterator, List, NamedTuple, Sequence, Tuple
 
 from ..organizational import rows_of, said_by
+from .answers import only
 from .as_json import neighbor_object
 from .connection import Client
 from .live_lines import Since, since_of
-from .people import summary
-from .questions import only
 from ..agent.framing import Refused
 from ..agent.show import Identifier, Neighbor, Port, read_show
-from ..texts import printable, readable
+from ..texts import readable
 
-SECONDS_BETWEEN_LOOKS = 0.5
+SECONDS_BETWEEN_LOOKS = 0.5  # so that many changes are told together
 
 Name = Tuple[str, Identifier, Identifier]
 CAME, CHANGED, GONE = "came", "changed", "gone"
@@ -25,7 +24,7 @@ class NeighborNews(NamedTuple):
 
     what: str
     neighbor: Neighbor
-    changes: tuple[str, ...] = ()
+    changes: Tuple[str, ...] = ()
 
 
 class Watch:
@@ -47,13 +46,7 @@ class Watch:
                 yield NeighborNews(CHANGED, neighbor, differences)
 
 
-def news_line(news: NeighborNews) -> str:
-    """Returns what happened to a neighbor, for people: `eth0 came: switch-2 swp1 192.0.2.2`."""
-    said = f"{news.neighbor.port} {news.what}: {summary(news.neighbor)}"
-    return printable("; ".join([said, *news.changes]))
-
-
-def by_name(ports: Iterable[Port]) -> dict[Name, Neighbor]:
+def by_name(ports: Iterable[Port]) -> Dict[Name, Neighbor]:
     """Returns the neighbors by port, chassis ID and port ID, which together identify a neighbor."""
     return {(one.port, one.chassis, one.port_id): one for port in ports for one in port.neighbors}
 
@@ -82,26 +75,25 @@ def content_of(neighbor: Neighbor) -> Dict[str, str]:
 
 
 def looks(client: Client) -> Iterator[List[str]]:
-    """Asks for the neighbors again and again, and yields each answer that is not a refusal."""
+    """Yields the answer to `show neighbors` each time that lldpa-live has counted changes."""
+    known = client.changes()
     while True:
-        time.sleep(SECONDS_BETWEEN_LOOKS)
         try:
-            lines = client.ask("show neighbors")
-        except Refused:
-            continue
-        yield lines
+            yield client.ask("show neighbors")
+        except Refused:  # the agent waits for an interface
+            pass
+        time.sleep(SECONDS_BETWEEN_LOOKS)
+        known = client.changes(known)
 
 
-def watch(client: Client, some: Sequence[str], as_json: bool) -> None:
-    """Prints a line for each neighbor of these ports (all if empty) that comes, changes or leaves.
-    Never returns. Raises Refused if a port does not exist."""
-    neighbors = Watch(only(read_show(client.ask("show neighbors")), some).ports)
+def watch(client: Client, ports: Sequence[str]) -> None:
+    """Prints an object for each neighbor of these ports (all if empty) that comes, changes or
+    leaves. Never returns. Raises Refused if a port does not exist."""
+    neighbors = Watch(only(read_show(client.ask("show neighbors")), ports).ports)
     for lines in looks(client):
         now = time.strftime("%Y-%m-%dT%H:%M:%S%z")
-        for news in neighbors.news(only(read_show(lines), some).ports):
-            since = since_of(client.ask("live")) if as_json else {}
-            line = news_object(news, now, since) if as_json else f"{now} {news_line(news)}"
-            print(line, flush=True)
+        for news in neighbors.news(only(read_show(lines), ports).ports):
+            print(news_object(news, now, since_of(client.ask("live"))), flush=True)
 
 
 def news_object(news: NeighborNews, now: str, since: Since) -> str:

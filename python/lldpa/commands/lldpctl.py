@@ -2,8 +2,10 @@
 
 import getopt
 import os
+import subprocess
 import sys
 import time
+from pathlib import Path
 from typing import Callable, List, NamedTuple, Optional, Sequence
 
 from .. import __version__, output
@@ -11,16 +13,16 @@ from ..client.connection import DEFAULT_PATH, Client, Gone, give_up_root
 from ..client.watching import Watch, looks
 from ..agent.framing import Refused
 from ..lldpcli_forms.shows import LINES, neighbor_node, told_by
-from ..lldpcli_forms.words import (Command, Lines, Question, Watching, of_lldpcli,
+from ..lldpcli_forms.words import (Command, Passed, Question, Watching, of_lldpcli,
                                    of_lldpctl)
 from ..lldpcli_forms.writing import FORMS, form_of
 from ..agent.show import ShowFault
 from ..node import Node
 from ..organizational.kinds import load
 from ..texts import printable
-from .ctl import answer as answer_of, said_of
+from .details import said_of
 
-LLDPCTL, LLDPCLI = "lldpctl", "lldpcli"
+LLDPCTL, LLDPCLI, CTL = "lldpctl", "lldpcli", "lldpa-ctl"
 HELP = f"""\
 usage: NAME [-u PATH] [-f FORMAT] [PORT... | COMMAND]
 
@@ -43,6 +45,7 @@ from standard input until a line says exit. The commands are:
   watch [details | summary] [ports PORT,..] [limit N]
   configure ...  change a setting, see lldpa(1)
   update         announce the current state of this host at once
+unconfigure, pause and resume say what to do instead.
 
 example: lldpctl -f keyvalue eth0
 lldpd has a program of the same name: lldpctl(1) says how to put this one on the
@@ -109,14 +112,29 @@ def watch(client: Client, given: Given, watching: Watching) -> None:
                 return
 
 
+def pass_on(path: str, words: Sequence[str]) -> None:
+    """Lets lldpa-ctl run a command. Raises Refused with its message if it fails. It is in the folder
+    of this program, or where both are installed, or on the path."""
+    here = Path(__file__).resolve().parents[3]
+    places = [here / "bin" / CTL, here.parents[1] / "bin" / CTL]
+    program = next((str(place) for place in places if place.exists()), CTL)
+    try:
+        ran = subprocess.run([program, "--control", path, "--", *words], stdin=subprocess.DEVNULL,
+                             capture_output=True, check=False)
+    except FileNotFoundError:
+        raise Refused(f"{CTL} of the package lldpa is not installed") from None
+    if ran.returncode != 0:
+        said = ran.stderr.decode(errors="replace").rstrip("\n")
+        raise Refused(said.rpartition("\n")[2].partition(": ")[2])
+
+
 def obey(given: Given, command: Command) -> int:
     """Runs a command. Raises Refused if lldpa-live refuses it or does not answer."""
+    if isinstance(command, Passed):
+        pass_on(given.path, command.words)
+        return 0
     try:
         with Client(given.path) as client:
-            if isinstance(command, Lines):
-                for line in command.lines:
-                    answer_of(client, line)
-                return 0
             load()
             give_up_root()
             if isinstance(command, Question):

@@ -3,8 +3,6 @@
 from typing import List, NamedTuple, Optional, Sequence, Union
 
 from ..agent.framing import Refused
-from ..client.questions import question
-from ..client.refused import forms_of, in_full
 from .shows import TREES, Depth, Told
 from ..node import Node
 
@@ -16,6 +14,8 @@ SHOWS = {"neighbors": ("details", "summary", "hidden", PORTS),
          "statistics": ("summary", PORTS),
          "configuration": ()}
 COMMANDS = ("show", "watch", "configure", "update")
+# commands that lldpa-ctl runs, or explains
+OF_CTL = ("configure", "update", "unconfigure", "pause", "resume")
 
 
 class Question(NamedTuple):
@@ -42,28 +42,28 @@ class Watching(NamedTuple):
     limit: Optional[int]
 
 
-class Lines(NamedTuple):
-    lines: Sequence[str]
+class Passed(NamedTuple):
+    """A command that lldpa-ctl runs."""
+    words: Sequence[str]
 
 
-Command = Union[Question, Watching, Lines]
+Command = Union[Question, Watching, Passed]
 
 
 def of_lldpctl(words: Sequence[str]) -> Command:
     """Reads the words of lldpctl: ports, or a command whose first word is written in full."""
-    if words and words[0] in COMMANDS:
+    if words and words[0] in (*COMMANDS, *OF_CTL):
         return of_lldpcli(words)
     return Question("neighbors", Depth.DETAILS, listed(words) if words else None)
 
 
 def of_lldpcli(words: Sequence[str]) -> Command:
     """Reads a command of lldpcli, whose words may be shortened. Raises Refused if it is wrong."""
+    if words[0] in OF_CTL:
+        return Passed(words)
     first, rest = meant(words[0], COMMANDS), list(words[1:])
-    if first == "configure":
-        return Lines(question(in_full([first, *rest], forms_of("lldpa"))).lines)
-    if first == "update":
-        read_rest(rest, [])
-        return Lines([first])
+    if first in OF_CTL:
+        return Passed([first, *rest])
     if first == "watch":
         return read_rest(rest, ["details", "summary", "hidden", LIMIT, PORTS])
     if not rest:

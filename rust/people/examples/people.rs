@@ -3,12 +3,7 @@
 //! the result as a line `=N` and N lines, or a line `fault: WHY`.
 
 use lldpa_people::changes::Watch;
-use lldpa_people::interfaces::{counter_lines, interfaces};
-use lldpa_people::live_lines::LiveLines;
-use lldpa_people::metrics::metrics;
-use lldpa_people::refused::explained;
 use lldpa_people::show::{Read, Show};
-use lldpa_people::table::{reasons, table};
 use lldpa_people::texts::{cut, plain, readable, width_of, wrapped};
 use std::io::{BufRead, Error, ErrorKind, Result};
 
@@ -16,11 +11,6 @@ type Answers = Vec<Vec<String>>;
 
 fn lines(answer: &[String]) -> Vec<&str> {
     answer.iter().map(|line| &line[..]).collect()
-}
-
-/// Returns the lines of several answers, one after another.
-fn joined<'a>(answers: &[&'a Vec<String>]) -> Vec<&'a str> {
-    answers.iter().flat_map(|answer| lines(answer)).collect()
 }
 
 /// Returns a shown text, its width, the text cut to a width, and wrapped at it.
@@ -34,36 +24,15 @@ fn texts(shown: &[String], width: usize) -> Vec<String> {
 
 fn answer(words: &[&str], answers: &Answers) -> Read<Vec<String>> {
     let width = words.get(1).and_then(|word| word.parse().ok()).unwrap_or(0);
-    let ports: Vec<String> = words.iter().skip(2).map(|word| word.to_string()).collect();
     match (words[0], &answers[..]) {
         ("texts", [shown]) => Ok(texts(shown, width)),
-        ("table", [neighbors, live, configuration]) => {
-            let show = Show::read(joined(&[neighbors, configuration]))?.only(&ports)?;
-            let mut told = table(&show.ports, width);
-            told.extend(reasons(&show, &LiveLines::read(&lines(live)), width));
-            Ok(told)
-        }
-        ("interfaces", [neighbors, live, configuration]) => {
-            let show = Show::read(joined(&[neighbors, configuration]))?;
-            interfaces(&show, &LiveLines::read(&lines(live)), &ports, width)
-        }
-        ("statistics", [statistics]) => {
-            Ok(counter_lines(&Show::read(lines(statistics))?.only(&ports)?.counters, width))
-        }
-        ("metrics", [neighbors, statistics, live]) => {
-            let text =
-                metrics(&Show::read(joined(&[neighbors, statistics]))?, &LiveLines::read(&lines(live)))?;
-            Ok(text.lines().map(String::from).collect())
+        ("read", [shown]) => {
+            let names = Show::read(lines(shown))?.names();
+            Ok(names.into_iter().map(String::from).collect())
         }
         ("changes", [before, after]) => {
             let mut watch = Watch::of(&Show::read(lines(before))?);
             Ok(watch.news(&Show::read(lines(after))?))
-        }
-        ("refused", [rows]) => {
-            let told = |row: &String| {
-                row.split_once('|').map_or(String::new(), |(text, line)| explained(line, text))
-            };
-            Ok(rows.iter().map(told).collect())
         }
         _ => Err(format!("no such question: {}", words.join(" "))),
     }

@@ -130,7 +130,7 @@ pub fn run(arguments: &[String], host: &dyn Host) -> i32 {
         }
     };
     let path = given.control.clone().unwrap_or_else(|| DEFAULT_PATH.into());
-    match (Client { host, given: &given, path: &path }).answer(arguments) {
+    match (Client { host, given: &given, path: &path }).answer() {
         Ok(()) => 0,
         Err(failure) => {
             complain(&failure.message(&path));
@@ -156,7 +156,7 @@ struct Client<'a> {
 }
 
 impl Client<'_> {
-    fn answer(&self, arguments: &[String]) -> Done<()> {
+    fn answer(&self) -> Done<()> {
         let words = self.words();
         refuse_lldpd(&words)?;
         let words: Vec<&str> = words.iter().map(|word| &word[..]).collect();
@@ -164,13 +164,14 @@ impl Client<'_> {
             ["help", ..] => self.print(HELP),
             ["version"] => self.print(&format!("{NAME} {VERSION}\n")),
             ["metrics"] => self.publish(),
-            ["details", ..] => self.decode(arguments),
-            _ if self.given.json => self.decode(arguments),
+            ["details", ..] => self.decode(&words),
+            _ if self.given.json && has_object(&words) => self.decode(&words),
             ["watch", ref ports @ ..] => self.watch(&listed(ports)),
             _ => {
                 let mut connection = self.connect(PATIENCE)?;
                 let lines = self.lines(&mut connection, &words)?;
-                self.print(&lines.iter().map(|line| format!("{line}\n")).collect::<String>())
+                let text = lines.iter().map(|line| format!("{line}\n")).collect::<String>();
+                self.print(if self.given.json { "{}\n" } else { &text })
             }
         }
     }
@@ -209,12 +210,14 @@ impl Client<'_> {
     }
 
     /// Becomes the program that decodes TLVs of organizations.
-    fn decode(&self, arguments: &[String]) -> Done<()> {
+    fn decode(&self, words: &[&str]) -> Done<()> {
         self.print("")?; // fails if standard output was closed, which that program would not notice
         let beside =
             std::env::current_exe().ok().and_then(|program| Some(program.parent()?.join(DETAILS_BESIDE)));
         let program = beside.filter(|path| path.exists()).unwrap_or_else(|| DETAILS.into());
-        let fault = std::process::Command::new(program).args(arguments).exec();
+        let mut command = std::process::Command::new(program);
+        command.args(["--control", self.path]).args(self.given.json.then_some("--json"));
+        let fault = command.arg("--").args(words).exec();
         let what = if self.given.json { "--json" } else { "details" };
         Err(Failure::Refused(match fault.kind() {
             ErrorKind::NotFound => format!("{what} needs the program {DETAILS} of the package lldpa-tools"),
@@ -309,6 +312,16 @@ impl Client<'_> {
             None => self.print(&text)?,
         }
         failure.map_or(Ok(()), Err)
+    }
+}
+
+/// Returns whether the answer to a command is an object for JSON. The others answer with nothing.
+fn has_object(words: &[&str]) -> bool {
+    match words {
+        ["show", "neighbors" | "statistics", ..] | ["show", "chassis" | "configuration"] => true,
+        ["live"] => true,
+        [first, ..] => ["neighbors", "interfaces", "statistics", "watch"].contains(first),
+        [] => false,
     }
 }
 

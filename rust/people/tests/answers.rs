@@ -3,7 +3,7 @@
 use lldpa_people::changes::Watch;
 use lldpa_people::live_lines::LiveLines;
 use lldpa_people::metrics::{metrics, up};
-use lldpa_people::show::{Show, COUNTERS};
+use lldpa_people::show::{Port, Show, COUNTERS};
 use lldpa_people::table::{reasons, table};
 use lldpa_people::texts::width_of;
 
@@ -21,6 +21,11 @@ fn port(name: &str, too_many: bool, neighbors: &[&[&str]]) -> String {
     }
     text
 }
+
+/// The lines of `show configuration` for three ports, without their statuses.
+const SETTINGS: &str = "configuration.tx-interval=30\nconfiguration.tx-hold=4\nconfiguration.ttl=121\n\
+    configuration.reinit-delay=2\nconfiguration.tx-fast-init=4\nconfiguration.tx-credit-max=5\n\
+    configuration.max-neighbors=32\nconfiguration.ports=3\n";
 
 const MAC: &str = "chassis.mac=02:00:00:00:00:01";
 
@@ -92,6 +97,13 @@ fn what_stands_for_a_name_or_a_port() {
         (&["chassis.local=a", "port.mac=02:00:00:00:00:02", "port.descr=up"], "a  up"),
         (&["chassis.local=a", "port.ip=2001:0db8:0000:0000:0000:0000:0000:0001"], "a  2001:db8::1"),
         (&["chassis.ip=0000:0000:0000:0000:0000:0000:c000:0207", "port.local=7"], "::192.0.2.7  7"),
+        (&["chassis.ip=0000:0000:0000:0000:0000:0000:0001:0207", "port.local=7"], "::0.1.2.7  7"),
+        (&["chassis.ip=0000:0000:0000:0000:0000:0000:0100:0207", "port.local=7"], "::1.0.2.7  7"),
+        (&["chassis.ip=0000:0000:0000:0000:0000:0000:0000:0207", "port.local=7"], "::207  7"),
+        (&["chassis.ip=0000:0000:0000:0000:0000:0001:c000:0207", "port.local=7"], "::1:c000:207  7"),
+        (&["chassis.ip=fe80:0000:0000:0000:0000:0000:0000:0001", "port.ip=192.0.2.1"], "fe80::1  192.0.2.1"),
+        (&["chassis.local=a", "port.mac=02:00:00:00:00:02", "port.descr="], "a  02:00:00:00:00:02"),
+        (&["chassis.local=a", "port.local=7", "chassis.name="], "a  7"),
         (&[MAC, "port.local=7", "chassis.name=\\xe4\\xba\\xac\\xe9\\x83\\xbd"], "京都  7"),
         (&[MAC, "port.local=7", "chassis.name=\\x1b[31m\\xe2\\x80\\xae"], "\\x1b[31m\\xe2\\x80\\xae  7"),
     ] {
@@ -102,22 +114,71 @@ fn what_stands_for_a_name_or_a_port() {
 }
 
 #[test]
+fn columns_of_wide_letters_end_below_each_other() {
+    let names = ["\\xe4\\xba\\xac\\xe9\\x83\\xbd", "caf\\xc3\\xa9", "e\\xcc\\x81"];
+    let names = names.map(|name| format!("chassis.name={name}"));
+    let rows: Vec<Vec<&str>> = names.iter().map(|name| named(name, "port.ifname=p", &[])).collect();
+    let rows: Vec<&[&str]> = rows.iter().map(|row| &row[..]).collect();
+    let lines = [
+        "eth0  京都      p                     98 s",
+        "eth0  café      p                     98 s",
+        "eth0  e\u{301}         p                     98 s",
+    ];
+    assert_eq!(table_of(&port("eth0", false, &rows), 80)[1..4], lines);
+}
+
+#[test]
+fn nothing_that_controls_a_terminal_is_shown() {
+    let hostile = "\\x1b[31m\\x0d\\x0a\\x9b2J\\x07\\xe2\\x80\\xae";
+    let texts = ["chassis.local=", "port.local=", "chassis.name=", "port.descr=", "chassis.mgmt="];
+    let texts = texts.map(|key| format!("{key}{hostile}"));
+    let said: Vec<&str> = texts.iter().map(|text| &text[..]).collect();
+    let answer = port("eth0", true, &[&said, &said[..2]]);
+    let show = Show::read(answer.lines().collect()).expect("a port");
+    let nobody = port("eth0", false, &[]);
+    let mut watch = Watch::of(&Show::read(nobody.lines().collect()).expect("nobody"));
+    let lines = [table(&show.ports, 200), watch.news(&show)].concat();
+    assert!(lines.concat().bytes().all(|octet| (b' '..=b'~').contains(&octet)), "{lines:?}");
+    assert_eq!(lines[1].matches(hostile).count(), 3, "{}", lines[1]);
+}
+
+#[test]
 fn full_ports_and_silent_ones_are_told() {
     let answer = port("eth0", true, &[]) + &port("eth1", false, &[]) + &port("p2", false, &[]);
-    let settings = "configuration.tx-interval=30\nconfiguration.tx-hold=4\nconfiguration.ttl=121\n\
-        configuration.reinit-delay=2\nconfiguration.tx-fast-init=4\nconfiguration.tx-credit-max=5\n\
-        configuration.max-neighbors=32\nconfiguration.ports=3\nconfiguration.eth0.status=rx-and-tx\n\
-        configuration.eth1.status=disabled\nconfiguration.p2.status=disabled\n";
+    let settings = format!(
+        "{SETTINGS}configuration.eth0.status=rx-and-tx\nconfiguration.eth1.status=disabled\n\
+        configuration.p2.status=disabled\n"
+    );
     let lines: Vec<&str> = answer.lines().chain(settings.lines()).collect();
     let show = Show::read(lines).expect("two answers");
     let full = "no neighbors on 3 ports. eth0 had no room for a neighbor: raise --max-neighbors; \
         a port holds at most 128.";
     assert_eq!(table(&show.ports, 1000), [full]);
+    assert!(table(&show.ports, 40).iter().all(|line| line.len() <= 40));
+    let largest = [Port { name: "p2", held: 128, too_many: true, neighbors: vec![] }];
+    let full = "128 neighbors on 1 port. p2 had no room for a neighbor: a port holds at most 128.";
+    assert_eq!(table(&largest, 1000), [full]);
     let live = LiveLines::read(&["live.eth0.link=down"]);
     assert_eq!(reasons(&show, &live, 80), ["eth0 has no link", "eth1, p2 are disabled"]);
     let live = LiveLines::read(&["live.eth1.interface=awaited"]);
     let why = ["eth1: no such interface", "p2 is disabled"];
     assert_eq!(reasons(&show, &live, 80), why);
+}
+
+#[test]
+fn a_port_with_a_neighbor_is_named_only_if_it_has_no_link() {
+    let answer = port("eth0", false, &[&named("chassis.name=a", "port.ifname=p", &[])]);
+    for (status, link, lines) in [
+        ("rx-only", "live.eth0.link=down", &["eth0 has no link"][..]),
+        ("rx-only", "live.eth0.link=up", &[]),
+        ("tx-only", "live.eth0.link=down", &[]),
+        ("disabled", "live.eth0.interface=awaited", &[]),
+    ] {
+        let settings = SETTINGS.replace("configuration.ports=3", "configuration.ports=1");
+        let text = format!("{answer}{settings}configuration.eth0.status={status}\n");
+        let show = Show::read(text.lines().collect()).expect("two answers");
+        assert_eq!(reasons(&show, &LiveLines::read(&[link]), 80), lines, "{status} {link}");
+    }
 }
 
 #[test]
