@@ -33,6 +33,9 @@ REFUSED: Sequence[Tuple[str, Any, str]] = (
         one for ports in (RIGHT, {"swp1": [("x", "y")]})
         for one in vendors.openconfig(ports)["openconfig-lldp:interface"]]},
      "the port 'swp1' is in it twice: as entries 1 and 3"),
+    *((f"4: two lists with {mark!r} between", mark.join(map(json.dumps, (LEAF1, LEAF2))),
+       "more than a prompt follows its JSON: save the output of only one command")
+      for mark in ("", ",", "\n", "\nleaf2> show lldp neighbors detail | json\n")),
     ("a port without a name", {"": [{"hostname": "x", "port": "y"}]},
      "an entry has no name: was it shown without `detail`?"),
     ("14: EOS' short list", {"lldpNeighbors": [

@@ -8,6 +8,8 @@ from .listing import SeenFault
 # where JSON begins; `{master:0}` in Junos' prompt does not match
 BEGIN = re.compile(r'^[ \t]*(?=\{\s*["}]|\[\s*["{\[\]])', re.M)
 LONGEST_BANNER = 4096
+# JSON that follows other JSON in the same line, as if two commands wrote into one file
+AGAIN = re.compile(r'[\s,]*(?:\{\s*["}]|\[\s*["{\[\]])')
 # a line in which lldpcli writes a name, such as the System Name, without escapes
 NAME_LINE = re.compile(r'^( *)"(.*)": ([{\[])$', re.M)
 TOKEN = re.compile(r'("[^"\\]*(?:\\.[^"\\]*)*")(\s*:)?|[{}\[\]]', re.S)
@@ -40,7 +42,8 @@ def decoded(text: str, begin: int) -> Any:
         raise fault_of_twice(text, begin) from None
     except RecursionError:
         raise SeenFault("its JSON is nested too deeply") from None
-    if BEGIN.search(text, end) or len(text[end:].strip()) > LONGEST_BANNER:
+    is_other = AGAIN.match(text, end) or BEGIN.search(text, end)
+    if is_other or len(text[end:].strip()) > LONGEST_BANNER:
         raise SeenFault("more than a prompt follows its JSON: save the output of only one command")
     return tree
 
