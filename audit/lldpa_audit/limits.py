@@ -17,6 +17,7 @@ LEAST, TIMES = 128, 24
 BETWEEN = 0.05  # seconds of processor time between two looks at what a file needs
 # what one call of C may take between two looks; if it takes more, memory is refused
 SLACK = 32 << 20
+SPACE, DATA = 0, 5  # fields of proc_pid_statm(5): the address space, and what RLIMIT_DATA limits
 NO_MEMORY = "there is not enough memory for it"
 
 
@@ -72,8 +73,7 @@ def limited(file: str, seconds: float = SECONDS, megabytes: Optional[int] = None
     before = signal.signal(signal.SIGPROF, watch.look)
     signal.setitimer(signal.ITIMER_PROF, BETWEEN, BETWEEN)
     limits = resource.getrlimit(resource.RLIMIT_DATA)
-    is_ours = watch.most is not None and watch.most + SLACK < (
-        inf if limits[0] == resource.RLIM_INFINITY else limits[0])
+    is_ours = megabytes is not None and (megabytes << 20) + SLACK < octets_left()
     try:
         try:
             if is_ours and watch.most is not None:
@@ -92,7 +92,22 @@ def limited(file: str, seconds: float = SECONDS, megabytes: Optional[int] = None
     raise LimitFault(f"{file}: {why}")
 
 
+def octets_left() -> float:
+    """Returns how many more octets the limits of this process allow, such as those of `ulimit`."""
+    left = inf
+    for limit, field in ((resource.RLIMIT_AS, SPACE), (resource.RLIMIT_DATA, DATA)):
+        most = resource.getrlimit(limit)[0]
+        if most != resource.RLIM_INFINITY:
+            left = min(left, most - octets_in_use(field))
+    return left
+
+
 def data_in_use() -> int:
-    """Returns the octets of this process that count for RLIMIT_DATA; see proc_pid_statm(5)."""
+    """Returns the octets of this process that count for RLIMIT_DATA."""
+    return octets_in_use(DATA)
+
+
+def octets_in_use(field: int) -> int:
+    """Returns a field of proc_pid_statm(5) in octets."""
     with open("/proc/self/statm", encoding="ascii") as file:
-        return int(file.read().split()[5]) * resource.getpagesize()
+        return int(file.read().split()[field]) * resource.getpagesize()

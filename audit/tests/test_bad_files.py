@@ -17,6 +17,7 @@ from auditing import AUDIT, HEAD, InAFolder, run
 from lldpa.capture.packets import interfaces_of, packets_of
 from lldpa.capture.pcapng import MOST_INTERFACES
 from lldpa_audit.seen.forms import read_list
+from served import REPOSITORY
 from shapes import INTERFACE, SECTION
 from support import run_capture
 
@@ -214,6 +215,26 @@ class Shapes(InAFolder):
                                   [(0, 0), (2, 1)])
                 said.add(ran.stderr.rpartition(": ")[2])
         self.assertIn("there is not enough memory for it\n", said)
+
+    def test_memory_that_a_limit_forbids(self) -> None:
+        """Checks that a plan is not blamed if `ulimit` leaves less than its size warrants."""
+        plan = self.file("plan", HEAD + "".join(f"s,p{at},h{at},e\n" for at in range(60_000)))
+        leaf1 = self.file("leaf1", "{}")
+        for limit in ("as", "data"):
+            ran = subprocess.run(["prlimit", f"--{limit}={48 << 20}", sys.executable, AUDIT, plan,
+                                  leaf1], capture_output=True, text=True, check=False)
+            self.assertEqual((ran.returncode, ran.stderr), (
+                2, f"lldpa-audit: {plan}: there is not enough memory for it\n"))
+
+    def test_memory_to_start(self) -> None:
+        """Checks that a program that cannot be loaded says so in one line, with status 2."""
+        program = self.file("bin/lldpa-audit", (REPOSITORY / "bin" / "lldpa-audit").read_text())
+        for fault, why in (("MemoryError", "there is not enough memory to start"),
+                           ("ImportError('x.so: cannot map')", "x.so: cannot map")):
+            self.file("audit/lldpa_audit/command.py", f"raise {fault}\n")
+            ran = subprocess.run([sys.executable, "-I", program], capture_output=True, text=True,
+                                 check=False)
+            self.assertEqual((ran.returncode, ran.stderr), (2, f"lldpa-audit: {why}\n"))
 
     def test_memory_that_lists_take(self) -> None:
         """Checks that a plan, whose size warrants 8 MB, is not refused for what lists take."""
