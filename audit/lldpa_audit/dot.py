@@ -15,7 +15,8 @@ NAME = rf'(?:"[^"\\]*(?:\\.[^"\\]*)*"|(?:[{LETTER}][{LETTER}0-9]*|[0-9]+)(?![{LE
 ATTRIBUTES = r'\[[^]"]*(?:"[^"\\]*(?:\\.[^"\\]*)*"[^]"]*)*\]'
 END = rf"({NAME})\s*:\s*({NAME})"
 SKIPPED = re.compile(r"(?:\s+|//[^\n]*|#[^\n]*|/\*.*?\*/)*", re.S)
-HEAD = re.compile(rf"(?:strict\s+)?(?:di)?graph\b\s*(?:{NAME}\s*)?\{{", re.I)
+# only the words ignore case, since to ignore that of all letters takes a tenth of a second
+HEAD = re.compile(rf"(?i:(?:strict\s+)?(?:di)?graph)\b\s*(?:{NAME}\s*)?\{{")
 EDGE = re.compile(rf"{END}\s*(?:--|->)\s*{END}\s*(?:{ATTRIBUTES})?\s*;?", re.S)
 OTHER = re.compile(rf"{NAME}\s*(?:=\s*{NAME}|{ATTRIBUTES}|(?=;))\s*;?", re.S)
 LONGEST_SHOWN = 60

@@ -130,6 +130,15 @@ class Words(Audits):
         self.assertIn("leaf1 swp1  wrong: wants host01 eth0, has host02 eth0",
                       self.audit(other, words[1])[1])
 
+    def test_what_is_loaded(self) -> None:
+        """Checks that the program starts without the modules of the network, which take 6 MB."""
+        paths = [str(REPOSITORY / part) for part in ("audit", "python")]
+        text = (f"import sys\nsys.path[:0] = {paths}\nimport lldpa_audit.command\n"
+                "print(*sys.modules)")
+        told = subprocess.run([sys.executable, "-I", "-S", "-c", text], capture_output=True,
+                              text=True, check=True).stdout
+        self.assertEqual({*told.split()} & {"ssl", "http", "email", "urllib.request"}, set())
+
     def test_ports_with_a_colon(self) -> None:
         names = Names()
         plan = Plan("plan", [Link(End("leaf1", "swp1:0"), End("02:00:00:00:00:01", "p"), None)],

@@ -61,6 +61,7 @@ READ = (
     ("# graph G {\nhost,port,peer,peer_port\ngraph,1,b,{\n", ["graph 1 - b {"]),
     (TOPOLOGY, LINKS_OF_TOPOLOGY),
     ("digraph { a:1 -> b:2 }", ["a 1 - b 2"]),
+    ("Strict GRAPH G { a:1 -- b:2 }", ["a 1 - b 2"]),
     (NETBOX, ["leaf1 swp1 - host01 eth0"]),
     *[(f"{header},Label\nleaf1,swp1,host01,eth0,7\n", ["leaf1 swp1 - host01 eth0"]) for header in (
         "termination_a_device,termination_a_name,termination_b_device,termination_b_name",

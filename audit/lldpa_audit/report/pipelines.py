@@ -1,8 +1,8 @@
 """Writes an audit for pipelines: a JUnit report, and metrics for node_exporter."""
 import time
 from collections import Counter
+from html import escape
 from typing import Iterator, Mapping
-from xml.sax.saxutils import quoteattr
 
 from lldpa.texts import printable
 
@@ -62,7 +62,7 @@ def text_of_case(report: Report, one: Finding) -> str:
 
 def quoted(text: str) -> str:
     """Returns a text as the value of an attribute."""
-    return quoteattr(printable(text_of(text)))
+    return f'"{escape(printable(text_of(text)))}"'
 
 
 def metrics_of(report: Report) -> Iterator[str]:
