@@ -37,8 +37,9 @@ def seconds(words: list[str], trace: Path) -> float:
     return spent(words, trace)[0]
 
 
-def spent(words: list[str], trace: Path = Path(os.devnull)) -> tuple[float, float]:
-    """Returns the processor time (in seconds) and the peak memory (in MB) of a program."""
+def spent(words: list[str], trace: Path = Path(os.devnull), status: int = 0) -> tuple[float, float]:
+    """Returns the processor time (in seconds) and the peak memory (in MB) of a program, which shall
+    end with this status. (The kernel's `ru_maxrss` is at least the memory of this program.)"""
     with trace.open("rb") as file:
         child = subprocess.Popen(words, stdin=file, stdout=subprocess.DEVNULL, stderr=subprocess.DEVNULL)
     ended, kilobytes = 0, ["0"]
@@ -46,8 +47,8 @@ def spent(words: list[str], trace: Path = Path(os.devnull)) -> tuple[float, floa
         kilobytes += re.findall(r"VmHWM:\s+(\d+)", Path(f"/proc/{child.pid}/status").read_text())
         time.sleep(0.01)
         ended, child.returncode, usage = os.wait4(child.pid, os.WNOHANG)
-    if child.returncode != 0:
-        sys.exit(f"{words} ended with {child.returncode}")
+    if os.waitstatus_to_exitcode(child.returncode) != status:
+        sys.exit(f"{words} ended with {os.waitstatus_to_exitcode(child.returncode)}")
     return usage.ru_utime + usage.ru_stime, int(kilobytes[-1]) / 1024
 
 
@@ -140,16 +141,6 @@ def write_network(room: Path, links: int, form: str) -> list[str]:
     return [str(plan), str(seen)]
 
 
-def audited(program: str, words: list[str]) -> tuple[float, int]:
-    """Returns the processor time (in seconds) and the peak memory (in MB) of an audit with faults."""
-    child = subprocess.Popen([sys.executable, program, *words], stdout=subprocess.DEVNULL)
-    _, status, usage = os.wait4(child.pid, 0)
-    child.returncode = os.waitstatus_to_exitcode(status)
-    if child.returncode != 1:
-        sys.exit(f"{program} {' '.join(words)} ended with {child.returncode}")
-    return usage.ru_utime + usage.ru_stime, usage.ru_maxrss >> 10
-
-
 def audits_of_networks(room: Path, programs: list[str], times: int) -> Iterator[str]:
     """Audits networks by each program in turn. Yields a line for each network and output, with the
     least time and the greatest memory of each program."""
@@ -158,8 +149,10 @@ def audits_of_networks(room: Path, programs: list[str], times: int) -> Iterator[
             network = write_network(room, links, form)
             for output in OUTPUTS:
                 file = [str(room / "file")] if output not in ([], ["--json"]) else []
-                runs = [[audited(program, [*output, *file, *network]) for program in programs] for _ in range(times)]
-                told = [f"{min(ran)[0]:.1f} s and {max(mb for _, mb in ran)} MB" for ran in zip(*runs)]
+                words = [*output, *file, *network]  # an audit that finds faults ends with 1
+                runs = [[spent([sys.executable, program, *words], status=1) for program in programs]
+                        for _ in range(times)]
+                told = [f"{min(ran)[0]:.1f} s and {max(mb for _, mb in ran):.0f} MB" for ran in zip(*runs)]
                 yield f"an audit of {links:,} links, {' '.join([form, *output])}: {', '.join(told)}"
 
 
