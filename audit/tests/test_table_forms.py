@@ -51,10 +51,13 @@ class Tables(unittest.TestCase):
         for tree, why in table_forms.REFUSED:
             self.refused(tree, why)
 
-    def test_a_row_for_a_port_and_its_bridge(self) -> None:
-        rows = table_forms.mikrotik({"swp1,bridge": [("host01", "eth0")]})
-        self.assertEqual(names_of(read(rows)), {"swp1": [("host01", "eth0")],
-                                                "bridge": [("host01", "eth0")]})
+    def test_a_port_and_its_bridge(self) -> None:
+        for ports in (["swp1,bridge"], ["swp1,bridge", "swp2,bridge"], ["bridge,swp1", "bridge,swp2"],
+                      ["swp1,bond,bridge", "swp2,bond,bridge", "swp3,bridge"]):
+            heard = {port: [(f"host{at}", "eth0")] for at, port in enumerate(ports)}
+            wanted = {next(name for name in port.split(",") if "swp" in name): some
+                      for port, some in heard.items()}
+            self.assertEqual(names_of(read(table_forms.mikrotik(heard))), wanted)
 
     def test_addresses(self) -> None:
         for tree in (table_forms.OF_SR_LINUX, table_forms.xr(PORTS), table_forms.mikrotik(PORTS),

@@ -1,5 +1,6 @@
 """Reads the neighbors of ports in JSON whose form is known."""
 import re
+from collections import Counter
 from functools import lru_cache
 from itertools import product
 from typing import Any, Iterator, Optional
@@ -110,8 +111,10 @@ def listing_of_rows(rows: Any, form: Form) -> Listing:
         if spaces.setdefault(host, space) != space:
             raise SeenFault(f"{host!r} is in two namespaces, {spaces[host]!r} and {space!r}: give "
                             "only one")
-        hosts.setdefault(host, []).extend(each_interface(row, form) if form.protocol else [row])
-    form = form._replace(protocol="")
+        hosts.setdefault(host, []).append(row)
+    if form.protocol:
+        hosts = {host: list(at_one_port_each(some, form)) for host, some in hosts.items()}
+        form = form._replace(protocol="")
     if "" not in hosts:
         return Listing({}, True, {host: read_form(some, form) for host, some in hosts.items()})
     if len(hosts) > 1:
@@ -119,12 +122,13 @@ def listing_of_rows(rows: Any, form: Form) -> Listing:
     return read_form(hosts[""], form)
 
 
-def each_interface(row: dict[str, Any], form: Form) -> list[Any]:
-    """Returns a row of RouterOS for each interface that it names, such as a port and its bridge, or
-    no row if the neighbor was not heard by LLDP, but by a protocol that crosses switches."""
-    port = text(row, form.port)
-    return [{**row, form.port: one} for one in port.split(",")
-            ] if is_by_lldp(row, form, port) else []
+def at_one_port_each(rows: list[dict[str, Any]], form: Form) -> Iterator[dict[str, Any]]:
+    """Yields the rows of RouterOS about neighbors heard by LLDP; other protocols cross switches. A
+    row names a port and its bridge: the port is the interface that the fewest rows name."""
+    rows = [row for row in rows if is_by_lldp(row, form, text(row, form.port))]
+    times = Counter(one for row in rows for one in text(row, form.port).split(","))
+    for row in rows:
+        yield {**row, form.port: min(text(row, form.port).split(","), key=times.__getitem__)}
 
 
 def ports_of(tree: Any, form: Form) -> Iterator[tuple[str, Any]]:
