@@ -5,7 +5,6 @@ use crate::time::WallTime;
 use libc::{c_int, c_void, socklen_t};
 use std::fs::File;
 use std::io::{Error, ErrorKind, Result};
-use std::marker::PhantomData;
 use std::mem::{size_of, zeroed};
 use std::os::unix::io::AsRawFd;
 use std::os::unix::net::UnixStream;
@@ -30,84 +29,58 @@ struct PacketStatistics {
     drops: u32,
 }
 
-/// An option of sockets, with the type of its value.
-struct SocketOption<T> {
-    level: c_int,
-    name: c_int,
-    value: PhantomData<T>,
+/// An option of sockets whose value is a number.
+enum Number {
+    ReceiveRoom,
+    ReceiveRoomByForce,
+    TimeStamps,
+    LockFilter,
+    IgnoreOutgoing,
 }
 
-impl<T: Copy> SocketOption<T> {
-    /// # Safety
-    /// The kernel knows this option with values of `T`, whose octets may be any, and keeps no
-    /// pointer of a value that it is given.
-    const unsafe fn new(level: c_int, name: c_int) -> SocketOption<T> {
-        SocketOption { level, name, value: PhantomData }
-    }
-
-    /// Gives the kernel a value, which it copies.
-    fn set(&self, file: &impl AsRawFd, value: &T) -> Result<()> {
-        let (start, length) = ((value as *const T).cast::<c_void>(), size_of::<T>() as socklen_t);
-        // SAFETY: the stated length is that of the value, whose type is the option's.
-        checked(unsafe { libc::setsockopt(file.as_raw_fd(), self.level, self.name, start, length) }).map(drop)
-    }
-
-    /// Reads the option into a value, and returns how many octets the kernel wrote.
-    fn get(&self, file: &impl AsRawFd, value: &mut T) -> Result<usize> {
-        let (start, mut length) = ((value as *mut T).cast::<c_void>(), size_of::<T>() as socklen_t);
-        // SAFETY: the kernel writes at most the stated length, which is that of the value, and any
-        // octets are a value of the option's type.
-        checked(unsafe { libc::getsockopt(file.as_raw_fd(), self.level, self.name, start, &mut length) })?;
-        Ok(length as usize)
-    }
+fn set_number(file: &File, option: &Number, value: c_int) -> Result<()> {
+    let (level, name) = match option {
+        Number::ReceiveRoom => (libc::SOL_SOCKET, libc::SO_RCVBUF),
+        Number::ReceiveRoomByForce => (libc::SOL_SOCKET, libc::SO_RCVBUFFORCE),
+        Number::TimeStamps => (libc::SOL_SOCKET, libc::SO_TIMESTAMPNS),
+        Number::LockFilter => (libc::SOL_SOCKET, libc::SO_LOCK_FILTER),
+        Number::IgnoreOutgoing => (libc::SOL_PACKET, PACKET_IGNORE_OUTGOING),
+    };
+    // SAFETY: socket(7) and packet(7) have each of these options with a number.
+    unsafe { set(file, level, name, &value) }
 }
 
-// SAFETY: socket(7) has these options with a number.
-const RECEIVE_ROOM: SocketOption<c_int> = unsafe { SocketOption::new(libc::SOL_SOCKET, libc::SO_RCVBUF) };
-// SAFETY: as above.
-const RECEIVE_ROOM_BY_FORCE: SocketOption<c_int> =
-    unsafe { SocketOption::new(libc::SOL_SOCKET, libc::SO_RCVBUFFORCE) };
-// SAFETY: as above.
-const TIME_STAMPS: SocketOption<c_int> = unsafe { SocketOption::new(libc::SOL_SOCKET, libc::SO_TIMESTAMPNS) };
-// SAFETY: as above.
-const LOCK_FILTER: SocketOption<c_int> = unsafe { SocketOption::new(libc::SOL_SOCKET, libc::SO_LOCK_FILTER) };
-// SAFETY: packet(7) has it with a number.
-const IGNORE_OUTGOING: SocketOption<c_int> =
-    unsafe { SocketOption::new(libc::SOL_PACKET, PACKET_IGNORE_OUTGOING) };
-// SAFETY: packet(7) has it with this struct of numbers.
-const MEMBERSHIP: SocketOption<libc::packet_mreq> =
-    unsafe { SocketOption::new(libc::SOL_PACKET, libc::PACKET_ADD_MEMBERSHIP) };
-// SAFETY: packet(7) has it with this struct of numbers.
-const STATISTICS: SocketOption<PacketStatistics> =
-    unsafe { SocketOption::new(libc::SOL_PACKET, PACKET_STATISTICS) };
-// SAFETY: unix(7) has it with this struct of numbers.
-const PEER: SocketOption<libc::ucred> = unsafe { SocketOption::new(libc::SOL_SOCKET, libc::SO_PEERCRED) };
-// SAFETY: the kernel writes numbers of groups, as many as there are and have room.
-const PEER_GROUPS: SocketOption<[u32; MOST_GROUPS]> =
-    unsafe { SocketOption::new(libc::SOL_SOCKET, libc::SO_PEERGROUPS) };
+/// Gives the kernel the value of an option, which it copies.
+///
+/// # Safety
+/// `T` is the type of the option's value. Pointers in the value are valid during the call.
+unsafe fn set<T>(file: &File, level: c_int, name: c_int, value: &T) -> Result<()> {
+    let (start, length) = ((value as *const T).cast::<c_void>(), size_of::<T>() as socklen_t);
+    // SAFETY: the stated length is that of the value, which is the option's.
+    checked(unsafe { libc::setsockopt(file.as_raw_fd(), level, name, start, length) }).map(drop)
+}
+
+/// Reads an option into a value, and returns how many octets the kernel wrote.
+///
+/// # Safety
+/// The kernel writes to the value and to nothing else, and any octets are a value of `T`.
+unsafe fn get<T>(file: &impl AsRawFd, level: c_int, name: c_int, value: &mut T) -> Result<usize> {
+    let (start, mut length) = ((value as *mut T).cast::<c_void>(), size_of::<T>() as socklen_t);
+    // SAFETY: the kernel writes at most the stated length, which is that of the value.
+    checked(unsafe { libc::getsockopt(file.as_raw_fd(), level, name, start, &mut length) })?;
+    Ok(length as usize)
+}
 
 fn socket(domain: c_int, kind: c_int) -> Result<File> {
     // SAFETY: the call takes only numbers.
     unsafe { opened(libc::socket(domain, kind | libc::SOCK_CLOEXEC | libc::SOCK_NONBLOCK, 0)) }
 }
 
-/// A struct for addresses, of which the kernel reads a number of octets.
-///
-/// # Safety
-/// It is one of libc's `sockaddr` structs.
-unsafe trait Address {}
-// SAFETY: it is one of them.
-unsafe impl Address for libc::sockaddr_ll {}
-// SAFETY: it is one of them.
-unsafe impl Address for libc::sockaddr_nl {}
-// SAFETY: it is one of them.
-unsafe impl Address for libc::sockaddr_un {}
-
-/// Binds a socket to an address, or connects it.
-fn address<T: Address>(file: &File, address: &T, length: usize, is_peer: bool) -> Result<()> {
+/// Binds a socket to an address, or connects it. `T` should be one of libc's `sockaddr` structs.
+fn address<T: Copy>(file: &File, address: &T, length: usize, is_peer: bool) -> Result<()> {
     let call = if is_peer { libc::connect } else { libc::bind };
     let start = (address as *const T).cast::<libc::sockaddr>();
-    // SAFETY: the address is a `sockaddr`, and at least as long as the stated length.
+    // SAFETY: the kernel only reads octets of the address, and no more than it has.
     let answer = unsafe { call(file.as_raw_fd(), start, length.min(size_of::<T>()) as socklen_t) };
     checked(answer).map(drop)
 }
@@ -118,12 +91,12 @@ fn address<T: Address>(file: &File, address: &T, length: usize, is_peer: bool) -
 pub fn open_packet(filter: &[libc::sock_filter], room: usize) -> Result<File> {
     let file = socket(libc::AF_PACKET, libc::SOCK_RAW)?;
     let room = c_int::try_from(room).unwrap_or(c_int::MAX);
-    RECEIVE_ROOM.set(&file, &room)?;
-    let _ = RECEIVE_ROOM_BY_FORCE.set(&file, &room); // only with CAP_NET_ADMIN
-    TIME_STAMPS.set(&file, &1)?;
-    let _ = IGNORE_OUTGOING.set(&file, &1); // since Linux 4.20
+    set_number(&file, &Number::ReceiveRoom, room)?;
+    let _ = set_number(&file, &Number::ReceiveRoomByForce, room); // only with CAP_NET_ADMIN
+    set_number(&file, &Number::TimeStamps, 1)?;
+    let _ = set_number(&file, &Number::IgnoreOutgoing, 1); // since Linux 4.20
     attach(&file, filter)?;
-    LOCK_FILTER.set(&file, &1)?;
+    set_number(&file, &Number::LockFilter, 1)?;
     Ok(file)
 }
 
@@ -131,9 +104,8 @@ fn attach(file: &File, filter: &[libc::sock_filter]) -> Result<()> {
     let len = u16::try_from(filter.len()).map_err(|_| Error::from(ErrorKind::InvalidInput))?;
     // The kernel only reads the steps; libc declares the pointer as for both directions.
     let program = libc::sock_fprog { len, filter: filter.as_ptr() as *mut libc::sock_filter };
-    // SAFETY: the kernel copies the steps during the call, and there are as many as the program says.
-    let attach = unsafe { SocketOption::new(libc::SOL_SOCKET, libc::SO_ATTACH_FILTER) };
-    attach.set(file, &program)
+    // SAFETY: the option's value is such a program, with as many steps as it says, which are alive.
+    unsafe { set(file, libc::SOL_SOCKET, libc::SO_ATTACH_FILTER, &program) }
 }
 
 /// Binds a packet socket to an interface and an EtherType.
@@ -160,13 +132,16 @@ pub fn join(file: &File, interface: c_int, group: GroupAddress) -> Result<()> {
         mr_alen: group.len() as u16,
         mr_address: place,
     };
-    MEMBERSHIP.set(file, &wanted)
+    // SAFETY: packet(7) has this option with this struct of numbers.
+    unsafe { set(file, libc::SOL_PACKET, libc::PACKET_ADD_MEMBERSHIP, &wanted) }
 }
 
 /// Returns how many frames the kernel has dropped at a packet socket since the last call.
 pub fn drops(file: &File) -> u64 {
     let mut told = PacketStatistics { _packets: 0, drops: 0 };
-    STATISTICS.get(file, &mut told).map_or(0, |_| told.drops.into())
+    // SAFETY: packet(7) has this option with this struct of numbers.
+    let read = unsafe { get(file, libc::SOL_PACKET, PACKET_STATISTICS, &mut told) };
+    read.map_or(0, |_| told.drops.into())
 }
 
 /// The room for the time stamp of a frame, aligned as the kernel writes it.
@@ -263,11 +238,13 @@ pub fn connect_stream(path: &str) -> Result<UnixStream> {
 /// Returns the user and the groups that a client's process had when it connected.
 pub fn peer_of(stream: &UnixStream) -> (u32, Vec<u32>) {
     let mut told = libc::ucred { pid: 0, uid: u32::MAX, gid: u32::MAX };
-    if PEER.get(stream, &mut told).is_err() {
+    // SAFETY: unix(7) has this option with this struct of numbers.
+    if unsafe { get(stream, libc::SOL_SOCKET, libc::SO_PEERCRED, &mut told) }.is_err() {
         return (u32::MAX, Vec::new());
     }
     let mut further = [0u32; MOST_GROUPS];
-    let length = PEER_GROUPS.get(stream, &mut further).unwrap_or(0);
+    // SAFETY: the kernel writes numbers of groups, or none if there is no room for all.
+    let length = unsafe { get(stream, libc::SOL_SOCKET, libc::SO_PEERGROUPS, &mut further) }.unwrap_or(0);
     let mut groups = further[..length / size_of::<u32>()].to_vec();
     groups.push(told.gid);
     (told.uid, groups)
