@@ -7,6 +7,7 @@
 # changed. Without it debootstrap gets one from the network. Needs Linux, root, and Debian's
 # packages systemd-container and, without ROOT, debootstrap. LLDPA_BUILT names what was built, as for
 # tools/release/package.sh. If BEFORE names a package lldpa of revision 1, upgrades from it first.
+# If NODE_EXPORTER names that program, it reads the metrics.
 # The last line is `N passed, M failed`. If something is missing, the status is 77.
 set -u
 skip() {
@@ -34,6 +35,7 @@ dpkg-deb -R "$root"/root/packages/lldpa_*-2_*.deb "$room/next" || exit 1
 sed -i 's/^\(Version: .*\)-2$/\1-3/' "$room/next/DEBIAN/control"
 dpkg-deb -b "$room/next" "$root/root/packages" || exit 1
 [ -z "${BEFORE-}" ] || cp "$BEFORE" "$root/root/packages" || exit 1
+[ -z "${NODE_EXPORTER-}" ] || cp "$NODE_EXPORTER" "$root/root/node_exporter" || exit 1
 cp "$tools/../debian/tests/service" "$root/root/service"
 python3 "$tools/gate/examples.py" --as-root > "$root/root/commands" || exit 1
 
@@ -111,17 +113,12 @@ END
     journalctl -u "$unit" -o cat -g 'not refused'
     [ "$status" -eq 0 ]
 }
-confined() {
-    refuses lldpa-metrics 'lambda: open("/etc/passwd"), lambda: open("/root/try.sh"), lambda: look("/home"),
-        lambda: look("/var/lib/dpkg"), lambda: open("/run/systemd/private"), lambda: os.kill(os.getpid(), 0),
-        lambda: socket.socket(socket.AF_PACKET, socket.SOCK_RAW)'
-}
 confined_live() {
     refuses lldpa 'lambda: look("/var/log"), lambda: look("/root"), lambda: open("/etc/probe", "w"),
         lambda: connect("/run/dbus/system_bus_socket", socket.SOCK_STREAM),
         lambda: connect("/run/systemd/journal/socket", socket.SOCK_DGRAM)' Type=oneshot Restart=no WatchdogSec=0
 }
-published() { eventually grep -x "lldpa_up $1" /var/lib/prometheus/node-exporter/lldpa.prom; }
+published() { eventually grep -x "lldpa_up $1" $collected/lldpa.prom; }
 # as_member runs a command as a member of group asking. as_nobody succeeds if others cannot run it.
 as_member() { setpriv --reuid=4711 --regid=4711 --groups="$(getent group asking | cut -d: -f3)" "$@"; }
 as_nobody() { ! setpriv --reuid=4711 --regid=4711 --clear-groups "$@"; }
@@ -135,7 +132,27 @@ sender.send(bytes.fromhex("0180c200000e02000000000b88cc02070402000000000b0403057
 keeps() { eventually sh -c 'lldpa-ctl neighbors | grep keeper'; }
 is_another_active() { is_another && systemctl is-active lldpa; }
 starts_anew() { eventually is_another_active; }
-is_timed() { systemctl is-enabled lldpa-metrics.timer && systemctl is-active lldpa-metrics.timer; }
+collected=/var/lib/prometheus/node-exporter
+has_link() { [ "$(readlink $collected/lldpa.prom)" = /run/lldpa-metrics/lldpa.prom ] && ! systemctl is-active lldpa-metrics.timer; }
+# Succeeds if node_exporter reads the file of metrics, with this value of lldpa_up and without an error.
+scraped() {
+    [ -x /root/node_exporter ] || return 0
+    /root/node_exporter --collector.disable-defaults --collector.textfile --collector.textfile.directory=$collected \
+        --web.listen-address=127.0.0.1:9100 > /root/exporter 2>&1 &
+    eventually python3 -c 'import sys, urllib.request
+text = urllib.request.urlopen("http://127.0.0.1:9100/metrics").read().decode()
+lines = [line for line in text.splitlines() if line.startswith(("lldpa_up ", "node_textfile_scrape_error "))]
+mtime = "node_textfile_mtime_seconds{file=\"" in text and "lldpa.prom" in text
+sys.exit(0 if lines == ["lldpa_up " + sys.argv[1], "node_textfile_scrape_error 0"] and mtime else str(lines))' "$1"
+    local status=$?
+    kill %+
+    return $status
+}
+killed() {
+    systemctl kill -s KILL lldpa
+    eventually inactive
+    published 1 && scraped 1
+}
 without_python() { apt-get purge -y --auto-remove 'python3*' 'libpython3*' && ! ls /usr/bin/python3*; }
 tells_alone() { lldpa-live --ask "$1" | grep "$2"; }
 # Sends a neighbor's frame each second, at the other end of the link.
@@ -166,14 +183,14 @@ if [ -e lldpa_*-1_*.deb ]; then
     check "an upgrade from it asks nothing" install_all
     check "it runs the new program" is_another
     check "it keeps the table" keeps
-    check "it keeps the timer of the metrics" is_timed
-    rm -f /var/lib/prometheus/node-exporter/lldpa.prom
+    check "a link takes the place of the file that the timer wrote" has_link
     check "the metrics are still written" published 1
     check "all files are there after the upgrade" bash -c '! dpkg --verify lldpa lldpa-tools | grep .'
     check "it keeps the configuration" shows Bridge:on
     check "it keeps the settings" shows 'descr=of the folder'
     check "it keeps the logs" xargs ls < /root/logs
     check "its packages are purged" dpkg -P lldpa lldpa-tools
+    check "no metrics are left" [ ! -e $collected/lldpa.prom ]
     rm -r /var/lib/prometheus
     listed > /root/after
     check "the earlier version leaves no file" diff /root/before /root/after
@@ -195,12 +212,19 @@ while read -r command; do
 done < /root/commands
 check "systemd receives its state" notifies
 check "the journal names the new neighbor" tells
-systemctl start lldpa-metrics
 check "its metrics are written" published 1
-check "the metrics service may read, write, signal and connect no more than it needs" confined
+check "node_exporter reads the metrics" scraped 1
+mkdir -p /run/systemd/system/lldpa.service.d
+printf '[Service]\nRestart=no\n' > /run/systemd/system/lldpa.service.d/once.conf
+systemctl daemon-reload
+check "after a kill node_exporter reads the last metrics" killed
+rm -r /run/systemd/system/lldpa.service.d
+systemctl daemon-reload
+systemctl restart lldpa
+check "after a restart the metrics are new" published 1
 systemctl stop lldpa
-systemctl start lldpa-metrics
 check "the metrics report that it does not answer" published 0
+check "node_exporter reads that it does not answer" scraped 0
 rm -r /var/lib/prometheus
 systemctl restart lldpa
 check "the service answers" shows Station:on
@@ -287,7 +311,7 @@ fi
 cat "$root/root/tried"
 passed=$(grep -c '^held: ' "$root/root/tried")
 failed=$(grep -c '^FAILED: ' "$root/root/tried")
-wanted=$((42 + ${BEFORE:+17} + $(wc -l < "$root/root/commands")))
+wanted=$((46 + ${BEFORE:+18} + $(wc -l < "$root/root/commands")))
 [ $((passed + failed)) -eq "$wanted" ] || failed=$((failed + 1))
 echo "$passed passed, $failed failed"
 [ "$failed" -eq 0 ]

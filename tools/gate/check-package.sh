@@ -109,11 +109,9 @@ check_units() {
     units=$room/usr/usr/lib/systemd/system
     check "/etc/default/lldpa has options that belong in the unit" grep -qx 'LIVE_OPTIONS=""' "$room/usr/etc/default/lldpa"
     check "lldpa.service does not run lldpa-live" grep -q \
-        '^ExecStart=/usr/bin/lldpa-live .* --log ${STATE_DIRECTORY} --events --forget-on-down ' "$units/lldpa.service"
-    check "lldpa-metrics.service does not run lldpa-ctl" \
-        grep -q '^ExecStart=/usr/bin/lldpa-ctl metrics ' "$units/lldpa-metrics.service"
-    check "there is no timer for metrics, or no rules for Prometheus" \
-        ls "$units/lldpa-metrics.timer" "$room/usr/usr/share/lldpa/lldpa.rules.yml"
+        '^ExecStart=/usr/bin/lldpa-live .* --log ${STATE_DIRECTORY} --metrics .* --events --forget-on-down ' "$units/lldpa.service"
+    check "no group or folder for metrics, or no rules for Prometheus" ls "$room/usr/usr/lib/sysusers.d/lldpa.conf" \
+        "$room/usr/usr/lib/tmpfiles.d/lldpa.conf" "$room/usr/usr/share/lldpa/lldpa.rules.yml"
     install_into "$room/opt" /opt/lldpa
     check "there is no folder of settings" \
         ls -d "$room/usr/etc/lldpa.d" "$room/local/etc/lldpa.d" "$room/opt/opt/lldpa/etc/lldpa.d"

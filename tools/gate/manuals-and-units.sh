@@ -1,5 +1,5 @@
 #!/bin/sh
-# Checks that the manual pages are well formed, that the services have few rights, and that
+# Checks that the manual pages are well formed, that the service has few rights, and that
 # share/default/lldpa has the variables of lldpa.service. The last line is `N passed, M failed`.
 set -u
 cd "$(dirname "$0")/../.." || exit 2
@@ -18,10 +18,8 @@ if needs groff; then
     done
 fi
 if needs systemd-analyze; then
-    for unit in lldpa lldpa-metrics; do
-        systemd-analyze security --offline=true --threshold=20 "$PWD/share/systemd/$unit.service" > "$room/out" 2>&1
-        judge $? "systemd-analyze security: $(tail -n 1 "$room/out")"
-    done
+    systemd-analyze security --offline=true --threshold=20 "$PWD/share/systemd/lldpa.service" > "$room/out" 2>&1
+    judge $? "systemd-analyze security: $(tail -n 1 "$room/out")"
 fi
 for name in PORTS LIVE_OPTIONS AGENT_OPTIONS; do
     grep -q "^$name=" share/default/lldpa && grep -q "^ExecStart=.* \$$name\b" share/systemd/lldpa.service

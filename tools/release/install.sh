@@ -80,6 +80,7 @@ put_service() {
     put 644 "$prefix/lib/systemd/system" share/systemd/*
     sed -i "s,/usr/local/,$prefix/,g; s,/etc/default/,$etc/default/,g; s,/etc/lldpa,$etc/lldpa,g" "$tree$prefix/lib/systemd/system"/*
     put 644 "$prefix/lib/tmpfiles.d" share/tmpfiles.d/lldpa.conf
+    put 644 "$prefix/lib/sysusers.d" share/sysusers.d/lldpa.conf
     put 644 "$prefix/share/lldpa" share/prometheus/*
     put 644 "$etc/default" share/default/lldpa
     put 644 "$etc" share/settings/lldpa.conf
