@@ -13,7 +13,7 @@ from contextlib import suppress
 from pathlib import Path
 from typing import Any, Sequence
 
-from lldpa import Agent, Refused
+from lldpa import Agent, Ended, Refused
 from lldpa.client import Client
 
 REPOSITORY = Path(__file__).resolve().parents[2]
@@ -96,7 +96,7 @@ class Served:
 
     def serve(self, client: socket.socket) -> None:
         """Answers the lines of a client."""
-        with suppress(OSError), client, client.makefile("rb") as lines:
+        with suppress(OSError, Ended), client, client.makefile("rb") as lines:
             for line in lines:
                 answer = self.answer(line.rstrip(b"\n"))
                 client.sendall(b"".join(one + b"\n" for one in [b"=%d" % len(answer), *answer]))

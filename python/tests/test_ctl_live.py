@@ -47,6 +47,7 @@ class OnARealLink(OnLinks):
             count += 1
             peer.send(numbered(9, 120, tlv(5, b"change %d" % count)))
             return bool(select.select([watch.stdout], [], [], 0)[0])
+        self.assertEqual(watch.stdout.readline(), "no neighbors on 2 ports.\n")
         self.assertTrue(eventually(prints))
         self.assertRegex(watch.stdout.readline(), r" eth1 (came|changed): change \d+ p9")
         peer.send(numbered(9, 0))

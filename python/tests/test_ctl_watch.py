@@ -20,14 +20,18 @@ class Watching(Program):
         self.times: list[float] = []
 
     def watch(self, *words: str, ports: Sequence[str] = ()) -> subprocess.Popen[str]:
-        """Starts `lldpa-ctl watch`, and waits until it has asked for the neighbors."""
+        """Starts `lldpa-ctl watch`, and waits until it has printed the table, or with --json until it
+        waits for changes."""
+        table = "" if words else self.run_ctl("neighbors", *ports)
         words = (CTL, "--control", self.served.path, *words, "watch", *ports)
         environment = {key: value for key, value in os.environ.items() if key != "PYTHONUNBUFFERED"}
         child = subprocess.Popen(words, stdout=subprocess.PIPE, stderr=subprocess.PIPE, text=True,
                                  env=environment)
         self.addCleanup(child.communicate)
         self.addCleanup(child.kill)
-        while b"show neighbors" not in self.served.asked:
+        assert child.stdout is not None
+        self.assertEqual("".join(child.stdout.readline() for _ in table.splitlines()), table)
+        while not table and b"changes" not in self.served.asked:
             time.sleep(0.01)
         return child
 

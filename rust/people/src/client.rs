@@ -26,6 +26,8 @@ const DETAILS: &str = "lldpa-details";
 const DETAILS_BESIDE: &str = "../lib/lldpa/bin/lldpa-details";
 const VERSION: &str = env!("CARGO_PKG_VERSION");
 const SHOWS: [&str; 5] = ["neighbors", "statistics", "chassis", "configuration", "interfaces"];
+/// The questions whose answers make the table of neighbors.
+const OF_TABLE: [&str; 3] = ["show neighbors", "live", "show configuration"];
 const PATIENCE: Duration = Duration::from_secs(30);
 const PATIENCE_FOR_METRICS: Duration = Duration::from_secs(10); // a timer asks again soon
 const MANY: usize = 1000; // neighbors: more of them are asked for port by port
@@ -170,8 +172,11 @@ impl Client<'_> {
             _ => {
                 let mut connection = self.connect(PATIENCE)?;
                 let lines = self.lines(&mut connection, &words)?;
-                let text = lines.iter().map(|line| format!("{line}\n")).collect::<String>();
-                self.print(if self.given.json { "{}\n" } else { &text })
+                if self.given.json {
+                    self.print("{}\n")
+                } else {
+                    self.print_lines(&lines)
+                }
             }
         }
     }
@@ -232,15 +237,7 @@ impl Client<'_> {
     /// Asks lldpa-live, and returns the lines to print.
     fn lines(&self, connection: &mut Connection, words: &[&str]) -> Done<Vec<String>> {
         match words {
-            ["neighbors", ports @ ..] => {
-                let [neighbors, live, configuration] =
-                    asked(connection, ["show neighbors", "live", "show configuration"])?;
-                let show = show_of(&[&neighbors, &configuration])?;
-                let show = show.only(&listed(ports)).map_err(Failure::Refused)?;
-                let mut lines = table(&show.ports, self.width());
-                lines.extend(reasons(&show, &LiveLines::read(&live.lines()), self.width()));
-                Ok(lines)
-            }
+            ["neighbors", ports @ ..] => self.table(&asked(connection, OF_TABLE)?, &listed(ports)),
             ["interfaces", ports @ ..] => {
                 let [neighbors, configuration, live] =
                     asked(connection, ["show neighbors", "show configuration", "live"])?;
@@ -276,10 +273,25 @@ impl Client<'_> {
         }
     }
 
-    /// Prints a line for each neighbor of these ports that comes, changes or leaves, without end.
+    /// Returns the table of neighbors of these ports (all if empty), from the answers to `OF_TABLE`.
+    fn table(&self, [neighbors, live, configuration]: &[Answer; 3], ports: &[String]) -> Done<Vec<String>> {
+        let show = show_of(&[neighbors, configuration])?.only(ports).map_err(Failure::Refused)?;
+        let mut lines = table(&show.ports, self.width());
+        lines.extend(reasons(&show, &LiveLines::read(&live.lines()), self.width()));
+        Ok(lines)
+    }
+
+    fn print_lines(&self, lines: &[String]) -> Done<()> {
+        self.print(&lines.iter().map(|line| format!("{line}\n")).collect::<String>())
+    }
+
+    /// Prints the table, and then a line for each neighbor of these ports that comes, changes or leaves,
+    /// without end.
     fn watch(&self, ports: &[String]) -> Done<()> {
         let mut connection = self.connect(PATIENCE)?;
-        let mut last = connection.ask("show neighbors")?;
+        let answers = asked(&mut connection, OF_TABLE)?;
+        self.print_lines(&self.table(&answers, ports)?)?;
+        let [mut last, ..] = answers;
         let mut watch = Watch::of(&show_of(&[&last])?.only(ports).map_err(Failure::Refused)?);
         let mut changes = None;
         loop {

@@ -1,6 +1,7 @@
 //! Tests what is made of answers of lldpa-live: tables, changes and metrics.
 
 use lldpa_people::changes::Watch;
+use lldpa_people::interfaces::{counter_lines, interfaces};
 use lldpa_people::live_lines::LiveLines;
 use lldpa_people::metrics::{metrics, up};
 use lldpa_people::show::{Port, Show, COUNTERS};
@@ -179,6 +180,41 @@ fn a_port_with_a_neighbor_is_named_only_if_it_has_no_link() {
         let show = Show::read(text.lines().collect()).expect("two answers");
         assert_eq!(reasons(&show, &LiveLines::read(&[link]), 80), lines, "{status} {link}");
     }
+}
+
+#[test]
+fn ports_have_a_table_of_their_states() {
+    let nobody = port("eth0", false, &[]).replace("eth0", "eth10");
+    let statuses = "configuration.eth10.status=rx-and-tx\nconfiguration.eth1.status=disabled\n\
+        configuration.p2.status=tx-only\n";
+    let text = format!("{nobody}{SETTINGS}{statuses}");
+    let show = Show::read(text.lines().collect()).expect("two answers");
+    let live = LiveLines::read(&["live.eth10.interface=present", "live.eth10.link=up", "live.p2.link=\\x1b"]);
+    let lines = [
+        "PORT   INTERFACE  LINK  STATUS     NEIGHBORS",
+        "eth10  present    up    rx-and-tx          0",
+        "eth1   ?          ?     disabled           ?",
+        "p2     ?          \\x1b  tx-only            ?",
+    ];
+    assert_eq!(interfaces(&show, &live, &[], 80).expect("ports"), lines);
+    let only = interfaces(&show, &live, &["eth1".into()], 80).expect("a port");
+    assert_eq!(only[1..], ["eth1  ?          ?     disabled          ?"]);
+    let why = interfaces(&show, &live, &["eth9".into()], 80).expect_err("no port");
+    assert_eq!(why, "no such port: eth9 (eth10, eth1, p2)");
+}
+
+#[test]
+fn counters_have_a_table_and_a_sum_of_several_ports() {
+    let counters: Vec<(&str, [u128; 9])> =
+        vec![("eth0", [1, 2, 3, 4, 5, 6, 7, 8, 9]), ("eth10", [10, 0, 0, 0, 0, 0, 0, 0, 4_294_967_295])];
+    let lines = [
+        "PORT   SENT  SHUTDOWNS  RECEIVED  DISCARDED  ERRORS  TLVS-DISCARDED  UNRECOGNIZED  AGEOUTS       DROPS",
+        "eth0      1          2         3          4       5               6             7        8           9",
+        "eth10    10          0         0          0       0               0             0        0  4294967295",
+        "all      11          2         3          4       5               6             7        8  4294967304",
+    ];
+    assert_eq!(counter_lines(&counters, 200), lines);
+    assert_eq!(counter_lines(&counters[..1], 200).len(), 2);
 }
 
 #[test]
