@@ -95,6 +95,11 @@ class Platforms(InAFolder):
                                                  "Error raised"),
                 ("cisco_ios", "Total entries displayed: 0\n", "it is an empty list: ntc-templates"),
                 ("cisco_ios", TEXT[:-1], "its last line is incomplete: it was cut short"),
+                ("cisco_ios", TEXT[:TEXT.index("Total")],
+                 "it was cut short: it does not end with `Total entries displayed`"),
+                ("cisco_ios", TEXT + TEXT, "it has 2 lists of neighbors: give only one"),
+                ("cisco_ios", TEXT.replace(": 2", ": 3"),
+                 "it says that it has 3 entries, but the template finds 2"),
                 ("cisco_ios", "sh: ssh: command not found\n", "the command that wrote it failed")):
             with self.subTest(platform=platform, text=text):
                 self.file("leaf1", text)
