@@ -1,6 +1,7 @@
 """Writes a report as JSON, and escapes octets of texts that are not UTF-8."""
 import json
-from typing import Dict, Iterable, Iterator, Optional, Sequence, Union
+from itertools import islice
+from typing import Dict, Iterator, Optional, Sequence, Union
 
 from ..ages import Ages
 from ..judging import Finding, Verdict
@@ -9,6 +10,8 @@ from ..names import End, Seen, text_of
 from .repairs import TO_DO, Repair
 from .report import Report
 
+# values that are written together, since each call of json.dumps takes as long as a short value
+AT_A_TIME = 100
 Json = Union[None, str, int, float, Sequence["Json"], Dict[str, "Json"]]
 
 
@@ -22,13 +25,14 @@ def json_of(report: Report) -> Iterator[str]:
     yield "}\n"
 
 
-def listed(name: str, values: Iterable[Json]) -> Iterator[str]:
-    """Yields a field with a list of values, each as soon as it is made."""
-    between = f'"{name}": ['
-    for value in values:
-        yield between + dumped(value)
+def listed(name: str, values: Iterator[Json]) -> Iterator[str]:
+    """Yields a field with a list of values, some at a time as soon as they are made."""
+    yield f'"{name}": ['
+    between = ""
+    while some := list(islice(values, AT_A_TIME)):
+        yield between + dumped(some)[1:-1]
         between = ", "
-    yield "]" if between == ", " else f"{between}]"
+    yield "]"
 
 
 def dumped(value: Json) -> str:
