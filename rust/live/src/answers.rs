@@ -237,3 +237,27 @@ impl Live {
         text
     }
 }
+
+#[cfg(test)]
+mod tests {
+    use super::*;
+    use crate::arguments::Arguments;
+    use crate::links::Links;
+    use crate::ports::Ports;
+    use std::fs::File;
+
+    #[test]
+    fn answers_share_tables_until_these_may_have_changed() {
+        let arguments = Arguments::default();
+        let ports = Ports::open(&[], &arguments, false).expect("no sockets");
+        let links = Links::over(File::open("/dev/null").expect("a file"));
+        let mut live = Live::new(arguments, links, ports, None).expect("files that wake it");
+        let first = live.tables(None);
+        assert!(Arc::ptr_eq(&first, &live.tables(None)));
+        assert!(!Arc::ptr_eq(&first, &live.tables(Some(0))), "those of one port are their own");
+        live.server.forget_tables();
+        assert!(!Arc::ptr_eq(&first, &live.tables(None)));
+        let weak = Arc::downgrade(&live.tables(None));
+        assert_eq!(weak.strong_count(), 0, "nobody keeps tables that no client reads");
+    }
+}

@@ -396,6 +396,31 @@ mod tests {
     }
 
     #[test]
+    fn lines_reach_the_thread_in_their_order() {
+        let mut log = Log::new(Some("log".into()), 1, 1);
+        let ((jobs, theirs), (_ours, answers)) = (channel(), channel());
+        log.thread = Some((jobs, answers));
+        log.begin("eth0", vec![Line::Ticks(1)]);
+        log.write(at(5), &Line::Ticks(2));
+        log.write_lines(vec![Line::Ticks(3)]);
+        log.write(at(5), &Line::Ticks(4));
+        log.begin("eth1", vec![Line::Ticks(5)]);
+        let text = |lines: Vec<Line>| lines.iter().map(Line::to_string).collect();
+        let jobs: Vec<Vec<String>> = theirs
+            .try_iter()
+            .map(|job| match job {
+                Job::Begin(_, lines) | Job::WriteLines(lines) => text(lines),
+                Job::Write(octets) => {
+                    let lines = String::from_utf8(octets).expect("a text");
+                    lines.lines().filter(|line| !line.starts_with('#')).map(String::from).collect()
+                }
+                Job::WriteState(..) => Vec::new(),
+            })
+            .collect();
+        assert_eq!(jobs, [["tick"], ["tick 2"], ["tick 3"], ["tick 4"], ["tick 5"]]);
+    }
+
+    #[test]
     fn without_a_folder_nothing_is_written() {
         let mut log = Log::new(None, 1, 1);
         log.begin("eth0", Vec::new());
@@ -476,6 +501,31 @@ mod tests {
         is_done("2");
         log.turn();
         assert_eq!((log.state(), log.lost, log.lost_reported), ("on", 1, 1));
+        assert!(!log.wants_beginning(), "no line was written after the stall");
+    }
+
+    #[test]
+    fn a_stall_ends_with_its_file_and_a_fault_at_once() {
+        let mut log = Log::new(Some("log".into()), 1, 1);
+        let ((jobs, _theirs), (ours, answers)) = (channel(), channel());
+        log.thread = Some((jobs, answers));
+        log.begin("eth0", Vec::new());
+        log.write(at(5), &Line::Ticks(1));
+        log.turn();
+        ours.send(Ok(("1".into(), 10))).expect("a log");
+        log.turn();
+        log.waited = TO_STALL;
+        log.turn();
+        assert_eq!((log.state(), log.lost), ("stalled", 0));
+        ours.send(Ok(("1".into(), 20))).expect("a log");
+        log.turn();
+        assert_eq!((log.state(), log.lost, log.wants_beginning()), ("on", 0, true));
+        log.begin("eth0", Vec::new());
+        log.write(at(5), &"x".repeat(7));
+        log.turn();
+        (0..2).for_each(|_| ours.send(Err(Fault::NoRoom)).expect("a log"));
+        log.turn();
+        assert_eq!((log.state(), log.lost, log.is_whole), ("full", 1, false));
     }
 
     #[test]

@@ -210,6 +210,14 @@ impl Port {
         }
     }
 
+    /// Notes that in this second of the agent a neighbor had no room, which would have lived so many
+    /// seconds. Returns true if that begins the too-many-neighbors condition.
+    pub fn note_no_room(&mut self, second: u64, ttl: u16) -> bool {
+        let begins = self.full_until <= second;
+        self.full_until = self.full_until.max(second + u64::from(ttl));
+        begins
+    }
+
     /// Returns the lines of `live` about this port.
     pub fn status_lines(&self) -> String {
         let lines = [
@@ -222,5 +230,26 @@ impl Port {
             ("left-out", self.counts.left_out.to_string()),
         ];
         lines.iter().map(|(key, value)| format!("live.{}.{key}={value}\n", self.name)).collect()
+    }
+}
+
+#[cfg(test)]
+mod tests {
+    use super::*;
+
+    #[test]
+    fn too_many_neighbors_are_so_until_the_last_would_be_gone() {
+        let mut port = Port::new("eth0", true, Awaited::new(File::open("/dev/null").expect("a file")));
+        // the second, a time to live, whether the condition begins, and until when it lasts
+        for (second, ttl, begins, until) in [
+            (0, 9, true, 9),
+            (1, 9, false, 10),
+            (2, 3, false, 10),
+            (9, 1, false, 10),
+            (10, 120, true, 130),
+            (129, 65_535, false, 65_664),
+        ] {
+            assert_eq!((port.note_no_room(second, ttl), port.full_until), (begins, until), "{second}");
+        }
     }
 }

@@ -119,3 +119,25 @@ impl Ports {
         }
     }
 }
+
+#[cfg(test)]
+mod tests {
+    use super::*;
+
+    #[test]
+    fn only_a_port_that_a_pattern_gave_goes_with_its_interface() {
+        let mut ports = Ports::open(&[], &Arguments::default(), false).expect("no sockets");
+        let socket = || Awaited::new(File::open("/dev/null").expect("a file"));
+        ports.all.push(Port::new("eth0", true, socket()));
+        ports.add("eth1");
+        assert_eq!(ports.names(), ["eth0"], "no socket is left");
+        ports.spare.push(socket());
+        ports.add("eth1");
+        ports.all.iter_mut().for_each(|port| port.interface.gone_since = Some(Moment::default()));
+        assert_eq!((ports.names(), ports.gone()), (vec!["eth0".into(), "eth1".into()], vec!["eth1".into()]));
+        ports.frames.extend([0, 1].map(|port| Frame { moment: Moment::default(), port, octets: Vec::new() }));
+        ports.remove(&["eth0".to_string()]);
+        assert_eq!((ports.names(), ports.spare.len()), (vec!["eth1".to_string()], 1));
+        assert_eq!(ports.frames.iter().map(|frame| frame.port).collect::<Vec<_>>(), [0]);
+    }
+}

@@ -99,10 +99,9 @@ impl Live {
     /// Notes that a neighbor had no room, and reports it unless another had none just before.
     fn record_dropped(&mut self, port: usize, ttl: u16) {
         let port = &mut self.ports.all[port];
-        if port.full_until <= self.clock.given {
+        if port.note_no_room(self.clock.given, ttl) {
             self.events.report(&port.name, &format!("{} has no room for a neighbor", port.name));
         }
-        port.full_until = port.full_until.max(self.clock.given + u64::from(ttl));
     }
 
     /// Returns the number of a chassis: that of a neighbor with this chassis, else a new number.

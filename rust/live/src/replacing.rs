@@ -58,7 +58,7 @@ impl Live {
     fn has_memory(&self) -> bool {
         let count = self.ports.neighbors().count();
         let mut room: Vec<u8> = Vec::new();
-        room.try_reserve_exact(FOR_A_NEIGHBOR * count + FOR_ALL).is_ok()
+        room.try_reserve_exact(memory_for(count)).is_ok()
     }
 
     /// Lets the counters go on when another agent, which was just rebuilt, replaces this one.
@@ -125,5 +125,22 @@ impl Live {
         });
         let (lines, _) = running.table_lines(&running.names);
         Some(State::new(arrivals.collect(), lines))
+    }
+}
+
+/// Returns how many octets of memory replacing an agent with so many neighbors takes at most.
+fn memory_for(neighbors: usize) -> usize {
+    FOR_A_NEIGHBOR * neighbors + FOR_ALL
+}
+
+#[cfg(test)]
+mod tests {
+    use super::*;
+
+    #[test]
+    fn more_neighbors_need_more_memory() {
+        for (neighbors, memory) in [(0, 1_048_576), (1, 1_056_768), (8192, 68_157_440)] {
+            assert_eq!(memory_for(neighbors), memory);
+        }
     }
 }

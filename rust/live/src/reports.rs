@@ -21,13 +21,18 @@ const MINUTE: Duration = Duration::from_secs(60);
 const LONGEST: usize = 1000; // characters of such a line
 
 pub fn report(level: u8, text: &str) {
-    let front = if is_journal() { format!("<{level}>") } else { "lldpa-live: ".into() };
-    let mut line = (front + &printable(text.as_bytes())).into_bytes();
-    line.truncate(MOST_AT_ONCE);
-    line.push(b'\n');
+    let line = line_of(level, text, is_journal());
     if can_take() {
         let _ = std::io::stderr().write(&line);
     }
+}
+
+fn line_of(level: u8, text: &str, is_journal: bool) -> Vec<u8> {
+    let front = if is_journal { format!("<{level}>") } else { "lldpa-live: ".into() };
+    let mut line = (front + &printable(text.as_bytes())).into_bytes();
+    line.truncate(MOST_AT_ONCE);
+    line.push(b'\n');
+    line
 }
 
 /// True if standard error accepts a line at once. A regular file, which epoll refuses, always does.
@@ -108,5 +113,25 @@ impl Events {
 
     pub fn deadline(&self) -> Option<Moment> {
         self.counts.values().any(|count| *count > MOST_A_MINUTE).then_some(self.next_minute)
+    }
+}
+
+#[cfg(test)]
+mod tests {
+    use super::*;
+
+    #[test]
+    fn a_report_is_one_line_with_a_level_for_the_journal() {
+        for (level, text, journal, terminal) in [
+            (ERROR, "a b", "<3>a b\n", "lldpa-live: a b\n"),
+            (WARNING, "caf\u{e9}", "<4>caf\u{e9}\n", "lldpa-live: caf\u{e9}\n"),
+            (NOTICE, "a\n<0>b", "<5>a\\x0a<0>b\n", "lldpa-live: a\\x0a<0>b\n"),
+            (INFORMATION, "\x1b[2J", "<6>\\x1b[2J\n", "lldpa-live: \\x1b[2J\n"),
+        ] {
+            for (is_journal, wanted) in [(true, journal), (false, terminal)] {
+                assert_eq!(line_of(level, text, is_journal), wanted.as_bytes(), "{text:?}");
+            }
+        }
+        assert_eq!(line_of(ERROR, &"x".repeat(5000), true).len(), 4096);
     }
 }

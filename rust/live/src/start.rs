@@ -245,3 +245,32 @@ impl Live {
         self.metrics.end();
     }
 }
+
+#[cfg(test)]
+mod tests {
+    use super::*;
+
+    #[test]
+    fn ports_that_are_missing_are_awaited_or_refused() {
+        let links = Links::over(File::open("/dev/null").expect("a file")); // there is no interface
+                                                                           // names and patterns, whether an interface may come, and the ports or why there is none
+        for (selectors, may_wait, wanted) in [
+            ("eth0", true, Ok("eth0")),
+            ("eth0", false, Ok("eth0")),
+            ("eth*", true, Ok("")),
+            ("eth*", false, Err("eth*: no Ethernet interface is selected")),
+            ("eth* !eth1", false, Err("eth*,!eth1: no Ethernet interface is selected")),
+            ("", false, Ok("")),
+        ] {
+            let selectors = selectors.split_whitespace().map(String::from).collect();
+            let arguments = Arguments { selectors, ..Arguments::default() };
+            let found = first_ports(&arguments, &links, may_wait).map(|names| names.join(" "));
+            let found = found.map_err(|fault| fault.to_string());
+            assert_eq!(found, wanted.map(String::from).map_err(String::from), "{:?}", arguments.selectors);
+        }
+        let selectors = vec!["eth0".to_string()];
+        let arguments = Arguments { selectors, only_existing: true, ..Arguments::default() };
+        let found = first_ports(&arguments, &links, false).err().map(|fault| fault.to_string());
+        assert_eq!(found.as_deref(), Some("eth0: there is no such interface"));
+    }
+}

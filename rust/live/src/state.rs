@@ -284,6 +284,35 @@ impl State {
 mod tests {
     use super::*;
 
+    #[test]
+    fn only_a_private_file_is_opened() {
+        use std::fs::{self, Permissions};
+        use std::os::unix::fs::{symlink, PermissionsExt};
+        let folder = std::env::temp_dir().join(format!("lldpa-live-state-{}", std::process::id()));
+        fs::create_dir_all(&folder).expect("a folder");
+        let path = |name: &str| folder.join(name).to_string_lossy().into_owned();
+        let opened = |name: &str| open(&path(name), None).map(|file| file.is_some()).ok();
+        assert_eq!(opened("missing"), Some(false));
+        for (mode, wanted) in [(0o600, Some(true)), (0o400, Some(true)), (0o640, None), (0o602, None)] {
+            fs::write(path("state"), "").expect("room");
+            fs::set_permissions(path("state"), Permissions::from_mode(mode)).expect("a file");
+            assert_eq!(opened("state"), wanted, "{mode:o}");
+            fs::remove_file(path("state")).expect("a file");
+        }
+        fs::write(path("state"), "").expect("room");
+        fs::set_permissions(path("state"), Permissions::from_mode(0o600)).expect("a file");
+        symlink(path("state"), path("link")).expect("room");
+        assert_eq!((opened("link"), opened("state")), (None, Some(true)));
+        fs::hard_link(path("state"), path("second")).expect("room");
+        assert_eq!(opened("state"), None, "it has another name");
+        let of_folder = Permissions::from_mode(0o700);
+        fs::create_dir(path("folder"))
+            .and_then(|()| fs::set_permissions(path("folder"), of_folder))
+            .expect("room");
+        assert!(matches!(open(&path("folder"), None), Err(StateFault::NotPrivate)));
+        fs::remove_dir_all(&folder).expect("a folder");
+    }
+
     const PDU: [u8; 20] = [2, 7, 4, 2, 0, 0, 0, 0, 1, 4, 3, 5, b'p', b' ', 6, 2, 0, 120, 0, 0];
 
     fn frame() -> Vec<u8> {

@@ -63,3 +63,27 @@ pub fn matches(pattern: &str, text: &str) -> bool {
         _ => false,
     }
 }
+
+#[cfg(test)]
+mod tests {
+    use super::*;
+
+    #[test]
+    fn patterns_match_whole_texts() {
+        for (pattern, text, wanted) in [
+            ("eth0", "eth0", true),
+            ("eth0", "eth01", false),
+            ("e*", "eth0", true),
+            ("e*", "e/0", true), // a name in the settings may have any letter
+            ("*", ".eth", true),
+            ("eth?", "eth", false),
+            ("eth[0-3]", "eth2", true),
+            ("eth[0-3]", "eth4", false),
+            ("eth[!0-3]", "eth4", true),
+            ("\\*", "*", true),
+            ("a\0", "a", false),
+        ] {
+            assert_eq!(matches(pattern, text), wanted, "{pattern:?} {text:?}");
+        }
+    }
+}
