@@ -245,6 +245,34 @@ mod tests {
         frame
     }
 
+    /// Returns what the lines of `live` about neighbors name: each neighbor, and how many chassis.
+    fn since(mut writer: Writer) -> (Vec<String>, usize) {
+        let (count, mut text) = (writer.count(), Vec::new());
+        while writer.write(&mut text) {}
+        let text = String::from_utf8(text).expect("ASCII");
+        assert_eq!(count, text.lines().count());
+        let (chassis, neighbors): (Vec<_>, Vec<_>) =
+            text.lines().partition(|line| line.starts_with("live.chassis."));
+        let neighbor = |line: &str| {
+            let (front, rest) = line.split_once('=').expect("a key");
+            let (_, id) = rest.split_once(' ').expect("a time");
+            format!("{} {id}", front.strip_prefix("live.").expect("a port").replace(".since.", "."))
+        };
+        (neighbors.into_iter().map(neighbor).collect(), chassis.len())
+    }
+
+    /// Returns the same from the agent. All neighbors have one chassis number.
+    fn held(agent: &Agent) -> (Vec<String>, usize) {
+        let of_port = |(number, name): (u8, &'static str)| {
+            let neighbors = agent.neighbors(number).into_iter().flatten();
+            let ids = neighbors.filter_map(|one| one.info().map(|info| identifiers::id(&info.msap())));
+            ids.enumerate().map(|(place, id)| format!("{name}.{} {id}", place + 1)).collect::<Vec<_>>()
+        };
+        let held: Vec<String> = (0..).zip(["eth0", "eth1", "e2"]).flat_map(of_port).collect();
+        let chassis = usize::from(!held.is_empty());
+        (held, chassis)
+    }
+
     #[test]
     fn lines_are_those_of_the_agent() {
         let (mut numbers, digests) = (Numbers(1), Digests::default());
@@ -278,6 +306,7 @@ mod tests {
             assert_eq!(text, agent.show(Show::Neighbors), "second {second}");
             assert_eq!(count, text.lines().count());
             assert_eq!(writer.tables().lines_by_port().collect::<String>(), text);
+            assert_eq!(since(Writer::new(writer.tables().clone(), Lines::Since)), held(&agent));
             most = most.max(count);
         }
         assert!(most > 50, "the tables were nearly empty: {most}");

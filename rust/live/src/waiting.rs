@@ -26,3 +26,32 @@ impl<F: AsFd> Awaited<F> {
         self.wanted != 0
     }
 }
+
+#[cfg(test)]
+mod tests {
+    use super::*;
+    use std::io::Write;
+    use std::os::unix::io::AsRawFd;
+    use std::os::unix::net::UnixStream;
+    use std::time::Duration;
+
+    #[test]
+    fn a_file_is_ready_while_it_is_awaited() {
+        let epoll = epoll().expect("a file");
+        let (ours, mut theirs) = UnixStream::pair().expect("two sockets");
+        let number = ours.as_raw_fd();
+        let mut file = Awaited::new(ours);
+        theirs.write_all(b"x").expect("room");
+        // what is awaited, and whether the file is ready
+        for (wanted, is_ready) in
+            [(0, false), (IN, true), (PRIORITY, false), (OUT, true), (0, false), (IN, true)]
+        {
+            file.wait_for(&epoll, wanted);
+            assert_eq!(file.is_awaited(), wanted != 0, "{wanted}");
+            let found = ready(&epoll, Duration::ZERO);
+            assert_eq!(found, if is_ready { vec![number] } else { Vec::new() }, "{wanted}");
+        }
+        drop(file);
+        assert!(ready(&epoll, Duration::ZERO).is_empty());
+    }
+}

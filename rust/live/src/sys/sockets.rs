@@ -249,3 +249,35 @@ pub fn peer_of(stream: &UnixStream) -> (u32, Vec<u32>) {
     groups.push(told.gid);
     (told.uid, groups)
 }
+
+#[cfg(test)]
+mod tests {
+    use super::*;
+    use std::os::unix::io::OwnedFd;
+    use std::os::unix::net::UnixDatagram;
+
+    #[test]
+    fn one_call_reads_all_frames_that_have_room() {
+        let (theirs, ours) = UnixDatagram::pair().expect("two sockets");
+        ours.set_nonblocking(true).expect("a socket");
+        let (file, mut rooms) = (File::from(OwnedFd::from(ours)), Box::new([[0; LONGEST_FRAME]; ROOMS]));
+        let none = receive(&file, &mut rooms).expect_err("nothing was sent");
+        assert_eq!(none.kind(), ErrorKind::WouldBlock);
+        for length in [1, 0, 60, LONGEST_FRAME, LONGEST_FRAME + 9] {
+            theirs.send(&vec![length as u8; length]).expect("room");
+        }
+        let lengths = receive(&file, &mut rooms).expect("frames");
+        assert_eq!(lengths, [1, 0, 60, LONGEST_FRAME, LONGEST_FRAME].map(|length| (length, None)));
+        for (room, (length, octet)) in rooms.iter().zip([(1, 1), (0, 0), (60, 60), (LONGEST_FRAME, 234)]) {
+            assert!(room[..length].iter().all(|one| *one == octet), "{length}");
+        }
+    }
+
+    #[test]
+    fn a_client_has_a_user_and_groups() {
+        let (ours, _theirs) = UnixStream::pair().expect("two sockets");
+        let (user, groups) = peer_of(&ours);
+        assert_eq!(user, crate::sys::rights::own_user());
+        assert!(!groups.is_empty());
+    }
+}
