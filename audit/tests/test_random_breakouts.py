@@ -36,7 +36,6 @@ class RandomBreakouts(InAFolder):
                     for port, heard in ports.items()}
             listing = read_list(json.dumps(tree).encode())
             self.assertEqual(tables.add_ports(host, listing.ports, host, True), "")
-        tables.complete(plan)
         join_lanes(plan, tables)
         findings = audit(plan, tables)
         return Report(plan, tables, findings), findings
