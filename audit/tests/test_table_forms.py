@@ -107,6 +107,8 @@ class Walks(unittest.TestCase):
         for end in (after, f"{after}Timeout: No Response from leaf1\n",
                     "iso.3.6.1.2.1.1.1.0 = STRING: \"Linux\"\n"):
             self.assertEqual(read(WALK + end), read(WALK), end)
+        end = "iso.0.8802.1.1.2.1.4.1.1.9.0.4.1 = No more variables left in this MIB View (It is past"
+        self.assertEqual(read(f"{WALK}{end} the end of the MIB tree)\n"), read(WALK))
         # agents may omit the System Name of a neighbor, if the walk goes on
         self.assertEqual(read("".join(lines[:-1]) + after).ports["swp4"][0].hosts,
                          (vendors.chassis_of("host04"),))

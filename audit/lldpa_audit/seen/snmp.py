@@ -28,6 +28,8 @@ IS_AFTER = re.compile(r"lldpRem|lldpX|1\.(?:4\.1\.1\.[1-9][0-9]|4\.[2-9]|[5-9])"
 IS_OTHER = re.compile(r"^(?:(?:LLDP-MIB::)?lldp(?:LocPort|Rem)[A-Za-z]*[.\[]"
                       r"|\.?(?:iso|1)\.0\.8802\.1\.1\.2\.1\.(?:3\.7|4\.1)\.)", re.M)
 IS_ERROR = re.compile(r"^(?:Timeout: |Error in packet|Error: OID|snmp[a-z]*: )", re.M)
+# what a walk prints at last, with the name of the last object, if the agent has no more to read
+END_OF_VIEW = "No more variables left in this MIB View"
 COMMAND = "use `snmpwalk -v2c -c COMMUNITY HOST 1.0.8802.1.1.2.1`"
 # the subtypes for a MAC address and for a network address, of chassis IDs and of Port IDs
 OF_CHASSIS, OF_PORT = ("4", "5"), ("3", "4")
@@ -90,7 +92,9 @@ def walk_of(text: str) -> Walk:
             return walk
         name, number, index, kind, value = found.groups("")
         end, name = found.end(), name or NAMES.get(number, "")
-        if name in ORDER:
+        if not kind and value.startswith(END_OF_VIEW):
+            walk.last = AFTER
+        elif name in ORDER:
             add(walk, name, index, text_of(kind, value))
         elif IS_AFTER.match(name or number):
             walk.last = AFTER
@@ -126,7 +130,7 @@ def text_of(kind: str, value: str) -> str:
     """Returns a value as text. The text of an enumeration is its number."""
     if kind == "INTEGER":
         return value.rpartition("(")[2].rstrip(")")
-    if not kind and value not in ('""', "No more variables left in this MIB View"):
+    if not kind and value != '""':
         raise SeenFault(f"the value {value[:40]!r} has no type: use snmpwalk without -OQ")
     if kind == "Hex-STRING":
         try:
