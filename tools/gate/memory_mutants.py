@@ -20,8 +20,8 @@ MUTANTS = {
         ("match Agent::open(alloc, &options) {", "let alloc = Global::default(); @"),
     ),
     "lldp_table/src/order.rt": (
-        ("let mut kept = used;", "let _ = queue.lefts(); @"),
-        ("let mut kept = used;", "let _ = Queue::lefts(queue); @"),
+        ("let mut spent = true;", "let _ = queue.lefts(); @"),
+        ("let mut spent = true;", "let _ = Queue::lefts(queue); @"),
     ),
     "lldp_table/src/times.rt": (
         ("pub(crate) fn get(&mut self, slot: u8) -> u16",
@@ -43,9 +43,9 @@ MUTANTS = {
         ("self.used = 0;", "let alloc = A::default(); let _ = Room::<u8, A>::open(alloc, 4096); @"),
         ("self.used = 0;", "let Room { items } = &self.slots; let _ = items.allocator().alloc(4096); @"),
         ("used: u8,", "@ spare: Option<A>,"),
-        ("let gone = self.used - kept;", "let _ = self.entries(); @"),
-        ("let gone = self.used - kept;", "let _ = Table::entries(self); @"),
-        ("let gone = self.used - kept;", "for i in 0..kept { let _ = self.entry(i); } @"),
+        ("self.gone = self.used - kept;", "let _ = self.entries(); @"),
+        ("self.gone = self.used - kept;", "let _ = Table::entries(self); @"),
+        ("self.gone = self.used - kept;", "for i in 0..kept { let _ = self.entry(i); } @"),
     ),
     "lldp_table/src/queue.rt": (
         ("    last: u16,", "@ all: [u16; MOST_NEIGHBORS],", "            last: 0,", "@ all: [0; MOST_NEIGHBORS],",

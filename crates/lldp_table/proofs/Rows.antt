@@ -23,9 +23,12 @@ frame port ttl = learn (name port) ttl (extent port ttl)
 abbrev held : ℕ → ℕ → ℕ → Neighbor
 held port ttl left = record { msap = name port; octets = extent port ttl; ttl = ttl; left = left }
 
--- the contents of a table that was opened for two neighbors
+-- the contents of a table that was opened for two neighbors, with those that aged out
+abbrev after : List Neighbor → ℕ → ℕ → List Neighbor → Contents
+after gone limit timer held = record { capacity = 2; limit = limit; neighbors = held; gone = gone; too_many_left = timer }
+
 abbrev table : ℕ → ℕ → List Neighbor → Contents
-table limit timer held = record { capacity = 2; limit = limit; neighbors = held; too_many_left = timer }
+table limit timer held = after [] limit timer held
 
 -- the result of `learn`, or None for any other event
 abbrev answer_of : TableEvent → Option Learned
@@ -41,7 +44,7 @@ new_is_held : table_of 2 (frame 0x30 1 ∷ []) ≡ table 2 0 (held 0x30 1 1 ∷ 
 unfolding neighbors live events_of too_many_left
 new_is_held = refl
 
-ttl_of_one_ends_at_the_next_tick : table_of 2 (tick ∷ frame 0x30 1 ∷ []) ≡ table 2 0 []
+ttl_of_one_ends_at_the_next_tick : table_of 2 (tick ∷ frame 0x30 1 ∷ []) ≡ after (held 0x30 1 1 ∷ []) 2 0 []
 unfolding neighbors live events_of too_many_left
 ttl_of_one_ends_at_the_next_tick = refl
 
@@ -57,7 +60,7 @@ a_refresh_begins_anew : table_of 2 (tick ∷ frame 0x30 7 ∷ tick ∷ frame 0x3
 unfolding neighbors live events_of too_many_left
 a_refresh_begins_anew = refl
 
-a_refresh_may_shorten : table_of 2 (tick ∷ frame 0x30 1 ∷ frame 0x30 120 ∷ []) ≡ table 2 0 []
+a_refresh_may_shorten : table_of 2 (tick ∷ frame 0x30 1 ∷ frame 0x30 120 ∷ []) ≡ after (held 0x30 1 1 ∷ []) 2 0 []
 unfolding neighbors live events_of too_many_left
 a_refresh_may_shorten = refl
 

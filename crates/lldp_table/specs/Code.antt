@@ -2,6 +2,7 @@
 pub mod Steps
 pub mod Stored
 pub mod Queue
+pub mod Marks
 pub mod Layout
 pub mod Room
 pub mod Lent

@@ -9,11 +9,13 @@ use Rattle.lldp_table.specs.Msap.{same_msap}
 use Rattle.lldp_table.specs.Events.{Neighbor}
 
 -- a table: the limit given at opening, the current limit, the neighbors in the order in which they
--- were last added, and the remaining ticks of the too-many timer (tooManyNeighborsTimer)
+-- were last added, those that aged out at the last call if it was a tick, and the remaining ticks of
+-- the too-many timer (tooManyNeighborsTimer)
 pub record Contents : Type 0 where
   pub capacity : ℕ
   pub limit : ℕ
   pub neighbors : List Neighbor
+  pub gone : List Neighbor
   pub too_many_left : ℕ
 
 -- the neighbor has this MSAP identifier
@@ -48,7 +50,8 @@ abbrev pub names_of : List Neighbor → List MsapId
 names_of neighbors = map (λ neighbor. neighbor.msap) neighbors
 
 -- The capacity is at most 128 and the limit is from 1 to the capacity. At most as many neighbors as
--- the limit are held, each as `IsHeld` says, and no two have the same MSAP identifier.
+-- the limit are held, each as `IsHeld` says, and no two have the same MSAP identifier. Those that aged
+-- out are as they were held.
 pub record IsSound (table : Contents) : Type 0 where
   pub most : table.capacity ≤ 128
   pub room : table.limit ≤ table.capacity
@@ -56,3 +59,4 @@ pub record IsSound (table : Contents) : Type 0 where
   pub few : length table.neighbors ≤ table.limit
   pub held : AllByRecursion IsHeld table.neighbors
   pub distinct : IsDistinct same_msap (names_of table.neighbors)
+  pub left : AllByRecursion IsHeld table.gone

@@ -122,6 +122,12 @@ events_of opened (call ∷ calls) = let past = events_of opened calls in event_o
 abbrev pub aged_out : List TableEvent → ℕ
 aged_out past = count_by (λ (neighbor : Neighbor). is_none (live neighbor.msap (ticked ∷ past))) (neighbors past)
 
+-- the neighbors that aged out at the last of these events: if it is a tick, those that were live before
+-- it and no longer are, in the order in which each was last added; otherwise none
+abbrev pub gone : List TableEvent → List Neighbor
+gone (ticked ∷ past) = filter (λ (neighbor : Neighbor). is_none (live neighbor.msap (ticked ∷ past))) (neighbors past)
+gone _ = []
+
 -- ## Too many neighbors
 
 -- the most remaining ticks of any dropped frame, n ticks after the last of these events

@@ -1,10 +1,10 @@
 -- The contents of a table after a list of calls.
 use Rattle.std.specs.Prelude.{◌≡◌, ℕ, ◌<◌, ◌≤◌, List, [], ◌∷◌, length}
-use Rattle.lldp_table.specs.Events.{Call, learn, forget, purge, tick, set_limit, events_of, neighbors, too_many_left, limit_after}
+use Rattle.lldp_table.specs.Events.{Call, learn, forget, purge, tick, set_limit, events_of, neighbors, gone, too_many_left, limit_after}
 use Rattle.lldp_table.specs.Contents.{Contents, IsExtent}
 
 -- the contents that the definitions give for a table after these calls: the limits, the live
--- neighbors in the order in which they were last added, and the too-many timer
+-- neighbors in the order in which they were last added, those that aged out, and the too-many timer
 abbrev pub table_of : ℕ → List Call → Contents
 table_of opened calls =
     let past = events_of opened calls in
@@ -12,6 +12,7 @@ table_of opened calls =
       capacity = opened;
       limit = limit_after opened past;
       neighbors = neighbors past;
+      gone = gone past;
       too_many_left = too_many_left past;
     }
 

@@ -1,17 +1,17 @@
 //! Laws that the definitions obey, for every list of calls.
-ghost use Rattle.std.specs.Prelude.{◌≡◌, ℕ, false, ◌+◌, ◌-◌, ◌*◌, ◌^◌, ◌<◌, ◌≤◌, ◌↔◌, ◌⊎◌, max, List, [], ◌∷◌, ◌++◌, length, None};
-ghost use Rattle.std.specs.List.{Contains, AllPairs, AllByRecursion};
+ghost use Rattle.std.specs.Prelude.{◌≡◌, ℕ, false, not, ◌+◌, ◌-◌, ◌*◌, ◌^◌, ◌<◌, ◌≤◌, ◌↔◌, ◌⊎◌, max, List, [], ◌∷◌, ◌++◌, length, None};
+ghost use Rattle.std.specs.List.{Contains, AllPairs, AllByRecursion, filter};
 ghost use Rattle.lldp_pdu.specs.Tlv.{AreOctets};
 ghost use Rattle.lldp_pdu.specs.Msap.{MsapId};
 ghost use Rattle.lldp_pdu.specs.Lldpdu.{extent, ttl_of, msap_of};
 ghost use Rattle.lldp_pdu.specs.Fault.{fault_of};
 ghost use Rattle.lldp_pdu.specs.Kept.{kept_of};
 ghost use Rattle.lldp_table.specs.declared.learned.Learned.TheVariants.{New, Refreshed, Dropped};
-ghost use Rattle.lldp_table.specs.Laws.Changes.{a_tick_before, just_stored, sets_limit, HoldsOctets, HoldsOthers};
+ghost use Rattle.lldp_table.specs.Laws.Changes.{a_tick_before, just_stored, sets_limit, is_tick, HoldsOctets, HoldsOthers};
 ghost use Rattle.lldp_table.specs.declared.learned.Outcome.TheVariants.{Added, Changed, Repeated, NoRoom};
 ghost use Rattle.lldp_table.specs.Outcomes.{learned_of, octets_held, store_outcome, outcome_between};
 ghost use Rattle.lldp_table.specs.Events.{Call, learn, forget, purge, tick, set_limit, Neighbor, TableEvent, ticked, aged_out, answer, event_of, events_of, neighbors, too_many_left};
-ghost use Rattle.lldp_table.specs.Contents.{Contents, IsExtent, IsHeld, IsSound};
+ghost use Rattle.lldp_table.specs.Contents.{Contents, holds_name, IsExtent, IsHeld, IsSound};
 ghost use Rattle.lldp_table.specs.Code.Stored.{tag_of};
 ghost use Rattle.lldp_table.specs.Code.Steps.{learn_answer, after_learn, newly_opened, table_after};
 ghost use Rattle.lldp_table.specs.Standing.{Stands, ForEachCalls, IsPossible, ArePossible, table_of};
@@ -118,7 +118,7 @@ pub fn forgotten_names_go_alone()
         Contains (table_of opened (forget name ∷ calls)).neighbors neighbor
         ↔ (Contains (table_of opened calls).neighbors neighbor × (¬ (neighbor.msap ≡ name))) }
     ensures others { (opened : ℕ) (calls : List Call) (name : MsapId) →
-        record (table_of opened (forget name ∷ calls)) { neighbors = (table_of opened calls).neighbors }
+        record (table_of opened (forget name ∷ calls)) { neighbors = (table_of opened calls).neighbors; gone = (table_of opened calls).gone }
         ≡ table_of opened calls }
 {}
 
@@ -135,6 +135,23 @@ pub fn ticks_take_expired_neighbors_alone()
         (table_of opened (tick ∷ calls)).limit ≡ (table_of opened calls).limit }
 {}
 
+/// The neighbors that can be read as gone are none, unless the last call was a tick. After a tick
+/// they are those that the table held before and does not hold after, in the order in which they
+/// were last added, each as it was held: no neighbor is left out, and none is added.
+pub fn gone_neighbors_were_held_and_are_not()
+    ensures held { (opened : ℕ) (calls : List Call) (neighbor : Neighbor) →
+        Contains (table_of opened (tick ∷ calls)).gone neighbor
+        ↔ (Contains (table_of opened calls).neighbors neighbor
+        × (holds_name (table_of opened (tick ∷ calls)) neighbor.msap ≡ false)) }
+    ensures order { (opened : ℕ) (calls : List Call) → (table_of opened (tick ∷ calls)).gone
+        ≡ filter (λ neighbor. not (holds_name (table_of opened (tick ∷ calls)) neighbor.msap))
+        (table_of opened calls).neighbors }
+    ensures number { (opened : ℕ) (calls : List Call) →
+        length (table_of opened (tick ∷ calls)).gone ≡ aged_out (events_of opened calls) }
+    ensures none { (opened : ℕ) (calls : List Call) (call : Call) → is_tick call ≡ false →
+        (table_of opened (call ∷ calls)).gone ≡ [] }
+{}
+
 /// A frame that has a TTL above 0 and is not dropped is held with its whole TTL left. It replaces
 /// the frame held for its MSAP identifier, if any; nothing else changes.
 pub fn stored_frames_replace_their_name_alone()
@@ -145,7 +162,7 @@ pub fn stored_frames_replace_their_name_alone()
         ⊎ (Contains (table_of opened calls).neighbors neighbor × (¬ (neighbor.msap ≡ name)))) }
     ensures others { (opened : ℕ) (calls : List Call) (name : MsapId) (ttl : ℕ) (octets : List ℕ) →
         ¬ (answer opened name (events_of opened calls) ≡ Dropped) →
-        record (table_of opened (learn name ttl octets ∷ calls)) { neighbors = (table_of opened calls).neighbors }
+        record (table_of opened (learn name ttl octets ∷ calls)) { neighbors = (table_of opened calls).neighbors; gone = (table_of opened calls).gone }
         ≡ table_of opened calls }
 {}
 
@@ -175,14 +192,14 @@ pub fn dropped_frames_change_the_timer_alone()
     ensures { (opened : ℕ) (calls : List Call) (name : MsapId) (ttl : ℕ) (octets : List ℕ) →
         answer opened name (events_of opened calls) ≡ Dropped →
         table_of opened (learn name ttl octets ∷ calls)
-        ≡ record (table_of opened calls) { too_many_left = max (table_of opened calls).too_many_left ttl } }
+        ≡ record (table_of opened calls) { gone = []; too_many_left = max (table_of opened calls).too_many_left ttl } }
 {}
 
 /// A purge removes all neighbors and ends the too-many timer; the limit stays the same.
 #[tactic(auto, using(crate::proofs::Live::Calls::purge_leaves))]
 pub fn purges_end_timers_too()
     ensures { (opened : ℕ) (calls : List Call) → table_of opened (purge ∷ calls)
-        ≡ record (table_of opened calls) { neighbors = []; too_many_left = 0 } }
+        ≡ record (table_of opened calls) { neighbors = []; gone = []; too_many_left = 0 } }
 {}
 
 /// A limit applies from the call that sets it until the next such call. The limit given at opening
@@ -200,7 +217,7 @@ pub fn limits_last_until_the_next()
         ↔ ((¬ (IsLive (events_of opened calls) name))
         × ((table_of opened calls).limit ≤ length (table_of opened calls).neighbors)) }
     ensures others { (opened limit : ℕ) (calls : List Call) →
-        table_of opened (set_limit limit ∷ calls) ≡ record (table_of opened calls) { limit = limit } }
+        table_of opened (set_limit limit ∷ calls) ≡ record (table_of opened calls) { limit = limit; gone = [] } }
 {}
 
 /// If two MSAP identifiers, written as the chassis ID followed by the port ID, differ in exactly

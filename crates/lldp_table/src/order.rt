@@ -1,15 +1,16 @@
 //! The order of a table's slots, those in use first, and the functions that search or change it.
-ghost use Rattle.std.specs.Prelude.{◌≡◌, ◌≤◌, ◌<◌, ◌+◌, ◌*◌, true, false, List, length, take, map, MatchOption, slice_index_or, sum_by, IsPermutation, nat_eq};
-ghost use Rattle.std.specs.List.{list_any, filter_map, AllByRecursion, IsDistinct};
+ghost use Rattle.std.specs.Prelude.{◌≡◌, ◌≤◌, ◌<◌, ◌+◌, ◌*◌, ◌-◌, ◌++◌, true, false, List, length, take, map, MatchOption, not, slice_index_or, sum_by, IsPermutation, nat_eq};
+ghost use Rattle.std.specs.List.{list_any, filter, filter_map, AllByRecursion, IsDistinct};
 ghost use Rattle.lldp_pdu.specs.View.{msap_view};
 ghost use Rattle.lldp_table.specs.Code.Stored.{Stored, tag_of};
 ghost use Rattle.lldp_table.specs.Msap.{same_msap};
-ghost use Rattle.lldp_table.specs.Code.Steps.{aged};
+ghost use Rattle.lldp_table.specs.Code.Steps.{aged, expires};
 ghost use Rattle.lldp_table.specs.Code.Queue.{holds, ticks_left, IsTimed};
-ghost use Rattle.lldp_table.specs.Code.Layout.{blank, msap_at, octets_at, neighbors_at, with_next};
+ghost use Rattle.lldp_table.specs.Code.Marks.{has_mark, parted};
+ghost use Rattle.lldp_table.specs.Code.Layout.{blank, msap_at, octets_at, neighbors_at, gone_at, with_next};
 
 use crate::limits::MOST_NEIGHBORS;
-use crate::queue::{Queue, place_in};
+use crate::queue::Queue;
 use crate::room::Room;
 use crate::slot::Slot;
 use arrayvec::ArrayVec;
@@ -54,8 +55,60 @@ pub(crate) fn write_next<A: Allocator>(
     }
 }
 
-/// Processes a tick: removes from the queue the slots whose neighbors expire, and moves them to the
-/// end of the order. Returns how many slots are still in use.
+/// Returns the slots without a mark, in their order.
+fn unmarked(slots: &[u8], marks: &[bool; 256]) -> ArrayVec<u8, MOST_NEIGHBORS>
+    requires { length slots.now ≤ MOST_NEIGHBORS }
+    ensures { result.items ≡ filter (λ i. not (has_mark marks.now i)) slots.now }
+{
+    let mut found = ArrayVec::new();
+    for slot in slots {
+        if !marks[*slot as usize] {
+            found.push(*slot);
+        }
+    }
+    found
+}
+
+/// Returns the slots with a mark, in their order.
+fn marked(slots: &[u8], marks: &[bool; 256]) -> ArrayVec<u8, MOST_NEIGHBORS>
+    requires { length slots.now ≤ MOST_NEIGHBORS }
+    ensures { result.items ≡ filter (has_mark marks.now) slots.now }
+{
+    let mut found = ArrayVec::new();
+    for slot in slots {
+        if marks[*slot as usize] {
+            found.push(*slot);
+        }
+    }
+    found
+}
+
+/// Appends these slots to an order. There must be room for them.
+fn append(order: &mut ArrayVec<u8, MOST_NEIGHBORS>, slots: &[u8])
+    requires { length order.old.items + length slots.now ≤ MOST_NEIGHBORS }
+    ensures { order.new.items ≡ order.old.items ++ slots.now }
+{
+    let _ = order.try_extend_from_slice(slots);
+}
+
+/// Moves the marked slots among those in use behind the others. Each part keeps its order. Returns
+/// how many slots in use have no mark.
+fn part(order: &mut ArrayVec<u8, MOST_NEIGHBORS>, used: usize, marks: &[bool; 256]) -> usize
+    requires { used ≤ length order.old.items }
+    ensures kept { result
+        ≡ length (filter (λ i. not (has_mark marks.now i)) (take used order.old.items)) }
+    ensures order { order.new.items ≡ parted (has_mark marks.now) used order.old.items }
+{
+    let mut parts = unmarked(&order[..used], marks);
+    let kept = parts.len();
+    append(&mut parts, &marked(&order[..used], marks));
+    append(&mut parts, &order[used..]);
+    *order = parts;
+    kept
+}
+
+/// Processes a tick: removes from the queue the slots whose neighbors expire, and moves them behind
+/// those still in use. Each part keeps its order. Returns how many slots are still in use.
 #[inline(always)]
 pub(crate) fn age_out(
     queue: &mut Queue,
@@ -68,22 +121,25 @@ pub(crate) fn age_out(
     ensures neighbors { (slots : List Stored) →
         neighbors_at slots (ticks_left queue.new.shown) (take result order.new.items)
         ≡ filter_map aged (neighbors_at slots (ticks_left queue.old.shown) (take used order.old.items)) }
+    ensures gone { (slots : List Stored) →
+        gone_at slots order.new.items result (used - result)
+        ≡ filter expires (neighbors_at slots (ticks_left queue.old.shown) (take used order.old.items)) }
     ensures timed { IsTimed queue.new.shown (take result order.new.items) }
     ensures moved { IsPermutation order.old.items order.new.items }
     ensures fewer { result ≤ used }
     ensures counted { queue.new.accesses + result ≤ queue.old.accesses + used + 2 }
 {
-    let mut kept = used;
-    let mut spent = queue.pass();
+    if !queue.pass() {
+        return used;
+    }
+    let mut marks = [false; 256];
+    let mut spent = true;
     while spent {
         let slot = queue.pop();
-        let at = place_in(&order[..kept], slot);
-        let gone = order.remove(at);
-        order.push(gone);
-        kept -= 1;
+        marks[slot as usize] = true;
         spent = queue.is_spent();
     }
-    kept
+    part(order, used, &marks)
 }
 
 /// Returns how many octets the slots in `order` store together.

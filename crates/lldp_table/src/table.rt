@@ -36,10 +36,13 @@ pub struct Table<A: Allocator> {
     /// slots never move.
     slots: Room<Slot, A>,
     /// The indices of the slots: first those in use, in the order in which their neighbors were
-    /// last added.
+    /// last added, and then those of the neighbors that aged out at the last call.
     order: ArrayVec<u8, MOST_NEIGHBORS>,
     /// How many slots are in use.
     used: u8,
+    /// How many neighbors aged out at the last call. Their slots keep the frames until one is
+    /// needed for another neighbor, so any call but a tick sets this to 0.
+    gone: u8,
     /// The slots in use, in the order in which their neighbors expire.
     queue: Queue,
     limit: u8,
@@ -58,12 +61,12 @@ impl<A: Allocator> Model for Table<A> {
 
     ghost view = { λ t. record {
       shown = contents_of t.slots.capacity t.slots.items (ticks_left t.queue.shown)
-          t.order.items t.used t.limit t.too_many;
+          t.order.items t.used t.gone t.limit t.too_many;
       accesses = t.queue.accesses;
     } };
 
     ghost invariant = { λ t. IsTable t.slots.capacity t.slots.items t.queue.shown
-        t.order.items t.used t.limit t.too_many };
+        t.order.items t.used t.gone t.limit t.too_many };
 }
 
 impl<A: Allocator> Table<A> {
@@ -79,6 +82,7 @@ impl<A: Allocator> Table<A> {
             slots: Room::open(alloc, limit as usize)?,
             order: ArrayVec::new(),
             used: 0,
+            gone: 0,
             queue: Queue::new(),
             limit,
             too_many: 0,
@@ -129,6 +133,7 @@ impl<A: Allocator> Table<A> {
             self.admit(octets, ttl, tag);
             return Outcome::Added;
         }
+        self.gone = 0;
         self.too_many = self.too_many.max(ttl);
         Outcome::NoRoom
     }
@@ -158,6 +163,7 @@ impl<A: Allocator> Table<A> {
         let same = self.slots.at_mut(slot as usize).store(octets, ttl, tag);
         self.queue.leave(slot);
         self.queue.enter(slot, ttl);
+        self.gone = 0;
         if same {
             Outcome::Repeated
         } else {
@@ -179,6 +185,7 @@ impl<A: Allocator> Table<A> {
         self.slots.at_mut(slot as usize).store(octets, ttl, tag);
         self.queue.enter(slot, ttl);
         self.used += 1;
+        self.gone = 0;
     }
 
     /// Returns whether the number of neighbors held is below the current limit.
@@ -199,11 +206,15 @@ impl<A: Allocator> Table<A> {
             Stands opened (forget (msap_view msap.now) ∷ calls) self.new.shown) }
     {
         match self.place(msap, mix_name(msap)) {
-            None => false,
+            None => {
+                self.gone = 0;
+                false
+            }
             Some(at) => {
                 let slot = self.order.remove(at);
                 self.order.push(slot);
                 self.used -= 1;
+                self.gone = 0;
                 self.queue.leave(slot);
                 true
             }
@@ -217,6 +228,7 @@ impl<A: Allocator> Table<A> {
             Stands opened (purge ∷ calls) self.new.shown) }
     {
         self.used = 0;
+        self.gone = 0;
         self.queue.clear();
         self.too_many = 0;
     }
@@ -239,10 +251,10 @@ impl<A: Allocator> Table<A> {
             Stands opened (tick ∷ calls) self.new.shown) }
     {
         let kept = age_out(&mut self.queue, &mut self.order, self.used as usize) as u8;
-        let gone = self.used - kept;
+        self.gone = self.used - kept;
         self.used = kept;
         self.too_many = self.too_many.saturating_sub(1);
-        gone
+        self.gone
     }
 
     /// Sets the current limit, from 1 to the capacity. It must be at least the number of neighbors
@@ -256,6 +268,7 @@ impl<A: Allocator> Table<A> {
             Stands opened (set_limit limit ∷ calls) self.new.shown) }
     {
         self.limit = limit;
+        self.gone = 0;
     }
 
     /// Returns how many neighbors are held: at most the limit. Their MSAP identifiers all differ.
@@ -322,6 +335,28 @@ impl<A: Allocator> Table<A> {
         Entry {
             slot: self.slots.at(slot),
             left: self.queue.lefts()[slot],
+        }
+    }
+
+    /// Returns how many neighbors aged out at the last call, if that was a tick, and otherwise 0.
+    pub fn gone(&self) -> u8
+        ensures value { result ≡ length self.now.shown.gone }
+        ensures sound { IsSound self.now.shown }
+    {
+        self.gone
+    }
+
+    /// Returns the neighbor at place `i`, from 0, of those that aged out at the last call, in the
+    /// order in which they were last added. It is as it was held before, with one tick left.
+    pub fn gone_entry(&self, i: u8) -> Entry<'_>
+        requires { i < length self.now.shown.gone }
+        ensures value { slice_get self.now.shown.gone i ≡ Some result }
+        ensures held { IsHeld result }
+    {
+        let slot = self.order[self.used as usize + i as usize] as usize;
+        Entry {
+            slot: self.slots.at(slot),
+            left: 1,
         }
     }
 }

@@ -1,10 +1,10 @@
 -- A tick does not change a port without neighbors and timers, so no number of ticks does.
 use Rattle.std.proofs.Common.{◌≡◌, ℕ, zero, suc, ◌+◌, ◌-◌, ◌^◌, ◌<◌, Bool, true, false, List, [], ◌∷◌, length, take, Some, refl, sym, ap, subst, ◌∙◌, arith, mod-eq_of_lt, ◌≤◌}
 use Rattle.std.specs.Prelude.{slice_get}
-use Rattle.std.specs.List.{filter_map, AllByRecursion}
+use Rattle.std.specs.List.{filter, filter_map, AllByRecursion}
 use Rattle.std.proofs.lemmas.Bool.Decides.{nat_tests}
 use Rattle.lldp_table.specs.Contents.{Contents}
-use Rattle.lldp_table.specs.Code.Steps.{aged, after_tick}
+use Rattle.lldp_table.specs.Code.Steps.{aged, expires, after_tick}
 use Rattle.lldp_transmit.specs.declared.event.Mark.{Mark}
 use Rattle.lldp_transmit.specs.declared.event.Mark.TheVariants.{Quiet}
 use Rattle.lldp_transmit.specs.Code.Machine.{Machine, ticked as machine_ticked}
@@ -40,11 +40,12 @@ module _ (m : Machine) (credit : m.credit ≡ m.credit_max) (wait : m.wait ≡ 0
 
 -- ---- a port
 
-table_same : (t : Contents) → t.neighbors ≡ [] → t.too_many_left ≡ 0 → after_tick t ≡ t
-table_same t e z =
+table_same : (t : Contents) → t.neighbors ≡ [] → t.gone ≡ [] → t.too_many_left ≡ 0 → after_tick t ≡ t
+table_same t e g z =
     let same : filter_map aged t.neighbors ≡ t.neighbors = ap (filter_map aged) e ∙ sym e in
     let none : t.too_many_left - 1 ≡ t.too_many_left = omega (arith, z) in
-    rw (same, none) refl
+    let left : filter expires t.neighbors ≡ t.gone = ap (filter expires) e ∙ sym g in
+    rw (same, left, none) refl
 
 counters_same : (c : Counters) (n : ℕ) → c.ageouts < 2 ^ 32 → n ≡ 0 → with_aged_out c n ≡ c
 counters_same c n l e =
@@ -55,9 +56,9 @@ same_port : (p : PortState) (table : Contents) (machine : Machine) (counters : C
     → (let q : PortState = record p { table = table; machine = machine; counters = counters } in q) ≡ p
 same_port p table machine counters a b c = rw (a, b, c) refl
 
-pub still_port : (p : PortState) → p.table.neighbors ≡ [] → p.table.too_many_left ≡ 0 → p.counters.ageouts < 2 ^ 32 → IsStillMachine p.machine → IsStill p
-still_port p e z l m = λ n.
-    let table = table_same p.table e z in
+pub still_port : (p : PortState) → p.table.neighbors ≡ [] → p.table.gone ≡ [] → p.table.too_many_left ≡ 0 → p.counters.ageouts < 2 ^ 32 → IsStillMachine p.machine → IsStill p
+still_port p e g z l m = λ n.
+    let table = table_same p.table e g z in
     let gone : length p.table.neighbors - length (after_tick p.table).neighbors ≡ 0 = ap (λ (t : Contents). length p.table.neighbors - length t.neighbors) table ∙ omega arith in
     let counters : with_mark (with_aged_out p.counters (length p.table.neighbors - length (after_tick p.table).neighbors)) (machine_ticked p.machine n).1 ≡ p.counters = rw (m n).1 (counters_same p.counters _ l gone) in
     (same_port p _ _ _ table (m n).0 counters, (m n).1)

@@ -34,7 +34,7 @@ due_on [] = None
 due_on (port ∷ ports) = sooner (sooner (least_left port.table.neighbors) (until_sends port.machine)) (due_on ports)
 
 -- the state without the parts that a tick changes even if nothing is due: the credit, the two
--- clocks, the seconds left, and the part of `ageouts` above 32 bits
+-- clocks, the seconds left, the neighbors that aged out, and the part of `ageouts` above 32 bits
 abbrev pub timeless_machine : Machine → Machine
 timeless_machine m = record m { credit = 0; wait = 0; timer = 0 }
 
@@ -52,6 +52,7 @@ timeless_port p = record {
     capacity = p.table.capacity;
     limit = p.table.limit;
     neighbors = timeless_neighbors p.table.neighbors;
+    gone = [];
     too_many_left = 0;
   };
   machine = timeless_machine p.machine;

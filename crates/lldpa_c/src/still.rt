@@ -35,7 +35,7 @@ fn is_port_still(agent: &Agent, port: u8) -> bool
 {
     let _ageouts = agent.counters(port).ageouts;
     let table = agent.table(port);
-    if table.len() > 0 || table.too_many() {
+    if table.len() > 0 || table.too_many() || table.gone() > 0 {
         return false;
     }
     is_machine_still(&agent.machine(port).parts())

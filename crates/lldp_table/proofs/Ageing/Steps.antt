@@ -131,7 +131,7 @@ enter-last slot left (d ∷ queue) gap e =
 -- ## Which slots are in the queue, and whether the first slot has ticks left
 
 -- swapping the first two elements of a list gives a permutation of it
-first_two : (a b : ℕ) (rest : List ℕ) → IsPermutation (a ∷ b ∷ rest) (b ∷ a ∷ rest)
+pub first_two : (a b : ℕ) (rest : List ℕ) → IsPermutation (a ∷ b ∷ rest) (b ∷ a ∷ rest)
 first_two a b rest = IsPermutation-append_left rest (a ∷ b ∷ []) (b ∷ a ∷ []) (IsPermutation-append_comm (a ∷ []) (b ∷ []))
 
 pub slots-less_first : (n : ℕ) (queue : List Due) → slots_of (less_first n queue) ≡ slots_of queue

@@ -1,6 +1,6 @@
 -- The effect of one more event on the live neighbors.
-use Rattle.std.proofs.Common.{◌≡◌, ℕ, suc, ◌-◌, ◌<◌, Bool, true, false, not, ◌&&◌, ◌||◌, cond, ◌⊎◌, List, [], ◌∷◌, ◌++◌, Option, Some, None, refl, inl, inr, ap, ◌∙◌, sym, arith, map, is_some, max}
-use Rattle.std.specs.List.{find, filter, filter_map, cons_option, list_any}
+use Rattle.std.proofs.Common.{◌≡◌, ℕ, suc, ◌-◌, ◌<◌, Bool, true, false, not, ◌&&◌, ◌||◌, cond, ◌⊎◌, List, [], ◌∷◌, ◌++◌, Option, Some, None, refl, inl, inr, ap, ◌∙◌, sym, arith, map, is_some, is_none, nat_lt, max}
+use Rattle.std.specs.List.{find, filter, filter_map, cons_option, list_any, AllByRecursion}
 use Rattle.std.specs.Option.{option_and_then, option_map}
 use Rattle.std.proofs.lemmas.Bool.{cases_Bool, cond-true, cond-false, false≢true, lt-ltb, or_right, or_left, and_right, false_from_ne_true}
 use Rattle.std.proofs.lemmas.Option.{option_and_then_some, cond_some}
@@ -11,9 +11,9 @@ use Rattle.std.proofs.lemmas.Map.Views.{any-filter_same}
 use Rattle.lldp_pdu.specs.Msap.{MsapId}
 use Rattle.lldp_table.specs.Msap.{same_msap}
 use Rattle.lldp_table.proofs.Msap.{same_msap-refl, same_msap-true, same_msap-sym}
-use Rattle.lldp_table.specs.Events.{TableEvent, learned, forgot, purged, ticked, limit_set, Neighbor, live, live_after, ticks, since, decides_on, arrivals, neighbors, is_tick, is_stored, is_purge, most_left, too_many_left}
+use Rattle.lldp_table.specs.Events.{TableEvent, learned, forgot, purged, ticked, limit_set, Neighbor, live, live_after, ticks, since, decides_on, arrivals, neighbors, gone, is_tick, is_stored, is_purge, most_left, too_many_left}
 use Rattle.lldp_table.specs.Contents.{is_named}
-use Rattle.lldp_table.specs.Code.Steps.{aged, fresh, refreshed}
+use Rattle.lldp_table.specs.Code.Steps.{aged, expires, fresh, refreshed}
 use Rattle.lldp_table.specs.declared.learned.Learned.{Learned}
 use Rattle.lldp_table.specs.declared.learned.Learned.TheVariants.{New, Refreshed, Dropped}
 use Rattle.std.proofs.lemmas.Grind.{common_steps}
@@ -77,7 +77,34 @@ pub filter_map-keep : (p : Neighbor → Bool) (xs : List Neighbor) → filter_ma
 filter_map-keep p [] = refl
 filter_map-keep p (x ∷ xs) = ap (cons_option (keep p x)) (filter_map-keep p xs) ∙ cons_cond (p x) x (filter p xs)
 
+-- each listed neighbor is the live one with its MSAP identifier
+module _ (f : MsapId → Option Neighbor) (named : (name : MsapId) (x : Neighbor) → f name ≡ Some x → x.msap ≡ name) where
+  each-cons : (name : MsapId) (o : Option Neighbor) (xs : List Neighbor) → f name ≡ o → AllByRecursion (λ x. f x.msap ≡ Some x) xs → AllByRecursion (λ x. f x.msap ≡ Some x) (cons_option o xs)
+  each-cons name o xs e a = grind (arith, common_steps)
+
+  pub each : (names : List MsapId) → AllByRecursion (λ x. f x.msap ≡ Some x) (filter_map f names)
+  each [] = tt
+  each (name ∷ names) = each-cons name (f name) (filter_map f names) refl (each names)
+
+-- a neighbor is no longer live after a tick exactly if it had one tick left
+pub gone_as_aged : (past : List TableEvent) (xs : List Neighbor) → AllByRecursion (λ x. live x.msap past ≡ Some x) xs → AllByRecursion (λ x. is_none (live x.msap (ticked ∷ past)) ≡ is_none (aged x)) xs
+gone_as_aged past [] a = tt
+gone_as_aged past (x ∷ xs) a = (ap is_none (live-ticked x.msap past ∙ ap (option_and_then aged) a.0), gone_as_aged past xs a.1)
+
+expires_as_aged : (p : Neighbor → Bool) (xs : List Neighbor) → AllByRecursion (λ x. p x ≡ is_none (aged x)) xs → filter expires xs ≡ filter p xs
+expires_as_aged p [] a = refl
+expires_as_aged p (x ∷ xs) a = ap (λ b. cond b (x ∷ filter expires xs) (filter expires xs)) (one (nat_lt 1 x.left) ∙ sym a.0) ∙ ap (λ ys. cond (p x) (x ∷ ys) ys) (expires_as_aged p xs a.1)
+  where
+    one : (b : Bool) → not b ≡ is_none (cond b (Some (record x { left = x.left - 1 })) None)
+    one true = refl
+    one false = refl
+
 -- ## All MSAP identifiers
+
+-- the neighbors that a tick ages out
+pub gone-ticked : (past : List TableEvent) → filter expires (neighbors past) ≡ gone (ticked ∷ past)
+unfolding neighbors
+gone-ticked past = expires_as_aged (λ x. is_none (live x.msap (ticked ∷ past))) (neighbors past) (gone_as_aged past (neighbors past) (each (λ name. live name past) (λ name. live-named name past) (arrivals past)))
 
 pub neighbors-ticked : (past : List TableEvent) → neighbors (ticked ∷ past) ≡ filter_map aged (neighbors past)
 unfolding neighbors

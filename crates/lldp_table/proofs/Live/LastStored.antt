@@ -14,7 +14,7 @@ use Rattle.lldp_table.specs.Code.Steps.{aged}
 use Rattle.lldp_table.specs.Standing.{Stands}
 use Rattle.lldp_table.specs.Positions.{IsLastStored}
 use Rattle.std.proofs.lemmas.List.Sums.{sum_by-cons}
-use Rattle.lldp_table.proofs.Live.Events.{neighbors-ticked, live-ticked, live-named}
+use Rattle.lldp_table.proofs.Live.Events.{each, gone_as_aged, neighbors-ticked, live-named}
 use Rattle.lldp_table.proofs.Standing.Calls.{arrived}
 use Rattle.std.proofs.lemmas.Grind.{common_steps}
 
@@ -93,13 +93,6 @@ module _ (events : List TableEvent) (x : Neighbor) where
 -- ## The listed neighbors are exactly the live ones
 
 module _ (f : MsapId → Option Neighbor) (named : (name : MsapId) (x : Neighbor) → f name ≡ Some x → x.msap ≡ name) where
-  each-cons : (name : MsapId) (o : Option Neighbor) (xs : List Neighbor) → f name ≡ o → AllByRecursion (λ x. f x.msap ≡ Some x) xs → AllByRecursion (λ x. f x.msap ≡ Some x) (cons_option o xs)
-  each-cons name o xs e a = grind (arith, common_steps)
-
-  each : (names : List MsapId) → AllByRecursion (λ x. f x.msap ≡ Some x) (filter_map f names)
-  each [] = tt
-  each (name ∷ names) = each-cons name (f name) (filter_map f names) refl (each names)
-
   contains-behind : (o : Option Neighbor) (xs : List Neighbor) (x : Neighbor) → Contains xs x → Contains (cons_option o xs) x
   contains-behind None xs x c = c
   contains-behind (Some y) xs x c = (suc c.0, omega (arith, c.1), c.2)
@@ -132,10 +125,6 @@ one_if b = cond b 1 0
 aged_and_left : (gone : Neighbor → Bool) (xs : List Neighbor) → AllByRecursion (λ x. gone x ≡ is_none (aged x)) xs → count_by gone xs + length (filter_map aged xs) ≡ length xs
 aged_and_left gone [] a = refl
 aged_and_left gone (x ∷ xs) a = grind (arith, common_steps, sum_by-cons, aged_and_left gone xs a.1)
-
-gone_as_aged : (past : List TableEvent) (xs : List Neighbor) → AllByRecursion (λ x. live x.msap past ≡ Some x) xs → AllByRecursion (λ x. is_none (live x.msap (ticked ∷ past)) ≡ is_none (aged x)) xs
-gone_as_aged past [] a = tt
-gone_as_aged past (x ∷ xs) a = (ap is_none (live-ticked x.msap past ∙ ap (option_and_then aged) a.0), gone_as_aged past xs a.1)
 
 pub aged_out-count : (past : List TableEvent) → aged_out past + length (neighbors (ticked ∷ past)) ≡ length (neighbors past)
 unfolding neighbors

@@ -1,21 +1,21 @@
 -- How the neighbors change if one slot is written or one index is moved.
-use Rattle.std.proofs.Common.{◌≡◌, ℕ, suc, ◌+◌, ◌-◌, ◌<◌, ◌≤◌, ◌||◌, true, false, nat_eq, List, [], ◌∷◌, ◌++◌, length, take, set, get_or, Option, Some, None, option_map, MatchOption, refl, ap, ◌∙◌, sym, subst, arith, map, length-set, length-append, length-take-le}
+use Rattle.std.proofs.Common.{◌≡◌, ℕ, suc, ◌+◌, ◌-◌, ◌<◌, ◌≤◌, ◌||◌, true, false, nat_eq, List, [], ◌∷◌, ◌++◌, length, take, drop, set, get_or, length-drop, Option, Some, None, option_map, MatchOption, refl, ap, ◌∙◌, sym, subst, arith, map, length-set, length-append, length-take-le}
 use Rattle.std.specs.List.{list_any, remove, slice_get, AllByRecursion}
 use Rattle.std.proofs.lemmas.Bool.{cases_Bool, eqb-true, eqb-false}
 use Rattle.std.proofs.lemmas.Option.{slice_get-get_or, slice_get-map, slice_get_within}
-use Rattle.std.proofs.lemmas.List.{get_or_default, get_or-map, get_or-take, take_more, length-map, map-append, get_or-set_same, get_or-set_other, get_or_append_left, take-append-le}
+use Rattle.std.proofs.lemmas.List.{get_or_default, get_or-map, get_or-take, get_or-drop, take_more, length-map, map-append, get_or-set_same, get_or-set_other, get_or_append_left, take-append-le}
 use Rattle.lldp_pdu.specs.Msap.{MsapId}
 use Rattle.lldp_table.specs.Msap.{same_msap}
 use Rattle.lldp_table.specs.Events.{Neighbor}
 use Rattle.lldp_table.specs.Contents.{Contents, IsExtent, is_named, holds_name, names_of, IsSound, IsHeld}
 use Rattle.lldp_table.specs.Code.Steps.{fresh, refreshed, learned_as, after_forget}
-use Rattle.lldp_table.specs.Code.Layout.{neighbor_of, neighbor_at, neighbors_at, octets_at, msap_at, blank, with_next, IsOrder, contents_of, IsLaidOut}
+use Rattle.lldp_table.specs.Code.Layout.{neighbor_of, neighbor_at, neighbors_at, octets_at, msap_at, blank, with_next, IsOrder, gone_at, contents_of, IsLaidOut}
 use Rattle.lldp_table.specs.Code.Stored.{Stored}
 use Rattle.lldp_table.specs.declared.learned.Learned.TheVariants.{New, Refreshed}
 use Rattle.lldp_table.specs.Outcomes.{octets_held}
 use Rattle.lldp_table.proofs.Outcomes.{found_at}
 use Rattle.lldp_table.proofs.Msap.{same_msap-true, same_msap-refl}
-use Rattle.lldp_table.proofs.Standing.Sound.{sound_open, sound_new, sound_refreshed, sound_forgotten, sound_purged}
+use Rattle.lldp_table.proofs.Standing.Sound.{sound_cleared, sound_open, sound_new, sound_refreshed, sound_forgotten, sound_purged}
 use Rattle.lldp_table.proofs.Slots.Places.{at_place, all-weaker, all-both, all-take, all-out, others-out, map-agree, map-at_place, not_before, map-remove, take-moved, distinct-take, forgets_place, refreshes_place, IsOrder-forgotten, IsOrder-push, IsOrder-none}
 use Rattle.std.proofs.lemmas.Grind.{common_steps}
 
@@ -45,19 +45,19 @@ any-msap slots left name (i ∷ is) = ap (λ b. same_msap name (msap_at slots i)
 -- ## Tables
 
 -- a table whose parts are in range and whose contents are sound satisfies `IsLaidOut`
-pub laid_out : {capacity : ℕ} {slots : List Stored} {left : ℕ → ℕ} {order : List ℕ} {used limit too_many : ℕ} {table : Contents} → IsOrder (length slots) order → length slots ≤ capacity → used ≤ length slots → used ≤ limit → contents_of capacity slots left order used limit too_many ≡ table → IsSound table → IsLaidOut capacity slots left order used limit too_many
-laid_out o w f h e s = record { indices = o; written = w; fits = f; held = h; sound = subst IsSound (sym e) s }
+pub laid_out : {capacity : ℕ} {slots : List Stored} {left : ℕ → ℕ} {order : List ℕ} {used limit too_many : ℕ} {table : Contents} → IsOrder (length slots) order → length slots ≤ capacity → used ≤ length slots → used ≤ limit → contents_of capacity slots left order used 0 limit too_many ≡ table → IsSound table → IsLaidOut capacity slots left order used 0 limit too_many
+laid_out o w f h e s = record { indices = o; written = w; fits = omega (arith, f); held = h; sound = subst IsSound (sym e) s }
 
-module _ {capacity : ℕ} {slots : List Stored} {left : ℕ → ℕ} {order : List ℕ} {used limit too_many : ℕ} (h : IsLaidOut capacity slots left order used limit too_many) where
+module _ {capacity : ℕ} {slots : List Stored} {left : ℕ → ℕ} {order : List ℕ} {used gone limit too_many : ℕ} (h : IsLaidOut capacity slots left order used gone limit too_many) where
   abbrev held : List Neighbor
   held = neighbors_at slots left (take used order)
 
-  -- the table's contents, but with these neighbors
+  -- the table's contents, but with these neighbors, and none that aged out
   abbrev with_held : List Neighbor → Contents
-  with_held xs = record { capacity = capacity; limit = limit; neighbors = xs; too_many_left = too_many }
+  with_held xs = record { capacity = capacity; limit = limit; neighbors = xs; gone = []; too_many_left = too_many }
 
   abbrev shown : Contents
-  shown = with_held held
+  shown = contents_of capacity slots left order used gone limit too_many
 
   pub fits : used ≤ length order
   fits = omega (arith, h.fits, h.indices.all)
@@ -94,6 +94,38 @@ module _ {capacity : ℕ} {slots : List Stored} {left : ℕ → ℕ} {order : Li
   pub get_at : (at : ℕ) → at < used → slice_get held at ≡ Some (neighbor_at slots left (get_or order at 0))
   get_at at l = slice_get-get_or held at (neighbor_of blank 0) (omega (arith, count)) ∙ ap Some (place at (neighbor_of blank 0) l)
 
+  -- ### The neighbors that aged out
+
+  pub fits_gone : used + gone ≤ length order
+  fits_gone = omega (arith, h.fits, h.indices.all)
+
+  -- the index of the slot at this place among those of the neighbors that aged out
+  abbrev gone_index : ℕ → ℕ
+  gone_index i = get_or (drop used order) i 0
+
+  gone_length : length (take gone (drop used order)) ≡ gone
+  gone_length = length-take-le gone (drop used order) (omega (arith, length-drop used order, fits_gone))
+
+  pub gone_count : length (gone_at slots order used gone) ≡ gone
+  gone_count = length-map (take gone (drop used order)) (neighbor_at slots (λ i. 1)) ∙ gone_length
+
+  pub gone_place : {table : Contents} → shown ≡ table → (i : ℕ) → i < length table.gone → i < gone
+  gone_place is i l = omega (arith, ap (λ (t : Contents). length t.gone) is, gone_count, l)
+
+  gone_there : (i : ℕ) (d : Neighbor) → i < gone → get_or (gone_at slots order used gone) i d ≡ neighbor_at slots (λ i. 1) (gone_index i)
+  gone_there i d l =
+      get_or-map (neighbor_at slots (λ i. 1)) (take gone (drop used order)) i 0 d (omega (arith, gone_length))
+      ∙ ap (neighbor_at slots (λ i. 1)) (get_or-take gone (drop used order) i 0 l)
+
+  pub gone_within : (i : ℕ) → i < gone → gone_index i < length slots
+  gone_within i l = subst (λ n. n < length slots) (sym (get_or-drop used order i 0)) (at_place (λ j. j < length slots) order (used + i) 0 (omega (arith, fits_gone)) h.indices.within)
+
+  pub gone_held : (i : ℕ) → i < gone → IsHeld (neighbor_at slots (λ i. 1) (gone_index i))
+  gone_held i l = subst IsHeld (gone_there i (neighbor_of blank 0) l) (at_place IsHeld (gone_at slots order used gone) i (neighbor_of blank 0) (omega (arith, gone_count)) h.sound.left)
+
+  pub gone_get : (i : ℕ) → i < gone → slice_get (gone_at slots order used gone) i ≡ Some (neighbor_at slots (λ i. 1) (gone_index i))
+  gone_get i l = slice_get-get_or (gone_at slots order used gone) i (neighbor_of blank 0) (omega (arith, gone_count)) ∙ ap Some (gone_there i (neighbor_of blank 0) l)
+
   -- the octets held for the MSAP identifier at a place are those in its slot
   pub octets_there : {table : Contents} → shown ≡ table → (name : MsapId) (at : ℕ) → at < used → same_msap name (msap_at slots (get_or order at 0)) ≡ true → octets_held table name ≡ Some (octets_at slots (get_or order at 0))
   octets_there is name at l e =
@@ -118,7 +150,11 @@ module _ {capacity : ℕ} {slots : List Stored} {left : ℕ → ℕ} {order : Li
 
   -- a place with this MSAP identifier is in use, and its slot has the identifier
   pub named_there : {table : Contents} → shown ≡ table → (name : MsapId) (at : ℕ) → slice_get (names_of table.neighbors) at ≡ Some name → (at < used) × (same_msap name (msap_there at) ≡ true)
-  named_there is name at there = grind (arith, common_steps, slice_get_within, length-map, count, name_at, same_msap-refl)
+  named_there is name at there =
+      let named : slice_get (names_of held) at ≡ Some name = ap (λ (t : Contents). slice_get (names_of t.neighbors) at) is ∙ there in
+      let l : at < used = omega (arith, slice_get_within (names_of held) at name named, length-map held (λ (x : Neighbor). x.msap), count) in
+      let same : msap_there at ≡ name = cc (name_at at l, named) in
+      (l, ap (same_msap name) same ∙ same_msap-refl name)
 
   module _ (name : MsapId) (ttl : ℕ) (octets : List ℕ) (slot : Stored) (left' : ℕ → ℕ) where
     module _ (at : ℕ) (l : at < used) (e : same_msap name (msap_at slots (get_or order at 0)) ≡ true) (w : IsStored (take used order) left (get_or order at 0) slot left' (fresh name ttl octets)) where
@@ -134,10 +170,10 @@ module _ {capacity : ℕ} {slots : List Stored} {left : ℕ → ℕ} {order : Li
       refreshed_all : map (refreshed name ttl octets) held ≡ set held at (fresh name ttl octets)
       refreshed_all = refreshes_place name ttl octets held at (neighbor_of blank 0) (omega (arith, count)) (at_named name at l e) h.sound.distinct
 
-      pub after_refreshed : contents_of capacity (set slots s slot) left' order used limit too_many ≡ learned_as Refreshed shown name ttl octets
+      pub after_refreshed : contents_of capacity (set slots s slot) left' order used 0 limit too_many ≡ learned_as Refreshed shown name ttl octets
       after_refreshed = ap with_held (stored ∙ sym refreshed_all)
 
-      pub laid_refreshed : IsExtent name ttl octets → IsLaidOut capacity (set slots s slot) left' order used limit too_many
+      pub laid_refreshed : IsExtent name ttl octets → IsLaidOut capacity (set slots s slot) left' order used 0 limit too_many
       laid_refreshed t =
           let same = length-set slots s slot in
           laid_out (subst (λ n. IsOrder n order) (sym same) h.indices)
@@ -161,10 +197,10 @@ module _ {capacity : ℕ} {slots : List Stored} {left : ℕ → ℕ} {order : Li
         pushed : neighbors_at (set slots next slot) left' (take (used + 1) order) ≡ held ++ fresh name ttl octets ∷ []
         pushed = grind (arith, common_steps, take_more, short, map-append, others, stored-same, at_place, free)
 
-        pub after_new : contents_of capacity (set slots next slot) left' order (used + 1) limit too_many ≡ learned_as New shown name ttl octets
+        pub after_new : contents_of capacity (set slots next slot) left' order (used + 1) 0 limit too_many ≡ learned_as New shown name ttl octets
         after_new = ap with_held pushed
 
-        pub laid_new : IsExtent name ttl octets → IsLaidOut capacity (set slots next slot) left' order (used + 1) limit too_many
+        pub laid_new : IsExtent name ttl octets → IsLaidOut capacity (set slots next slot) left' order (used + 1) 0 limit too_many
         laid_new t =
             let same = length-set slots next slot in
             laid_out (subst (λ n. IsOrder n order) (sym same) h.indices)
@@ -187,26 +223,31 @@ module _ {capacity : ℕ} {slots : List Stored} {left : ℕ → ℕ} {order : Li
         (subst (λ n. AllByRecursion (λ i. nat_eq n i ≡ false) (remove (take used order) at)) (get_or-take used order at 0 l) (others-out (take used order) at there (distinct-take used order h.indices.distinct)))
         (all-out (λ i. nat_eq s i ≡ false → left' i ≡ left i) (take used order) at there o))
 
-    pub after_forgotten : contents_of capacity slots left' (remove order at ++ x ∷ []) (used - 1) limit too_many ≡ after_forget shown name
+    pub after_forgotten : contents_of capacity slots left' (remove order at ++ x ∷ []) (used - 1) 0 limit too_many ≡ after_forget shown name
     after_forgotten =
         ap with_held (ap (neighbors_at slots left') moved_out ∙ others_left ∙ map-remove (neighbor_at slots left) (take used order) at
         ∙ sym (forgets_place name held at (neighbor_of blank 0) (omega (arith, count)) (at_named name at l e) h.sound.distinct))
 
-    pub laid_forgotten : x ≡ get_or order at x → IsLaidOut capacity slots left' (remove order at ++ x ∷ []) (used - 1) limit too_many
+    pub laid_forgotten : x ≡ get_or order at x → IsLaidOut capacity slots left' (remove order at ++ x ∷ []) (used - 1) 0 limit too_many
     laid_forgotten i =
         laid_out (IsOrder-forgotten (length slots) order at x (omega (arith, fits)) i h.indices) h.written (omega (arith, h.fits)) (omega (arith, h.held)) after_forgotten (sound_forgotten shown name h.sound)
 
+  -- ### No neighbor aged out
+
+  pub laid_cleared : IsLaidOut capacity slots left order used 0 limit too_many
+  laid_cleared = laid_out h.indices h.written (omega (arith, h.fits)) h.held refl (sound_cleared shown h.sound)
+
   -- ### `purge`
 
-  pub laid_purged : (left' : ℕ → ℕ) → IsLaidOut capacity slots left' order 0 limit 0
+  pub laid_purged : (left' : ℕ → ℕ) → IsLaidOut capacity slots left' order 0 0 limit 0
   laid_purged left' = laid_out h.indices h.written (omega arith) (omega arith) refl (sound_purged shown h.sound)
 
   -- ### One more slot
 
   -- these slots and this order have a free slot and the same contents as before
   pub record HasFree (slots' : List Stored) (order' : List ℕ) : Type 0 where
-    pub laid : IsLaidOut capacity slots' left order' used limit too_many
-    pub same : contents_of capacity slots' left order' used limit too_many ≡ shown
+    pub laid : IsLaidOut capacity slots' left order' used 0 limit too_many
+    pub same : contents_of capacity slots' left order' used 0 limit too_many ≡ with_held held
     pub free : used < length slots'
     pub order_same : take used order' ≡ take used order
 
@@ -215,7 +256,7 @@ module _ {capacity : ℕ} {slots : List Stored} {left : ℕ → ℕ} {order : Li
       let all : length slots ≡ used = eqb-true (length slots) used e in
       let more : length (slots ++ blank ∷ []) ≡ length slots + 1 = length-append slots (blank ∷ []) in
       let front : take used (order ++ used ∷ []) ≡ take used order = take-append-le used order (used ∷ []) fits in
-      let same : contents_of capacity (slots ++ blank ∷ []) left (order ++ used ∷ []) used limit too_many ≡ shown =
+      let same : contents_of capacity (slots ++ blank ∷ []) left (order ++ used ∷ []) used 0 limit too_many ≡ with_held held =
       ap with_held (ap (neighbors_at (slots ++ blank ∷ []) left) front
       ∙ map-agree (neighbor_at slots left) (neighbor_at (slots ++ blank ∷ []) left) (take used order)
       (all-weaker (λ i. i < length slots) (λ i. neighbor_at (slots ++ blank ∷ []) left i ≡ neighbor_at slots left i) (λ i w. ap (λ (y : Stored). neighbor_of y (left i)) (get_or_append_left slots (blank ∷ []) blank i w)) (take used order)
@@ -223,7 +264,7 @@ module _ {capacity : ℕ} {slots : List Stored} {left : ℕ → ℕ} {order : Li
       let indices : IsOrder (length slots + 1) (order ++ used ∷ []) = subst (λ n. IsOrder (length slots + 1) (order ++ n ∷ [])) all (IsOrder-push (length slots) order h.indices) in
       record {
         laid = laid_out (subst (λ n. IsOrder n (order ++ used ∷ [])) (sym more) indices)
-            (omega (arith, more, all, l, h.sound.room)) (omega (arith, more, all)) h.held same h.sound;
+            (omega (arith, more, all, l, h.sound.room)) (omega (arith, more, all)) h.held same (sound_cleared shown h.sound);
         same = same;
         free = omega (arith, more, all);
         order_same = front;
@@ -234,5 +275,5 @@ module _ {capacity : ℕ} {slots : List Stored} {left : ℕ → ℕ} {order : Li
 
 -- ## `open`
 
-pub laid_open : (left : ℕ → ℕ) (limit : ℕ) → 0 < limit → limit ≤ 128 → IsLaidOut limit [] left [] 0 limit 0
+pub laid_open : (left : ℕ → ℕ) (limit : ℕ) → 0 < limit → limit ≤ 128 → IsLaidOut limit [] left [] 0 0 limit 0
 laid_open left limit l m = laid_out IsOrder-none (omega arith) (omega arith) (omega arith) refl (sound_open limit l m)

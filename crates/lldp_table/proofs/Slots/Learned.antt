@@ -1,9 +1,9 @@
 -- The effects of `learn` and `forget` on a table: writing a slot, and changing the queue.
-use Rattle.std.proofs.Common.{◌≡◌, ℕ, ◌+◌, ◌-◌, ◌<◌, ◌≤◌, true, false, nat_eq, List, [], ◌∷◌, ◌++◌, length, take, set, get_or, refl, ap, ◌∙◌, sym, subst, arith, length-take-le}
+use Rattle.std.proofs.Common.{◌≡◌, ℕ, ◌+◌, ◌-◌, ◌<◌, ◌≤◌, true, false, nat_eq, List, [], ◌∷◌, ◌++◌, length, take, drop, set, get_or, refl, ap, ◌∙◌, sym, subst, arith, length-take-le}
 use Rattle.std.specs.Prelude.{slice_index}
 use Rattle.std.specs.List.{list_any, remove, IsDistinct}
 use Rattle.std.specs.List.Sorted.{IsPermutation}
-use Rattle.std.proofs.lemmas.List.{get_or_default, get_or-take, take_more}
+use Rattle.std.proofs.lemmas.List.{get_or_default, get_or-take, get_or-drop, take_more}
 use Rattle.std.proofs.lemmas.List.Sorted.{IsPermutation-sym, IsPermutation-append_comm, length_permutation}
 use Rattle.lldp_pdu.specs.Msap.{MsapId}
 use Rattle.lldp_table.specs.Msap.{same_msap}
@@ -16,14 +16,14 @@ use Rattle.lldp_table.specs.declared.learned.Learned.TheVariants.{New, Refreshed
 use Rattle.lldp_table.proofs.Slots.Places.{all-weaker, all-take, map-agree, one-out, not_before, none-with, distinct-take}
 use Rattle.lldp_table.proofs.Ageing.Steps.{running-enter, running-leave}
 use Rattle.lldp_table.proofs.Ageing.Timed.{all_queued, queued_enter, holds_it, queued_leave, enter_here, enter_others, out_of, leave_others, again_others}
-use Rattle.lldp_table.proofs.Slots.Layout.{IsStored, fresh_in, fits, entry_at, HasFree, has_free, after_refreshed, laid_refreshed, after_new, laid_new, moved_out, after_forgotten, laid_forgotten, laid_purged, laid_open}
+use Rattle.lldp_table.proofs.Slots.Layout.{IsStored, fresh_in, fits, gone_within, laid_cleared, entry_at, HasFree, has_free, after_refreshed, laid_refreshed, after_new, laid_new, moved_out, after_forgotten, laid_forgotten, laid_purged, laid_open}
 use Rattle.std.proofs.lemmas.Grind.{common_steps}
 
 timed_none : IsTimed [] []
 unfolding IsDistinct
 timed_none = record { queued = record { same = λ i. refl; count = refl; distinct = tt }; running = refl }
 
-module _ {capacity : ℕ} {slots : List Stored} {queue : List Due} {order : List ℕ} {used limit too_many : ℕ} (h : IsTable capacity slots queue order used limit too_many) where
+module _ {capacity : ℕ} {slots : List Stored} {queue : List Due} {order : List ℕ} {used gone limit too_many : ℕ} (h : IsTable capacity slots queue order used gone limit too_many) where
   pub few_queued : length queue ≡ used
   few_queued = h.timed.queued.count ∙ length-take-le used order (fits h.laid)
 
@@ -81,10 +81,10 @@ module _ {capacity : ℕ} {slots : List Stored} {queue : List Due} {order : List
 
       -- `read` is the order that was read, and `left` is the TTL
       module _ {read : List ℕ} {left : ℕ} {queue' : List Due} (r : read ≡ order) (k : left ≡ ttl) (q : queue' ≡ enter (get_or read at 0) left (leave (get_or read at 0) queue)) where
-        pub refreshed_after : contents_of capacity (set slots (get_or read at 0) slot) (ticks_left queue') order used limit too_many ≡ learned_as Refreshed (contents_of capacity slots (ticks_left queue) order used limit too_many) name ttl octets
+        pub refreshed_after : contents_of capacity (set slots (get_or read at 0) slot) (ticks_left queue') order used 0 limit too_many ≡ learned_as Refreshed (contents_of capacity slots (ticks_left queue) order used gone limit too_many) name ttl octets
         refreshed_after = rw (q, r, k) (after_refreshed h.laid name ttl octets slot _ at l e stored_again)
 
-        pub refreshed_table : IsTable capacity (set slots (get_or read at 0) slot) queue' order used limit too_many
+        pub refreshed_table : IsTable capacity (set slots (get_or read at 0) slot) queue' order used 0 limit too_many
         refreshed_table = rw (q, r, k) (record { laid = laid_refreshed h.laid name ttl octets slot _ at l e stored_again t; timed = timed_again })
 
     -- ## Forgetting an MSAP identifier
@@ -97,10 +97,10 @@ module _ {capacity : ℕ} {slots : List Stored} {queue : List Due} {order : List
         q_s : queue' ≡ leave s queue
         q_s = q ∙ ap (λ j. leave j queue) is_s
 
-        pub forgotten_after : contents_of capacity slots (ticks_left queue') (remove order at ++ x ∷ []) (used - 1) limit too_many ≡ after_forget (contents_of capacity slots (ticks_left queue) order used limit too_many) name
+        pub forgotten_after : contents_of capacity slots (ticks_left queue') (remove order at ++ x ∷ []) (used - 1) 0 limit too_many ≡ after_forget (contents_of capacity slots (ticks_left queue) order used gone limit too_many) name
         forgotten_after = rw q_s (after_forgotten h.laid name at x _ l e (leave_others queue in_use h.timed.queued s apart others parted))
 
-        pub forgotten_table : IsTable capacity slots queue' (remove order at ++ x ∷ []) (used - 1) limit too_many
+        pub forgotten_table : IsTable capacity slots queue' (remove order at ++ x ∷ []) (used - 1) 0 limit too_many
         forgotten_table = rw q_s (record {
           laid = laid_forgotten h.laid name at x _ l e (leave_others queue in_use h.timed.queued s apart others parted) i;
           timed = record {
@@ -149,10 +149,10 @@ module _ {capacity : ℕ} {slots : List Stored} {queue : List Due} {order : List
       none_there = let f = free in ap (λ (table : Contents). list_any (is_named name) table.neighbors) f.same ∙ none
 
       module _ {read : List ℕ} {left : ℕ} {queue' : List Due} (r : read ≡ order') (k : left ≡ ttl) (q : queue' ≡ enter (get_or read used 0) left queue) where
-        pub new_after : contents_of capacity (set slots' (get_or read used 0) slot) (ticks_left queue') order' (used + 1) limit too_many ≡ learned_as New (contents_of capacity slots (ticks_left queue) order used limit too_many) name ttl octets
+        pub new_after : contents_of capacity (set slots' (get_or read used 0) slot) (ticks_left queue') order' (used + 1) 0 limit too_many ≡ learned_as New (contents_of capacity slots (ticks_left queue) order used gone limit too_many) name ttl octets
         new_after = let f = free in rw (q, r, k) (after_new f.laid name ttl octets slot _ none_there l f.free stored_new ∙ ap (λ table. learned_as New table name ttl octets) f.same)
 
-        pub new_table : IsTable capacity (set slots' (get_or read used 0) slot) queue' order' (used + 1) limit too_many
+        pub new_table : IsTable capacity (set slots' (get_or read used 0) slot) queue' order' (used + 1) 0 limit too_many
         new_table =
             let f = free in
             rw (q, r, k) (record { laid = laid_new f.laid name ttl octets slot _ none_there l f.free stored_new t; timed = timed_new })
@@ -172,12 +172,24 @@ module _ {capacity : ℕ} {slots : List Stored} {queue : List Due} {order : List
     pub entry_shown : (at : ℕ) → at < used → (read : List ℕ) (slot : Stored) → read ≡ order → slot ≡ get_or slots (get_or read at 0) slot → neighbor_of slot (get_or times (get_or read at 0) 0) ≡ neighbor_at slots (ticks_left queue) (get_or order at 0)
     entry_shown at l read slot r e = ap (neighbor_of slot) (told (get_or read at 0) (rw r (is_in at l))) ∙ entry_at h.laid at read slot r e l
 
+  -- `read` is the order and `slot` the slot that were read for place i of those that aged out
+  pub gone_shown : (i : ℕ) → i < gone → (read : List ℕ) (slot : Stored) → read ≡ order → slot ≡ get_or slots (get_or read (used + i) 0) slot → neighbor_of slot 1 ≡ neighbor_at slots (λ i. 1) (get_or (drop used order) i 0)
+  gone_shown i l read slot r e =
+      let here : get_or read (used + i) 0 ≡ get_or (drop used order) i 0 = ap (λ is. get_or is (used + i) 0) r ∙ sym (get_or-drop used order i 0) in
+      let there : get_or slots (get_or read (used + i) 0) slot ≡ get_or slots (get_or (drop used order) i 0) blank = ap (λ n. get_or slots n slot) here ∙ get_or_default slots (get_or (drop used order) i 0) slot blank (gone_within h.laid i l) in
+      ap (λ (y : Stored). neighbor_of y 1) (e ∙ there)
+
+  -- ## A call that changes no neighbor
+
+  pub cleared_table : IsTable capacity slots queue order used 0 limit too_many
+  cleared_table = record { laid = laid_cleared h.laid; timed = h.timed }
+
   -- ## A purge
 
-  pub purged_table : (queue' : List Due) (used' limit' too_many' : ℕ) → queue' ≡ [] → used' ≡ 0 → limit' ≡ limit → too_many' ≡ 0 → IsTable capacity slots queue' order used' limit' too_many'
-  purged_table queue' used' limit' too_many' q u l t = rw (q, u, l, t) (record { laid = laid_purged h.laid (ticks_left []); timed = timed_none })
+  pub purged_table : (queue' : List Due) (used' gone' limit' too_many' : ℕ) → queue' ≡ [] → used' ≡ 0 → gone' ≡ 0 → limit' ≡ limit → too_many' ≡ 0 → IsTable capacity slots queue' order used' gone' limit' too_many'
+  purged_table queue' used' gone' limit' too_many' q u g l t = rw (q, u, g, l, t) (record { laid = laid_purged h.laid (ticks_left []); timed = timed_none })
 
 -- ## A table that was just opened
 
-pub open_table : (capacity : ℕ) (slots : List Stored) (queue : List Due) (order : List ℕ) (limit : ℕ) → capacity ≡ limit → slots ≡ [] → queue ≡ [] → order ≡ [] → 0 < limit → limit ≤ 128 → IsTable capacity slots queue order 0 limit 0
+pub open_table : (capacity : ℕ) (slots : List Stored) (queue : List Due) (order : List ℕ) (limit : ℕ) → capacity ≡ limit → slots ≡ [] → queue ≡ [] → order ≡ [] → 0 < limit → limit ≤ 128 → IsTable capacity slots queue order 0 0 limit 0
 open_table capacity slots queue order limit c s q o l m = rw (c, s, q, o) (record { laid = laid_open (ticks_left []) limit l m; timed = timed_none })

@@ -2,13 +2,13 @@
 use Rattle.std.proofs.Common.{◌≡◌, ℕ, ◌<◌, ◌≤◌, List, [], ◌∷◌, refl, ap, sym, subst, is_some, arith}
 use Rattle.std.specs.List.{list_any}
 use Rattle.lldp_pdu.specs.Msap.{MsapId}
-use Rattle.lldp_table.specs.Events.{Call, learn, forget, purge, tick, set_limit, TableEvent, learned, live, neighbors, too_many_left, limit_after, answer, event_of, events_of}
+use Rattle.lldp_table.specs.Events.{Call, learn, forget, purge, tick, set_limit, TableEvent, learned, live, neighbors, gone, too_many_left, limit_after, answer, event_of, events_of}
 use Rattle.lldp_table.specs.Contents.{Contents, is_named}
 use Rattle.lldp_table.specs.Code.Steps.{learn_answer, newly_opened, table_after}
 use Rattle.lldp_table.specs.Standing.{Stands, IsPossible, table_of}
 use Rattle.lldp_table.specs.declared.learned.Learned.{Learned}
 use Rattle.lldp_table.specs.declared.learned.Learned.TheVariants.{New, Refreshed, Dropped}
-use Rattle.lldp_table.proofs.Live.Events.{Arrived, Arrived-new, Arrived-refreshed, Arrived-dropped, Arrived-forgot, Arrived-purged, Arrived-ticked, Arrived-limit_set, neighbors-limit_set, has-live, answer_by, by_refreshed, by_new, neighbors-new, neighbors-refreshed, neighbors-dropped, neighbors-forgot, neighbors-purged, neighbors-ticked, too_many-dropped, too_many-ticked}
+use Rattle.lldp_table.proofs.Live.Events.{Arrived, Arrived-new, Arrived-refreshed, Arrived-dropped, Arrived-forgot, Arrived-purged, Arrived-ticked, Arrived-limit_set, neighbors-limit_set, has-live, answer_by, by_refreshed, by_new, neighbors-new, neighbors-refreshed, neighbors-dropped, neighbors-forgot, neighbors-purged, neighbors-ticked, gone-ticked, too_many-dropped, too_many-ticked}
 use Rattle.std.proofs.lemmas.Grind.{common_steps}
 
 -- ## Live MSAP identifiers are among the arrivals
@@ -56,12 +56,12 @@ held_is_live table opened calls name h = rw h.is (has-live (events_of opened cal
 
 -- the table after these events
 abbrev table_by : ℕ → List TableEvent → Contents
-table_by opened past = record { capacity = opened; limit = limit_after opened past; neighbors = neighbors past; too_many_left = too_many_left past }
+table_by opened past = record { capacity = opened; limit = limit_after opened past; neighbors = neighbors past; gone = gone past; too_many_left = too_many_left past }
 
 -- the table after a call is the table that the definitions give for the list with that call
 pub leaves : (opened : ℕ) (calls : List Call) (call : Call) → IsPossible (table_of opened calls) call → table_after (table_of opened calls) call ≡ table_of opened (call ∷ calls)
 unfolding events_of too_many_left
-leaves opened calls call t = grind (arith, common_steps, answered, neighbors-new, by_new, neighbors-refreshed, by_refreshed, neighbors-dropped, too_many-dropped, neighbors-forgot, neighbors-purged, neighbors-ticked, too_many-ticked, neighbors-limit_set)
+leaves opened calls call t = grind (arith, common_steps, answered, neighbors-new, by_new, neighbors-refreshed, by_refreshed, neighbors-dropped, too_many-dropped, neighbors-forgot, neighbors-purged, neighbors-ticked, gone-ticked, too_many-ticked, neighbors-limit_set)
 
 -- ## Matching a list of calls
 

@@ -1,16 +1,17 @@
 -- A sound table is still sound after each call.
 use Rattle.std.proofs.Common.{◌≡◌, ℕ, suc, ◌-◌, ◌<◌, ◌≤◌, Bool, false, not, nat_lt, List, [], ◌∷◌, length, Option, Some, None, refl, ap, ◌∙◌, sym, subst, arith, map, length-append}
-use Rattle.std.specs.List.{list_any, filter_map, cons_option, AllByRecursion, IsDistinct}
+use Rattle.std.specs.List.{list_any, filter, filter_map, cons_option, AllByRecursion, IsDistinct}
 use Rattle.std.proofs.lemmas.Bool.{ltb-true, or_parts, or_from, cond_both}
 use Rattle.std.proofs.lemmas.List.{length-map, map-append}
 use Rattle.std.proofs.lemmas.Option.{cond_some}
+use Rattle.std.proofs.lemmas.List.Elements.{All-filter, All-from_recursion, recursion_from_All}
 use Rattle.std.proofs.lemmas.Map.Keys.{IsDistinct-cons, IsDistinct-head, IsDistinct-tail, IsDistinct-push}
 use Rattle.lldp_pdu.specs.Msap.{MsapId}
 use Rattle.lldp_table.specs.Msap.{same_msap}
 use Rattle.lldp_table.proofs.Msap.{same_msap-laws, same_msap-true}
 use Rattle.lldp_table.specs.Events.{Neighbor, Call, learn, forget, purge, tick, set_limit}
 use Rattle.lldp_table.specs.Contents.{Contents, is_named, holds_name, IsExtent, IsHeld, IsSound, names_of}
-use Rattle.lldp_table.specs.Code.Steps.{aged, fresh, refreshed, learn_answer, learned_as, after_learn, after_forget, after_purge, after_tick, after_set_limit, newly_opened, table_after}
+use Rattle.lldp_table.specs.Code.Steps.{aged, expires, fresh, refreshed, learn_answer, learned_as, after_learn, after_forget, after_purge, after_tick, after_set_limit, newly_opened, table_after}
 use Rattle.lldp_table.specs.Standing.{IsNewLimit, IsPossible}
 use Rattle.lldp_table.proofs.Live.Events.{keep, filter_map-keep, by_new}
 use Rattle.lldp_table.proofs.Slots.Places.{all-push}
@@ -61,18 +62,24 @@ aged_held x y k e = grind (arith, common_steps, cond_some, ltb-true)
 aged_named : (x y : Neighbor) → aged x ≡ Some y → y.msap ≡ x.msap
 aged_named x y e = sym (ap (λ (n : Neighbor). n.msap) (cond_some (nat_lt 1 x.left) _ y e).1)
 
+held_part : (p : Neighbor → Bool) (xs : List Neighbor) → AllByRecursion IsHeld xs → AllByRecursion IsHeld (filter p xs)
+held_part p xs h = recursion_from_All IsHeld (filter p xs) (All-filter p IsHeld xs (All-from_recursion IsHeld xs h))
+
 -- a table stays sound if some of its neighbors are removed and the timer is changed
-sound_part : (g : Neighbor → Option Neighbor) → ((x y : Neighbor) → IsHeld x → g x ≡ Some y → IsHeld y) → ((x y : Neighbor) → g x ≡ Some y → y.msap ≡ x.msap) → (table : Contents) (left : ℕ) → IsSound table → IsSound (record table { neighbors = filter_map g table.neighbors; too_many_left = left })
-sound_part g held named table left h = grind (arith, common_steps, length-part, held-part, distinct-part)
+sound_part : (g : Neighbor → Option Neighbor) → ((x y : Neighbor) → IsHeld x → g x ≡ Some y → IsHeld y) → ((x y : Neighbor) → g x ≡ Some y → y.msap ≡ x.msap) → (table : Contents) (gone : List Neighbor) (left : ℕ) → AllByRecursion IsHeld gone → IsSound table → IsSound (record table { neighbors = filter_map g table.neighbors; gone = gone; too_many_left = left })
+sound_part g held named table gone left a h = grind (arith, common_steps, length-part, held-part, distinct-part)
 
 pub sound_ticked : (table : Contents) → IsSound table → IsSound (after_tick table)
-sound_ticked table h = sound_part aged aged_held aged_named table (table.too_many_left - 1) h
+sound_ticked table h = sound_part aged aged_held aged_named table (filter expires table.neighbors) (table.too_many_left - 1) (held_part expires table.neighbors h.held) h
+
+pub sound_cleared : (table : Contents) → IsSound table → IsSound (record table { gone = [] })
+sound_cleared table h = record { most = h.most; room = h.room; least = h.least; few = h.few; held = h.held; distinct = h.distinct; left = tt }
 
 -- ## `purge` and `forget`
 
 pub sound_purged : (table : Contents) → IsSound table → IsSound (after_purge table)
 unfolding IsDistinct
-sound_purged table h = record { most = h.most; room = h.room; least = h.least; few = omega arith; held = tt; distinct = tt }
+sound_purged table h = record { most = h.most; room = h.room; least = h.least; few = omega arith; held = tt; distinct = tt; left = tt }
 
 kept_part : (p : Neighbor → Bool) (x y : Neighbor) → keep p x ≡ Some y → x ≡ y
 kept_part p x y e = (cond_some (p x) x y e).1
@@ -80,7 +87,7 @@ kept_part p x y e = (cond_some (p x) x y e).1
 pub sound_forgotten : (table : Contents) (name : MsapId) → IsSound table → IsSound (after_forget table name)
 sound_forgotten table name h =
     let p : Neighbor → Bool = λ x. not (is_named name x) in
-    rw filter_map-keep at (sound_part (keep p) (λ x y k e. subst IsHeld (kept_part p x y e) k) (λ x y e. ap (λ (n : Neighbor). n.msap) (sym (kept_part p x y e))) table table.too_many_left h)
+    rw filter_map-keep at (sound_part (keep p) (λ x y k e. subst IsHeld (kept_part p x y e) k) (λ x y e. ap (λ (n : Neighbor). n.msap) (sym (kept_part p x y e))) table [] table.too_many_left tt h)
 
 -- ## `learn`
 
@@ -115,10 +122,10 @@ sound_learned table name ttl octets = sound_learned_as (learn_answer table name)
 
 pub sound_open : (limit : ℕ) → 0 < limit → limit ≤ 128 → IsSound (newly_opened limit)
 unfolding IsDistinct
-sound_open limit l m = record { most = m; room = omega arith; least = l; few = omega arith; held = tt; distinct = tt }
+sound_open limit l m = record { most = m; room = omega arith; least = l; few = omega arith; held = tt; distinct = tt; left = tt }
 
 pub sound_limited : (table : Contents) (limit : ℕ) → IsNewLimit table limit → IsSound table → IsSound (after_set_limit table limit)
-sound_limited table limit n h = record { most = h.most; room = n.most; least = n.least; few = n.held; held = h.held; distinct = h.distinct }
+sound_limited table limit n h = record { most = h.most; room = n.most; least = n.least; few = n.held; held = h.held; distinct = h.distinct; left = tt }
 
 -- ## Each call
 

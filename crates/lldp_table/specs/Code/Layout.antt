@@ -1,5 +1,5 @@
 -- How the code stores a table: slots that never move, the order of their indices, and their times.
-use Rattle.std.specs.Prelude.{◌≡◌, ℕ, ◌<◌, ◌≤◌, if◌then◌else◌, ◌==◌, List, [], ◌∷◌, ◌++◌, length, map, take, slice_index_or, nat_eq}
+use Rattle.std.specs.Prelude.{◌≡◌, ℕ, ◌+◌, ◌<◌, ◌≤◌, if◌then◌else◌, ◌==◌, List, [], ◌∷◌, ◌++◌, length, map, take, drop, slice_index_or, nat_eq}
 use Rattle.std.specs.List.{IsDistinct, AllByRecursion}
 use Rattle.lldp_pdu.specs.Msap.{MsapId}
 use Rattle.lldp_pdu.specs.Lldpdu.{msap_of}
@@ -48,26 +48,32 @@ pub record IsOrder (size : ℕ) (order : List ℕ) : Type 0 where
   pub within : AllByRecursion (λ i. i < size) order
   pub distinct : IsDistinct nat_eq order
 
+-- The slots of the neighbors that aged out stand in the order behind those in use. Each neighbor is as
+-- it was held, with one tick left.
+abbrev pub gone_at : List Stored → List ℕ → ℕ → ℕ → List Neighbor
+gone_at slots order used gone = neighbors_at slots (λ i. 1) (take gone (drop used order))
+
 -- the contents of a table, from its parts
-abbrev pub contents_of : ℕ → List Stored → (ℕ → ℕ) → List ℕ → ℕ → ℕ → ℕ → Contents
-contents_of capacity slots left order used limit too_many = record {
+abbrev pub contents_of : ℕ → List Stored → (ℕ → ℕ) → List ℕ → ℕ → ℕ → ℕ → ℕ → Contents
+contents_of capacity slots left order used gone limit too_many = record {
   capacity = capacity;
   limit = limit;
   neighbors = neighbors_at slots left (take used order);
+  gone = gone_at slots order used gone;
   too_many_left = too_many;
 }
 
 -- the invariant of a table's parts other than the queue
-pub record IsLaidOut (capacity : ℕ) (slots : List Stored) (left : ℕ → ℕ) (order : List ℕ) (used limit too_many : ℕ) :
+pub record IsLaidOut (capacity : ℕ) (slots : List Stored) (left : ℕ → ℕ) (order : List ℕ) (used gone limit too_many : ℕ) :
     Type 0 where
   pub indices : IsOrder (length slots) order
   pub written : length slots ≤ capacity
-  pub fits : used ≤ length slots
+  pub fits : used + gone ≤ length slots
   pub held : used ≤ limit
-  pub sound : IsSound (contents_of capacity slots left order used limit too_many)
+  pub sound : IsSound (contents_of capacity slots left order used gone limit too_many)
 
 -- the invariant of a table's parts, including the queue
-pub record IsTable (capacity : ℕ) (slots : List Stored) (queue : List Due) (order : List ℕ) (used limit too_many : ℕ) :
+pub record IsTable (capacity : ℕ) (slots : List Stored) (queue : List Due) (order : List ℕ) (used gone limit too_many : ℕ) :
     Type 0 where
-  pub laid : IsLaidOut capacity slots (ticks_left queue) order used limit too_many
+  pub laid : IsLaidOut capacity slots (ticks_left queue) order used gone limit too_many
   pub timed : IsTimed queue (take used order)

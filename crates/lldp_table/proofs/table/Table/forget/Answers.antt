@@ -17,8 +17,8 @@ leave-requires g c =
     let f = named_there c.self.invariant.laid (shown_is c.self.view_is) (msap_view c.args.msap.now) c.in-Some.at c.in-Some.ensures in
     rw (c.remove-slot.ensures.value, get_or_default c.self.inside.order.items c.in-Some.at c.remove-slot.result 0 (omega (arith, f.0, fits c.self.invariant.laid))) (is_in c.self.invariant c.in-Some.at f.0)
 
-pub invariant_of-self : goal.invariant_of-self
-invariant_of-self g c =
+pub invariant_of-self-in-Some : goal.invariant_of-self-in-Some
+invariant_of-self-in-Some g c =
     let name = msap_view c.args.msap.now in
     let f = named_there c.self.invariant.laid (shown_is c.self.view_is) name c.in-Some.at c.in-Some.ensures in
     rw (c.push.ensures.items, c.remove-slot.ensures.items) (forgotten_table c.self.invariant c.in-Some.at f.0 name f.1 c.remove-slot.ensures.value c.leave.ensures)
@@ -40,7 +40,7 @@ pub returns-in-None-clause-answers : goal.returns-in-None-clause-answers
 returns-in-None-clause-answers g c = λ opened calls h. sym c.in-None.ensures ∙ held_is_live c.args.self.now.shown opened calls (msap_view c.args.msap.now) h
 
 pub returns-in-None-clause-stands : goal.returns-in-None-clause-stands
-returns-in-None-clause-stands g c = λ opened calls h. stands_after c.args.self.now.shown c.args.self.now.shown opened calls (forget (msap_view c.args.msap.now)) (returns-in-None-clause-after g c) tt h
+returns-in-None-clause-stands g c = λ opened calls h. stands_after c.args.self.now.shown _ opened calls (forget (msap_view c.args.msap.now)) (returns-in-None-clause-after g c) tt h
 
 pub returns-in-Some-clause-answers : goal.returns-in-Some-clause-answers
 returns-in-Some-clause-answers g c = λ opened calls h. returns-in-Some-clause-answer g c ∙ held_is_live c.args.self.now.shown opened calls (msap_view c.args.msap.now) h

@@ -1,6 +1,6 @@
 use Rattle.lldp_table.proofs.Slots.Counted.{shown_is}
 use Rattle.lldp_table.proofs.Ageing.Ticks.{laid_ticked, after_ticked}
-use Rattle.std.proofs.Common.{length, ap, arith}
+use Rattle.std.proofs.Common.{◌-◌, length, ap, arith}
 use Rattle.lldp_table.specs.Contents.{Contents}
 use Rattle.lldp_table.specs.Code.Queue.{ticks_left}
 use Rattle.lldp_table.proofs.Slots.Layout.{count}
@@ -15,8 +15,8 @@ invariant_of-self g c =
     let t = c.self.inside in
     let aged = c.age_out-kept.ensures in
     record {
-      laid = laid_ticked t.slots.capacity t.slots.items (ticks_left t.queue.shown) (ticks_left c.age_out-kept.new.queue.shown) t.order.items c.age_out-kept.new.order.items t.used c.age_out-kept.result t.limit t.too_many c.saturating_sub-self-inside.result
-          (aged.neighbors t.slots.items) c.saturating_sub-self-inside.ensures c.self.invariant.laid aged.moved aged.fewer;
+      laid = laid_ticked t.slots.capacity t.slots.items (ticks_left t.queue.shown) (ticks_left c.age_out-kept.new.queue.shown) t.order.items c.age_out-kept.new.order.items t.used t.gone c.age_out-kept.result (t.used - c.age_out-kept.result) t.limit t.too_many c.saturating_sub-self-inside.result
+          (aged.neighbors t.slots.items) (aged.gone t.slots.items) c.saturating_sub-self-inside.ensures c.self.invariant.laid aged.moved (omega (arith, aged.fewer));
       timed = aged.timed;
     }
 

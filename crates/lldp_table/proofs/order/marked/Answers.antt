@@ -1,0 +1,10 @@
+use Rattle.std.proofs.Common.{ap, length, arith}
+use Rattle.lldp_table.specs.Code.Marks.{has_mark}
+use Rattle.lldp_table.proofs.Ageing.Ticks.{some_of}
+use Rattle.lldp_table.proofs.order.marked.Goals as goal
+
+pub push-requires : goal.push-requires
+push-requires c =
+    let l = c.loop-slot in
+    let few = some_of (has_mark c.args.marks.now) l.slot-index c.args.slots.now c.loop-slot-test.true in
+    omega (arith, few, c.requires, ap length l.invariant)
