@@ -65,13 +65,11 @@ static void pass(lldpa_agent *agent, uint32_t passed)
     lldpa_marks marks; /* stays empty, since the port only receives */
     lldpa_ticks_taken done;
     lldpa_held held;
-    for (uint32_t at = 0; lldpa_neighbor(agent, 0, at, room, sizeof room, &held) == LLDPA_OK; at++) {
-        if (held.left <= passed) {
-            print_neighbor("aged out", room, held.pdu.chassis, held.pdu.port);
-        }
-    }
     for (; passed > 0; passed -= done.taken) {
         lldpa_ticks(agent, passed, &marks, &done);
+        for (uint32_t at = 0; lldpa_aged(agent, 0, at, room, sizeof room, &held) == LLDPA_OK; at++) {
+            print_neighbor("aged out", room, held.pdu.chassis, held.pdu.port);
+        }
     }
 }
 

@@ -48,14 +48,12 @@ static void sd_lldp_rx_passed(sd_lldp_rx *rx, uint32_t seconds)
     lldpa_marks marks; /* stays empty, since the port only receives */
     lldpa_ticks_taken done;
     lldpa_held held;
-    for (uint32_t at = 0; lldpa_neighbor(&rx->agent, 0, at, room, sizeof room, &held) == LLDPA_OK; at++) {
-        if (held.left <= seconds) {
+    for (; seconds > 0; seconds -= done.taken) {
+        lldpa_ticks(&rx->agent, seconds, &marks, &done);
+        for (uint32_t at = 0; lldpa_aged(&rx->agent, 0, at, room, sizeof room, &held) == LLDPA_OK; at++) {
             sd_lldp_neighbor gone = {room, held.pdu.chassis, held.pdu.port};
             rx->callback(REMOVED, &gone, rx->userdata);
         }
-    }
-    for (; seconds > 0; seconds -= done.taken) {
-        lldpa_ticks(&rx->agent, seconds, &marks, &done);
     }
 }
 

@@ -71,15 +71,14 @@ def report(lldpa: CDLL, what: str, octets: bytes, chassis: Place, port: Place) -
 def give_seconds(lldpa: CDLL, agent: Handle, passed: int) -> None:
     """Reports the elapsed seconds to the agent, and prints the neighbors that age out."""
     room, held, count = create_string_buffer(1500), Held(), c_uint32()
-    lldpa.lldpa_neighbor_count(byref(agent), c_uint32(0), byref(count))
-    for index in range(count.value):
-        lldpa.lldpa_neighbor(byref(agent), c_uint32(0), c_uint32(index), room, c_size_t(1500), byref(held))
-        if held.left <= passed:
-            report(lldpa, "aged out", room.raw, held.pdu.chassis, held.pdu.port)
     while passed > 0:
         done, marks = Ticks(), create_string_buffer(129)  # marks stay empty: the port only receives
         lldpa.lldpa_ticks(byref(agent), c_uint32(passed), marks, byref(done))
         passed -= done.taken
+        lldpa.lldpa_aged_count(byref(agent), c_uint32(0), byref(count))
+        for index in range(count.value):
+            lldpa.lldpa_aged(byref(agent), c_uint32(0), c_uint32(index), room, c_size_t(1500), byref(held))
+            report(lldpa, "aged out", room.raw, held.pdu.chassis, held.pdu.port)
 
 
 def give_frame(lldpa: CDLL, agent: Handle, frame: bytes) -> None:

@@ -49,8 +49,12 @@ EDITS = (
      "(COPY(agent), agent->open ? show : 1, from,"),
     ("lldpa_frame_of checks the room before the port", "(COPY(agent), port, mark, room_at",
      "(COPY(agent), room_length > 0 ? port : 0, mark, room_at"),
-    ("lldpa_neighbor_count counts those of the first port", "(COPY(agent), port, count))",
-     "(COPY(agent), port < 2 ? 0 : port, count))"),
+    ("lldpa_neighbor_count counts those of the first port",
+     "LLDPA_NULL, (COPY(agent), port, count))\n\nCHECKED(uint8_t, lldpa_neighbor,",
+     "LLDPA_NULL, (COPY(agent), port < 2 ? 0 : port, count))\n\nCHECKED(uint8_t, lldpa_neighbor,"),
+    ("lldpa_aged_count counts those of the first port",
+     "LLDPA_NULL, (COPY(agent), port, count))\n\nCHECKED(uint8_t, lldpa_aged,",
+     "LLDPA_NULL, (COPY(agent), port < 2 ? 0 : port, count))\n\nCHECKED(uint8_t, lldpa_aged,"),
 )
 
 

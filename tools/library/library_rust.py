@@ -131,6 +131,10 @@ EDITS = (
     ("a setting asks for a show", "agent.rs", "(show != 0).then(|| Show::of(show))", "Some(Show::of(show.max(1)))"),
     ("every port has the neighbors of the first", "agent.rs", "lldpa_neighbor_count(&*self.handle, port.into(),",
      "lldpa_neighbor_count(&*self.handle, u32::from(port) * 0,"),
+    ("every port has those that aged out on the first", "agent.rs", "lldpa_aged_count(&*self.handle, port.into(),",
+     "lldpa_aged_count(&*self.handle, u32::from(port) * 0,"),
+    ("those that aged out are those that are held", "neighbors.rs", "Which::Aged => sys::lldpa_aged(",
+     "Which::Aged => sys::lldpa_neighbor("),
     ("a dropped agent keeps its memory", "agent.rs", "unsafe { sys::lldpa_close(&mut *self.handle) };", ""),
 )
 

@@ -196,6 +196,14 @@ CHECKED(uint8_t, lldpa_neighbor,
         agent == NULL || is_missing(room, room_length) || told == NULL, LLDPA_NULL,
         (COPY(agent), port, index, room_at(room), room_length, told))
 
+CHECKED(uint8_t, lldpa_aged_count, (const lldpa_agent *agent, uint32_t port, uint32_t *count),
+        agent == NULL || count == NULL, LLDPA_NULL, (COPY(agent), port, count))
+
+CHECKED(uint8_t, lldpa_aged,
+        (const lldpa_agent *agent, uint32_t port, uint32_t index, uint8_t *room, size_t room_length, lldpa_held *told),
+        agent == NULL || is_missing(room, room_length) || told == NULL, LLDPA_NULL,
+        (COPY(agent), port, index, room_at(room), room_length, told))
+
 CHECKED(uint8_t, lldpa_statistics, (const lldpa_agent *agent, uint32_t port, lldpa_statistics_told *told),
         agent == NULL || told == NULL, LLDPA_NULL, (COPY(agent), port, told))
 

@@ -73,7 +73,7 @@ uint8_t lldpa_fault_text(uint32_t fault, uint8_t *room, size_t room_length, size
 
 #define LLDPA_PDU_ROOM 1500      /* for lldpa_build */
 #define LLDPA_FRAME_ROOM 1514    /* for lldpa_frame_of */
-#define LLDPA_NEIGHBOR_ROOM 1500 /* for lldpa_neighbor */
+#define LLDPA_NEIGHBOR_ROOM 1500 /* for lldpa_neighbor and lldpa_aged */
 #define LLDPA_LINE_ROOM 2049     /* for one line of lldpa_show_lines */
 #define LLDPA_VALUE_ROOM 1058    /* for lldpa_tlv_text */
 #define LLDPA_FAULT_ROOM 65      /* for lldpa_fault_text */
@@ -366,7 +366,7 @@ typedef struct lldpa_ticks_taken {
  *   count  the seconds that passed; LLDPA_NEVER waits for the next event, and ends soon if nothing is ever due
  *   marks  the frames to send at the last second counted, on success
  *   told   written on success. Send the frames of marks; then, if told->taken is less than count, call lldpa_ticks
- *          again for the remaining seconds. The neighbors that aged out had told->taken seconds left before the call.
+ *          again for the remaining seconds. lldpa_aged writes the neighbors that aged out.
  */
 uint8_t lldpa_ticks(lldpa_agent *agent, uint32_t count, lldpa_marks *marks, lldpa_ticks_taken *told);
 
@@ -451,6 +451,21 @@ typedef struct lldpa_held {
  */
 uint8_t lldpa_neighbor(const lldpa_agent *agent, uint32_t port, uint32_t index, uint8_t *room, size_t room_length,
                        lldpa_held *told);
+
+/*
+ * Writes how many neighbors of a port aged out at the last call of lldpa_ticks. You may ask for the number, and read the
+ * neighbors by lldpa_aged, until the next call that changes the agent. The results are as for lldpa_neighbor_count.
+ */
+uint8_t lldpa_aged_count(const lldpa_agent *agent, uint32_t port, uint32_t *count);
+
+/*
+ * Writes a neighbor of a port that aged out at the last call of lldpa_ticks, as lldpa_neighbor would have written it
+ * one second before: told->left is 1. The agent keeps its LLDPDU only until the next call that changes the agent.
+ *   index  from 0, in the order in which neighbors were stored
+ * room, told and the results are as for lldpa_neighbor.
+ */
+uint8_t lldpa_aged(const lldpa_agent *agent, uint32_t port, uint32_t index, uint8_t *room, size_t room_length,
+                   lldpa_held *told);
 
 /* The counters of a port, each modulo 2^32. Nothing resets them. */
 typedef struct lldpa_statistics_told {

@@ -244,7 +244,7 @@ credit_named : (o : Options) (events : List Event) (i : ℕ) (names : List (List
 credit_named o events i [] h = tt
 credit_named o events i (name ∷ names) h = (omega (arith, credit_of o (port_past o i events) name), credit_named o events (i + 1) names h)
 
-stands_ticked : (k : ℕ) (past : Past) (agent : AgentState) → Stands past agent → Stands (with_ticks k past) (ticked k agent)
+pub stands_ticked : (k : ℕ) (past : Past) (agent : AgentState) → Stands past agent → Stands (with_ticks k past) (ticked k agent)
 stands_ticked zero past agent h = h
 stands_ticked (suc k) past agent h = carries (with_ticks k past) tick (ticked k agent) (stands_ticked k past agent h) tt tt
 
@@ -256,6 +256,17 @@ loud_at : (k d : ℕ) (agent : AgentState) (past : Past) → Stands past agent �
 loud_at k d agent past h e f q =
     let after : due_in (ticked k agent) ≡ Some (d - k) = (waited k agent (rw e (omega arith))).due ∙ ap (fewer_by k) e in
     are_loud _ 0 (ticked k agent).ports (has_credit (with_ticks k past) (ticked k agent) (stands_ticked k past agent h)) (rw after (omega arith)) q.sends q.ages
+
+-- if k ticks are quiet, they change only credits and clocks
+pub quiet_ticks : (k : ℕ) (agent : AgentState) (past : Past) → Stands past agent → ((j : ℕ) → j < k → IsQuiet (ticked j agent)) → timeless (ticked k agent) ≡ timeless agent
+quiet_ticks k agent past h quiet = (waited k agent (after (due_in agent) refl)).same
+  where
+    after : (o : Option ℕ) → due_in agent ≡ o → IsAfter k (due_in agent)
+    after None e = rw e tt
+    after (Some d) e = elim (cases_lt k (max d 1)) [
+      | inl less ↦ rw e less
+      | inr more ↦ absurd (loud_at (max d 1 - 1) d agent past h e refl (quiet (max d 1 - 1) (omega (arith, more))))
+    ]
 
 pub is_due : (agent : AgentState) (d : ℕ) → due_on agent.ports ≡ Some d → d < 65536 → IsDue agent (max d 1)
 is_due agent d e few = record {

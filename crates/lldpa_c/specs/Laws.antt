@@ -5,6 +5,7 @@ pub mod Words
 pub mod Order
 pub mod Passed
 pub mod Passing
+pub mod Gone
 pub mod Left
 pub mod Opened
 pub mod Machines

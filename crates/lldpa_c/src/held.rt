@@ -50,7 +50,7 @@ pub extern "C" fn lldpa_neighbor_count(
 }
 
 /// Writes a neighbor's fields to `told`, and its LLDPDU to the start of the buffer.
-fn tell_entry(entry: &Entry<'_>, room: &mut [u8], told: &mut LldpaHeld) -> u8
+pub(crate) fn tell_entry(entry: &Entry<'_>, room: &mut [u8], told: &mut LldpaHeld) -> u8
     ensures fits { length entry.now.octets ≤ length room.old → result ≡ 0 }
     ensures over { length room.old < length entry.now.octets → result ≡ 101 }
     ensures told { result ≡ 0 → TellsNeighbor entry.now room.new told.new }

@@ -1,6 +1,7 @@
 //! Laws about the numbers and values that C passes and receives.
 ghost use Rattle.lldpa_c.specs.declared.options.LldpaOptions.{LldpaOptions};
 ghost use Rattle.lldpa_c.specs.Laws.Asked.{AsksForEach};
+ghost use Rattle.lldpa_c.specs.Laws.Gone.{AreGone};
 ghost use Rattle.lldpa_c.specs.Laws.Left.{AreLeaving};
 ghost use Rattle.lldpa_c.specs.Laws.Machines.{AreTaken};
 ghost use Rattle.lldpa_c.specs.Laws.Opened.{AreOptions};
@@ -81,6 +82,12 @@ pub fn news_say_what_frames_do()
 pub fn seconds_pass_until_something_is_due()
     ensures seconds { AreSeconds }
     ensures passing { ArePassing }
+{}
+
+/// The neighbors that C can read after `lldpa_ticks` are exactly those that the tables held before
+/// and not after.
+pub fn aged_out_neighbors_are_those_lost()
+    ensures { AreGone }
 {}
 
 /// Ports that leave say goodbye if they were active, and then neither hear nor send.

@@ -4,6 +4,7 @@
 //! `lldpa.h` documents the functions.
 #![tactic(auto)]
 
+mod aged;
 mod agent;
 mod answer;
 mod bodies;

@@ -21,14 +21,14 @@ fn print(what: &str, name: Msap<'_>) {
 
 /// Reports to the agent that seconds passed, and prints the neighbors that age out.
 fn pass(agent: &mut Agent, seconds: u32) -> Result<(), Box<dyn Error>> {
-    for neighbor in agent.neighbors(0)?.filter(|neighbor| neighbor.left() <= seconds) {
-        if let Some(info) = neighbor.info() {
-            print("aged out", info.msap());
-        }
-    }
     let mut left = seconds;
     while left > 0 {
         left -= agent.ticks(left).taken;
+        for neighbor in agent.aged(0)? {
+            if let Some(info) = neighbor.info() {
+                print("aged out", info.msap());
+            }
+        }
     }
     Ok(())
 }

@@ -117,13 +117,35 @@ fn heard(agent: &mut Agent, port: u8, frame: &[u8]) -> Vec<Sent> {
     sent
 }
 
+/// Returns the octets of each neighbor of each port.
+fn neighbors(agent: &Agent) -> Vec<(u8, Vec<u8>)> {
+    let of = |port| agent.neighbors(port).into_iter().flatten().map(move |one| (port, one.octets().to_vec()));
+    (0..64).flat_map(of).collect()
+}
+
+/// Checks that exactly those of these neighbors aged out that are no longer held.
+fn see_aged(agent: &Agent, before: &[(u8, Vec<u8>)], number: u32) {
+    let after = neighbors(agent);
+    let mut gone = Vec::new();
+    for port in 0..64 {
+        for one in agent.aged(port).into_iter().flatten() {
+            assert_eq!(one.left(), 1);
+            gone.push((port, one.octets().to_vec()));
+        }
+    }
+    let is_lost = |one: &&(u8, Vec<u8>)| !after.contains(one);
+    assert!(before.iter().filter(is_lost).eq(&gone) && gone.len() == number as usize);
+}
+
 /// Reports to the agent that `left` seconds passed, and prints the frames to send.
 fn tick(agent: &mut Agent, ports: &[&str], mut left: u32) {
     while left > 0 {
         let due = agent.due();
+        let before = neighbors(agent);
         let done = agent.ticks(left);
         assert_eq!(done.taken, due.map_or(left, |due| due.min(left)));
         assert_eq!(done.aged_out > 0 || !done.sent.is_empty(), Some(done.taken) == due);
+        see_aged(agent, &before, done.aged_out);
         left -= done.taken;
         write(agent, ports, &done.sent);
     }

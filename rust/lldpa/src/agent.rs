@@ -2,7 +2,7 @@
 
 use crate::fault::{expect_ok, CommandFault, OpenFault, PortFault};
 use crate::machine::Mark;
-use crate::neighbors::{Neighbors, News};
+use crate::neighbors::{Neighbors, News, Which};
 use crate::options::Options;
 use crate::sys::{self, Statistics};
 use crate::told::{Chassis, Commanded, Configuration, Sent, Show, Ticks};
@@ -97,6 +97,7 @@ impl Agent {
 
     /// Reports that `count` seconds passed. Stops after the first second at which a port sends or a
     /// neighbor ages out. Send the frames, and call this again for the remaining seconds.
+    /// [`Agent::aged`] returns the neighbors that aged out.
     #[must_use = "send the frames that it lists"]
     pub fn ticks(&mut self, count: u32) -> Ticks {
         let (mut marks, mut told) = (sys::lldpa_marks::default(), sys::lldpa_ticks_taken::default());
@@ -169,7 +170,17 @@ impl Agent {
         let mut count = 0;
         // SAFETY: the handle is open, and the other pointer is to a local value.
         PortFault::check(unsafe { sys::lldpa_neighbor_count(&*self.handle, port.into(), &mut count) })?;
-        Ok(Neighbors::new(self, port, count))
+        Ok(Neighbors::new(self, Which::Held, port, count))
+    }
+
+    /// Returns the neighbors of a port that aged out at the last call of [`Agent::ticks`] or
+    /// [`Agent::tick`], in the order in which they were stored. After another call that changes the
+    /// agent they may be gone.
+    pub fn aged(&self, port: u8) -> Result<Neighbors<'_>, PortFault> {
+        let mut count = 0;
+        // SAFETY: the handle is open, and the other pointer is to a local value.
+        PortFault::check(unsafe { sys::lldpa_aged_count(&*self.handle, port.into(), &mut count) })?;
+        Ok(Neighbors::new(self, Which::Aged, port, count))
     }
 
     /// Reports that the link of a port came up or went down. Returns the frames to send.

@@ -55,7 +55,7 @@ impl<'f> News<'f> {
     }
 }
 
-/// A neighbor that a port holds.
+/// A neighbor that a port holds, or held until it aged out.
 #[derive(Clone, Debug, PartialEq, Eq)]
 pub struct Neighbor {
     octets: Vec<u8>,
@@ -68,7 +68,8 @@ impl Neighbor {
         &self.octets
     }
 
-    /// Returns the seconds until the neighbor ages out, at least 1.
+    /// Returns the seconds until the neighbor ages out, at least 1. For a neighbor that aged out it
+    /// is 1, as before the second at which it aged out.
     pub fn left(&self) -> u32 {
         self.left
     }
@@ -82,19 +83,27 @@ impl Neighbor {
     }
 }
 
-/// An iterator over the neighbors of a port.
+/// The neighbors that an iterator returns.
+#[derive(Clone, Copy, Debug)]
+pub(crate) enum Which {
+    Held,
+    Aged,
+}
+
+/// An iterator over neighbors of a port.
 #[derive(Debug)]
 #[must_use]
 pub struct Neighbors<'a> {
     agent: &'a Agent,
+    which: Which,
     port: u8,
     next: u32,
     count: u32,
 }
 
 impl<'a> Neighbors<'a> {
-    pub(crate) fn new(agent: &'a Agent, port: u8, count: u32) -> Neighbors<'a> {
-        Neighbors { agent, port, next: 0, count }
+    pub(crate) fn new(agent: &'a Agent, which: Which, port: u8, count: u32) -> Neighbors<'a> {
+        Neighbors { agent, which, port, next: 0, count }
     }
 }
 
@@ -104,16 +113,13 @@ impl Iterator for Neighbors<'_> {
     fn next(&mut self) -> Option<Neighbor> {
         let mut octets = vec![0u8; sys::LLDPA_NEIGHBOR_ROOM as usize];
         let mut told = sys::lldpa_held::default();
+        let (agent, port, at) = (&*self.agent.handle, self.port.into(), octets.as_mut_ptr());
         // SAFETY: the handle is open, the length is that of the buffer, and `told` is local.
         let answer = unsafe {
-            sys::lldpa_neighbor(
-                &*self.agent.handle,
-                self.port.into(),
-                self.next,
-                octets.as_mut_ptr(),
-                octets.len(),
-                &mut told,
-            )
+            match self.which {
+                Which::Held => sys::lldpa_neighbor(agent, port, self.next, at, octets.len(), &mut told),
+                Which::Aged => sys::lldpa_aged(agent, port, self.next, at, octets.len(), &mut told),
+            }
         };
         match answer {
             sys::LLDPA_OK => (),

@@ -434,7 +434,7 @@ extern "C" {
     #[doc = "   count  the seconds that passed; LLDPA_NEVER waits for the next event, and ends soon if nothing is ever due"]
     #[doc = "   marks  the frames to send at the last second counted, on success"]
     #[doc = "   told   written on success. Send the frames of marks; then, if told->taken is less than count, call lldpa_ticks"]
-    #[doc = "          again for the remaining seconds. The neighbors that aged out had told->taken seconds left before the call."]
+    #[doc = "          again for the remaining seconds. lldpa_aged writes the neighbors that aged out."]
     pub fn lldpa_ticks(
         agent: *mut lldpa_agent,
         count: u32,
@@ -519,6 +519,25 @@ extern "C" {
     #[doc = " Returns the first of these that applies: LLDPA_NOT_OPEN, LLDPA_NO_PORT, LLDPA_OUT_OF_RANGE for the index,"]
     #[doc = " LLDPA_NO_ROOM; otherwise 0."]
     pub fn lldpa_neighbor(
+        agent: *const lldpa_agent,
+        port: u32,
+        index: u32,
+        room: *mut u8,
+        room_length: usize,
+        told: *mut lldpa_held,
+    ) -> u8;
+}
+extern "C" {
+    #[doc = " Writes how many neighbors of a port aged out at the last call of lldpa_ticks. You may ask for the number, and read the"]
+    #[doc = " neighbors by lldpa_aged, until the next call that changes the agent. The results are as for lldpa_neighbor_count."]
+    pub fn lldpa_aged_count(agent: *const lldpa_agent, port: u32, count: *mut u32) -> u8;
+}
+extern "C" {
+    #[doc = " Writes a neighbor of a port that aged out at the last call of lldpa_ticks, as lldpa_neighbor would have written it"]
+    #[doc = " one second before: told->left is 1. The agent keeps its LLDPDU only until the next call that changes the agent."]
+    #[doc = "   index  from 0, in the order in which neighbors were stored"]
+    #[doc = " room, told and the results are as for lldpa_neighbor."]
+    pub fn lldpa_aged(
         agent: *const lldpa_agent,
         port: u32,
         index: u32,

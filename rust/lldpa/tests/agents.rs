@@ -62,6 +62,32 @@ fn each_port_has_its_neighbors() {
     assert_eq!(counts, [0, 1, 0, 0, 0, 0, 0, 0]);
 }
 
+/// Lets this many seconds pass, and returns the neighbors that aged out on a port at the last one.
+fn aged(agent: &mut Agent, port: u8, mut seconds: u32) -> Vec<Vec<u8>> {
+    while seconds > 0 {
+        seconds -= agent.ticks(seconds).taken;
+    }
+    let aged = agent.aged(port).expect("a port");
+    assert_eq!(aged.len(), agent.aged(port).expect("a port").count());
+    aged.inspect(|one| assert_eq!(one.left(), 1)).map(|one| one.octets().to_vec()).collect()
+}
+
+#[test]
+fn neighbors_that_aged_out_are_told() {
+    let mut agent = opened(3);
+    let frames = [frame(b'0', 2, b""), frame(b'1', 3, b""), frame(b'2', 2, b"\x0a\x01a")];
+    for frame in &frames {
+        agent.frame(1, frame).expect("the second port");
+    }
+    assert!(aged(&mut agent, 1, 1).is_empty());
+    assert_eq!(aged(&mut agent, 1, 1), [&frames[0][14..], &frames[2][14..]]);
+    assert_eq!(agent.aged(0).expect("the first port").count(), 0);
+    assert_eq!(aged(&mut agent, 1, 1), [&frames[1][14..]]);
+    agent.frame(1, &frames[0]).expect("the second port");
+    assert_eq!(agent.aged(1).expect("the second port").count(), 0);
+    assert!(agent.aged(8).is_err());
+}
+
 #[test]
 fn settings_have_no_show() {
     let mut agent = opened(2);

@@ -25,6 +25,7 @@ fn unknown_answers_are_faults() {
     assert_eq!(agent.frame_news(0, b""), Err(PortFault::Unexpected));
     assert_eq!(agent.link(0, true), Err(PortFault::Unexpected));
     assert_eq!(agent.neighbors(0).err(), Some(PortFault::Unexpected));
+    assert_eq!(agent.aged(0).err(), Some(PortFault::Unexpected));
     assert_eq!(agent.frame_of(0, Mark::Ordinary), Err(PortFault::Unexpected));
     assert_eq!(agent.statistics(0), Err(PortFault::Unexpected));
     assert_eq!(agent.command("update"), Err(CommandFault::Unexpected));

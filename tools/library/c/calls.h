@@ -61,6 +61,7 @@ static uint8_t open_agent(void)
     CALL(lldpa_link, 12288, lldpa_link(&agent, 1, number % 2 == 0, &marks))                                            \
     CALL(lldpa_neighbor_count, 12288, lldpa_neighbor_count(&agent, 0, &number))                                        \
     CALL(lldpa_neighbor, 12288, lldpa_neighbor(&agent, 0, 0, room, sizeof room, &neighbor))                            \
+    CALL(lldpa_aged_count, 12288, lldpa_aged_count(&agent, 0, &number))                                                \
     CALL(lldpa_command, 12288, lldpa_command(&agent, (const uint8_t *)line, sizeof line - 1, &number, &marks))         \
     CALL(show_neighbors, 12288, lldpa_show_lines(&agent, LLDPA_SHOW_NEIGHBORS, 0, room, sizeof room, &lines))          \
     CALL(show_statistics, 12288, lldpa_show_lines(&agent, LLDPA_SHOW_STATISTICS, 0, room, sizeof room, &lines))        \

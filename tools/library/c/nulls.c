@@ -255,6 +255,12 @@ static void step_nulls(void)
     ANSWERS(lldpa_neighbor(&agent, 0, 0, NULL, 1500, &now.held), LLDPA_NULL);
     ANSWERS(lldpa_neighbor(&agent, 0, 0, NULL, 0, &now.held), LLDPA_OUT_OF_RANGE);
     ANSWERS(lldpa_neighbor(&agent, 0, 0, now.room, 1500, NULL), LLDPA_NULL);
+    ANSWERS(lldpa_aged_count(NULL, 0, &now.number), LLDPA_NULL);
+    ANSWERS(lldpa_aged_count(&agent, 0, NULL), LLDPA_NULL);
+    ANSWERS(lldpa_aged(NULL, 0, 0, now.room, 1500, &now.held), LLDPA_NULL);
+    ANSWERS(lldpa_aged(&agent, 0, 0, NULL, 1500, &now.held), LLDPA_NULL);
+    ANSWERS(lldpa_aged(&agent, 0, 0, NULL, 0, &now.held), LLDPA_OUT_OF_RANGE);
+    ANSWERS(lldpa_aged(&agent, 0, 0, now.room, 1500, NULL), LLDPA_NULL);
     ANSWERS(lldpa_link(NULL, 0, false, &now.marks), LLDPA_NULL);
     ANSWERS(lldpa_link(&agent, 0, false, NULL), LLDPA_NULL);
     ANSWERS(lldpa_command(NULL, (const uint8_t *)"update", 6, show, &now.marks), LLDPA_NULL);
@@ -296,6 +302,8 @@ static void use_closed(void)
     uint8_t *room = now.room;
     ANSWERS(lldpa_neighbor_count(&none, 0, &now.number), LLDPA_NOT_OPEN);
     ANSWERS(lldpa_neighbor(&none, 0, 0, room, 1500, &now.held), LLDPA_NOT_OPEN);
+    ANSWERS(lldpa_aged_count(&none, 0, &now.number), LLDPA_NOT_OPEN);
+    ANSWERS(lldpa_aged(&none, 0, 0, room, 1500, &now.held), LLDPA_NOT_OPEN);
     ANSWERS(lldpa_due(&none, &now.number), LLDPA_NOT_OPEN);
     ANSWERS(lldpa_statistics(&none, 0, &now.statistics), LLDPA_NOT_OPEN);
     ANSWERS(lldpa_configuration(&none, &now.configuration), LLDPA_NOT_OPEN);
@@ -325,6 +333,8 @@ static void use_badly(void)
         ANSWERS(lldpa_neighbor_count(&agent, port, &now.number), LLDPA_NO_PORT);
         ANSWERS(lldpa_statistics(&agent, port, &now.statistics), LLDPA_NO_PORT);
         ANSWERS(lldpa_neighbor(&agent, port, 0, room, 1500, &now.held), LLDPA_NO_PORT);
+        ANSWERS(lldpa_aged_count(&agent, port, &now.number), LLDPA_NO_PORT);
+        ANSWERS(lldpa_aged(&agent, port, 0, room, 1500, &now.held), LLDPA_NO_PORT);
     }
     for (uint32_t mark = 0; mark < 256; mark += 3) { /* neither LLDPA_ORDINARY nor LLDPA_SHUTDOWN */
         ANSWERS(lldpa_frame_of(&agent, 0, mark, room, 1514, &now.length), LLDPA_OUT_OF_RANGE);

@@ -81,6 +81,10 @@ static void try_two_wrong(void)
     holds(lldpa_neighbor(&closed, 64, 9, room, 0, &held) == LLDPA_NOT_OPEN, "a neighbor, no agent and no port");
     holds(lldpa_neighbor(&agent, 2, 9, room, 0, &held) == LLDPA_NO_PORT, "a neighbor, no port and no index");
     holds(lldpa_neighbor(&agent, 0, 1, room, 0, &held) == LLDPA_OUT_OF_RANGE, "a neighbor, no index and no room");
+    holds(lldpa_aged_count(&closed, 64, &number) == LLDPA_NOT_OPEN, "who aged out, no agent and no port");
+    holds(lldpa_aged(&closed, 64, 9, room, 0, &held) == LLDPA_NOT_OPEN, "one that aged out, no agent and no port");
+    holds(lldpa_aged(&agent, 2, 9, room, 0, &held) == LLDPA_NO_PORT, "one that aged out, no port and no index");
+    holds(lldpa_aged(&agent, 0, 0, room, 0, &held) == LLDPA_OUT_OF_RANGE, "one that aged out, no index and no room");
     holds(lldpa_command(&closed, (const uint8_t *)"x", 1, &number, &marks) == LLDPA_NOT_OPEN, "a command and no agent");
     holds(lldpa_show_lines(&closed, 5, 0, room, 0, &lines) == LLDPA_OUT_OF_RANGE, "lines, no show and no agent");
     holds(lldpa_show_lines(&closed, 1, 0, room, 0, &lines) == LLDPA_NOT_OPEN, "lines, no agent and no room");
@@ -153,6 +157,38 @@ static void try_many_seconds(void)
     lldpa_close(&quiet);
 }
 
+static uint32_t aged_on(uint32_t port)
+{
+    uint32_t count = 9;
+    holds(lldpa_aged_count(&agent, port, &count) == LLDPA_OK, "how many aged out");
+    return count;
+}
+
+/* Checks that the neighbor of the second port can be read after it aged out, until the port gets another frame. */
+static void try_aged(void)
+{
+    static uint8_t octets[LLDPA_NEIGHBOR_ROOM];
+    lldpa_held held = {.left = 0}, before = {.left = 0};
+    lldpa_ticks_taken told;
+    for (uint32_t left = 120; left > 0; left -= told.taken) {
+        holds(aged_on(0) == 0 && aged_on(1) == 0, "no neighbor has aged out");
+        holds(lldpa_neighbor(&agent, 1, 0, octets, sizeof octets, &before) == LLDPA_OK, "the neighbor");
+        holds(lldpa_ticks(&agent, left, &marks, &told) == LLDPA_OK, "seconds");
+    }
+    holds(told.aged_out == 1 && aged_on(0) == 0 && aged_on(1) == 1, "the neighbor ages out");
+    holds(lldpa_aged(&agent, 1, 0, room, before.pdu.extent - 1, &held) == LLDPA_NO_ROOM, "one octet too few");
+    holds(lldpa_aged(&agent, 1, 0, room, before.pdu.extent, &held) == LLDPA_OK && held.left == 1, "who aged out");
+    holds(held.pdu.extent == before.pdu.extent && memcmp(room, octets, held.pdu.extent) == 0, "its LLDPDU");
+    holds(memcmp(&held.pdu, &before.pdu, sizeof held.pdu) == 0, "its fields");
+    holds(lldpa_aged(&agent, 1, 1, room, sizeof room, &held) == LLDPA_OUT_OF_RANGE, "no other neighbor");
+    holds(lldpa_frame(&agent, 1, frame, sizeof frame - 1, &marks, NULL) == LLDPA_OK, "a frame");
+    holds(aged_on(1) == 0, "none that aged out after a frame");
+    for (uint32_t left = 120; left > 0; left -= told.taken) {
+        lldpa_ticks(&agent, left, &marks, &told);
+    }
+    holds(aged_on(1) == 1 && lldpa_ticks(&agent, 1, &marks, &told) == LLDPA_OK && aged_on(1) == 0, "a second later");
+}
+
 int main(void)
 {
     lldpa_options options = options_of(names, 2);
@@ -167,6 +203,7 @@ int main(void)
     try_texts();
     try_many_tlvs();
     try_many_seconds();
+    try_aged();
     lldpa_close(&agent);
     return end();
 }

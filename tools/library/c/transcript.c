@@ -182,25 +182,79 @@ static void write_show(uint32_t show)
     }
 }
 
-/* Lets seconds pass, one or more in each call. Checks that a call stops when something is due. */
-static void tick(uint32_t seconds)
-{
-    lldpa_ticks_taken done = {0, 0};
-    lldpa_marks marks;
-    for (; seconds > 0; seconds -= done.taken) {
-        uint32_t due, most = seconds % 2 == 1 ? 1 : seconds;
-        must(lldpa_due(&agent, &due) == LLDPA_OK, "when something is due");
-        write_marks(lldpa_ticks(&agent, most, &marks, &done), &marks);
-        must(done.taken == (most < due ? most : due), "something is due at another tick");
-        must((marks.count > 0 || done.aged_out > 0) == (done.taken == due), "a tick at which something is due");
-    }
-}
-
 static uint32_t count_of(uint32_t port)
 {
     uint32_t count = 0;
     must(lldpa_neighbor_count(&agent, port, &count) == LLDPA_OK, "the number of neighbors");
     return count;
+}
+
+#define MOST_KEPT (64 * 128)
+
+/* Neighbors of all ports, with room for an attempt to read one more. */
+typedef struct kept {
+    lldpa_held held[MOST_KEPT + 1];
+    uint8_t octets[MOST_KEPT + 1][LLDPA_NEIGHBOR_ROOM];
+    uint32_t port[MOST_KEPT + 1], count;
+} kept;
+
+typedef uint8_t reading(const lldpa_agent *, uint32_t, uint32_t, uint8_t *, size_t, lldpa_held *);
+
+/* Reads neighbors of all ports until there is none. */
+static void keep(kept *all, reading *read)
+{
+    uint32_t now = 0;
+    for (uint32_t port = 0; port < port_count; port++) {
+        uint8_t *room = all->octets[now];
+        for (uint32_t at = 0; read(&agent, port, at, room, LLDPA_NEIGHBOR_ROOM, &all->held[now]) == LLDPA_OK; at++) {
+            all->port[now++] = port;
+            room = all->octets[now];
+        }
+    }
+    all->count = now;
+}
+
+/* Returns whether two neighbors are one: on the same port, with the same LLDPDU. */
+static int is_same(const kept *one, uint32_t at, const kept *other, uint32_t place)
+{
+    size_t length = one->held[at].pdu.extent;
+    return one->port[at] == other->port[place] && length == other->held[place].pdu.extent &&
+           memcmp(one->octets[at], other->octets[place], length) == 0;
+}
+
+/* Checks that those that aged out are the neighbors before that are not among those after, in their order. */
+static void see_aged(const kept *before, uint32_t aged_out)
+{
+    static kept after, gone;
+    uint32_t place = 0, found = 0;
+    keep(&after, lldpa_neighbor);
+    keep(&gone, lldpa_aged);
+    for (uint32_t at = 0; at < before->count; at++) {
+        if (place < after.count && is_same(before, at, &after, place)) {
+            place++;
+        } else {
+            must(found < gone.count && is_same(before, at, &gone, found) && gone.held[found].left == 1, "who aged out");
+            found++;
+        }
+    }
+    must(place == after.count && found == gone.count && found == aged_out, "how many aged out");
+}
+
+/* Lets seconds pass, one or more in each call. Checks that a call stops when something is due. */
+static void tick(uint32_t seconds)
+{
+    static kept before;
+    lldpa_ticks_taken done = {0, 0};
+    lldpa_marks marks;
+    for (; seconds > 0; seconds -= done.taken) {
+        uint32_t due, most = seconds % 2 == 1 ? 1 : seconds;
+        must(lldpa_due(&agent, &due) == LLDPA_OK, "when something is due");
+        keep(&before, lldpa_neighbor);
+        write_marks(lldpa_ticks(&agent, most, &marks, &done), &marks);
+        must(done.taken == (most < due ? most : due), "something is due at another tick");
+        must((marks.count > 0 || done.aged_out > 0) == (done.taken == due), "a tick at which something is due");
+        see_aged(&before, done.aged_out);
+    }
 }
 
 /* Returns whether a frame's news is about this neighbor. */

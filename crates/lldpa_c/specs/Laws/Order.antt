@@ -20,7 +20,7 @@ use Rattle.lldpa_c.specs.Command.{Obeyed, show_numbered}
 use Rattle.lldpa_c.specs.Faults.{command_fault_number}
 use Rattle.lldpa_c.specs.Filled.{lines_checks}
 use Rattle.lldpa_c.specs.Frame.{frame_checks, mark_numbered}
-use Rattle.lldpa_c.specs.Held.{open_checks, count_checks, neighbor_checks, neighbors_at}
+use Rattle.lldpa_c.specs.Held.{open_checks, count_checks, neighbor_checks, gone_checks, neighbors_at, gone_at}
 use Rattle.lldpa_c.specs.Leaving.{Left}
 use Rattle.lldpa_c.specs.Texts.{words_of, words_checks}
 use Rattle.lldpa_c.specs.Ticks.{TicksTaken}
@@ -47,6 +47,12 @@ IsTooLong octets room = (them : List ℕ) × (octets ≡ Some them) × (room < l
 abbrev pub IsTooLongAt : List Neighbor → ℕ → ℕ → Type 0
 IsTooLongAt neighbors index room = (neighbor : Neighbor) × (slice_get neighbors index ≡ Some neighbor) × (room < length neighbor.octets)
 
+-- the checks of a neighbor with this index, among these neighbors of a port
+abbrev pub FindsInOrder : LldpaAgent → ℕ → List Neighbor → ℕ → ℕ → ℕ → Type 0
+FindsInOrder handle port neighbors index room answer =
+    First (IsClosed handle) 102 (First (HasNoPort handle port) 103 (First (length neighbors ≤ index) 100
+    (First (IsTooLongAt neighbors index room) 101 IsSuccess))) answer
+
 -- the first line that is wanted exists, and does not fit with its line feed
 abbrev pub IsLineTooLong : LldpaAgent → ℕ → ℕ → ℕ → Type 0
 IsLineTooLong handle number from room =
@@ -65,10 +71,9 @@ pub record AreInOrder : Type 0 where
   pub ports : (handle : LldpaAgent) (port : ℕ) →
       First (IsClosed handle) 102 (First (HasNoPort handle port) 103 IsSuccess) (answer_of (count_checks handle port))
   pub neighbors : (handle : LldpaAgent) (port index room : ℕ) →
-      First (IsClosed handle) 102 (First (HasNoPort handle port) 103
-      (First (length (neighbors_at handle.held.agent port) ≤ index) 100
-      (First (IsTooLongAt (neighbors_at handle.held.agent port) index room) 101 IsSuccess)))
-      (answer_of (neighbor_checks handle port index room))
+      FindsInOrder handle port (neighbors_at handle.held.agent port) index room (answer_of (neighbor_checks handle port index room))
+  pub gone : (handle : LldpaAgent) (port index room : ℕ) →
+      FindsInOrder handle port (gone_at handle.held.agent port) index room (answer_of (gone_checks handle port index room))
   pub lines : (handle : LldpaAgent) (number from room : ℕ) →
       First (show_numbered number ≡ None) 100 (First (IsClosed handle) 102
       (First (IsLineTooLong handle number from room) 101 IsSuccess))

@@ -13,14 +13,15 @@ use Rattle.lldp_engine.specs.Frames.{frame_of}
 use Rattle.lldp_engine.specs.Lines.{lines_of}
 use Rattle.lldpa_c.specs.declared.holder.LldpaAgent.{LldpaAgent}
 use Rattle.lldpa_c.specs.declared.marks.LldpaMarks.{LldpaMarks}
-use Rattle.lldpa_c.specs.Answer.{is_over}
+use Rattle.lldpa_c.specs.Answer.{answer_of, is_over}
 use Rattle.lldpa_c.specs.Command.{Obeys, show_numbered}
 use Rattle.lldpa_c.specs.Faults.{command_fault_number}
 use Rattle.lldpa_c.specs.Frame.{has_no_port, mark_numbered}
-use Rattle.lldpa_c.specs.Held.{neighbors_at}
+use Rattle.lldp_table.specs.Events.{Neighbor}
+use Rattle.lldpa_c.specs.Held.{found_checks, neighbors_at, gone_at}
 use Rattle.lldpa_c.specs.Texts.{words_of}
 use Rattle.lldpa_c.specs.Values.{tlv_value}
-use Rattle.lldpa_c.specs.Laws.Order.{First, IsSuccess, IsClosed, HasNoPort, IsTooLong, IsTooLongAt, IsLineTooLong, IsFrameTooLong}
+use Rattle.lldpa_c.specs.Laws.Order.{First, IsSuccess, IsClosed, HasNoPort, IsTooLong, IsTooLongAt, FindsInOrder, IsLineTooLong, IsFrameTooLong}
 use Rattle.lldpa_c.proofs.laws.checks_are_in_order.Goals as goal
 
 -- ---- a check, and the condition under which it fails
@@ -81,17 +82,20 @@ line_of agent (Some which) from room h =
     let it = over_from ended room (slice_get (lines_of which agent) from) h in
     (which, it.0, refl, it.1, omega (arith, longer it.0, it.2))
 
+finds : (handle : LldpaAgent) (port : ℕ) (held : List Neighbor) (index room : ℕ) → FindsInOrder handle port held index room (answer_of (found_checks handle port (slice_get held index) room))
+finds handle port held index room =
+    let fits = First (IsTooLongAt held index room) 101 IsSuccess in
+    let there = First (length held ≤ index) 100 fits in
+    closed handle 102 _ (First (HasNoPort handle port) 103 there) (no_port handle port 103 _ there
+    (first (is_none (slice_get held index)) 100 _ fits (λ h. rw (slice_get_past held index h) refl) (past held index)
+    (first _ 101 0 IsSuccess (over_to (λ neighbor. neighbor.octets) room (slice_get held index)) (over_from (λ neighbor. neighbor.octets) room (slice_get held index)) refl)))
+
 pub returns-clause-checks : goal.returns-clause-checks
 returns-clause-checks c = record {
   opened = λ handle. closed handle 102 0 IsSuccess refl;
   ports = λ handle port. closed handle 102 _ (First (HasNoPort handle port) 103 IsSuccess) (no_port handle port 103 0 IsSuccess refl);
-  neighbors = λ handle port index room.
-      let held = neighbors_at handle.held.agent port in
-      let fits = First (IsTooLongAt held index room) 101 IsSuccess in
-      let there = First (length held ≤ index) 100 fits in
-      closed handle 102 _ (First (HasNoPort handle port) 103 there) (no_port handle port 103 _ there
-      (first (is_none (slice_get held index)) 100 _ fits (λ h. rw (slice_get_past held index h) refl) (past held index)
-      (first _ 101 0 IsSuccess (over_to (λ neighbor. neighbor.octets) room (slice_get held index)) (over_from (λ neighbor. neighbor.octets) room (slice_get held index)) refl)));
+  neighbors = λ handle port index room. finds handle port (neighbors_at handle.held.agent port) index room;
+  gone = λ handle port index room. finds handle port (gone_at handle.held.agent port) index room;
   lines = λ handle number from room.
       let fits = First (IsLineTooLong handle number from room) 101 IsSuccess in
       none (show_numbered number) 100 _ (First (IsClosed handle) 102 fits) (closed handle 102 _ fits
