@@ -41,6 +41,13 @@ fn expect_entry<A: Allocator>(rt: &impl Abort, table: &Table<A>, i: u8, pdu: &[u
     assert!(rt; entry.kept().next().is_none());
 }
 
+/// Checks that the neighbor at place `i` of those that aged out has this LLDPDU.
+fn expect_gone<A: Allocator>(rt: &impl Abort, table: &Table<A>, i: u8, pdu: &[u8; 22]) {
+    assert!(rt; i < table.gone());
+    let entry = table.gone_entry(i);
+    assert_eq!(rt; (entry.octets(), entry.left()), (&pdu[..20], 1));
+}
+
 /// Passes an LLDPDU to the table, and checks what the table does with it.
 fn learns<A: Allocator>(rt: &impl Abort, table: &mut Table<A>, pdu: &[u8; 22], answer: Learned) {
     assert_eq!(rt; table.learn(&told(rt, pdu)), answer);
@@ -105,12 +112,21 @@ fn refresh_to_an_earlier_expiry(rt: HostRuntime) -> Result<(), Fail> {
 
 #[test]
 fn equal_expiries(rt: HostRuntime) -> Result<(), Fail> {
-    let mut table = Table::open(rt.alloc(), 2)?;
-    learns(&rt, &mut table, &lldpdu(b'0', 120), Learned::New);
-    learns(&rt, &mut table, &lldpdu(b'1', 120), Learned::New);
+    let (a, b, c) = (lldpdu(b'0', 120), lldpdu(b'1', 120), lldpdu(b'2', 121));
+    let mut table = Table::open(rt.alloc(), 3)?;
+    learns(&rt, &mut table, &a, Learned::New);
+    learns(&rt, &mut table, &c, Learned::New);
+    learns(&rt, &mut table, &b, Learned::New);
+    learns(&rt, &mut table, &a, Learned::Refreshed);
     ticks(&rt, &mut table, 119, 0);
+    assert_eq!(rt; table.gone(), 0);
     ticks(&rt, &mut table, 1, 2);
-    expect_held(&rt, &table, (0, 0, false));
+    expect_held(&rt, &table, (1, 20, false));
+    expect_entry(&rt, &table, 0, &c, 1);
+    expect_gone(&rt, &table, 0, &a);
+    expect_gone(&rt, &table, 1, &b);
+    learns(&rt, &mut table, &c, Learned::Refreshed);
+    assert_eq!(rt; table.gone(), 0);
     Ok(())
 }
 

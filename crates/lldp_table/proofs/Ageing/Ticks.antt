@@ -44,9 +44,10 @@ all_stay n (i ∷ is) = ap (λ b. cond (not b) (i ∷ stay (replicate n false) i
 -- an element that passes the test and is in the list stays in the filtered list
 in_part : (f : ℕ → Bool) (is : List ℕ) → AllByRecursion (λ i. f i ≡ true → list_any (nat_eq i) (filter f is) ≡ true) is
 in_part f [] = tt
-in_part f (i ∷ is) =
-    (λ p. ap (λ b. list_any (nat_eq i) (cond b (i ∷ filter f is) (filter f is))) p ∙ or_left (nat_eq i i) (list_any (nat_eq i) (filter f is)) (eq-eqb i i refl),
-    all-weaker (λ j. f j ≡ true → list_any (nat_eq j) (filter f is) ≡ true) (λ j. f j ≡ true → list_any (nat_eq j) (filter f (i ∷ is)) ≡ true) (λ j h p. more j (f i) (h p)) is (in_part f is))
+in_part f (i ∷ is) = (
+  λ p. ap (λ b. list_any (nat_eq i) (cond b (i ∷ filter f is) (filter f is))) p ∙ or_left (nat_eq i i) (list_any (nat_eq i) (filter f is)) (eq-eqb i i refl),
+  all-weaker (λ j. f j ≡ true → list_any (nat_eq j) (filter f is) ≡ true) (λ j. f j ≡ true → list_any (nat_eq j) (filter f (i ∷ is)) ≡ true) (λ j h p. more j (f i) (h p)) is (in_part f is),
+)
   where
     more : (j : ℕ) (b : Bool) → list_any (nat_eq j) (filter f is) ≡ true → list_any (nat_eq j) (cond b (i ∷ filter f is) (filter f is)) ≡ true
     more j true h = or_right (nat_eq j i) (list_any (nat_eq j) (filter f is)) h

@@ -53,9 +53,9 @@ returns-clause-neighbors c =
     let apart = distinct-take c.args.used order c.requires.distinct in
     let l = c.loop-spent in
     λ slots.
-        rw (c.part.ensures.order, c.part.ensures.kept)
-        (ap (neighbors_at slots (ticks_left l.queue.shown)) (parted_front l.marks c.args.used order c.requires.used)
-        ∙ aging_keeps c.args.queue.now.shown used c.requires.timed apart l.queue.shown l.marks l.spent l.invariant.aging c.loop-spent-test.false slots)
+    rw (c.part.ensures.order, c.part.ensures.kept)
+    (ap (neighbors_at slots (ticks_left l.queue.shown)) (parted_front l.marks c.args.used order c.requires.used)
+    ∙ aging_keeps c.args.queue.now.shown used c.requires.timed apart l.queue.shown l.marks l.spent l.invariant.aging c.loop-spent-test.false slots)
 
 pub returns-clause-gone : goal.returns-clause-gone
 returns-clause-gone c =
@@ -64,9 +64,9 @@ returns-clause-gone c =
     let apart = distinct-take c.args.used order c.requires.distinct in
     let l = c.loop-spent in
     λ slots.
-        rw (c.part.ensures.order, c.part.ensures.kept)
-        (ap (neighbors_at slots (λ i. 1)) (parted_behind l.marks c.args.used order c.requires.used _ refl)
-        ∙ aging_takes c.args.queue.now.shown used c.requires.timed apart l.queue.shown l.marks l.spent l.invariant.aging c.loop-spent-test.false slots)
+    rw (c.part.ensures.order, c.part.ensures.kept)
+    (ap (neighbors_at slots (λ i. 1)) (parted_behind l.marks c.args.used order c.requires.used _ refl)
+    ∙ aging_takes c.args.queue.now.shown used c.requires.timed apart l.queue.shown l.marks l.spent l.invariant.aging c.loop-spent-test.false slots)
 
 pub returns-clause-timed : goal.returns-clause-timed
 returns-clause-timed c =
