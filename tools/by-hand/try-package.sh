@@ -212,7 +212,8 @@ while read -r command; do
 done < /root/commands
 check "systemd receives its state" notifies
 check "the journal names the new neighbor" tells
-check "its metrics are written" published 1
+check "its metrics are written, by the link" published 1
+check "the link is there" has_link
 check "node_exporter reads the metrics" scraped 1
 mkdir -p /run/systemd/system/lldpa.service.d
 printf '[Service]\nRestart=no\n' > /run/systemd/system/lldpa.service.d/once.conf

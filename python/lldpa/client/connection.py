@@ -11,7 +11,7 @@ import os
 import socket
 import struct
 import time
-from typing import Any, Callable, Optional
+from typing import Any, Callable, List, Optional
 
 from ..faults import LldpaFault
 from ..agent.framing import Refused, checked
@@ -26,6 +26,7 @@ LONGEST_LINE = 64 * 1024  # of a line in an answer, in octets
 MOST_OCTETS = 25 * 1024 * 1024  # of an answer: 64 ports with 128 neighbors of 1,500 octets each
 MOST_SKIPPED = 512 * 1024 * 1024  # of the rest of a larger answer
 BY_PORT = ("show neighbors", "live")  # questions that can be asked for each port
+TOO_LONG = "lldpa-live answers with a line of more than 64 kB"
 MOST_DIGITS = 12  # of the number of lines, including the `=`
 NOBODY = 65534  # user and group
 TIMEVAL = struct.Struct("ll")  # seconds and microseconds
@@ -127,9 +128,11 @@ class Client:
         head = self.read_line()
         if not (head.startswith("=") and head[1:].isdecimal() and len(head) <= MOST_DIGITS):
             raise Gone(f"not an answer of lldpa-live: {head!r}")
-        lines = []
-        for self.left in range(int(head[1:]), 0, -1):
-            lines.append(self.read_line())
+        lines: List[str] = []
+        self.left = int(head[1:])
+        while self.left:
+            lines += self.read_lines()
+            self.left = int(head[1:]) - len(lines)
         if len(lines) == 1 and lines[0].startswith(REFUSAL):
             raise Refused(lines[0][len(REFUSAL):])
         return lines
@@ -138,11 +141,23 @@ class Client:
         """Returns the next line of an answer."""
         while (end := self.octets.find(b"\n")) < 0:
             if len(self.octets) > LONGEST_LINE:
-                raise Gone("lldpa-live answers with a line of more than 64 kB")
+                raise Gone(TOO_LONG)
             self.receive()
         line = self.octets[:end].decode("ascii", "backslashreplace")
         del self.octets[:end + 1]
         return printable(line)
+
+    def read_lines(self) -> List[str]:
+        """Returns some lines of the answer: those that were received together."""
+        count = min(self.octets.count(b"\n"), self.left)
+        if count == 0:
+            return [self.read_line()]
+        *lines, rest = self.octets.split(b"\n", count)
+        self.octets = rest
+        if max(map(len, lines)) > LONGEST_LINE:
+            raise Gone(TOO_LONG)
+        texts = [line.decode("ascii", "backslashreplace") for line in lines]
+        return texts if "".join(texts).isprintable() else [printable(text) for text in texts]
 
     def receive(self) -> None:
         """Receives more octets of the answer."""

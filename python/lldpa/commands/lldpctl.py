@@ -1,5 +1,6 @@
 """lldpctl (or lldpcli): asks a running lldpa-live, and prints answers as lldpd's lldpcli does."""
 
+import gc
 import getopt
 import os
 import subprocess
@@ -84,6 +85,7 @@ def read_words(words: Sequence[str]) -> Given:
 
 def show(client: Client, given: Given, question: Question) -> None:
     """Prints the answer to a `show` command. Then raises Refused if a given port does not exist."""
+    gc.disable()  # nothing refers to itself in millions of objects
     live = client.ask("live")
     told = told_by([client.ask(line) for line in LINES], live, time.time())
     given.write(question.tree(told))

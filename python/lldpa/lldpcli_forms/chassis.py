@@ -1,5 +1,6 @@
 """Builds the nodes of a chassis, a port, the identifiers and unknown TLVs."""
 
+from functools import lru_cache
 from typing import Iterable, Iterator, Mapping, Optional, Tuple
 
 from ..agent.show import Identifier, LocalChassis, Neighbor, unescaped
@@ -87,6 +88,11 @@ def port_of(neighbor: Neighbor) -> Node:
     return node
 
 
+@lru_cache(1024)
+def oui_of(digits: str) -> str:
+    return bytes.fromhex(digits).hex(",").upper()
+
+
 def unknown_nodes(unknown: Iterable[Tuple[str, str]]) -> Iterator[Node]:
     """Yields one node with these TLVs as octets, or nothing if there are none."""
     node = Node("unknown-tlvs", "Unknown TLVs")
@@ -95,7 +101,7 @@ def unknown_nodes(unknown: Iterable[Tuple[str, str]]) -> Iterator[Node]:
         octets = bytes.fromhex(digits)
         text = octets.hex(",").upper() if octets else None
         node.nodes.append(Node("unknown-tlv", "TLV", [
-            ("oui", "OUI", bytes.fromhex(oui).hex(",").upper()),
+            ("oui", "OUI", oui_of(oui)),
             ("subtype", "SubType", subtype), ("len", "Len", str(len(octets)))], text))
     if node.nodes:
         yield node

@@ -193,13 +193,22 @@ def reader_of(oui: str, subtype: int) -> Optional[Reader]:
 
 def kinds() -> List[Type[Tlv]]:
     """Returns the classes that are loaded, in the order in which they are shown."""
+    return list(kinds_of(len(KINDS)))
+
+
+@lru_cache(1)
+def kinds_of(count: int) -> Tuple[Type[Tlv], ...]:
+    """Returns the classes in order, as long as there are `count`."""
     places = {f"{__package__}.{name}": place for place, name in enumerate(MODULES)}
-    return sorted(KINDS, key=lambda kind: places[kind.__module__])
+    return tuple(sorted(KINDS, key=lambda kind: places[kind.__module__]))
 
 
 def nodes_in(parent: str, said: Said) -> List[Node]:
     """Returns the nodes of all TLVs that belong in the node with the key `parent`."""
-    return [node for kind in kinds() if kind.parent == parent for node in kind.nodes(said)]
+    if not said.tlvs:
+        return []
+    some = (kind for kind in kinds_of(len(KINDS)) if kind.parent == parent)
+    return [node for kind in some for node in kind.nodes(said)]
 
 
 def number(octets: bytes) -> int:
