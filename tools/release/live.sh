@@ -58,5 +58,5 @@ export CARGO_TARGET_DIR="$out/target" RUSTFLAGS="$flags --remap-path-prefix=$PWD
 mkdir -p "$(dirname "$program")"
 cp "$out/target/$triple/release/lldpa-live" "$program.new"
 mv "$program.new" "$program"
-ln -sfn lldpa-live "${program%-live}-ctl"
+ln -f "$program" "${program%-live}-ctl"
 echo "$program"
