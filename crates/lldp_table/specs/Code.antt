@@ -3,6 +3,7 @@ pub mod Steps
 pub mod Stored
 pub mod Queue
 pub mod Marks
+pub mod Ageing
 pub mod Layout
 pub mod Room
 pub mod Lent

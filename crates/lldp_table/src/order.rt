@@ -4,8 +4,8 @@ ghost use Rattle.std.specs.List.{list_any, filter, filter_map, AllByRecursion, I
 ghost use Rattle.lldp_pdu.specs.View.{msap_view};
 ghost use Rattle.lldp_table.specs.Code.Stored.{Stored, tag_of};
 ghost use Rattle.lldp_table.specs.Msap.{same_msap};
-ghost use Rattle.lldp_table.specs.Code.Steps.{aged, expires};
-ghost use Rattle.lldp_table.specs.Code.Queue.{holds, ticks_left, IsTimed};
+ghost use Rattle.lldp_table.specs.Code.Ageing.{Aged};
+ghost use Rattle.lldp_table.specs.Code.Queue.{Due, less_first, is_spent, IsTimed};
 ghost use Rattle.lldp_table.specs.Code.Marks.{has_mark, parted};
 ghost use Rattle.lldp_table.specs.Code.Layout.{blank, msap_at, octets_at, neighbors_at, gone_at, with_next};
 
@@ -107,31 +107,23 @@ fn part(order: &mut ArrayVec<u8, MOST_NEIGHBORS>, used: usize, marks: &[bool; 25
     kept
 }
 
-/// Processes a tick: removes from the queue the slots whose neighbors expire, and moves them behind
-/// those still in use. Each part keeps its order. Returns how many slots are still in use.
-#[inline(always)]
-pub(crate) fn age_out(
+/// Removes from the queue the slots that are spent, of which there is at least one, and moves them
+/// behind those still in use. Returns how many slots are still in use. Most ticks do not need this.
+#[inline(never)]
+pub(crate) fn expire(
     queue: &mut Queue,
     order: &mut ArrayVec<u8, MOST_NEIGHBORS>,
     used: usize,
 ) -> usize
-    requires timed { IsTimed queue.old.shown (take used order.old.items) }
+    requires spent { is_spent queue.old.shown ≡ true }
     requires distinct { IsDistinct nat_eq order.old.items }
     requires used { used ≤ length order.old.items }
-    ensures neighbors { (slots : List Stored) →
-        neighbors_at slots (ticks_left queue.new.shown) (take result order.new.items)
-        ≡ filter_map aged (neighbors_at slots (ticks_left queue.old.shown) (take used order.old.items)) }
-    ensures gone { (slots : List Stored) →
-        gone_at slots order.new.items result (used - result)
-        ≡ filter expires (neighbors_at slots (ticks_left queue.old.shown) (take used order.old.items)) }
-    ensures timed { IsTimed queue.new.shown (take result order.new.items) }
-    ensures moved { IsPermutation order.old.items order.new.items }
-    ensures fewer { result ≤ used }
-    ensures counted { queue.new.accesses + result ≤ queue.old.accesses + used + 2 }
+    ensures aged { (before : List Due) → queue.old.shown ≡ less_first 1 before →
+        IsTimed before (take used order.old.items) →
+        Aged before queue.new.shown order.old.items order.new.items used result }
+    ensures counted { queue.new.accesses + length queue.new.shown
+        ≤ queue.old.accesses + length queue.old.shown }
 {
-    if !queue.pass() {
-        return used;
-    }
     let mut marks = [false; 256];
     let mut spent = true;
     while spent {

@@ -15,7 +15,7 @@ use crate::entries::Entries;
 use crate::entry::Entry;
 use crate::learned::{Learned, Outcome};
 use crate::limits::MOST_NEIGHBORS;
-use crate::order::{age_out, octets_of, place_of, write_next};
+use crate::order::{expire, octets_of, place_of, write_next};
 use crate::queue::Queue;
 use crate::room::Room;
 use crate::slot::{Slot, mix_name};
@@ -250,10 +250,14 @@ impl<A: Allocator> Table<A> {
         ensures stands { ForEachCalls self.old.shown (λ opened calls.
             Stands opened (tick ∷ calls) self.new.shown) }
     {
-        let kept = age_out(&mut self.queue, &mut self.order, self.used as usize) as u8;
+        self.too_many = self.too_many.saturating_sub(1);
+        if !self.queue.pass() {
+            self.gone = 0;
+            return 0;
+        }
+        let kept = expire(&mut self.queue, &mut self.order, self.used as usize) as u8;
         self.gone = self.used - kept;
         self.used = kept;
-        self.too_many = self.too_many.saturating_sub(1);
         self.gone
     }
 

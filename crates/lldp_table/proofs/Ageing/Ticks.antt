@@ -10,13 +10,14 @@ use Rattle.std.proofs.Math.Seq.{take-append_seam, drop-append_seam}
 use Rattle.std.proofs.lemmas.List.Filters.{length-filter_both}
 use Rattle.std.proofs.lemmas.List.Sorted.{IsPermutation-refl, IsPermutation-trans, IsPermutation-cons, IsPermutation-filter_both, IsPermutation-append_left, length_permutation}
 use Rattle.std.proofs.lemmas.Map.Keys.{IsDistinct-head, IsDistinct-tail}
-use Rattle.lldp_table.specs.Contents.{IsSound}
+use Rattle.lldp_table.specs.Contents.{Contents, IsSound}
 use Rattle.lldp_table.specs.Events.{Neighbor}
 use Rattle.lldp_table.specs.Code.Steps.{aged, expires, after_tick}
 use Rattle.lldp_table.specs.Code.Stored.{Stored}
 use Rattle.lldp_table.specs.Code.Marks.{has_mark, parted}
 use Rattle.lldp_table.specs.Code.Queue.{Due, due, holds, slots_of, ticks_left, less_first, is_spent, IsRunning, IsQueued, IsTimed}
-use Rattle.lldp_table.specs.Code.Layout.{neighbor_of, neighbors_at, gone_at, blank, contents_of, IsLaidOut}
+use Rattle.lldp_table.specs.Code.Layout.{neighbor_of, neighbors_at, gone_at, blank, contents_of, IsLaidOut, IsTable}
+use Rattle.lldp_table.specs.Code.Ageing.{Aged}
 use Rattle.lldp_table.proofs.Slots.Places.{nat_eq_sym, all-weaker, all-both, distinct-take, distinct-moved, IsOrder-moved}
 use Rattle.lldp_table.proofs.Ageing.Steps.{first_two, left-pass, left-positive, left-front_same, left-front_other, slots-less_first}
 use Rattle.lldp_table.proofs.Ageing.Timed.{queued_less, all_queued, holds-slots}
@@ -126,6 +127,10 @@ pub record IsAging (queue0 : List Due) (used : List ℕ) (queue : List Due) (mar
   pub left : AllByRecursion (λ i. ticks_left (less_first 1 queue0) i ≡ cond (has_mark marks i) 0 (ticks_left queue i)) used
   pub told : spent ≡ is_spent queue
 
+pub less_count : (queue : List Due) → length (less_first 1 queue) ≡ length queue
+less_count [] = refl
+less_count (e ∷ queue) = refl
+
 -- what becomes of a slot in use at a tick
 record Fate (queue0 queue : List Due) (marks : List Bool) (i : ℕ) : Type 0 where
   goes : has_mark marks i ≡ true → ticks_left queue0 i ≡ 1
@@ -134,10 +139,6 @@ record Fate (queue0 queue : List Due) (marks : List Bool) (i : ℕ) : Type 0 whe
 module _ (queue0 : List Due) (used : List ℕ) (timed : IsTimed queue0 used) (distinct : IsDistinct nat_eq used) where
   abbrev passed : List Due
   passed = less_first 1 queue0
-
-  less_count : (queue : List Due) → length (less_first 1 queue) ≡ length queue
-  less_count [] = refl
-  less_count (e ∷ queue) = refl
 
   pub passed_count : length passed ≡ length used
   passed_count = less_count queue0 ∙ timed.queued.count
@@ -266,13 +267,13 @@ module _ (queue0 : List Due) (used : List ℕ) (timed : IsTimed queue0 used) (di
     begun : IsAging queue0 used passed (replicate 256 false) false
     begun = aging_begins false (sym running)
 
-    pub none_expire : (slots : List Stored) → neighbors_at slots (ticks_left passed) used ≡ filter_map aged (neighbors_at slots (ticks_left queue0) used)
+    none_expire : (slots : List Stored) → neighbors_at slots (ticks_left passed) used ≡ filter_map aged (neighbors_at slots (ticks_left queue0) used)
     none_expire slots = subst (λ is. neighbors_at slots (ticks_left passed) is ≡ filter_map aged (neighbors_at slots (ticks_left queue0) used)) (all_stay 256 used) (aging_keeps passed (replicate 256 false) false begun refl slots)
 
-    pub none_taken : (slots : List Stored) → [] ≡ filter expires (neighbors_at slots (ticks_left queue0) used)
+    none_taken : (slots : List Stored) → [] ≡ filter expires (neighbors_at slots (ticks_left queue0) used)
     none_taken slots = subst (λ is. neighbors_at slots (λ i. 1) is ≡ filter expires (neighbors_at slots (ticks_left queue0) used)) (none_go 256 used) (aging_takes passed (replicate 256 false) false begun refl slots)
 
-    pub all_timed : IsTimed passed used
+    all_timed : IsTimed passed used
     all_timed = record { queued = subst (IsQueued passed) (all_stay 256 used) begun.queued; running = running }
 
 -- ## Parting an order
@@ -324,10 +325,10 @@ module _ (marks : List Bool) (used : ℕ) (order : List ℕ) (fits : used ≤ le
 -- the table after a tick
 module _ (capacity : ℕ) (slots : List Stored) (left left' : ℕ → ℕ) (order order' : List ℕ) (used gone used' gone' limit too_many timer : ℕ) (n : neighbors_at slots left' (take used' order') ≡ filter_map aged (neighbors_at slots left (take used order)))
     (g : gone_at slots order' used' gone' ≡ filter expires (neighbors_at slots left (take used order))) (t : timer ≡ too_many - 1) where
-  pub after_ticked : contents_of capacity slots left' order' used' gone' limit timer ≡ after_tick (contents_of capacity slots left order used gone limit too_many)
+  after_ticked : contents_of capacity slots left' order' used' gone' limit timer ≡ after_tick (contents_of capacity slots left order used gone limit too_many)
   after_ticked = grind (arith, common_steps)
 
-  pub laid_ticked : IsLaidOut capacity slots left order used gone limit too_many → IsPermutation order order' → used' + gone' ≡ used → IsLaidOut capacity slots left' order' used' gone' limit timer
+  laid_ticked : IsLaidOut capacity slots left order used gone limit too_many → IsPermutation order order' → used' + gone' ≡ used → IsLaidOut capacity slots left' order' used' gone' limit timer
   laid_ticked h p f = record {
     indices = IsOrder-moved (length slots) order order' p h.indices;
     written = h.written;
@@ -335,3 +336,36 @@ module _ (capacity : ℕ) (slots : List Stored) (left left' : ℕ → ℕ) (orde
     held = omega (arith, f, h.held);
     sound = subst IsSound (sym after_ticked) (sound_ticked (contents_of capacity slots left order used gone limit too_many) h.sound);
   }
+
+module _ {capacity : ℕ} {slots : List Stored} {queue : List Due} {order : List ℕ} {used gone limit too_many : ℕ} (h : IsTable capacity slots queue order used gone limit too_many) {timer : ℕ} (t : timer ≡ too_many - 1) where
+  abbrev shown : Contents
+  shown = contents_of capacity slots (ticks_left queue) order used gone limit too_many
+
+  apart : IsDistinct nat_eq (take used order)
+  apart = distinct-take used order h.laid.indices.distinct
+
+  -- no neighbor ages out
+  module _ {queue' : List Due} (e : queue' ≡ less_first 1 queue) (running : is_spent queue' ≡ false) where
+    pub quiet_after : contents_of capacity slots (ticks_left queue') order used 0 limit timer ≡ after_tick shown
+    quiet_after =
+        rw e (after_ticked capacity slots (ticks_left queue) (ticks_left (less_first 1 queue)) order order used gone used 0 limit too_many timer
+        (none_expire queue (take used order) h.timed apart (rw e at running) slots) (none_taken queue (take used order) h.timed apart (rw e at running) slots) t)
+
+    pub quiet_table : IsTable capacity slots queue' order used 0 limit timer
+    quiet_table = rw e (record {
+      laid = laid_ticked capacity slots (ticks_left queue) (ticks_left (less_first 1 queue)) order order used gone used 0 limit too_many timer
+          (none_expire queue (take used order) h.timed apart (rw e at running) slots) (none_taken queue (take used order) h.timed apart (rw e at running) slots) t
+          h.laid (IsPermutation-refl order) (omega arith);
+      timed = all_timed queue (take used order) h.timed apart (rw e at running);
+    })
+
+  -- some neighbors age out
+  module _ {queue' : List Due} {order' : List ℕ} {kept : ℕ} (a : Aged queue queue' order order' used kept) where
+    pub aged_after : contents_of capacity slots (ticks_left queue') order' kept (used - kept) limit timer ≡ after_tick shown
+    aged_after = after_ticked capacity slots (ticks_left queue) (ticks_left queue') order order' used gone kept (used - kept) limit too_many timer (a.neighbors slots) (a.gone slots) t
+
+    pub aged_table : IsTable capacity slots queue' order' kept (used - kept) limit timer
+    aged_table = record {
+      laid = laid_ticked capacity slots (ticks_left queue) (ticks_left queue') order order' used gone kept (used - kept) limit too_many timer (a.neighbors slots) (a.gone slots) t h.laid a.moved (omega (arith, a.fewer));
+      timed = a.timed;
+    }

@@ -1,37 +1,63 @@
-use Rattle.lldp_table.proofs.Slots.Counted.{shown_is}
-use Rattle.lldp_table.proofs.Ageing.Ticks.{laid_ticked, after_ticked}
-use Rattle.std.proofs.Common.{◌-◌, length, ap, arith}
-use Rattle.lldp_table.specs.Contents.{Contents}
-use Rattle.lldp_table.specs.Code.Queue.{ticks_left}
-use Rattle.lldp_table.proofs.Slots.Layout.{count}
-use Rattle.lldp_table.proofs.table.Table.tick.Goals as goal
-use Rattle.std.proofs.lemmas.Grind.{common_steps}
+use Rattle.std.proofs.Common.{◌≡◌, ◌-◌, false, sym, ◌∙◌, length, ap, arith, length-take-le}
 use Rattle.lldp_table.specs.Events.{tick}
+use Rattle.lldp_table.specs.Contents.{Contents}
+use Rattle.lldp_table.specs.Code.Queue.{is_spent}
+use Rattle.lldp_table.specs.Code.Steps.{after_tick}
+use Rattle.lldp_table.proofs.Slots.Counted.{shown_is}
+use Rattle.lldp_table.proofs.Slots.Layout.{count}
+use Rattle.lldp_table.proofs.Slots.Learned.{few_queued}
+use Rattle.lldp_table.proofs.Ageing.Ticks.{less_count, quiet_after, quiet_table, aged_after, aged_table}
 use Rattle.lldp_table.proofs.Standing.Calls.{stands_after}
 use Rattle.lldp_table.proofs.Live.LastStored.{tick_answers}
+use Rattle.lldp_table.proofs.table.Table.tick.Goals as goal
+
+-- ## No neighbor ages out
 
 pub invariant_of-self : goal.invariant_of-self
-invariant_of-self g c =
-    let t = c.self.inside in
-    let aged = c.age_out-kept.ensures in
-    record {
-      laid = laid_ticked t.slots.capacity t.slots.items (ticks_left t.queue.shown) (ticks_left c.age_out-kept.new.queue.shown) t.order.items c.age_out-kept.new.order.items t.used t.gone c.age_out-kept.result (t.used - c.age_out-kept.result) t.limit t.too_many c.saturating_sub-self-inside.result
-          (aged.neighbors t.slots.items) (aged.gone t.slots.items) c.saturating_sub-self-inside.ensures c.self.invariant.laid aged.moved (omega (arith, aged.fewer));
-      timed = aged.timed;
-    }
+invariant_of-self g c = quiet_table c.self.invariant c.saturating_sub-self-inside.ensures c.pass.ensures.after (sym c.pass.ensures.spent ∙ c.if-not-pass.true)
 
-pub returns-clause-after : goal.returns-clause-after
-returns-clause-after g c = grind (arith, common_steps, after_ticked)
+pub returns-then-not-pass-clause-after : goal.returns-then-not-pass-clause-after
+returns-then-not-pass-clause-after g c =
+    quiet_after c.self.invariant c.saturating_sub-self-inside.ensures c.pass.ensures.after (sym c.pass.ensures.spent ∙ c.if-not-pass.true) ∙ ap after_tick (shown_is c.self.view_is)
 
-pub returns-clause-answer : goal.returns-clause-answer
-returns-clause-answer g c =
-    let t = c.self.inside in
-    let aged = c.age_out-kept.ensures in
+pub returns-then-not-pass-clause-answer : goal.returns-then-not-pass-clause-answer
+returns-then-not-pass-clause-answer g c =
     let table = invariant_of-self g c in
     let new = count table.laid in
     let old = count c.self.invariant.laid in
     let shown = ap (λ (table : Contents). length table.neighbors) (shown_is c.self.view_is) in
+    omega (arith, new, old, shown)
+
+pub returns-then-not-pass-clause-stands : goal.returns-then-not-pass-clause-stands
+returns-then-not-pass-clause-stands g c = λ opened calls h. stands_after c.args.self.now.shown _ opened calls tick (returns-then-not-pass-clause-after g c) tt h
+
+pub returns-then-not-pass-clause-answers : goal.returns-then-not-pass-clause-answers
+returns-then-not-pass-clause-answers g c = λ opened calls h.
+    tick_answers c.args.self.now.shown _ opened calls _ h (returns-then-not-pass-clause-stands g c opened calls h) (returns-then-not-pass-clause-answer g c)
+
+-- ## Some neighbors age out
+
+pub invariant_of-self-2 : goal.invariant_of-self-2
+invariant_of-self-2 g c = aged_table c.self.invariant c.saturating_sub-self-inside.ensures (c.expire-kept.ensures.aged c.self.inside.queue.shown c.pass.ensures.after c.self.invariant.timed)
+
+pub returns-clause-after : goal.returns-clause-after
+returns-clause-after g c =
+    aged_after c.self.invariant c.saturating_sub-self-inside.ensures (c.expire-kept.ensures.aged c.self.inside.queue.shown c.pass.ensures.after c.self.invariant.timed) ∙ ap after_tick (shown_is c.self.view_is)
+
+pub returns-clause-answer : goal.returns-clause-answer
+returns-clause-answer g c =
+    let aged = c.expire-kept.ensures.aged c.self.inside.queue.shown c.pass.ensures.after c.self.invariant.timed in
+    let table = invariant_of-self-2 g c in
+    let new = count table.laid in
+    let old = count c.self.invariant.laid in
+    let shown = ap (λ (table : Contents). length table.neighbors) (shown_is c.self.view_is) in
     omega (arith, new, old, shown, aged.fewer)
+
+pub returns-clause-accesses : goal.returns-clause-accesses
+returns-clause-accesses g c =
+    let aged = c.expire-kept.ensures.aged c.self.inside.queue.shown c.pass.ensures.after c.self.invariant.timed in
+    let table = invariant_of-self-2 g c in
+    omega (arith, c.expire-kept.ensures.counted, c.pass.ensures.counted, ap length c.pass.ensures.after, less_count c.self.inside.queue.shown, few_queued c.self.invariant, few_queued table, aged.fewer, ap (λ t. t.accesses) c.self.view_is)
 
 pub returns-clause-stands : goal.returns-clause-stands
 returns-clause-stands g c = λ opened calls h. stands_after c.args.self.now.shown _ opened calls tick (returns-clause-after g c) tt h
