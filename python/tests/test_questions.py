@@ -1,11 +1,12 @@
 """Tests lldpa-ctl's tables, lists of ports, JSON and refusals."""
 
 import json
+import subprocess
 from typing import Any
 
 from lldpa.client.answers import listed
 from lldpa.agent.shown import Counters
-from served import Program, numbered, tlv
+from served import CTL, REPOSITORY, Program, numbered, tlv
 
 LIVE = [b"live.began=2026-11-23T19:40:00Z", b"live.eth0.interface=present",
           b"live.eth0.link=up", b"live.eth1.interface=awaited", b"live.eth1.link=down",
@@ -120,6 +121,24 @@ class Words(Program):
                  "statistics, live, show, configure, update, watch, metrics, help)"),
                 ("tick", "for lldpa-live alone")):
             self.run_ctl(*line.split(), status=1, said=said)
+
+    def test_each_command_of_lldpd_works_or_is_explained(self) -> None:
+        rows = (REPOSITORY / "rust/people/src/lldpd.rows").read_text().splitlines()
+        working = 0
+        for line, wanted in (row.split(" | ") for row in rows):
+            with subprocess.Popen([CTL, "--control", self.served.path, *line.split()], text=True,
+                                  stdout=subprocess.PIPE, stderr=subprocess.PIPE) as ran:
+                assert ran.stdout and ran.stderr
+                if wanted.split()[0] == "watch":  # it has no end
+                    self.assertRegex(ran.stdout.readline(), "^PORT ", line)
+                    ran.kill()
+                else:
+                    said = ran.stderr.read()
+                    self.assertTrue(not said or said.startswith(f"lldpa-ctl: {wanted}"), line + said)
+                    self.assertEqual(ran.wait(), 1 if said else 0, line)
+                    working += not said
+        self.assertGreater(len(rows), 77)
+        self.assertGreater(working, 20)
 
     def test_refusals_of_whole_lines_stay(self) -> None:
         for text in ("no permission", "waiting for an interface", "too many held"):
