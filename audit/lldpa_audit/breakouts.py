@@ -7,6 +7,7 @@ from .plan import Link, Plan
 from .seen.tables import KnownPort, Tables
 
 LANE = re.compile(r"[s:/.][0-9]")
+NEW = ":?"  # between a port and the number of a lane that no list names
 
 
 def join_lanes(plan: Plan, tables: Tables) -> None:
@@ -37,6 +38,11 @@ def whole_of(lane: End) -> Optional[End]:
     et-0/0/0:0, Ethernet1/1 for Ethernet1/1/2. Returns None if the name is not that of a lane."""
     is_lane = LANE.fullmatch(lane.port[-2:]) is not None
     return End(lane.host, lane.port[:-2]) if is_lane else None
+
+
+def whole_of_new(lane: End) -> End:
+    """Returns the port of a lane that no list names, and any other port as it is."""
+    return End(lane.host, lane.port.partition(NEW)[0])
 
 
 class Lanes:
@@ -115,7 +121,7 @@ class Lanes:
         """Returns a lane that no list names. Its name is that of no other port."""
         while True:
             self._invented += 1
-            lane = End(whole.host, f"{whole.port}:?{self._invented}")
+            lane = End(whole.host, f"{whole.port}{NEW}{self._invented}")
             key = self._tables.names.end(lane)
             if key not in self._tables.ends and key not in self._planned:
                 return lane

@@ -2,7 +2,7 @@
 from itertools import chain
 from typing import Iterator, Mapping, Sequence
 
-from .breakouts import whole_of
+from .breakouts import whole_of, whole_of_new
 from .judging import Finding, Verdict
 from .names import End, Names
 
@@ -77,6 +77,6 @@ def named(one: Finding, names: Names) -> set[End]:
 def can_move(wanted: End, silent: End, place: End, names: Names, loose: Names) -> bool:
     """Returns whether a cable can be moved to this port: the port is not the silent one in another
     spelling, as a whole or as a lane, and is of another host than the wanted end."""
-    here, there = names.end(place), names.end(silent)
-    return (loose.end(place) != loose.end(silent) and here.host != wanted.host
-            and whole_of(here) != there and whole_of(there) != here)
+    here, there = loose.end(place), loose.end(whole_of_new(silent))
+    is_other = here != there and whole_of(here) != there and whole_of(there) != here
+    return is_other and names.host(place.host) != wanted.host

@@ -190,6 +190,13 @@ NETBOX = (
         "a": "1s0 b 2\n1s1 x 1\n1s2 b 2\n1s3 b 4"}, 1, [
             "1s1  wrong: wants b 1, has x 1", "1s2  wrong: wants b 3, has b 2 (planned at 1s0)",
             "4 cables: 2 right, 2 wrong"]),
+    situation("lanes in another spelling, to which no cable was moved", CABLES + FOUR.replace(
+        "a,1,", "a,Ethernet1/1,").replace('"1, 2,3 , 4"', '"1,2"'),
+        {"a": "Eth1/1/1 b 2\nEth1/1/2 b 1"}, 1, [
+            "Eth1/1/1  unplanned: has b 2 (planned at Ethernet1/1:?2)",
+            "Eth1/1/2  unplanned: has b 1 (planned at Ethernet1/1:?1)",
+            "a         silent at all 2 links that were looked at",
+            "2 cables: 0 right, 2 wrong; 2 unplanned ports"]),
     situation("a breakout that is seen from the lanes' side", CABLES + FOUR, {
         "b": "1 a 1/1\n2 a 1/2\n3 a 1/4\n4 x y"}, 1, [
             "4  wrong: wants a 1:?1, has x y", "4 cables: 3 right, 1 wrong"]),
@@ -284,6 +291,14 @@ MORE = (
         "leaf1 swp1  not broken out: the plan has swp1s0 to swp1s3",
         "leaf2 swp1  not broken out: the plan has swp1s0 to swp1s3",
         "4 cables: 0 right, 0 wrong, 4 not looked at; 2 unplanned ports"]),
+    situation("a port that is not broken out, to which no cable was moved",
+              HEAD + "a,swp1s0,b,1\na,swp1s1,b,2\n", {"a": "swp1 b 1"}, 1, [
+                  "swp1  not broken out: the plan has swp1s0 to swp1s1",
+                  "2 cables: 0 right, 2 wrong; 1 unplanned port"]),
+    situation("a loop at the other host, to which no cable was moved", HEAD + "a,1,b,1\n",
+              {"a": "1", "b": "1 b 9\n9 b 1"}, 1, [
+                  "b 1  a loop: joined to b 9, of the same host",
+                  "1 cable: 0 right, 1 wrong; 1 unplanned port"]),
     situation("two runs that meet", RUN, {"s": "".join(
         f"p{at} x{has} e0\n" for at, has in enumerate([1, 2, 3, 2, 3, 4]))}, 1, [
             "p0 to p2  shifted by one: each has the neighbor that the next port wants",
