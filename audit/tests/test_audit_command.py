@@ -51,7 +51,7 @@ class Forms(Audits):
                 for octets in rack.frames(port):
                     served.frame(port, octets)
             asked = [sys.executable, f"{REPOSITORY}/bin/lldpa-details", "--control", served.path,
-                     "--json"]
+                     "--json", "neighbors"]
             told = subprocess.run(asked, capture_output=True, text=True, check=True).stdout
             ours = f"leaf1:{self.file('ours.json', told)}"
             for words in (captures, [whole], [show], [f"leaf1:{show}"], [ours],
