@@ -242,16 +242,10 @@ impl Live {
 mod tests {
     use super::*;
     use crate::arguments::Arguments;
-    use crate::links::Links;
-    use crate::ports::Ports;
-    use std::fs::File;
 
     #[test]
     fn answers_share_tables_until_these_may_have_changed() {
-        let arguments = Arguments::default();
-        let ports = Ports::open(&[], &arguments, false).expect("no sockets");
-        let links = Links::over(File::open("/dev/null").expect("a file"));
-        let mut live = Live::new(arguments, links, ports, None).expect("files that wake it");
+        let mut live = Live::without_interfaces(Arguments::default(), &[]);
         let first = live.tables(None);
         assert!(Arc::ptr_eq(&first, &live.tables(None)));
         assert!(!Arc::ptr_eq(&first, &live.tables(Some(0))), "those of one port are their own");

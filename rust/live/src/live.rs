@@ -239,15 +239,26 @@ fn ran_and_later(news: Vec<Link>) -> (Vec<Link>, Vec<Link>) {
 }
 
 #[cfg(test)]
+impl Live {
+    /// Returns one with ports whose interfaces are missing, and without an agent.
+    pub fn without_interfaces(arguments: Arguments, names: &[&str]) -> Live {
+        let no_file = || File::open("/dev/null").expect("a file");
+        let mut ports = Ports::open(&[], &arguments, false).expect("no sockets");
+        let port = |name: &&str| crate::port::Port::new(name, true, Awaited::new(no_file()));
+        ports.all.extend(names.iter().map(port));
+        Live::new(arguments, Links::over(no_file()), ports, None).expect("files that wake it")
+    }
+}
+
+#[cfg(test)]
 mod tests {
     use super::*;
+    use crate::options::AgentOptions;
+    use crate::state::Saved;
 
     #[test]
     fn no_port_is_read_while_the_log_is_behind() {
-        let arguments = Arguments::default();
-        let ports = Ports::open(&[], &arguments, false).expect("no sockets");
-        let links = Links::over(File::open("/dev/null").expect("a file"));
-        let mut live = Live::new(arguments, links, ports, None).expect("files that wake it");
+        let mut live = Live::without_interfaces(Arguments::default(), &[]);
         let now = Moment::now();
         live.await_files(now);
         assert_eq!(live.ports.paused_until, Moment::default());
@@ -255,6 +266,25 @@ mod tests {
         live.await_files(now);
         assert_eq!(live.ports.paused_until, now + PAUSE);
         assert!(live.ports.all_rest_until(now, true) >= now + PAUSE);
+    }
+
+    #[test]
+    fn frames_are_sent_as_seconds_pass_while_the_link_is_up() {
+        let words = ["--mac=02:00:00:00:00:01".to_string()];
+        let agent = AgentOptions::read(&words).expect("options");
+        let mut live = Live::without_interfaces(Arguments { agent, ..Arguments::default() }, &["eth0"]);
+        live.open(&Saved::default()).expect("an agent");
+        // an interface that is missing accepts no frame, which is counted
+        let count = |live: &mut Live, seconds| {
+            live.give_seconds(live.clock.end_of(seconds));
+            live.send();
+            std::mem::take(&mut live.ports.all[0].counts.unsent)
+        };
+        assert_eq!(count(&mut live, 3), 0, "the link is down");
+        live.give_link(0, true);
+        assert_eq!([1, 1, 1].map(|seconds| count(&mut live, seconds)), [1, 0, 0], "the first frame");
+        live.give_link(0, false);
+        assert_eq!(count(&mut live, 60), 0, "the link is down again");
     }
 
     #[test]
