@@ -8,17 +8,18 @@ use lldpa_people::texts::printable;
 use std::fs::{self, OpenOptions};
 use std::io::{Error, ErrorKind, Read, Result};
 use std::os::unix::fs::OpenOptionsExt;
+use std::rc::Rc;
 
 const MOST_OCTETS: u64 = 1_000_000; // of a file
 const MOST_SHOWN: usize = 200; // characters of a refused line
 pub const LONGEST_LINE: usize = 4096;
 
 /// The path and the number of a line.
-pub type Place = (String, usize);
+pub type Place = (Rc<str>, usize);
 
 #[derive(Clone, Debug)]
 pub struct Setting {
-    path: String,
+    path: Rc<str>,
     number: usize,
     pub line: Vec<u8>,
 }
@@ -84,12 +85,12 @@ fn lines_of(path: &str) -> Result<Vec<Setting>> {
 
 pub fn settings_in(path: &str, octets: &[u8]) -> Vec<Setting> {
     let octets = octets.strip_prefix(b"\xef\xbb\xbf").unwrap_or(octets);
-    let mut settings = Vec::new();
+    let (mut settings, path) = (Vec::new(), Rc::from(path));
     for (place, line) in octets.split(|octet| *octet == b'\n').enumerate() {
         let line: &[u8] = line.strip_suffix(b"\r").unwrap_or(line);
         let first = line.iter().find(|octet| !octet.is_ascii_whitespace());
         if first.map_or(false, |octet| *octet != b'#') {
-            settings.push(Setting { path: path.into(), number: place + 1, line: line.to_vec() });
+            settings.push(Setting { path: Rc::clone(&path), number: place + 1, line: line.to_vec() });
         }
     }
     settings
