@@ -242,6 +242,36 @@ impl Live {
 mod tests {
     use super::*;
     use crate::arguments::Arguments;
+    use crate::reading::Frame;
+    use crate::time::SECOND;
+    use std::io::Write;
+    use std::os::unix::net::UnixStream;
+
+    #[test]
+    fn a_question_waits_for_the_frames_before_it_but_not_for_long() {
+        let folder = std::env::temp_dir().join(format!("lldpa-live-answers-{}", std::process::id()));
+        let path = folder.join("control").to_string_lossy().into_owned();
+        let mut live = Live::without_interfaces(Arguments::default(), &[]);
+        let turn = |began: Moment, moment: Moment| Turn { began, moment, has_signal: false, is_asked: true };
+        let now = Moment::now();
+        assert!(!live.is_caught_up(&turn(now, now)), "nobody asks");
+        let mut control = Control::open(&path, None).expect("a socket");
+        let mut client = UnixStream::connect(&path).expect("a socket");
+        client.write_all(b"live\n").expect("room");
+        control.turn(now, true);
+        live.server.control = Some(control);
+        assert!(!live.is_caught_up(&turn(now, now)), "it waits for the next turn");
+        let asked_at = live.server.asked_at.expect("a question");
+        let later = asked_at + INEXACT;
+        assert!(live.is_caught_up(&turn(later, later)));
+        assert!(live.is_caught_up(&turn(later, now)), "no frame waits");
+        live.ports.frames.push_back(Frame { moment: now, port: 0, octets: Vec::new() });
+        assert!(!live.is_caught_up(&turn(later, now)), "a frame waits");
+        assert!(live.is_caught_up(&turn(later, later)), "it came later");
+        live.server.asked_at = Some(now - MOST_TO_CATCH_UP);
+        assert!(live.is_caught_up(&turn(later, now - SECOND)), "it waits long enough");
+        std::fs::remove_dir_all(&folder).expect("a folder");
+    }
 
     #[test]
     fn answers_share_tables_until_these_may_have_changed() {

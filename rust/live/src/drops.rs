@@ -114,6 +114,17 @@ mod tests {
     }
 
     #[test]
+    fn one_frame_is_reported_too() {
+        let (mut ports, begin) = ([port("eth0")], Moment::after_boot(BETWEEN_REPORTS));
+        for mut report in DropReport::of_each_kind() {
+            (ports[0].counts.kernel_drops, ports[0].counts.limit_drops) = (1, 1);
+            assert_eq!((report.report(&ports, begin), report.next), (None, begin + BETWEEN_REPORTS));
+            (ports[0].counts.kernel_drops, ports[0].counts.limit_drops) = (2, 2);
+            assert_eq!(report.report(&ports, begin), Some(begin + BETWEEN_REPORTS));
+        }
+    }
+
+    #[test]
     fn a_report_names_the_ports_that_lost_frames() {
         let mut ports = [port("eth0"), port("eth1"), port("eth2")];
         let [kernel, limit] = DropReport::of_each_kind();

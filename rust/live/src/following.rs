@@ -87,6 +87,12 @@ impl Announced {
         Announced { management, candidate: None, host_name, name: String::new(), is_missing_reported: false }
     }
 
+    /// Notes whether there is no address to announce. Returns true if that is news.
+    fn note_missing(&mut self, is_missing: bool) -> bool {
+        let was_reported = std::mem::replace(&mut self.is_missing_reported, is_missing);
+        is_missing && !was_reported
+    }
+
     /// Notes the address that was found. Returns it if it differs from the announced one, and has
     /// done so for long enough.
     fn note_address(&mut self, found: Option<Ipv4Addr>, now: Moment) -> Option<Option<Ipv4Addr>> {
@@ -221,10 +227,9 @@ impl Live {
 
     pub fn report_address(&mut self) {
         let is_missing = self.announced.management.is_none() && !self.arguments.no_management;
-        if is_missing && !self.announced.is_missing_reported {
+        if self.announced.note_missing(is_missing) {
             notice("there is no IPv4 address to announce");
         }
-        self.announced.is_missing_reported = is_missing;
     }
 
     /// Gives the agent the host's new name, unless an option or a command has set the agent's name.
@@ -288,6 +293,8 @@ impl Live {
 #[cfg(test)]
 mod tests {
     use super::*;
+    use crate::arguments::Arguments;
+    use crate::options::AgentOptions;
     use std::fs::File;
 
     #[test]
@@ -309,6 +316,29 @@ mod tests {
         assert_eq!(following.next_look(&links, Some(at(200))), Some(at(200)));
         links.changes += 1;
         assert_eq!(following.next_look(&links, Some(at(200))), again);
+    }
+
+    #[test]
+    fn an_address_that_is_missing_is_news_once() {
+        let mut announced = Announced::new(None);
+        for (is_missing, is_news) in
+            [(false, false), (true, true), (true, false), (false, false), (true, true)]
+        {
+            assert_eq!(announced.note_missing(is_missing), is_news);
+        }
+    }
+
+    #[test]
+    fn an_address_that_was_given_or_refused_is_not_followed() {
+        let given = AgentOptions::read(&["--management=192.0.2.7".to_string()]).expect("options");
+        for (agent, no_management, last) in
+            [(given.clone(), false, Some(7)), (given, true, Some(7)), (AgentOptions::default(), true, None)]
+        {
+            let arguments = Arguments { agent, no_management, ..Arguments::default() };
+            let mut live = Live::without_interfaces(arguments, &["eth0"]);
+            live.links.addresses = vec![((1, Ipv4Addr::new(192, 0, 2, 9)), 0)];
+            assert_eq!(live.present_address(), last.map(|last| Ipv4Addr::new(192, 0, 2, last)));
+        }
     }
 
     #[test]

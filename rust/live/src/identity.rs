@@ -42,8 +42,11 @@ fn above<'a>(one: &'a Link, links: &'a Links) -> impl Iterator<Item = &'a Link> 
 /// Returns PRETTY_NAME of os-release, without characters that a command cannot set. None if empty.
 pub fn description() -> Option<String> {
     let text = OS_RELEASE.iter().find_map(|path| std::fs::read(path).ok())?;
-    let text = String::from_utf8_lossy(&text).into_owned();
-    let value = text.lines().find_map(|line| line.strip_prefix("PRETTY_NAME="))?;
+    pretty_name(&String::from_utf8_lossy(&text))
+}
+
+fn pretty_name(os_release: &str) -> Option<String> {
+    let value = os_release.lines().find_map(|line| line.strip_prefix("PRETTY_NAME="))?;
     let is_literal = value.starts_with('\''); // in single quotes a backslash escapes nothing
     let (mut kept, mut is_escaped) = (String::new(), false);
     for letter in value.trim_matches(&['"', '\''][..]).chars() {
@@ -76,6 +79,24 @@ mod tests {
             links.known.insert(index.into(), (one, 0));
         }
         links
+    }
+
+    #[test]
+    fn a_pretty_name_is_what_a_command_can_set() {
+        let long = format!("PRETTY_NAME={}", "x".repeat(300));
+        for (text, wanted) in [
+            ("", None),
+            ("NAME=x\n", None),
+            ("PRETTY_NAME=\n", None),
+            ("PRETTY_NAME=\"\"\n", None),
+            ("NAME=x\nPRETTY_NAME=\"Debian GNU/Linux 12\"\n", Some("Debian GNU/Linux 12")),
+            ("PRETTY_NAME=Plain\nPRETTY_NAME=Second\n", Some("Plain")),
+            ("PRETTY_NAME='caf\\\u{e9} \"q\"'\n", Some("caf\\ q")),
+            ("PRETTY_NAME=\" a\\\\b\\$ \"", Some("a\\b$")),
+            (&long, Some(&long["PRETTY_NAME=".len()..][..255])),
+        ] {
+            assert_eq!(pretty_name(text).as_deref(), wanted, "{text:?}");
+        }
     }
 
     #[test]

@@ -172,11 +172,15 @@ mod tests {
     fn root_the_owner_and_the_group_may_change() {
         let path = std::env::temp_dir().join(format!("lldpa-live-peer-{}", std::process::id()));
         File::create(&path).expect("a file");
-        let found = fs::metadata(&path).expect("a file");
         let path = path.to_string_lossy().into_owned();
+        if crate::rights::own_user() == 0 {
+            files::give(&path, Some(54_321), None).expect("a right"); // root may change in any case
+        }
+        let found = fs::metadata(&path).expect("a file");
         let (owner, group, other) = (found.uid(), found.gid(), found.uid() + found.gid() + 12_345);
         for (mode, user, groups, may_change) in [
             (0o600, owner, vec![], true),
+            (0o460, owner, vec![group], false),
             (0o600, other, vec![group], false),
             (0o660, other, vec![other, group], true),
             (0o660, other, vec![other], false),

@@ -533,8 +533,10 @@ mod tests {
         let mut log = Log::new(None, 1, 1);
         let ((jobs, theirs), (_ours, answers)) = (channel(), channel());
         log.thread = Some((jobs, answers));
-        let state = || State::new(Vec::new(), Vec::new());
+        let (state, before) = (|| State::new(Vec::new(), Vec::new()), Moment::now());
         log.write_state("state", state());
+        log.turn();
+        assert!(log.waited <= Moment::now().since(before), "the time before the job does not count");
         log.write_state("state", state());
         assert_eq!(theirs.try_iter().count(), 1);
         log.write_last_state("state", state());
