@@ -83,3 +83,75 @@ pub fn receive_from(socket: &File, interface: i32) -> Result<()> {
 pub fn release(socket: &File) {
     let _ = sockets::bind_packet(socket, LOOPBACK, ETH_P_LLDP);
 }
+
+#[cfg(test)]
+mod tests {
+    use super::*;
+
+    /// How a frame arrived: its kind in linux/if_packet.h, whether the kernel removed a tag, its length.
+    type Way = (u32, bool, usize);
+    const MULTICAST: u32 = 2;
+
+    /// Runs the filter as the kernel does. Returns how many octets are kept at most.
+    fn kept(frame: &[u8], (kind, had_tag, length): Way) -> u32 {
+        let (mut next, mut loaded) = (0, 0);
+        loop {
+            let step = FILTER[next];
+            let octets = |count: usize| frame.get(step.k as usize..step.k as usize + count);
+            let number = |octets: &[u8]| octets.iter().fold(0, |sum, octet| sum << 8 | u32::from(*octet));
+            next += 1;
+            let found = match u32::from(step.code) {
+                KEEP => return step.k,
+                IF_EQUAL | IF_ABOVE => {
+                    let is_so =
+                        if u32::from(step.code) == IF_EQUAL { loaded == step.k } else { loaded > step.k };
+                    next += usize::from(if is_so { step.jt } else { step.jf });
+                    Some(loaded)
+                }
+                LOAD_LENGTH => Some(length as u32),
+                LOAD_OCTET if step.k == HOW_IT_CAME => Some(kind),
+                LOAD_OCTET if step.k == HAD_A_TAG => Some(u32::from(had_tag)),
+                LOAD_OCTET => octets(1).map(number),
+                LOAD_TWO => octets(2).map(number),
+                LOAD_FOUR => octets(4).map(number),
+                code => panic!("a step of the kind {code}"),
+            };
+            match found {
+                Some(number) => loaded = number,
+                None => return 0, // the frame is too short
+            }
+        }
+    }
+
+    #[test]
+    fn the_filter_keeps_what_is_read_and_some_of_what_is_counted() {
+        let (nearest, whole, counted) = ("0180c200000e", 0xffff, OF_ANOTHER);
+        let plain: Way = (MULTICAST, false, 60);
+        for (destination, rest, way, wanted) in [
+            (nearest, "88cc", plain, whole),
+            (nearest, "88cc", (MULTICAST, false, 1514), whole),
+            (nearest, "88cc", (MULTICAST, false, 1515), counted),
+            (nearest, "88cc", (MULTICAST, true, 60), counted),
+            (nearest, "88cc", (OUTGOING, false, 60), 0),
+            ("0180c2000003", "88cc", plain, counted),
+            ("0180c2000000", "88cc", plain, counted),
+            ("0180c2000001", "88cc", plain, 0),
+            ("0180c200010e", "88cc", plain, 0),
+            ("0180c300000e", "88cc", plain, 0),
+            ("020000000001", "88cc", plain, 0),
+            (nearest, "8100000188cc", plain, counted),
+            (nearest, "88a8000188cc", plain, counted),
+            (nearest, "910000018800", plain, 0),
+            (nearest, "910000018cc0", plain, 0),
+            (nearest, "81000001", plain, 0),
+            (nearest, "810000010800", plain, 0),
+            (nearest, "88a800018100", plain, 0),
+            (nearest, "0800", plain, 0),
+            (nearest, "", plain, 0),
+        ] {
+            let digits = format!("{destination}020000000001{rest}");
+            let frame = crate::hex::octets_of(&digits).expect("digits");
+            assert_eq!(kept(&frame, way), wanted, "{digits} {way:?}");
+        }
+    }
+}
