@@ -4,6 +4,7 @@ import json
 import re
 import unittest
 from typing import Dict, Iterable, Tuple
+from xml.etree import ElementTree
 
 import lldpd_heard
 from judges import SLIPS, flat
@@ -100,6 +101,12 @@ class Texts(unittest.TestCase):
         wanted = [f"<{chr(number)}>" if number < 128 else "<\ufffd>" for number in range(1, 256)]
         self.assertEqual(names, wanted)
         json.loads(FORMS["json0"](tree))
+        found = ElementTree.fromstring(FORMS["xml"](tree).encode("utf-8"))
+        shown = [one.text for one in found.iter("name")]
+        self.assertEqual(shown[:8], [f"<\\x{number:02x}>" for number in range(1, 9)])
+        self.assertEqual(shown[8:10] + shown[12:13], ["<\t>", "<\n>", "<\r>"])
+        self.assertEqual(shown[31:127], [f"<{chr(number)}>" for number in range(32, 128)])
+        self.assertEqual({*shown[127:]}, {"<\ufffd>"})
         for form in ("plain", "keyvalue"):
             FORMS[form](tree).encode("utf-8")  # no surrogate is left
         lines = FORMS["keyvalue"](tree).splitlines()
@@ -114,6 +121,14 @@ class Texts(unittest.TestCase):
         self.assertEqual(len(told["keyvalue"].splitlines()), 8)
         self.assertTrue(told["plain"].isascii() and "\x1b" not in told["plain"])
         self.assertIn("\n" + " " * 18 + "lldp.swp1.port.ttl=1", told["plain"])
+
+    def test_nothing_in_xml_is_obeyed_by_a_terminal(self) -> None:
+        text = "\u202e\u200b\x1b]0;<a b='\"'>&\uffff\x9b2J"
+        told = self.forms_of(text.encode())["xml"]
+        self.assertRegex(told, "^[ -~\n]*$")
+        name = ElementTree.fromstring(told).find(".//name")
+        assert name is not None
+        self.assertEqual(name.text, text.replace("\x1b", "\\x1b").replace("\uffff", r"\xef\xbf\xbf"))
 
     def test_a_name_that_json_has_for_something_else(self) -> None:
         for name in ("id", "name", "value", "on", 'a"b\\', "\u00e9\U0001f600"):

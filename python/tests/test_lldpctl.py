@@ -178,7 +178,7 @@ class Refusals(Program):
                 (["configure", "a\"b"], "a word must be ASCII without double quotes: a\"b"),
                 (["conf", "lldp", "tx-h", "0"],
                  "out of range: 0 (intervals that peers keep a frame, 1 to 100)"),
-                (["-f", "xml"], "unknown format: xml (plain, keyvalue, json, json0)"),
+                (["-f", "yaml"], "unknown format: yaml (plain, keyvalue, json, json0, xml)"),
                 (["-x"], "option -x not recognized")):
             self.assertEqual(self.run_it(LLDPCLI, *words, status=1, said=said), "")
 

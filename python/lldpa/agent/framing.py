@@ -59,12 +59,6 @@ def command(*words: str) -> str:
     return " ".join(f'"{word}"' if not word or set(" \t#") & set(word) else word for word in words)
 
 
-def words_of(line: str) -> List[str]:
-    """Returns the words of a line. A quoted text is one word."""
-    found = re.findall('("([^"]*)"?|[^ \t]+)', line.strip(" \t"))
-    return [text if word.startswith('"') else word for word, text in found]
-
-
 def rx(port: str, octets: bytes) -> str:
     """Returns the line that reports a frame received by a port."""
     return f'rx {port} {octets.hex()}' if octets else f'rx {port} ""'

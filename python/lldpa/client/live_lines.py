@@ -33,11 +33,6 @@ class LiveLines:
         elif len(keys) == 1:
             self.own[last] = value
 
-    @property
-    def is_up(self) -> bool:
-        """Returns whether the agent runs. Otherwise it waits for an interface."""
-        return self.own.get("agent", "running") == "running"
-
 
 def since_of(lines: Iterable[str]) -> Dict[Tuple[str, str], str]:
     """Returns when each neighbor appeared, from the answer to `live`."""

@@ -5,7 +5,7 @@ import re
 import unicodedata
 from typing import Any, Callable, Dict, Iterator, List, Optional, Sequence, Tuple
 
-from ..texts import escaped, printable
+from ..texts import escaped, is_shown, printable
 from ..node import Node
 
 LINE = "-" * 79
@@ -14,6 +14,7 @@ NAMING = ("name", "type")  # the attributes whose values replace their node's ke
 FLAGS = {"yes": True, "on": True, "no": False, "off": False}
 ENDS = ("Zl", "Zp")  # separators of lines and of paragraphs
 SURROGATE = re.compile("[\ud800-\udfff]")
+XML_NAMES = {"&": "&amp;", "<": "&lt;", ">": "&gt;"}
 INDENT, LINE_FEED = "  ", "\n"
 MARGIN = LINE_FEED + INDENT
 # what json.dumps writes for a text; its own call is slower
@@ -168,7 +169,48 @@ def enclosed(marks: str, parts: Sequence[str], margin: str) -> str:
     return f"{marks[0]}{margin}{INDENT}{f',{margin}{INDENT}'.join(parts)}{margin}{marks[1]}"
 
 
-FORMS = {"plain": plain, "keyvalue": keyvalue, "json": json_short, "json0": json0}
+def xml(root: Node) -> str:
+    """Returns a tree as XML, with lldpcli's labels."""
+    return "\n".join(['<?xml version="1.0" encoding="UTF-8"?>', *xml_lines(root, "")])
+
+
+def xml_lines(node: Node, margin: str) -> Iterator[str]:
+    """Yields the lines of a node and of the nodes in it."""
+    attributes = [("label", node.label), *((key, value) for key, _, value in node.attributes)]
+    head = "".join(f' {key}="{xml_value(value)}"' for key, value in attributes if value)
+    if node.nodes:
+        yield f"{margin}<{node.key}{head}>{xml_text(node.text or '')}"
+        for one in node.nodes:
+            yield from xml_lines(one, f"{margin} ")
+        yield f"{margin}</{node.key}>"
+    elif node.text:
+        yield f"{margin}<{node.key}{head}>{xml_text(node.text)}</{node.key}>"
+    else:
+        yield f"{margin}<{node.key}{head}/>"
+
+
+def xml_text(text: str) -> str:
+    """Escapes a text for XML. What a terminal could obey is a reference, or, if XML has no such
+    character, escaped as for people."""
+    if text.isascii() and text.isprintable() and not {"&", "<", ">"} & {*text}:
+        return text
+    return "".join(map(xml_letter, unicode_of(text)))
+
+
+def xml_letter(letter: str) -> str:
+    if letter in "\n\t" or is_shown(letter):
+        return XML_NAMES.get(letter, letter)
+    is_known = letter == "\r" or letter >= " " and ord(letter) not in (0xFFFE, 0xFFFF)
+    return f"&#{ord(letter)};" if is_known else escaped(letter)
+
+
+def xml_value(text: str) -> str:
+    """Escapes a text for an attribute of XML."""
+    shown = xml_text(text).replace('"', "&quot;")
+    return shown.replace("\n", "&#10;").replace("\t", "&#9;")
+
+
+FORMS = {"plain": plain, "keyvalue": keyvalue, "json": json_short, "json0": json0, "xml": xml}
 
 
 def form_of(name: str, is_terminal: bool) -> Callable[[Node], str]:
