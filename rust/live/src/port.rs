@@ -234,6 +234,16 @@ impl Port {
 }
 
 #[cfg(test)]
+impl Port {
+    /// Returns a port that reads any socket, as if it were that of an interface.
+    pub fn over(name: &str, socket: File) -> Port {
+        let mut port = Port::new(name, true, Awaited::new(socket));
+        port.interface.index = Some(1);
+        port
+    }
+}
+
+#[cfg(test)]
 mod tests {
     use super::*;
 

@@ -209,3 +209,80 @@ impl Ports {
         next.or_else(|| is_due.then_some(all_rest))
     }
 }
+
+#[cfg(test)]
+mod tests {
+    use super::*;
+    use crate::arguments::Arguments;
+    use crate::waiting::{epoll, ready};
+    use std::os::unix::io::OwnedFd;
+    use std::os::unix::net::UnixDatagram;
+
+    const PORTS: usize = 10;
+    const FRAMES: usize = 10; // for each port, as many as a socket keeps by default
+
+    fn frame(number: usize) -> Vec<u8> {
+        let front = b"\x01\x80\xc2\0\0\x0e\x02\0\0\0\0\x01\x88\xcc\x02\x02\x07";
+        [&front[..], &[number as u8], b"\x04\x02\x07b\x06\x02\0\x09\0\0"].concat()
+    }
+
+    /// Returns ports over sockets, and what sends to them.
+    fn ports() -> (Ports, Vec<UnixDatagram>) {
+        let mut ports = Ports::open(&[], &Arguments::default(), false).expect("no sockets");
+        let mut senders = Vec::new();
+        for number in 0..PORTS {
+            let (theirs, ours) = UnixDatagram::pair().expect("two sockets");
+            ours.set_nonblocking(true).and_then(|()| theirs.set_nonblocking(true)).expect("sockets");
+            ports.all.push(Port::over(&format!("eth{number}"), File::from(OwnedFd::from(ours))));
+            senders.push(theirs);
+        }
+        (ports, senders)
+    }
+
+    /// Waits for frames and reads them, as a turn does. Returns whether some may be left.
+    fn turn(ports: &mut Ports, epoll: &File) -> bool {
+        let (before, mut clock) = (Moment::now(), Clock::new());
+        ports.await_frames(epoll, before, false);
+        let found = ready(epoll, Duration::ZERO);
+        ports.read(&mut clock, &found, before).is_some()
+    }
+
+    #[test]
+    fn a_turn_reads_some_frames_and_the_next_ones_read_the_rest() {
+        let ((mut ports, senders), epoll) = (ports(), epoll().expect("a file"));
+        for (number, sender) in senders.iter().enumerate() {
+            for place in 0..FRAMES {
+                sender.send(&frame(FRAMES * number + place)).expect("room");
+            }
+        }
+        let mut read = 0;
+        while read < PORTS {
+            assert!(turn(&mut ports, &epoll) || read + ports.frames.len() / FRAMES == PORTS);
+            let count = ports.frames.len();
+            assert!(count < MOST_ACCEPTED + FRAMES && count % FRAMES == 0, "{count}");
+            assert!(count > 0 && ports.have_more());
+            ports.await_frames(&epoll, Moment::now(), false);
+            for (number, port) in ports.all.iter().enumerate() {
+                let is_queued = (read..read + count / FRAMES).contains(&number);
+                assert_eq!(port.socket.is_awaited(), !is_queued, "{number}");
+            }
+            read += count / FRAMES;
+            assert_eq!(ports.first, if read < PORTS { read } else { ports.first });
+            let numbers = ports.frames.drain(..).map(|frame| usize::from(frame.octets[17]));
+            let first = (read * FRAMES - count)..read * FRAMES;
+            assert!(numbers.into_iter().all(|number| first.contains(&number)));
+        }
+        assert!(!turn(&mut ports, &epoll) && ports.frames.is_empty() && !ports.have_more());
+    }
+
+    #[test]
+    fn what_is_no_frame_for_the_agent_is_only_counted() {
+        let ((mut ports, senders), epoll) = (ports(), epoll().expect("a file"));
+        senders[3].send(&frame(1)[..13]).expect("room");
+        senders[3].send(&frame(1)).expect("room");
+        turn(&mut ports, &epoll);
+        assert_eq!((ports.frames.len(), ports.all[3].counts.other_frames), (1, 1));
+        assert!(ports.all[3].reception.rests_until > Moment::default(), "the port rests");
+        assert!(ports.drop_report_at.is_some());
+    }
+}
