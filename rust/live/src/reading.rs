@@ -280,7 +280,9 @@ mod tests {
         let ((mut ports, senders), epoll) = (ports(), epoll().expect("a file"));
         senders[3].send(&frame(1)[..13]).expect("room");
         senders[3].send(&frame(1)).expect("room");
+        ports.all[3].reception.failures = MOST_FAILURES;
         turn(&mut ports, &epoll);
+        assert_eq!(ports.all[3].reception.failures, 0, "the socket could be read");
         assert_eq!((ports.frames.len(), ports.all[3].counts.other_frames), (1, 1));
         assert!(ports.all[3].reception.rests_until > Moment::default(), "the port rests");
         assert!(ports.drop_report_at.is_some());
