@@ -82,7 +82,10 @@ impl Port {
             return false;
         }
         if octets.len() < LEAST_FRAME {
-            self.count_other();
+            if self.count_other() {
+                let what = "tagged, to another address or longer than 1,514 octets";
+                notice(&format!("{}: ignores LLDP frames that are {what}", self.name));
+            }
             return false;
         }
         let is_accepted = self.reception.allowances.accept(octets, moment, &mut self.neighbors, digests);
@@ -90,12 +93,10 @@ impl Port {
         is_accepted
     }
 
-    fn count_other(&mut self) {
+    /// Counts a frame that is not for the agent. Returns true for the first one.
+    fn count_other(&mut self) -> bool {
         self.counts.other_frames += 1;
-        if self.counts.other_frames == 1 {
-            let what = "tagged, to another address or longer than 1,514 octets";
-            notice(&format!("{}: ignores LLDP frames that are {what}", self.name));
-        }
+        self.counts.other_frames == 1
     }
 
     /// Notes that the socket could not be read. After some failures in a row the port rests.
@@ -286,5 +287,6 @@ mod tests {
         assert_eq!((ports.frames.len(), ports.all[3].counts.other_frames), (1, 1));
         assert!(ports.all[3].reception.rests_until > Moment::default(), "the port rests");
         assert!(ports.drop_report_at.is_some());
+        assert_eq!([3, 4, 4].map(|number: usize| ports.all[number].count_other()), [false, true, false]);
     }
 }
