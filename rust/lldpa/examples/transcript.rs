@@ -56,10 +56,12 @@ fn chassis_lines(told: &Chassis) -> String {
     let address = told.management.map(|address| address.map(|octet| octet.to_string()).join("."));
     let escaped = |text: &str| lldpa::escape(text.as_bytes()).expect("at most 255 octets");
     let (name, description) = (escaped(&told.hostname), escaped(&told.description));
-    let mut lines =
-        format!("local-chassis.mac={mac}\nlocal-chassis.name={name}\nlocal-chassis.descr={description}\n");
-    lines += &format!("local-chassis.caps={:?}:on\n", told.role);
-    lines + &address.map_or(String::new(), |address| format!("local-chassis.mgmt={address},1,0,\n"))
+    let lines = [
+        format!("local-chassis.mac={mac}\nlocal-chassis.name={name}\nlocal-chassis.descr={description}\n"),
+        format!("local-chassis.caps={:?}:on\n", told.role),
+        address.map_or(String::new(), |address| format!("local-chassis.mgmt={address},1,0,\n")),
+    ];
+    lines.concat()
 }
 
 /// Checks that the counters and settings in the agent's structs are those in its shows.

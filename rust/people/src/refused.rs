@@ -50,7 +50,9 @@ fn forms() -> Vec<Form> {
                 let said = if said.trim_start() == THE_SAME { before } else { said.trim_start() };
                 forms.push(Form { words: words.split(' ').collect(), said: said.into() });
             } else if words.is_empty() && line.starts_with(&" ".repeat(LEAST_INDENT)) {
-                forms.last_mut().into_iter().for_each(|form| form.said += &format!(" {}", said.trim_start()));
+                if let Some(form) = forms.last_mut() {
+                    form.said = [&form.said, said.trim_start()].join(" ");
+                }
             }
         }
     }

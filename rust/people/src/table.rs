@@ -144,7 +144,7 @@ pub fn count_of(ports: &[Port<'_>], width: usize) -> Vec<String> {
     for port in ports.iter().filter(|port| port.too_many) {
         let remedy = if port.held >= MOST_NEIGHBORS { "" } else { "raise --max-neighbors; " };
         let most = format!("{remedy}a port holds at most {MOST_NEIGHBORS}");
-        said += &format!(" {} had no room for a neighbor: {most}.", port.name);
+        said = format!("{said} {} had no room for a neighbor: {most}.", port.name);
     }
     lines_of(&said, width)
 }

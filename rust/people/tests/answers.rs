@@ -18,7 +18,7 @@ fn port(name: &str, too_many: bool, neighbors: &[&[&str]]) -> String {
         let front = format!("lldp.{name}.{}.", place + 1);
         let times = ["ttl=120", "expires=98"];
         let lines = said[..2].iter().chain(&times).chain(&said[2..]);
-        lines.for_each(|line| text += &format!("{front}{line}\n"));
+        lines.for_each(|line| text.extend([&front[..], *line, "\n"]));
     }
     text
 }

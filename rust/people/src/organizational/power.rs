@@ -24,10 +24,10 @@ pub fn power(octets: &[u8]) -> Option<Meaning> {
     let class = if (1..=5).contains(&class) { format!("class {}", class - 1) } else { "no class".into() };
     let mut text = format!("{device} {state}, pairs {pairs}{fixed}, {class}");
     if octets.len() > 3 {
-        text += &format!("; {}", request(&octets[3..8]));
+        text = format!("{text}; {}", request(&octets[3..8]));
     }
     if octets.len() > 8 {
-        text += &format!("; {}", of_pairs(&octets[8..]));
+        text = format!("{text}; {}", of_pairs(&octets[8..]));
     }
     let masks = [&[0x0f, 0xff, 0xff, 0xf3][..], &[0xff; 14], &[0x0f, 0xff, 0xff, 0x07]].concat();
     meaning(text, masked(octets, &masks))
