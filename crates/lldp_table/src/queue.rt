@@ -10,7 +10,7 @@ use memchr::memchr;
 use std::marker::Model;
 
 /// Returns the place of `slot` in `slots`, which must contain it.
-pub(crate) fn place_in(slots: &[u8], slot: u8) -> usize
+fn place_in(slots: &[u8], slot: u8) -> usize
     requires { list_any (nat_eq slot) slots.now ≡ true }
     ensures within { result < length slots.now }
     ensures there { slice_index slots.now result ≡ slot }

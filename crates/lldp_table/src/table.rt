@@ -236,8 +236,8 @@ impl<A: Allocator> Table<A> {
     /// Processes a tick: a second has passed, so each neighbor and the too-many timer have one tick
     /// less. Returns how many neighbors aged out, that is, were live before and no longer are.
     /// Accesses stored times (reads and writes together) at most 2 times, plus 2 for each neighbor
-    /// that aged out. This is inlined into the caller's loop with all that it calls, since most
-    /// ticks look only at the first neighbor.
+    /// that aged out. This is inlined into the caller's loop with all that it calls but `expire`,
+    /// since most ticks look only at the first neighbor.
     #[inline(always)]
     pub fn tick(&mut self) -> u8
         ensures answer { result + length self.new.shown.neighbors ≡ length self.old.shown.neighbors }

@@ -1,10 +1,10 @@
 -- The loop of `age_out` marks expired slots and removes them from the queue, one by one. The effect
 -- on the neighbors is the one that the definition of a tick states.
-use Rattle.std.proofs.Common.{◌≡◌, ℕ, zero, suc, ◌+◌, ◌-◌, ◌<◌, ◌≤◌, Bool, true, false, not, ◌||◌, cond, nat_eq, nat_lt, List, [], ◌∷◌, ◌++◌, length, take, drop, set, get_or, refl, inl, inr, ap, ◌∙◌, sym, subst, arith, map, length-set, length-append, length-take-le}
+use Rattle.std.proofs.Common.{◌≡◌, ℕ, zero, suc, ◌+◌, ◌-◌, ◌<◌, ◌≤◌, Bool, true, false, not, ◌||◌, cond, nat_eq, nat_lt, List, [], ◌∷◌, ◌++◌, length, take, drop, set, get_or, refl, inl, inr, ap, ◌∙◌, sym, subst, arith, length-set, length-append, length-take-le}
 use Rattle.std.proofs.Math.ListN.{replicate}
-use Rattle.std.specs.List.{list_any, filter, filter_map, cons_option, AllByRecursion, IsDistinct}
+use Rattle.std.specs.List.{list_any, filter, filter_map, AllByRecursion, IsDistinct}
 use Rattle.std.specs.List.Sorted.{IsPermutation}
-use Rattle.std.proofs.lemmas.Bool.{cases_Bool, lt-ltb, ltb-true, ltb-false, le-ltb, cond-true, cond-false, eqb-true, eqb-false, eq-eqb, or_left, or_right}
+use Rattle.std.proofs.lemmas.Bool.{cases_Bool, lt-ltb, eqb-true, eqb-false, eq-eqb, or_left, or_right}
 use Rattle.std.proofs.lemmas.List.{get_or-set_same, get_or-set_other, length-replicate, take-append-drop, append_assoc}
 use Rattle.std.proofs.Math.Seq.{take-append_seam, drop-append_seam}
 use Rattle.std.proofs.lemmas.List.Filters.{length-filter_both}
@@ -18,7 +18,7 @@ use Rattle.lldp_table.specs.Code.Marks.{has_mark, parted}
 use Rattle.lldp_table.specs.Code.Queue.{Due, due, holds, slots_of, ticks_left, less_first, is_spent, IsRunning, IsQueued, IsTimed}
 use Rattle.lldp_table.specs.Code.Layout.{neighbor_of, neighbors_at, gone_at, blank, contents_of, IsLaidOut, IsTable}
 use Rattle.lldp_table.specs.Code.Ageing.{Aged}
-use Rattle.lldp_table.proofs.Slots.Places.{nat_eq_sym, all-weaker, all-both, distinct-take, distinct-moved, IsOrder-moved}
+use Rattle.lldp_table.proofs.Slots.Places.{all-weaker, all-both, distinct-take, distinct-moved, IsOrder-moved}
 use Rattle.lldp_table.proofs.Ageing.Steps.{first_two, left-pass, left-positive, left-front_same, left-front_other, slots-less_first}
 use Rattle.lldp_table.proofs.Ageing.Timed.{queued_less, all_queued, holds-slots}
 use Rattle.lldp_table.proofs.Standing.Sound.{sound_ticked}

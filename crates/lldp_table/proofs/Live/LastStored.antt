@@ -1,7 +1,6 @@
 -- The live neighbors are those whose last stored frame has not expired.
 use Rattle.std.proofs.Common.{◌+◌, ◌≡◌, ℕ, suc, ◌-◌, ◌<◌, Bool, true, false, ◌||◌, cond, nat_lt, List, [], ◌∷◌, ◌++◌, Option, Some, None, refl, inl, inr, ap, ◌∙◌, sym, subst, arith, is_none, length, count_by}
 use Rattle.std.specs.List.{find, filter_map, cons_option, list_any, AllByRecursion, Contains}
-use Rattle.std.specs.Option.{option_and_then}
 use Rattle.std.proofs.lemmas.Bool.{cases_Bool, and_parts, and_from, ltb-true, lt-ltb, cond-true}
 use Rattle.std.proofs.lemmas.Option.{option_and_then_some, cond_some}
 use Rattle.std.proofs.lemmas.List.Elements.{All-contains, All-from_recursion}

@@ -1,4 +1,4 @@
-use Rattle.std.proofs.Common.{◌≡◌, ◌-◌, length-take-le, true, false, take, length, refl, ap, sym, subst, ◌∙◌, arith}
+use Rattle.std.proofs.Common.{true, take, length, refl, ap, sym, subst, ◌∙◌, arith}
 use Rattle.lldp_table.specs.Code.Queue.{ticks_left, IsTimed}
 use Rattle.lldp_table.specs.Code.Layout.{neighbors_at}
 use Rattle.lldp_table.proofs.Slots.Places.{distinct-take}

@@ -1,7 +1,6 @@
-use Rattle.std.proofs.Common.{◌≡◌, ◌-◌, false, sym, ◌∙◌, length, ap, arith, length-take-le}
+use Rattle.std.proofs.Common.{sym, ◌∙◌, length, ap, arith}
 use Rattle.lldp_table.specs.Events.{tick}
 use Rattle.lldp_table.specs.Contents.{Contents}
-use Rattle.lldp_table.specs.Code.Queue.{is_spent}
 use Rattle.lldp_table.specs.Code.Steps.{after_tick}
 use Rattle.lldp_table.proofs.Slots.Counted.{shown_is}
 use Rattle.lldp_table.proofs.Slots.Layout.{count}
