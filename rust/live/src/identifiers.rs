@@ -1,8 +1,8 @@
 //! Identifiers of neighbors, as `show` prints them and as text for people.
 
 use lldpa::{tlv_text, Msap};
+use lldpa_people::table::address_text;
 use lldpa_people::texts::printable;
-use std::net::Ipv6Addr;
 
 pub const CHASSIS_ID: u8 = 1;
 pub const PORT_ID: u8 = 2;
@@ -36,7 +36,7 @@ pub fn name_of(kind: u8, body: &[u8]) -> (String, String) {
         Some("mac" | "unhandled") => value,
         Some("ip" | "mgmt") => {
             let address = value.split(',').next().unwrap_or("");
-            address.parse::<Ipv6Addr>().map_or(address.into(), |address| address.to_string())
+            address_text(address)
         }
         _ => printable(body.get(1..).unwrap_or(&[])),
     };
@@ -62,11 +62,13 @@ mod tests {
     #[test]
     fn names_are_for_people() {
         let six = [&b"\x05\x02\x20\x01\x0d\xb8"[..], &[0; 11], &[1]].concat();
+        let compatible = [&b"\x05\x02"[..], &[0; 12], &[192, 0, 2, 7]].concat();
         for (kind, body, name, key) in [
             (CHASSIS_ID, &b"\x04\x02\0\0\0\0\x01"[..], "02:00:00:00:00:01", "chassis.mac"),
             (CHASSIS_ID, b"\x07a b", "a b", "chassis.local"),
             (CHASSIS_ID, b"\x05\x01\xc0\0\x02\x07", "192.0.2.7", "chassis.ip"),
             (CHASSIS_ID, &six, "2001:db8::1", "chassis.ip"),
+            (CHASSIS_ID, &compatible, "::192.0.2.7", "chassis.ip"),
             (PORT_ID, b"\x05eth\x1b", "eth\\x1b", "port.ifname"),
         ] {
             assert_eq!(name_of(kind, body), (name.to_string(), key.to_string()));

@@ -116,17 +116,22 @@ fn identifier_text(identifier: &Identifier<'_>) -> String {
 }
 
 /// Returns an address as text for people. IPv6 addresses are in their short form.
-fn address_text(address: &str) -> String {
+pub fn address_text(address: &str) -> String {
     match address.parse::<Ipv6Addr>() {
         Ok(found) => short(found),
         Err(_) => readable(address),
     }
 }
 
-/// Returns an IPv6 address as the C library writes it: also `::192.0.2.1`, which `Display` does not.
+/// Returns an IPv6 address as the C library writes it, with `::192.0.2.1` and `::201`. How `Display`
+/// writes these depends on the version of Rust.
 fn short(address: Ipv6Addr) -> String {
-    match address.octets() {
-        [0, 0, 0, 0, 0, 0, 0, 0, 0, 0, 0, 0, a, b, c, d] if (a, b) != (0, 0) => format!("::{a}.{b}.{c}.{d}"),
+    match address.segments() {
+        [0, 0, 0, 0, 0, 0, 0, low] if low > 1 => format!("::{low:x}"),
+        [0, 0, 0, 0, 0, 0, high, low] if high > 0 => {
+            let ([a, b], [c, d]) = (high.to_be_bytes(), low.to_be_bytes());
+            format!("::{a}.{b}.{c}.{d}")
+        }
         _ => address.to_string(),
     }
 }
