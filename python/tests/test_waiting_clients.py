@@ -65,6 +65,8 @@ class Waiting(OnLinks):
         self.addCleanup(watch.communicate)
         self.addCleanup(watch.kill)
         assert watch.stdout is not None
+        while watch.stdout.readline() != "1 neighbor on 1 port.\n":
+            self.assertIsNone(watch.poll())
         self.assertTrue(eventually(lambda: self.sleeps(watch.pid)))
         before = self.woken(watch.pid)
         for _ in range(3):
