@@ -84,12 +84,4 @@ impl Running {
         let lines = (0..).map_while(|line| self.agent.show_line(show, line));
         lines.map(|line| line + "\n").collect()
     }
-
-    /// Returns the value of this key in `show chassis`, without escapes.
-    pub fn chassis(&self, key: &str) -> String {
-        let show = self.show(Show::Chassis);
-        let front = format!("local-chassis.{key}=");
-        let value = show.lines().find_map(|line| line.strip_prefix(&front)).unwrap_or("");
-        value.replace("\\\\", "\\")
-    }
 }

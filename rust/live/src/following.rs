@@ -239,7 +239,8 @@ impl Live {
             return;
         }
         self.announced.host_name = name.clone();
-        let is_ours = |running: &crate::agent::Running| running.chassis("name") == self.announced.name;
+        let is_ours =
+            |running: &crate::agent::Running| running.agent.chassis().hostname == self.announced.name;
         if !self.running.as_ref().map_or(false, is_ours) {
             return;
         }

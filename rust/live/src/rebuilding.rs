@@ -87,12 +87,13 @@ impl Running {
     /// frame. Ports that this agent lacks get the status `new`. `full` has the ports in the
     /// too-many-neighbors condition and the seconds until its end, `downs` those without a link.
     pub fn head(&self, names: &[String], new: Status, full: &[(String, u32)], downs: &[String]) -> Vec<Line> {
-        let configuration = self.agent.configuration();
+        let (configuration, chassis) = (self.agent.configuration(), self.agent.chassis());
         let (tables, passed) = self.table_lines(names);
         let mut lines = Vec::new();
-        let name = Some(self.chassis("name")).filter(|name| !name.contains('"')); // no command can set it
-        lines.extend(name.map(|name| set_text("hostname", &name)));
-        lines.push(set_text("description", &self.chassis("descr")));
+        // No command can set a name with a quotation mark.
+        let name = Some(&chassis.hostname).filter(|name| !name.contains('"'));
+        lines.extend(name.map(|name| set_text("hostname", name)));
+        lines.push(set_text("description", &chassis.description));
         lines.push(Line::Command(format!("configure lldp tx-interval {}", configuration.interval)));
         lines.push(Line::Command(format!("configure lldp tx-hold {}", configuration.hold)));
         for (port, left) in full {

@@ -4,7 +4,15 @@ use crate::changes;
 use crate::live::Live;
 use crate::neighbors::{self, Neighbor};
 use crate::reading::Frame;
-use lldpa::{Examined, Info, News};
+use lldpa::{Examined, Info, Msap, News};
+
+/// Returns the LLDPDU of a frame, unless it is refused or a shutdown LLDPDU.
+fn info_of(frame: &[u8]) -> Option<Info<'_>> {
+    match lldpa::examine(lldpa::frame_pdu(frame)?) {
+        Ok(Examined::Info(info)) => Some(info),
+        _ => None,
+    }
+}
 
 impl Live {
     /// Gives the agent the seconds before a frame, then the frame.
@@ -14,9 +22,11 @@ impl Live {
         self.log.write_frame(frame.moment, &port.name, &frame.octets);
         let lldpdu = self.ports.digests.of_lldpdu(&frame.octets);
         let is_repeated = port.neighbors.iter().any(|one| one.lldpdu == lldpdu);
+        // The agent alone examines a repeated frame.
+        let info = if is_repeated { None } else { info_of(&frame.octets) };
         // The old LLDPDU is wanted only for a line that will be written.
-        let is_reported = !is_repeated && self.events.have_room(&port.name);
-        let before = if is_reported { self.last_lldpdu(frame) } else { None };
+        let reported = info.as_ref().filter(|_| self.events.have_room(&port.name));
+        let before = reported.and_then(|info| self.last_lldpdu(frame.port, &info.msap()));
         let running = match &mut self.running {
             Some(running) => running,
             None => return,
@@ -27,25 +37,18 @@ impl Live {
         };
         self.server.forget_tables();
         self.queue_sent(&sent, frame.moment);
-        match news {
-            News::Gone(_) => self.remove_gone(),
-            _ if is_repeated => (),
-            _ => {
-                let examined = lldpa::frame_pdu(&frame.octets).map(lldpa::examine);
-                if let Some(Ok(Examined::Info(info))) = examined {
-                    self.record(frame, lldpdu, &news, &info, before.as_deref());
-                }
-            }
+        match (&news, info) {
+            (News::Gone(_), _) => self.remove_gone(),
+            (_, Some(info)) => self.record(frame, lldpdu, &news, &info, before.as_deref()),
+            (_, None) => (),
         }
     }
 
-    /// Returns the present LLDPDU of the neighbor that a frame is from.
-    fn last_lldpdu(&self, frame: &Frame) -> Option<Vec<u8>> {
-        let msap = lldpa::examine(lldpa::frame_pdu(&frame.octets)?).ok()?.msap();
-        let neighbors = &self.ports.all[frame.port].neighbors;
-        let number = neighbors.iter().position(|one| one.msap() == msap)?;
-        let same = self.running.as_ref()?.agent.neighbors(frame.port as u8).ok()?.nth(number)?;
-        same.info().filter(|info| info.msap() == msap)?;
+    /// Returns the present LLDPDU of a neighbor.
+    fn last_lldpdu(&self, port: usize, msap: &Msap<'_>) -> Option<Vec<u8>> {
+        let number = self.ports.all[port].neighbors.iter().position(|one| one.msap() == *msap)?;
+        let same = self.running.as_ref()?.agent.neighbors(port as u8).ok()?.nth(number)?;
+        same.info().filter(|info| info.msap() == *msap)?;
         Some(same.octets().to_vec())
     }
 
