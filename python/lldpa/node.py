@@ -13,6 +13,8 @@ class Node:
     The text has a surrogate for each octet that is not UTF-8.
     """
 
+    __slots__ = ("key", "label", "attributes", "text", "nodes")
+
     def __init__(self, key: str, label: str, attributes: Iterable[Attribute] = (),
                  text: Optional[str] = None, nodes: Iterable[Node] = ()) -> None:
         self.key = key

@@ -3,6 +3,7 @@
 import json
 import re
 import unicodedata
+from functools import lru_cache
 from typing import Any, Callable, Dict, Iterator, List, Optional, Sequence, Tuple
 
 from ..texts import escaped, is_shown, printable
@@ -123,9 +124,9 @@ def short_of(node: Node, margin: str) -> str:
         groups.setdefault(one.key, []).append(one)
     name = named(node, groups.get("name", []))
     inner = margin if name is None else margin + INDENT
-    parts = [f"{quoted(key)}: {flag_of(key, value)}" for key, _, value in node.attributes
+    parts = [f"{quoted_key(key)}: {flag_of(key, value)}" for key, _, value in node.attributes
              if key != "name"]
-    parts += [f"{quoted(key)}: {short_of_all(group, inner + INDENT)}"
+    parts += [f"{quoted_key(key)}: {short_of_all(group, inner + INDENT)}"
               for key, group in groups.items() if key != "name" or name is None]
     if node.text is not None:
         parts.append(f'"value": {quoted(node.text)}')
@@ -160,6 +161,12 @@ def flag_of(key: str, value: str) -> str:
 
 def quoted(text: str) -> str:
     return IN_QUOTES(text if text.isascii() else unicode_of(text))
+
+
+@lru_cache(1024)
+def quoted_key(key: str) -> str:
+    """Returns a key in quotes. There are few, and each is written for each neighbor."""
+    return quoted(key)
 
 
 def enclosed(marks: str, parts: Sequence[str], margin: str) -> str:
