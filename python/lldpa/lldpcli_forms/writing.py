@@ -3,11 +3,12 @@
 import json
 import re
 import unicodedata
+from collections import defaultdict
 from functools import lru_cache
 from typing import Any, Callable, Dict, Iterator, List, Optional, Sequence, Tuple
 
 from ..texts import escaped, is_shown, printable
-from ..node import Node
+from ..node import Attribute, Node
 
 LINE = "-" * 79
 WIDTH = 13  # columns before a value
@@ -119,13 +120,12 @@ def short_of(node: Node, margin: str) -> str:
     """Returns a node in the short form. A node that has only a text is that text."""
     if is_text(node):
         return quoted(node.text or "")
-    groups: Dict[str, List[Node]] = {}
+    groups: Dict[str, List[Node]] = defaultdict(list)
     for one in node.nodes:
-        groups.setdefault(one.key, []).append(one)
+        groups[one.key].append(one)
     name = named(node, groups.get("name", []))
     inner = margin if name is None else margin + INDENT
-    parts = [f"{quoted_key(key)}: {flag_of(key, value)}" for key, _, value in node.attributes
-             if key != "name"]
+    parts = [*attributes_of(tuple(node.attributes))]
     parts += [f"{quoted_key(key)}: {short_of_all(group, inner + INDENT)}"
               for key, group in groups.items() if key != "name" or name is None]
     if node.text is not None:
@@ -139,6 +139,13 @@ def short_of_all(nodes: Sequence[Node], margin: str) -> str:
     if len(nodes) == 1:
         return short_of(nodes[0], margin)
     return enclosed("[]", [short_of(one, margin + INDENT) for one in nodes], margin)
+
+
+@lru_cache(4096)
+def attributes_of(attributes: Tuple[Attribute, ...]) -> Sequence[str]:
+    """Returns each attribute but the name with its key. Many nodes have the same few."""
+    return [f"{quoted(key)}: {flag_of(key, value)}" for key, _, value in attributes
+            if key != "name"]
 
 
 def is_text(node: Node) -> bool:
