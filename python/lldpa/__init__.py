@@ -43,6 +43,6 @@ def __getattr__(name: str) -> object:
     """Loads a module when one of its names is first used."""
     for module, names in LATER.items():
         if name in names:
-            from importlib import import_module  # seldom needed by lldpa-ctl
+            from importlib import import_module
             return getattr(import_module(module, __name__), name)
     raise AttributeError(f"module {__name__!r} has no attribute {name!r}")

@@ -13,15 +13,21 @@ class Node:
     The text has a surrogate for each octet that is not UTF-8.
     """
 
-    __slots__ = ("key", "label", "attributes", "text", "nodes")
+    __slots__ = ("key", "label", "attributes", "text", "nodes", "is_shared")
 
     def __init__(self, key: str, label: str, attributes: Iterable[Attribute] = (),
                  text: Optional[str] = None, nodes: Iterable[Node] = ()) -> None:
         self.key = key
         self.label = label
-        self.attributes: List[Attribute] = list(attributes)
+        self.attributes: Tuple[Attribute, ...] = tuple(attributes)
         self.text = text
         self.nodes: List[Node] = list(nodes)
+        self.is_shared = False
+
+    def shared(self) -> Node:
+        """Marks a node that others hold, and that no longer changes."""
+        self.is_shared = True
+        return self
 
     def add(self, key: str, label: str, text: Optional[object]) -> None:
         """Adds a node that has only a text; adds nothing if the text is None."""

@@ -13,7 +13,8 @@ from served import LIVE_LINES
 
 LIVE = [line.decode() for line in LIVE_LINES]
 VALUES = ("0078", "0079", "0000", "05f2", "ffff", "00", "", "zz00")  # of TLVs of organizations
-WORDS = ("", "x", "lldp.eth0.neighbors=2", "lldp.eth0.1.ttl=07", "a.b='\"\\")  # lines out of place
+WORDS = ("", "x", "lldp.eth0.neighbors=2", "lldp.eth0.1.ttl=07", "a.b='\"\\",  # lines out of place
+         "configuration.further=3", "configuration.eth0.further=x", "lldp.eth0.early-frames=3")
 
 
 class Made:

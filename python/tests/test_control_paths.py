@@ -1,6 +1,7 @@
 """Tests which process gets the path of the control socket, and what users may do there."""
 
 import os
+import select
 import shutil
 import signal
 import socket
@@ -8,6 +9,7 @@ import subprocess
 import sys
 from pathlib import Path
 
+from lldpa.agent.framing import Refused
 from lldpa.client.connection import Client, Gone
 from patience import eventually
 from running_live import Live, OnLinks
@@ -161,10 +163,30 @@ class Permission(Asking):
         self.assertIn("configuration.tx-hold=4", live.ask("show configuration"))
         self.assertEqual(live.ask("configure lldp tx-hold 5"), [])
 
+    def test_users_who_watch_leave_places_for_root(self) -> None:
+        self.at_path()
+        os.chmod(self.path, 0o666)
+        os.seteuid(STRANGER)
+        self.addCleanup(os.seteuid, 0)
+        *strangers, last = [self.client() for _ in range(17)]
+        os.seteuid(0)
+        for one in [*strangers, self.client()]:
+            one.seconds = 0.1
+            self.assertRaises(TimeoutError, one.ask, "changes 0")
+        with self.assertRaisesRegex(Refused, "^16 clients watch already$"):
+            last.ask("changes 0")
+
+    def client(self) -> Client:
+        client = Client(self.path)
+        self.addCleanup(client.close)
+        return client
+
     def test_idle_clients_lock_nobody_out(self) -> None:
         live = self.at_path()
         os.chmod(self.path, 0o666)
-        idle = [self.asker() for _ in range(64)]
+        watch = self.client()  # of root, and idle longest
+        watch.connection.sendall(b"changes 0\n")
+        idle = [self.asker() for _ in range(63)]
         for one in idle:
             self.assertTrue(self.ask(one, "show chassis").startswith("['=4'"))
         self.assertIn("too many clients", self.ask(self.asker(), "show chassis"))
@@ -174,3 +196,4 @@ class Permission(Asking):
                           and self.ask(self.asker(), "show chassis").startswith("['=4'"))
         self.assertTrue(eventually(served, 75))
         self.assertTrue(self.ask(busy, "show chassis").startswith("['=4'"))
+        self.assertFalse(select.select([watch.connection], [], [], 0)[0], "root's watch goes on")

@@ -11,6 +11,7 @@ import subprocess
 import termios
 import threading
 from contextlib import ExitStack
+from unittest import mock
 
 from lldpa.client import Client
 from lldpa.organizational import organizational_object, said_by
@@ -34,6 +35,20 @@ class Answers(Program):
             self.assertEqual(self.run_ctl(*words).splitlines(), answer)
         lines = [one.decode() for one in LIVE_LINES]
         self.assertEqual(self.run_ctl("live").splitlines(), lines)
+
+    def test_a_newer_agent_may_have_more_settings(self) -> None:
+        known, ask = self.served.ask(b"show configuration"), self.served.ask
+        place = known.index("configuration.eth0.status=rx-only")
+        newer = [*known[:place], "configuration.further=7", known[place],
+                 "configuration.eth0.place=roof", *known[place + 1:]]
+        questions = ([], ["interfaces"], ["--json", "interfaces"],
+                     ["--json", "show", "configuration"],
+                     ["configure", "ports", "eth0", "lldp", "status", "rx-only"])
+        told = [self.run_ctl(*words) for words in questions]
+        answers = lambda line: newer if line == b"show configuration" else ask(line)
+        with mock.patch.object(self.served, "ask", answers):
+            self.assertEqual([self.run_ctl(*words) for words in questions], told)
+            self.assertEqual(self.run_ctl("show", "configuration").splitlines(), newer)
 
     def test_the_vlan_of_the_table_is_the_one_of_the_details(self) -> None:
         for tlvs in ([], ["0078"], ["0000"], ["0ffe"], ["0fff"], ["0078", "0078"], ["0078", "0079"],

@@ -20,8 +20,10 @@ class Watching(Program):
         self.times: list[float] = []
 
     def watch(self, *words: str, ports: Sequence[str] = ()) -> subprocess.Popen[str]:
-        """Starts `lldpa-ctl watch`, and waits until it has printed the table, or with --json until it
-        waits for changes."""
+        """Starts `lldpa-ctl watch`, and waits until it watches.
+
+        That is when it has printed the table or, with --json, when it waits for changes.
+        """
         table = "" if words else self.run_ctl("neighbors", *ports)
         words = (CTL, "--control", self.served.path, *words, "watch", *ports)
         environment = {key: value for key, value in os.environ.items() if key != "PYTHONUNBUFFERED"}

@@ -2,6 +2,7 @@
 
 import json
 import re
+import tracemalloc
 import unittest
 from typing import Dict, Iterable, Tuple
 from xml.etree import ElementTree
@@ -10,6 +11,8 @@ import lldpd_heard
 from judges import SLIPS, flat
 from lldpa import Agent
 from lldpa.agent.framing import Refused
+from lldpa.agent.show import Identifier
+from lldpa.lldpcli_forms.chassis import KINDS_OF_PORT, identifier_node, unknown_nodes
 from lldpa.lldpcli_forms.shows import Depth, Told, age, neighbors
 from lldpa.lldpcli_forms.words import Passed, Question, Watching, of_lldpcli, of_lldpctl
 from lldpa.lldpcli_forms.writing import FORMS, whole
@@ -80,6 +83,35 @@ class BesideLldpcli(unittest.TestCase):
             self.assertEqual([told.get(key) for key in SLIPS], [source, kind])
 
 
+class Alike(unittest.TestCase):
+    """Neighbors that sent the same TLVs share nodes, and the text of these nodes."""
+
+    def test_each_is_written_at_its_depth(self) -> None:
+        capabilities = tlv(7, b"\0\x14\0\4")
+        med = tlv(127, bytes.fromhex("0012bb01003f03"))
+        told = [*lldpd_heard.SETTINGS, capabilities, med]
+        octets = frame(lldpd_heard.mac(1), b"\x05p1", 120, *told)
+        alone, both = tree_of([("swp1", octets)]), tree_of([("swp1", octets), ("swp2", octets)])
+        texts = [FORMS["json"](tree) for tree in (alone, both, alone)]
+        for text in texts:
+            self.assertEqual(text, json.dumps(json.loads(text), indent=2))
+        of_one, of_two, _ = (json.loads(text)["lldp"]["interface"] for text in texts)
+        self.assertEqual([next(iter(one)) for one in of_two], PORTS)
+        self.assertEqual([*of_one.values()] * 2, [next(iter(one.values())) for one in of_two])
+        shared = [[id(node) for node in one.nodes[1].nodes if node.is_shared] for one in both.nodes]
+        self.assertEqual(shared[0], shared[1])
+        self.assertGreater(len(shared[0]), 2)
+
+    def test_what_is_kept_is_bounded(self) -> None:
+        """A service that was taken over may send long lines, each time others."""
+        tracemalloc.start()
+        self.addCleanup(tracemalloc.stop)
+        for number in range(1500):
+            nodes = unknown_nodes([("001122.1", f"{number:060000x}")])
+            self.assertGreater(len(FORMS["json"](Node("lldp", "", nodes=nodes))), 90_000)
+        self.assertLess(tracemalloc.get_traced_memory()[0], 200_000_000)
+
+
 class Texts(unittest.TestCase):
     """Tests names with each octet, and names that could deceive a reader."""
 
@@ -113,6 +145,12 @@ class Texts(unittest.TestCase):
         self.assertEqual(len(lines), 255 * 7)
         self.assertTrue(all(line.startswith("lldp.swp") for line in lines))
 
+    def test_an_identifier_may_lack_its_subtype(self) -> None:
+        """A service that was taken over may send such a line."""
+        for text, kind, shown in (("", "unhandled", ""), ("03", "mac", ""), ("0401", "ip", "01")):
+            node = identifier_node("PortID", Identifier("unhandled", text), KINDS_OF_PORT)
+            self.assertEqual((node.attributes, node.text), ((("type", "", kind),), shown))
+
     def test_nobody_forges_a_line(self) -> None:
         forged = b"x\nlldp.swp1.port.ttl=1\rlldp.swp1.rid=9\xe2\x80\xa8lldp.swp1.via=\x85\x1b[2J"
         told = self.forms_of(forged)
@@ -128,7 +166,8 @@ class Texts(unittest.TestCase):
         self.assertRegex(told, "^[ -~\n]*$")
         name = ElementTree.fromstring(told).find(".//name")
         assert name is not None
-        self.assertEqual(name.text, text.replace("\x1b", "\\x1b").replace("\uffff", r"\xef\xbf\xbf"))
+        wanted = text.replace("\x1b", "\\x1b").replace("\uffff", r"\xef\xbf\xbf")
+        self.assertEqual(name.text, wanted)
 
     def test_a_name_that_json_has_for_something_else(self) -> None:
         for name in ("id", "name", "value", "on", 'a"b\\', "\u00e9\U0001f600"):

@@ -97,7 +97,8 @@ class Handed(Program):
                       "configure ports eth0,eth1 lldp status rx-only", "up"):
             self.assertEqual(self.run_it(LLDPCLI, "-d", "-s", *words.split()), "")
         self.run_it(LLDPCLI, "configure", "system", "hostname", "a b")
-        self.assertEqual([line for line in self.served.asked if line != b"configure lldp tx-ho 3"], [
+        asked = [line for line in self.served.asked if line != b"configure lldp tx-ho 3"]
+        self.assertEqual(asked, [
             b"configure lldp tx-interval 20", b"configure lldp tx-hold 3",
             b"configure ports eth0 lldp status rx-only",
             b"configure ports eth1 lldp status rx-only",
@@ -170,7 +171,8 @@ class Refusals(Program):
                 (["show", "bogus"], f"wrong word: bogus ({shows})"),
                 (["show"], f"a word is missing after show ({shows})"),
                 (["resume"], "write: configure ports PORT,.. lldp status rx-and-tx"),
-                (["unconfigure", "med"], "nothing is to be undone, since lldpa has no such setting"),
+                (["unconfigure", "med"],
+                 "nothing is to be undone, since lldpa has no such setting"),
                 (["update", "x"], "extra word: x (no word is allowed here)"),
                 (["watch", "limit", "0"], "not a number from 1 to 999999999: 0"),
                 (["configure", "med", "x"], "such TLVs are received and shown, but not sent"),

@@ -127,6 +127,11 @@ class OfANeighbor(unittest.TestCase):
         nothing = said_by([])
         self.assertEqual((nothing.pvid, nothing.max_frame_size), (None, None))
 
+    def test_of_two_that_are_alike_one_is_taken(self) -> None:
+        said = said_by([("0080c2.1", "0078"), ("0080c2.3", "0078026162")] * 2)
+        self.assertEqual(said.tlvs, (PortVlan(120), *[VlanName(120, b"ab")] * 2))
+        self.assertEqual(said.rest, ())
+
     def test_of_two_that_differ_none_is_taken(self) -> None:
         two = [("0080c2.1", "0078"), ("00120f.4", "05f2"), ("0080c2.1", "0079")]
         said = said_by(two)

@@ -59,5 +59,6 @@ class Output(FilesCase):
     def test_errors_that_nobody_takes(self) -> None:
         for errors in ("2>&-", "2>/dev/full"):
             for output in (">&-", ">/dev/full"):
-                self.assertEqual(run_with(f"{output} {errors}", [*BY_PYTHON, self.capture]), (1, ""))
+                ran = run_with(f"{output} {errors}", [*BY_PYTHON, self.capture])
+                self.assertEqual(ran, (1, ""))
         self.assertEqual(run_with(">/dev/null <&-", [*BY_PYTHON, self.capture]), (0, ""))

@@ -134,7 +134,8 @@ class Words(Program):
                     ran.kill()
                 else:
                     said = ran.stderr.read()
-                    self.assertTrue(not said or said.startswith(f"lldpa-ctl: {wanted}"), line + said)
+                    is_right = not said or said.startswith(f"lldpa-ctl: {wanted}")
+                    self.assertTrue(is_right, line + said)
                     self.assertEqual(ran.wait(), 1 if said else 0, line)
                     working += not said
         self.assertGreater(len(rows), 77)

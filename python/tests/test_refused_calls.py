@@ -50,8 +50,8 @@ class RefusedCalls(OnLinks):
         return live, Seized(live)
 
     def test_a_filter_is_in_force_for_each_thread_also_by_hand(self) -> None:
-        for words in (["--log", str(self.log), "--metrics", str(self.folder / "lldpa.prom"), "eth0"],
-                      ["eth0"], ["--user", "daemon", "eth0"], ["eth7"]):
+        writing = ["--log", str(self.log), "--metrics", str(self.folder / "lldpa.prom")]
+        for words in ([*writing, "eth0"], ["eth0"], ["--user", "daemon", "eth0"], ["eth7"]):
             live = self.live(*words, awaits=words != ["eth7"])
             self.assertTrue(eventually(lambda: live.has("live.agent=running")
                                        or live.has("live.agent=waiting")))

@@ -17,6 +17,7 @@ from wires import inside
 SO_ATTACH_FILTER, SO_DETACH_FILTER, SO_LOCK_FILTER = 26, 27, 44
 SOL_PACKET, PACKET_ADD_MEMBERSHIP, PACKET_RX_RING = 263, 1, 5
 PACKET_MR_PROMISC = 1
+CAP_NET_RAW = 13
 SYS_PIDFD_OPEN, SYS_PIDFD_GETFD = 434, 438
 
 
@@ -129,6 +130,19 @@ class TestSets(OnLinks):
 
     def test_another_user_can_be_named(self) -> None:
         self.keeps_nothing(self.live("--user", "daemon", "eth0").process.pid, "1")
+
+    def test_a_capability_left_in_the_bounding_set_cannot_be_regained(self) -> None:
+        self.folder.chmod(0o777)
+        live = self.live("eth0", before=[  # the rights that the service's unit gives
+            "setpriv", "--reuid=1", "--regid=1", "--clear-groups", "--inh-caps=+net_raw",
+            "--ambient-caps=+net_raw", "--bounding-set=-all,+net_raw"])
+        for thread in os.listdir(f"/proc/{live.process.pid}/task"):
+            status = status_of(int(thread))
+            self.assertEqual(int(status["CapBnd"], 16), 1 << CAP_NET_RAW)
+            for kind in ("CapInh", "CapPrm", "CapEff", "CapAmb"):
+                self.assertEqual(int(status[kind], 16), 0, kind)
+            self.assertEqual(status["NoNewPrivs"].strip(), "1")
+        self.becomes_neighbor(live)
 
     def keeps_nothing(self, thread: int, user: str) -> None:
         """Checks that a thread has no capabilities, and has this user and group."""

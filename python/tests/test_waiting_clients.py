@@ -8,9 +8,11 @@ import time
 
 from patience import SECONDS, eventually
 from running_live import OnLinks
-from served import CTL, numbered, tlv
+from served import BIN, CTL, numbered, tlv
 
-MOST_WAITING = 16
+MOST_WATCHING = 16
+NO_PLACE = "16 clients watch already"
+LLDPCTL = str(BIN / "lldpctl")
 
 
 class Waiting(OnLinks):
@@ -29,7 +31,8 @@ class Waiting(OnLinks):
 
     def test_a_client_waits_until_a_neighbor_comes_changes_or_leaves(self) -> None:
         live, peer = self.live("eth0"), self.peer("peer0")
-        for count, frame in enumerate((numbered(1), numbered(1, 120, tlv(5, b"a")), numbered(1, 0))):
+        frames = (numbered(1), numbered(1, 120, tlv(5, b"a")), numbered(1, 0))
+        for count, frame in enumerate(frames):
             self.assertEqual(live.ask("changes"), [f"live.changes={count}"])
             connection = self.asking(live.control, f"changes {count}")
             self.assertFalse(select.select([connection], [], [], 0.5)[0], "nothing has changed")
@@ -38,14 +41,14 @@ class Waiting(OnLinks):
         peer.send(numbered(2))
         self.assertTrue(eventually(lambda: live.ask("changes") == ["live.changes=4"]))
         peer.send(numbered(2))
-        self.assertEqual(self.answer(self.asking(live.control, "changes 7")), b"=1\nlive.changes=4\n")
+        answer = self.answer(self.asking(live.control, "changes 7"))
+        self.assertEqual(answer, b"=1\nlive.changes=4\n")
         self.assertFalse(select.select([self.asking(live.control, "changes 4")], [], [], 1)[0])
 
     def test_some_may_wait_and_others_are_still_answered(self) -> None:
         live = self.live("eth0")
-        waiting = [self.asking(live.control, "changes 0") for _ in range(MOST_WAITING)]
-        self.assertTrue(eventually(lambda: self.answer(
-            self.asking(live.control, "changes 0")) == b"=1\nerror: too many clients\n"))
+        waiting = [self.asking(live.control, "changes 0") for _ in range(MOST_WATCHING)]
+        self.assertTrue(eventually(lambda: self.is_refused(live.control, 0)))
         self.assertEqual(live.ask("changes"), ["live.changes=0"])
         waiting[0].sendall(b"live\n")
         self.assertEqual(self.answer(waiting[0]), b"", "it did not wait")
@@ -53,8 +56,38 @@ class Waiting(OnLinks):
         place = self.asking(live.control, "changes 0")
         self.assertFalse(select.select([place], [], [], 0.5)[0])
         self.peer("peer0").send(numbered(1))
-        for one in (*waiting[1:], place):
+        told = (*waiting[1:], place)
+        for one in told:
             self.assertEqual(self.answer(one), b"=1\nlive.changes=1\n")
+        last = self.asking(live.control, "changes 1")
+        self.assertTrue(self.is_refused(live.control, 1), "those that were told keep their places")
+        for one in told:
+            one.sendall(b"changes 1\n")
+        self.assertFalse(select.select([*told, last], [], [], 0.5)[0])
+
+    def is_refused(self, control: str, count: int) -> bool:
+        answer = self.answer(self.asking(control, f"changes {count}"))
+        return answer == f"=1\nerror: {NO_PLACE}\n".encode()
+
+    def test_a_watch_for_which_there_is_no_place_ends(self) -> None:
+        live = self.live("eth0")
+        places = [self.asking(live.control, "changes 0") for _ in range(MOST_WATCHING)]
+        self.assertTrue(eventually(lambda: self.is_refused(live.control, 0)))
+        asks = [CTL, "--control", live.control]
+        programs = (("lldpa-ctl", [*asks, "watch"], "no neighbors on 1 port.\n"),
+                    ("lldpa-ctl", [*asks, "--json", "watch"], ""),
+                    ("lldpctl", [LLDPCTL, "-u", live.control, "watch"], ""))
+        for name, words, shown in programs:
+            ran = subprocess.run(words, capture_output=True, text=True, check=False,
+                                 timeout=SECONDS)
+            self.assertEqual((ran.returncode, ran.stdout, ran.stderr),
+                             (1, shown, f"{name}: {NO_PLACE}\n"))
+        places.pop().close()
+        watch = subprocess.Popen([CTL, "--control", live.control, "watch"], stdout=subprocess.PIPE)
+        self.addCleanup(watch.communicate)
+        self.addCleanup(watch.kill)
+        self.assertTrue(eventually(lambda: self.sleeps(watch.pid)))
+        self.assertTrue(self.is_refused(live.control, 0))
 
     def test_a_quiet_watch_costs_nothing(self) -> None:
         live, peer = self.live("eth0"), self.peer("peer0")

@@ -7,7 +7,8 @@ One port receives --frames frames of the greatest length, from 200 neighbors, as
 Another port, the quiet one, has five neighbors that come, change and age out. The log has at most
 20 megabytes, in files of 2. The script asks lldpa-live for its tables ten times. Each answer must
 come within a second, and a replay of the log file of that moment must give the same tables. The
-log's folder must not exceed its limit, and no frame of the quiet port may be dropped.
+log's folder must not exceed its limit, and no frame of the quiet port may be dropped. The metrics
+must be written to a file all the time.
 
 With --minutes, one port receives hostile frames for that time, and the quiet port the frames of
 five neighbors. Meanwhile the script replaces the interface of a third port, reloads settings, sends
@@ -31,6 +32,7 @@ from unrest import Unrest  # noqa: E402
 from wires import Peer, Wires, flood  # noqa: E402
 
 LATE = 1.0
+OLD = 45  # seconds, of the metrics: they are written each 30 seconds
 MOMENTS = 10
 MOST, KEEP = 2, 20  # megabytes of a log file, and of all of them
 FRAMES = [numbered(number, 600, tlv(5, b"n%d" % number)).ljust(1514, b"\0")
@@ -56,13 +58,17 @@ def take(peer, moments, folder, number, sent):
     size = sum(path.stat().st_size for path in folder.iterdir())
     counts.that(f"moment {number + 1}: answered in {took:.3f} s", took < LATE)
     counts.that(f"moment {number + 1}: {size} octets", size <= KEEP * 1_000_000)
+    age = time.time() - (folder.parent / "collected" / "lldpa.prom").stat().st_mtime
+    counts.that(f"moment {number + 1}: metrics of {age:.1f} s before", age < OLD)
     return sent
 
 
 def compare(given, wires):
-    folder = pathlib.Path(wires.folder, "log")
+    folder, collected = pathlib.Path(wires.folder, "log"), pathlib.Path(wires.folder, "collected")
+    collected.mkdir()
+    collected.chmod(0o777)  # for lldpa-live's user
     live = Live(wires, "--log", str(folder), "--log-most", str(MOST), "--log-keep", str(KEEP),
-                "eth0", "eth1", "--", "--receive-only")
+                "--metrics", str(collected / "lldpa.prom"), "eth0", "eth1", "--", "--receive-only")
     peer = Peer(wires, "peer1")
     moments, sent = Moments(live), 0
     sender = flood(wires, "peer0", FRAMES, given.frames)
@@ -78,7 +84,9 @@ def compare(given, wires):
         print(f"{name}={told[name]}")
     counts.that(f"all {sent} frames of the quiet port were received", told["lldp.eth1.received"] == sent)
     counts.that("no line of the log was lost", told["live.log-lines-lost"] == 0)
+    counts.that("no metrics were left out", told["live.metrics-unwritten"] == 0)
     live.close()
+    counts.that("the metrics say that it ended", (collected / "lldpa.prom").read_text().endswith("lldpa_up 0\n"))
     wrong = differing(folder, moments)
     counts.that(f"{len(moments.answers)} moments can be replayed from one file: {wrong}", not wrong)
     print(live.errors(), end="")

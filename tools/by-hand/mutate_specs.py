@@ -8,7 +8,8 @@ A mutant is one small change (spec_mutants.py) of one definition in `specs`, out
 specs/Code. Only laws, worked examples, vectors and transcripts are checked, and no function: so a
 mutant stands for a definition and code that are wrong together. What reach.py does not reach is not
 tried. The seed orders all mutants, and of the first `count` those are tried that --only names. DIR
-has a copy of the crates for each job, and what the checker said.
+has a copy of the crates for each job, and what the checker said; the crates below are as `rt lib`
+builds them.
 
 A mutant is `ill-typed`, `refused` by its crate, refused `above` by transcripts and examples, or
 `survived`. A refusal can mean only that a line of a proof no longer fits. mutants.txt beside this
@@ -122,6 +123,11 @@ def below(crate: str) -> list[str]:
     return list(dict.fromkeys(found for name in names for found in (*below(name), name)))
 
 
+def built(crate: str) -> list[str]:
+    """Returns the arguments that give a crate as `rt lib` builds it. No mutant below it is tried."""
+    return ["--extern", f"{crate}={CRATES}/{crate}/out/rlib/{crate}.rlib"]
+
+
 class Room:
     """A copy of the crates, of which laws and theorems are checked, and no other function."""
 
@@ -144,23 +150,27 @@ class Room:
         for name, text in ABOVE.items():
             (above / name).write_text("".join(imports) * ("ReadAll" in name) + text)
 
-    def check(self, crate: str, seconds: int) -> tuple[int, str]:
-        """Checks a crate over the sources of those below it."""
+    def check(self, crate: str, seconds: int, kept: str = "out") -> tuple[int, str]:
+        """Checks a crate over those below it, and keeps in a folder what it checked."""
         words = ["prlimit", f"--cpu={seconds}:{seconds + 9}", f"{KIT}/bin/rattle", "check",
                  "src/lib.rt", "--crate-name", crate, "--jobs", "1",
                  "--only", "reads" if crate == "above" else "laws",
-                 "--incremental", f"{self.crates}/{crate}/out", "-L", f"dependency={KIT}/rlibs",
+                 "--incremental", f"{self.crates}/{crate}/{kept}", "-L", f"dependency={KIT}/rlibs",
                  "--logic-built", f"{KIT}/logic_built",
                  "--antt-project", f"{KIT}/rattle/logic/antt-project.json"]
         needed = {name for other in (*below(crate), crate) for name in ROWS[other].split()}
         for name in sorted({"core", "std"} | needed - set(ROWS)):
             words += ["--extern", f"{name}={KIT}/rlibs/{name}.rlib"]
         for name in below(crate):
-            libraries = ",".join(dict.fromkeys(["core", "std", *ROWS[name].split()]))
-            words += ["--lib", f"{name}:{libraries}={self.crates}/{name}/src/lib.rt"]
+            words += self.library(name) if crate == "above" else built(name)
         ran = subprocess.run(words, cwd=self.crates / crate, stdin=subprocess.DEVNULL, check=False,
                              stdout=subprocess.PIPE, stderr=subprocess.STDOUT, errors="replace")
         return ran.returncode, ran.stdout
+
+    def library(self, crate: str) -> list[str]:
+        """Returns the arguments that have a crate below checked from its sources."""
+        libraries = ",".join(dict.fromkeys(["core", "std", *ROWS[crate].split()]))
+        return ["--lib", f"{crate}:{libraries}={self.crates}/{crate}/src/lib.rt"]
 
     def prove(self, crate: str) -> None:
         """Checks a crate without a change, so that later checks are short."""
@@ -173,8 +183,11 @@ class Room:
         """Returns the verdict of a crate on a mutant, and what the checker said."""
         if crate not in self.proved:
             self.prove(crate)
+        folder = self.crates / crate
+        shutil.rmtree(folder / "tried", ignore_errors=True)
+        shutil.copytree(folder / "out", folder / "tried")
         mutant.plant(self.crates)
-        status, said = self.check(crate, 300)
+        status, said = self.check(crate, 300, "tried")
         shutil.copy2(CRATES / mutant.of.file(), self.crates / mutant.of.file())
         if status in (0, -signal.SIGXCPU):
             return ("timeout" if status else "survived"), said
@@ -237,6 +250,8 @@ def main() -> None:
             print(name, kept.get(name, "new"), mutants[name].shown())
     else:
         left = [mutants[name] for name in chosen if name not in kept]
+        for crate in below("lldpa_c"):
+            subprocess.run(["rt", "lib"], cwd=CRATES / crate, stdout=subprocess.DEVNULL, check=True)
         jobs = [(options.room, job, left[job::options.jobs]) for job in range(options.jobs)]
         running = [multiprocessing.Process(target=try_all, args=job) for job in jobs]
         for process in running:

@@ -54,6 +54,10 @@ listed() {
     find /etc /usr /opt /srv /var/lib /run/lldpa -path /var/lib/dpkg -prune -o -path /var/lib/apt -prune -o -printf '%p %M %u %g %l\n' 2> /dev/null |
         grep -v '^/var/lib/systemd/\(timers\|random-seed\|catalog\)\|^/\(etc\|var/lib\|var/lib/systemd\) ' | sort
 }
+# autopkgtest fails a test that writes to standard error.
+without_errors() {
+    "$@" 2> /root/errors && ! grep . /root/errors
+}
 # Runs a command for at most 15 seconds. Succeeds if the command succeeds or does not end.
 for_a_while() {
     local status
@@ -277,7 +281,7 @@ check "it is purged" dpkg -P lldpa lldpa-tools
 listed > /root/after
 check "no file is left" diff /root/before /root/after
 check "it installs without lldpa-tools" dpkg -i lldpa_*-2_*.deb
-check "the test of debian/tests" /root/service
+check "the test of debian/tests" without_errors /root/service
 check "it is purged after the test" dpkg -P lldpa
 ip link del lldpa0
 check "Python is removed" without_python

@@ -59,9 +59,11 @@ class Unrest:
         self.log, self.settings = Path(wires.folder, "log"), Path(wires.folder, "settings.conf")
         os.chmod(wires.folder, 0o777)
         self.settings.write_text("")
+        self.collected = Path(wires.folder, "collected")  # the metrics
+        self.give_back()
         self.live = Live(wires, "--events", "--forget-on-down", "--config",
                          str(self.settings), "--log", str(self.log), "--log-most", "8",
-                         "eth0", "eth1", "eth2")
+                         "--metrics", str(self.collected / "lldpa.prom"), "eth0", "eth1", "eth2")
         self.moments = Moments(self.live)
         self.quiet, self.far = Peer(wires, "peer1"), Peer(wires, "peer2")
         self.frames = hostile_frames(self.choice)
@@ -112,7 +114,7 @@ class Unrest:
     def act(self) -> None:
         what: Callable[[], None] = self.choice.choice(
             [self.reload, self.question, self.configure, self.address, self.come_or_go,
-             self.stand_still, self.link])
+             self.stand_still, self.link, self.take_away])
         self.done[what.__name__] += 1
         try:
             what()
@@ -178,6 +180,22 @@ class Unrest:
                 self.wires.set_link("peer2", state)
                 time.sleep(self.choice.random() / 2)
 
+    def take_away(self) -> None:
+        """Takes the folder of the metrics away, or gives it back."""
+        if self.collected.exists() or self.collected.is_symlink():
+            self.collected.rename(self.collected.with_name(f"before-{time.monotonic_ns()}"))
+        way = self.choice.randrange(4)
+        if way == 0:
+            self.give_back()
+        elif way == 1:
+            self.collected.mkdir(0o755)  # lldpa-live may not write there
+        elif way == 2:
+            self.collected.symlink_to("/nowhere")
+
+    def give_back(self) -> None:
+        self.collected.mkdir()
+        self.collected.chmod(0o777)  # for lldpa-live's user
+
     def measure(self) -> None:
         process = Path(f"/proc/{self.live.process.pid}")
         resident = process.joinpath("status").read_text().split("VmRSS:")[1].split()[0]
@@ -225,6 +243,14 @@ class Unrest:
     def judge(self, judge: Callable[[object, str], None]) -> None:
         """Ends lldpa-live, and judges everything that the run recorded."""
         same = self.quiet_since() == self.since
+        self.take_away()
+        if not self.collected.exists():
+            self.collected.unlink(missing_ok=True)
+            self.give_back()
+        self.collected.chmod(0o777)
+        file, held = self.collected / "lldpa.prom", f'lldpa_neighbors{{port="eth1"}} {QUIET}\n'
+        judge(eventually(lambda: file.exists() and held in file.read_text(), 30),
+              f"the metrics are written again: {self.live.ask('live')}")
         self.live.signal(signal.SIGTERM)
         judge(self.live.ends() == 0, f"it ended with status {self.live.process.returncode}")
         judge(not self.wrong, f"all tables were as sent: {self.wrong[:4]}")

@@ -128,15 +128,15 @@ def verdicts() -> dict[str, str]:
     return dict(re.findall(r"(?m)^(\S+ \S+ \S+) (.*)$", VERDICTS.read_text()))
 
 
-def fault_of_contract(crate: str, rest: str) -> str | None:
-    """Returns what is wrong with a holder `contract FUNCTION CLAUSE`, or None."""
+def fault_of_contract(_crate: str, rest: str) -> str | None:
+    """Returns what is wrong with a holder `contract FUNCTION CLAUSE`, of any crate, or None."""
     function, _, clause = rest.partition(" ")
-    for path in (CRATES / crate / "src").rglob("*.rt"):
+    for path in CRATES.glob("*/src/**/*.rt"):
         head = rf"fn {re.escape(function)}\b(.*?)^ *\{{"
         for text in re.findall(head, path.read_text(), re.M | re.S):
             if re.search(rf"ensures\*? {re.escape(clause)} ", text):
                 return None
-    return f"no function {function} of {crate} has a clause {clause}"
+    return f"no function {function} has a clause {clause}"
 
 
 def fault_of_test(_crate: str, rest: str) -> str | None:

@@ -87,7 +87,7 @@ for address in 192.0.2 192.0.2.1.1 192.0.2.1. .192.0.2.1 192.0.2.256 192.0.2.01 
     192.0.2.+1 192.0.2.-1 "192.0.2.1 " " 192.0.2.1" 0xc0.0.2.1 1000.0.2.1 ::1 none ""; do
     ends 2 "lldpa: bad --management" "lldpa --management '$address' eth0"
 done
-ends 0 "" 'echo show chassis | lldpa --mac aB:Cd:eF:00:0a:FF eth0' "*local-chassis.mac=ab:cd:ef:00:0a:ff*"
+ends 0 "" 'echo show chassis | lldpa --mac aB:Cd:eF:12:0a:F3 eth0' "*local-chassis.mac=ab:cd:ef:12:0a:f3*"
 ends 0 "" 'echo show chassis | lldpa --management 0.255.10.0 eth0' "*local-chassis.mgmt=0.255.10.0,1,0,"
 ends 2 "lldpa: bad --mac" 'lldpa --mac 00:11'
 ends 2 "lldpa: bad --management" 'lldpa --management "" a.b'

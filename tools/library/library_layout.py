@@ -12,11 +12,13 @@ from library_parts import TOP, Counts, Library, ran
 
 CRATE = TOP / "crates" / "lldpa_c" / "src"
 FRONT = TOP / "crates" / "lldpa_c" / "front" / "lldpa.c"
-PARTS = TOP / "crates" / "lldp_transmit" / "src" / "parts.rt"
+# The structs of other crates that C reads.
+OTHERS = (TOP / "crates" / "lldp_transmit" / "src" / "parts.rt",
+          TOP / "crates" / "lldp_engine" / "src" / "port" / "counters.rt")
 
 # The common names of C and Rattle types. Other types keep their name, in lower case without prefix.
 TYPES = {"uint8_t": "u8", "uint16_t": "u16", "uint32_t": "u32", "size_t": "usize", "bool": "bool", "void": "()",
-         "ticks_taken": "ticks", "parts": "machine", "statistics_told": "statistics",
+         "ticks_taken": "ticks", "parts": "machine", "statistics_told": "counters",
          "configuration_told": "configuration", "chassis_told": "chassis"}
 STRUCT = re.compile(r"typedef struct lldpa_\w+ \{(.*?)\} lldpa_(\w+);", re.S)
 LENGTH = "usize after a pointer"
@@ -111,7 +113,7 @@ def check_layout(library: Library, counts: Counts) -> None:
     # The crate's functions that only read the handle receive a copy of it, so they have no const.
     wants = header_lists(text.replace("(const lldpa_agent *", "(lldpa_agent *"))
     found: Lists = {}
-    for file in [*sorted(CRATE.rglob("*.rt")), PARTS]:
+    for file in [*sorted(CRATE.rglob("*.rt")), *OTHERS]:
         found |= rust_lists(file.read_text())
     # The crate has no lldpa_version. Its lldpa_frame_news has the type of the front's lldpa_frame.
     found["lldpa_version"] = wants["lldpa_version"]

@@ -1,26 +1,10 @@
--- The counters of a port and the settings of an agent, in the structs for C.
+-- The settings of an agent, in the struct for C.
 use Rattle.std.specs.Prelude.{◌≡◌, ℕ, length, map, take, drop, replicate}
-use Rattle.lldp_engine.specs.declared.port.counters.Counters.{Counters}
 use Rattle.lldp_engine.specs.declared.port.status.Status.{Status}
 use Rattle.lldp_engine.specs.declared.port.status.Status.TheVariants.{RxAndTx, RxOnly, TxOnly, Disabled}
 use Rattle.lldp_engine.specs.Configuration.{sent_ttl}
 use Rattle.lldp_engine.specs.AgentState.{AgentState}
-use Rattle.lldpa_c.specs.declared.settings.LldpaStatistics.{LldpaStatistics}
 use Rattle.lldpa_c.specs.declared.settings.LldpaConfiguration.{LldpaConfiguration}
-
--- the counters in the struct for C
-abbrev pub statistics_of : Counters → LldpaStatistics
-statistics_of c = record {
-  sent = c.sent;
-  shutdowns = c.shutdowns;
-  received = c.received;
-  discarded = c.discarded;
-  errors = c.errors;
-  tlvs_discarded = c.tlvs_discarded;
-  unrecognized = c.unrecognized;
-  ageouts = c.ageouts;
-  drops = c.drops;
-}
 
 -- the number of a status
 abbrev pub status_number : Status → ℕ

@@ -3,10 +3,7 @@ ghost use Rattle.std.specs.Prelude.{◌≡◌, Bool, true, false};
 ghost use Rattle.lldp_engine.specs.AgentState.{AgentState};
 ghost use Rattle.lldpa_c.specs.Handle.{held_owns, agent_coded};
 
-mod parts;
-
 use lldp_engine::Agent;
-use parts::Parts;
 use std::alloc::Global;
 use std::marker::Model;
 
@@ -30,23 +27,6 @@ fn nowhere() -> *mut u8 {
 }
 
 impl Held {
-    fn of_parts(parts: Parts<Agent, Global>) -> Held
-        ensures { (result.owned ≡ true) × (result.agent ≡ parts.value) }
-    {
-        let Parts { ptr, alloc } = parts;
-        let ptr = ptr as *mut u8;
-        Held { ptr, alloc }
-    }
-
-    fn into_parts(self) -> Parts<Agent, Global>
-        requires { self.owned ≡ true }
-        ensures { result.value ≡ self.agent }
-    {
-        let Held { ptr, alloc } = self;
-        let ptr = ptr as *mut Agent;
-        Parts { ptr, alloc }
-    }
-
     fn closed(ptr: *mut u8, alloc: Global) -> Held
         ensures { result.owned ≡ false }
     {
@@ -65,7 +45,9 @@ impl Held {
         ensures owned { result.owned ≡ true }
         ensures agent { result.agent ≡ agent.value }
     {
-        Held::of_parts(Parts::of(agent))
+        let (ptr, alloc) = Box::into_raw_with_allocator(agent);
+        let ptr = ptr as *mut u8;
+        Held { ptr, alloc }
     }
 
     /// Returns the agent in its box.
@@ -73,6 +55,8 @@ impl Held {
         requires { self.owned ≡ true }
         ensures { result.value ≡ self.agent }
     {
-        self.into_parts().into_box()
+        let Held { ptr, alloc } = self;
+        let ptr = ptr as *mut Agent;
+        unsafe { Box::from_raw(alloc, ptr) }
     }
 }

@@ -4,27 +4,12 @@ ghost use Rattle.std.specs.Option.{option_map};
 ghost use Rattle.lldpa_c.specs.Answer.{answer_of};
 ghost use Rattle.lldpa_c.specs.Frame.{Keeps};
 ghost use Rattle.lldpa_c.specs.Held.{count_checks, open_checks};
-ghost use Rattle.lldpa_c.specs.Settings.{statistics_of, status_number, TellsConfiguration};
+ghost use Rattle.lldpa_c.specs.Settings.{status_number, TellsConfiguration};
 
 use crate::answer::{NO_PORT, NOT_OPEN, OK};
 use crate::holder::LldpaAgent;
 use lldp_engine::{Agent, Counters, Status};
 use std::alloc::Global;
-
-/// The counters of a port, each modulo 2^32.
-#[repr(C)]
-#[derive(Clone, Copy)]
-pub struct LldpaStatistics {
-    pub sent: u32,
-    pub shutdowns: u32,
-    pub received: u32,
-    pub discarded: u32,
-    pub errors: u32,
-    pub tlvs_discarded: u32,
-    pub unrecognized: u32,
-    pub ageouts: u32,
-    pub drops: u32,
-}
 
 /// The current settings of an agent.
 #[repr(C)]
@@ -44,32 +29,15 @@ pub struct LldpaConfiguration {
     pub status: [u8; 64],
 }
 
-/// Returns the counters in the struct for C.
-fn statistics_of(counters: &Counters) -> LldpaStatistics
-    ensures { result ≡ statistics_of counters.now }
-{
-    LldpaStatistics {
-        sent: counters.sent,
-        shutdowns: counters.shutdowns,
-        received: counters.received,
-        discarded: counters.discarded,
-        errors: counters.errors,
-        tlvs_discarded: counters.tlvs_discarded,
-        unrecognized: counters.unrecognized,
-        ageouts: counters.ageouts,
-        drops: counters.drops,
-    }
-}
-
 /// Writes the counters of a port.
 #[unsafe(no_mangle)]
 pub extern "C" fn lldpa_statistics(
     alloc: Global,
     agent: &mut LldpaAgent,
     port: u32,
-    told: &mut LldpaStatistics,
+    told: &mut Counters,
 ) -> u8
-    ensures told { result ≡ 0 → option_map (λ p. statistics_of p.counters)
+    ensures told { result ≡ 0 → option_map (λ p. p.counters)
         (slice_get agent.old.held.agent.ports port) ≡ Some told.new }
     ensures answer { result ≡ answer_of (count_checks agent.old port) }
     ensures kept { Keeps agent.old agent.new }
@@ -82,7 +50,7 @@ pub extern "C" fn lldpa_statistics(
         agent.put(held);
         return NO_PORT;
     }
-    *told = statistics_of(held.counters(port as u8));
+    *told = *held.counters(port as u8);
     agent.put(held);
     OK
 }

@@ -5,7 +5,7 @@ Each line is `KEY=VALUE`; the manual page lldpa(1) lists every key.
 
 import re
 from functools import lru_cache
-from typing import Iterable, Iterator, List, Tuple
+from typing import Iterable, Iterator, List, Mapping, Tuple
 
 from ..faults import LldpaFault
 from ..limits import is_port_name
@@ -40,8 +40,8 @@ def read_show(lines: Iterable[str]) -> Show:
     """Reads the output of one or several `show` commands.
 
     Their order must be neighbors, statistics, chassis, configuration. A line may end with a line
-    feed. Counters of a newer agent are skipped. Raises ShowFault, which names the line, if another
-    line is unknown or out of place.
+    feed. Counters and settings of a newer agent are skipped. Raises ShowFault, which names the
+    line, if another line is unknown or out of place.
     """
     return Reader(lines).show()
 
@@ -101,8 +101,7 @@ class Reader:
         ports = tuple(self.ports())
         counters = dict(self.counters())
         chassis = self.chassis() if self.next().startswith("local-chassis.") else None
-        is_configured = self.next().startswith("configuration.")
-        configuration = self.configuration() if is_configured else None
+        configuration = self.configuration() if self.next().startswith("configuration.") else None
         if self.at < len(self.lines) - 1:
             raise self.fault("shows in the order neighbors, statistics, chassis, configuration")
         return Show(ports, counters, chassis, configuration)
@@ -127,14 +126,13 @@ class Reader:
         port_id = self.identifier(front + "port.", PORT_KINDS)
         ttl, expires = self.number(front + "ttl"), self.number(front + "expires")
         said: List[Tuple[str, str]] = []
-        line = self.next()
-        while line.startswith(front):
-            key, mark, value = line[len(front):].partition("=")
+        lines, begin = self.lines, len(front)
+        while (line := lines[self.at]).startswith(front):
+            key, mark, value = line[begin:].partition("=")
             if not mark or not is_said(key):
                 raise self.fault("a key of a neighbor")
             said.append((key, value))
             self.at += 1
-            line = self.next()
         return Neighbor(port, place, chassis, port_id, ttl, expires, tuple(said))
 
     def identifier(self, front: str, kinds: set[str]) -> Identifier:
@@ -151,22 +149,22 @@ class Reader:
             if name in names:
                 raise self.fault("a port that is not listed above")
             names.add(name)
-            numbers = [self.counter(name, field) for field in Counters._fields]
-            self.skip_counters(name)
+            front, fields = f"lldp.{name}.", Counters._fields
+            numbers = [self.field(front, field, Counters._field_defaults) for field in fields]
+            self.skip(front, fields, DIGITS)
             yield name, Counters(*numbers)
 
-    def counter(self, port: str, field: str) -> int:
-        """Reads a counter of a port. One that has a default may be missing: the agent is older."""
-        key = f"lldp.{port}.{shown_key(field)}"
-        if field in Counters._field_defaults and not self.next().startswith(key + "="):
-            return int(Counters._field_defaults[field])
-        return self.number(key)
+    def field(self, front: str, field: str, defaults: Mapping[str, int]) -> int:
+        """Reads a number. One that has a default may be missing: the agent is older."""
+        key = front + shown_key(field)
+        is_missing = field in defaults and not self.next().startswith(f"{key}=")
+        return defaults[field] if is_missing else self.number(key)
 
-    def skip_counters(self, port: str) -> None:
-        """Skips further counters of a port: the agent is newer. No known one may follow."""
-        further = re.compile(rf"lldp\.{re.escape(port)}\.([a-z][a-z-]*)={DIGITS}")
-        known = {shown_key(field) for field in Counters._fields}
-        while (found := further.fullmatch(self.next())) and found[1] not in known:
+    def skip(self, front: str, known: Iterable[str], value: str) -> None:
+        """Skips lines with unknown keys: the agent is newer."""
+        keys = "|".join(map(shown_key, known))
+        further = f"(?!(?:{keys})=)[a-z][a-z-]*={value}"
+        while (line := self.next()).startswith(front) and re.fullmatch(further, line[len(front):]):
             self.at += 1
 
     def chassis(self) -> LocalChassis:
@@ -177,13 +175,16 @@ class Reader:
         return told
 
     def configuration(self) -> Configuration:
-        names = [name for name in Configuration._fields if name != "statuses"]
-        numbers = {name: self.number(f"configuration.{shown_key(name)}") for name in names}
-        begin, count, statuses = self.at, self.number("configuration.ports"), {}
-        while name := self.port_of("configuration", "status"):
-            statuses[name] = self.text(f"configuration.{name}.status")
+        front, numbers, statuses = "configuration.", {}, {}
+        for field in Configuration._fields:
+            numbers[field] = self.field(front, field, Configuration._field_defaults)
+            self.skip(front, Configuration._fields, ".*")
+        count = numbers.pop("statuses")
+        while (name := self.port_of("configuration", "status")) and name not in statuses:
+            statuses[name] = self.text(f"{front}{name}.status")
             self.check(statuses[name] in STATUSES, f"one of {', '.join(STATUSES)}")
-        if self.at != begin + 1 + count or len(statuses) != count:
+            self.skip(f"{front}{name}.", ["status"], ".*")
+        if len(statuses) != count:
             raise self.fault(f"the status of {counted(count, 'port')}, each once")
         return Configuration(**numbers, statuses=statuses)
 
@@ -195,8 +196,8 @@ def is_said(key: str) -> bool:
 
 
 def shown_key(name: str) -> str:
-    """Returns a field's key in `show` output: `tlvs_discarded` becomes `tlvs-discarded`."""
-    return name.replace("_", "-")
+    """Returns a field's key in `show` output: `tx_hold` is `tx-hold`, and `statuses` is `ports`."""
+    return "ports" if name == "statuses" else name.replace("_", "-")
 
 
 def lines_of(show: Show) -> List[str]:
@@ -233,10 +234,8 @@ def neighbor_lines(neighbor: Neighbor) -> Iterator[str]:
 
 
 def configuration_lines(configuration: Configuration) -> Iterator[str]:
-    for name, number in configuration._asdict().items():
-        if name != "statuses":
-            yield f"configuration.{shown_key(name)}={number}"
-    yield f"configuration.ports={len(configuration.statuses)}"
+    for name, value in configuration._asdict().items():
+        yield f"configuration.{shown_key(name)}={len(value) if name == 'statuses' else value}"
     for name, status in configuration.statuses.items():
         yield f"configuration.{name}.status={status}"
 

@@ -112,7 +112,7 @@ class Port(NamedTuple):
 
 
 class Counters(NamedTuple):
-    """A port's counters; lldpa(1) says what each counts. After 4,294,967,295 each begins again at 0."""
+    """A port's counters, which lldpa(1) describes. After 4,294,967,295 each begins again at 0."""
     sent: int
     shutdowns: int
     received: int

@@ -15,7 +15,7 @@ from typing import Any, Callable, List, Optional
 
 from ..faults import LldpaFault
 from ..agent.framing import Refused, checked
-from ..limits import REFUSAL
+from ..limits import MOST_PORTS, REFUSAL
 from ..texts import printable
 
 DEFAULT_PATH = "/run/lldpa/control"
@@ -25,7 +25,8 @@ LONGEST_WAIT = 86_400.0  # seconds of one call, as a socket's timeout is limited
 LONGEST_LINE = 64 * 1024  # of a line in an answer, in octets
 MOST_OCTETS = 25 * 1024 * 1024  # of an answer: 64 ports with 128 neighbors of 1,500 octets each
 MOST_SKIPPED = 512 * 1024 * 1024  # of the rest of a larger answer
-BY_PORT = ("show neighbors", "live")  # questions that can be asked for each port
+BY_PORT = ("show neighbors", "live")  # questions for each port
+NO_PLACE = "16 clients watch already"
 TOO_LONG = "lldpa-live answers with a line of more than 64 kB"
 MOST_DIGITS = 12  # of the number of lines, including the `=`
 NOBODY = 65534  # user and group
@@ -53,19 +54,16 @@ class TooLarge(Gone):
 
 
 class Client:
-    """A connection to lldpa-live, for one question after another. Its calls block.
-
-    Raises OSError if no lldpa-live answers at this path, and TimeoutError if it does not accept the
-    connection in time.
-    """
+    """A connection to lldpa-live, for one question after another. Its calls block. Raises OSError
+    if no lldpa-live answers at this path, and TimeoutError if it accepts no connection in time."""
 
     def __init__(self, path: str = DEFAULT_PATH, seconds: float = SECONDS_TO_ANSWER) -> None:
         self.seconds = seconds
         self.last = 0.0  # when the answer must be complete
         self.room = 0  # octets that may still be received
-        self.left = 0  # lines of the answer that are not read yet
-        self.octets = bytearray()  # received, but not read yet
-        self.connection = socket.socket(socket.AF_UNIX, socket.SOCK_STREAM)
+        self.left = 0  # lines of the answer, not read yet
+        self.octets = bytearray()  # received, not read yet
+        self.connection = socket.socket(socket.AF_UNIX)
         try:
             connect(self.connection, path, seconds)
         except OSError:
@@ -76,10 +74,11 @@ class Client:
         """Sends a line, and returns the lines of its answer, safe to print on a terminal. If the
         answer is too large, asks for one port after another.
 
-        Raises Refused if the line is refused, ValueError if it has a line feed or is too long, and
-        TimeoutError if the answer is not complete after `seconds`. Raises Gone if the connection
-        ends early, or the answer is malformed, over 25 MB, or has a line over 64 kB.
+        Raises Refused if the line is refused, ValueError if it has a line feed or is too long,
+        TimeoutError if the answer is not complete after `seconds`, and Gone if the connection ends
+        early, or the answer is malformed, over 25 MB, or has a line over 64 kB.
         """
+        self.room = MOST_OCTETS
         try:
             return self.ask_once(line)
         except TooLarge as fault:
@@ -93,18 +92,21 @@ class Client:
 
     def ask_by_port(self, line: str) -> list[str]:
         """Asks for one port after another, and returns all lines. Raises as `ask` does."""
+        self.room = MOST_PORTS << 20  # octets in all
         names = [key.split(".")[1] for key in self.ask_once("show configuration")
-                 if key.partition("=")[0].endswith(".status")]
+                 if key.partition("=")[0].endswith(".status")][:MOST_PORTS]
         lines = [one for name in names for one in self.ask_once(f"{line} {name}")]
         return list({one.partition("=")[0]: one for one in lines}.values())
 
     def changes(self, known: Optional[str] = None) -> Optional[str]:
         """Returns how often neighbors came, changed or left. Waits until this number is not
-        `known`. Returns None at once if lldpa-live refuses the question. Raises as `ask` does."""
+        `known`. Returns None at once if lldpa-live does not count. Raises as `ask` does."""
         patience, self.seconds = self.seconds, WITHOUT_END
         try:
-            count = "".join(self.ask_once(f"changes {known or ''}".rstrip())).partition("=")[2]
-        except Refused:
+            count = "".join(self.ask(f"changes {known or ''}".rstrip())).partition("=")[2]
+        except Refused as fault:
+            if fault.text == NO_PLACE:
+                raise
             return None
         finally:
             self.seconds = patience
@@ -122,7 +124,7 @@ class Client:
     def ask_once(self, line: str) -> list[str]:
         """Sends a line, and returns the lines of its answer, as `ask` does."""
         octets = checked(line) + b"\n"
-        self.last, self.room = time.monotonic() + self.seconds, MOST_OCTETS
+        self.last = time.monotonic() + self.seconds
         with contextlib.suppress(BrokenPipeError, ConnectionResetError):
             self.in_time(self.connection.sendall, octets)  # after an error, an answer may say why
         head = self.read_line()
@@ -139,24 +141,20 @@ class Client:
 
     def read_line(self) -> str:
         """Returns the next line of an answer."""
-        while (end := self.octets.find(b"\n")) < 0:
-            if len(self.octets) > LONGEST_LINE:
-                raise Gone(TOO_LONG)
+        while (end := self.octets.find(b"\n")) < 0 and len(self.octets) <= LONGEST_LINE:
             self.receive()
+        if not 0 <= end <= LONGEST_LINE:
+            raise Gone(TOO_LONG)
         line = self.octets[:end].decode("ascii", "backslashreplace")
         del self.octets[:end + 1]
         return printable(line)
 
     def read_lines(self) -> List[str]:
         """Returns some lines of the answer: those that were received together."""
-        count = min(self.octets.count(b"\n"), self.left)
-        if count == 0:
+        if b"\n" not in self.octets:
             return [self.read_line()]
-        *lines, rest = self.octets.split(b"\n", count)
-        self.octets = rest
-        if max(map(len, lines)) > LONGEST_LINE:
-            raise Gone(TOO_LONG)
-        texts = [line.decode("ascii", "backslashreplace") for line in lines]
+        *lines, self.octets = self.octets.split(b"\n", self.left)
+        texts = b"\n".join(lines).decode("ascii", "backslashreplace").split("\n")
         return texts if "".join(texts).isprintable() else [printable(text) for text in texts]
 
     def receive(self) -> None:

@@ -42,8 +42,9 @@ class WrongWords(LldpaFault):
 
 def read_words(words: Sequence[str]) -> Given:
     """Reads the arguments of the program. Raises WrongWords if they are wrong."""
+    long_options = ["control=", "json", "help", "version"]
     try:
-        options, rest = getopt.gnu_getopt(list(words), "hV", ["control=", "json", "help", "version"])
+        options, rest = getopt.gnu_getopt(list(words), "hV", long_options)
     except getopt.GetoptError as fault:
         raise WrongWords(str(fault)) from None
     told = dict(options)

@@ -115,8 +115,10 @@ def watch(client: Client, given: Given, watching: Watching) -> None:
 
 
 def pass_on(path: str, words: Sequence[str]) -> None:
-    """Lets lldpa-ctl run a command. Raises Refused with its message if it fails. It is in the folder
-    of this program, or where both are installed, or on the path."""
+    """Lets lldpa-ctl run a command. Raises Refused with its message if it fails.
+
+    lldpa-ctl is in the folder of this program, or where both are installed, or on the path.
+    """
     here = Path(__file__).resolve().parents[3]
     places = [here / "bin" / CTL, here.parents[1] / "bin" / CTL]
     program = next((str(place) for place in places if place.exists()), CTL)

@@ -1,7 +1,7 @@
 """Builds the nodes of a chassis, a port, the identifiers and unknown TLVs."""
 
 from functools import lru_cache
-from typing import Iterable, Iterator, Mapping, Optional, Tuple
+from typing import Iterable, Iterator, List, Mapping, Optional, Sequence, Tuple
 
 from ..agent.show import Identifier, LocalChassis, Neighbor, unescaped
 from ..agent.shown import capabilities_in
@@ -10,28 +10,25 @@ from ..node import Node, said_text, lldpcli_text
 
 CAPABILITIES = ("Other", "Repeater", "Bridge", "Router", "Wlan", "Tel", "Docsis", "Station")
 BY_INTERFACE = 2  # the interface number is an ifIndex
-# lldpd's kinds for the subtypes of Chassis ID and Port ID that hold an address
-KINDS_OF_CHASSIS = {4: "mac", 5: "ip"}
-KINDS_OF_PORT = {3: "mac", 4: "ip"}
+# lldpd's kinds for subtypes of Chassis ID and Port ID with an address
+KINDS_OF_CHASSIS = {b"\4": "mac", b"\5": "ip"}
+KINDS_OF_PORT = {b"\3": "mac", b"\4": "ip"}
 
 
 def chassis_of(neighbor: Neighbor, is_brief: bool) -> Node:
     identifier = identifier_node("ChassisID", neighbor.chassis, KINDS_OF_CHASSIS)
-    return chassis_node(identifier, neighbor.said, neighbor.capabilities or {}, is_brief)
+    return chassis_node(identifier, neighbor.said, is_brief)
 
 
 def local_chassis(chassis: LocalChassis, is_brief: bool) -> Node:
     """Returns the node of this host's chassis."""
-    said = [("chassis.name", chassis.name), ("chassis.descr", chassis.descr)]
-    said += [("chassis.mgmt", chassis.mgmt)] if chassis.mgmt else []
+    said = [(f"chassis.{key}", text) for key, text in chassis._asdict().items() if text]
     identifier = identifier_node("ChassisID", Identifier("mac", chassis.mac), {})
-    return chassis_node(identifier, said, capabilities_in(chassis.caps), is_brief)
+    return chassis_node(identifier, said, is_brief)
 
 
-def chassis_node(identifier: Node, said: Iterable[Tuple[str, str]],
-                 capabilities: Mapping[str, bool], is_brief: bool) -> Node:
+def chassis_node(identifier: Node, said: Sequence[Tuple[str, str]], is_brief: bool) -> Node:
     """Returns a chassis' node. If `is_brief`, the node has only the identifier and the name."""
-    said = list(said)
     node = Node("chassis", "Chassis", nodes=[identifier])
     node.add("name", "SysName", first(said, "chassis.name"))
     if is_brief:
@@ -40,15 +37,19 @@ def chassis_node(identifier: Node, said: Iterable[Tuple[str, str]],
     for address, number in managements(said):
         node.add("mgmt-ip", "MgmtIP", address)
         node.add("mgmt-iface", "MgmtIface", number)
-    for name in CAPABILITIES:
-        if name in capabilities:
-            state = "on" if capabilities[name] else "off"
-            node.nodes.append(Node("capability", "Capability",
-                                   [("type", "", name), ("enabled", "", state)]))
+    node.nodes += capability_nodes(next((text for key, text in said if key == "chassis.caps"), ""))
     return node
 
 
-def identifier_node(label: str, identifier: Identifier, known: Mapping[int, str]) -> Node:
+@lru_cache(512)
+def capability_nodes(shown: str) -> List[Node]:
+    """Returns the nodes of capabilities, which neighbors share."""
+    state = {name: "on" if is_on else "off" for name, is_on in capabilities_in(shown).items()}
+    return [Node("capability", "Capability", [("type", "", name), ("enabled", "", state[name])])
+            .shared() for name in CAPABILITIES if name in state]
+
+
+def identifier_node(label: str, identifier: Identifier, known: Mapping[bytes, str]) -> Node:
     """Returns the node of a Chassis ID or Port ID. `known` has lldpd's kinds for subtypes that the
     agent shows as `unhandled`."""
     kind, text = identifier
@@ -58,7 +59,7 @@ def identifier_node(label: str, identifier: Identifier, known: Mapping[int, str]
         kind, text = "unhandled", unescaped(text).hex(" ")
     elif kind == "unhandled":
         octets = bytes.fromhex(text)
-        kind = known.get(octets[0], "unhandled")
+        kind = known.get(octets[:1], "unhandled")
         text = octets[1:].hex(":" if kind == "mac" else " ")
     elif kind != "mac":
         text = lldpcli_text(unescaped(text))
@@ -88,20 +89,17 @@ def port_of(neighbor: Neighbor) -> Node:
     return node
 
 
-@lru_cache(1024)
-def oui_of(digits: str) -> str:
-    return bytes.fromhex(digits).hex(",").upper()
+def unknown_nodes(unknown: Iterable[Tuple[str, str]]) -> List[Node]:
+    """Returns one node with these TLVs as octets, if there are any."""
+    nodes = [unknown_node(*shown) for shown in unknown]
+    return [Node("unknown-tlvs", "Unknown TLVs", nodes=nodes)] if nodes else []
 
 
-def unknown_nodes(unknown: Iterable[Tuple[str, str]]) -> Iterator[Node]:
-    """Yields one node with these TLVs as octets, or nothing if there are none."""
-    node = Node("unknown-tlvs", "Unknown TLVs")
-    for kind, digits in unknown:
-        oui, _, subtype = kind.partition(".")
-        octets = bytes.fromhex(digits)
-        text = octets.hex(",").upper() if octets else None
-        node.nodes.append(Node("unknown-tlv", "TLV", [
-            ("oui", "OUI", oui_of(oui)),
-            ("subtype", "SubType", subtype), ("len", "Len", str(len(octets)))], text))
-    if node.nodes:
-        yield node
+@lru_cache(512)
+def unknown_node(kind: str, digits: str) -> Node:
+    """Returns the node of an unknown TLV, which neighbors share."""
+    oui, _, subtype = kind.partition(".")
+    oui, text = (bytes.fromhex(part).hex(",").upper() for part in (oui, digits))
+    length = str(len(digits) // 2)
+    return Node("unknown-tlv", "TLV", [("oui", "OUI", oui), ("subtype", "SubType", subtype),
+                                       ("len", "Len", length)], text or None).shared()

@@ -54,7 +54,7 @@ def neighbors(told: Told, ports: Ports, depth: Depth) -> Node:
 def neighbor_node(told: Told, neighbor: Neighbor, depth: Depth) -> Node:
     node = Node("interface", "Interface", [("name", "", neighbor.port), ("via", "via", "LLDP")])
     if depth is not Depth.SUMMARY:
-        node.attributes += presence(told, neighbor)
+        node.attributes += tuple(presence(told, neighbor))
     said, unknown = known_to_lldpd(neighbor.org)
     port = port_of(neighbor)
     node.nodes += [chassis_of(neighbor, depth is Depth.SUMMARY), port]

@@ -3,7 +3,6 @@
 import json
 import re
 import unicodedata
-from collections import defaultdict
 from functools import lru_cache
 from typing import Any, Callable, Dict, Iterator, List, Optional, Sequence, Tuple
 
@@ -111,27 +110,35 @@ def unicode_of(text: str) -> str:
 def json_short(root: Node) -> str:
     """Returns JSON in which a single item is not in a list, and a node's name is its key.
 
-    It is written at once, with the indent that json.dumps has, which takes ten seconds for 24 MB.
+    It has the indent of json.dumps, which takes ten seconds for 24 MB.
     """
-    return enclosed("{}", [f"{quoted(root.key)}: {short_of(root, MARGIN)}"], LINE_FEED)
+    return enclosed("{}", [f'"{root.key}": {short_of(root, MARGIN)}'], LINE_FEED)
 
 
 def short_of(node: Node, margin: str) -> str:
+    """Returns a node in the short form. One that others hold is written once."""
+    return written_once(node, margin) if node.is_shared else written(node, margin)
+
+
+def written(node: Node, margin: str) -> str:
     """Returns a node in the short form. A node that has only a text is that text."""
     if is_text(node):
         return quoted(node.text or "")
-    groups: Dict[str, List[Node]] = defaultdict(list)
+    groups: Dict[str, List[Node]] = {}
     for one in node.nodes:
-        groups[one.key].append(one)
-    name = named(node, groups.get("name", []))
+        groups.setdefault(one.key, []).append(one)
+    name, told = attributes_of(node.attributes)
+    name = name_in(groups.get("name", ())) if name is None else name
     inner = margin if name is None else margin + INDENT
-    parts = [*attributes_of(tuple(node.attributes))]
-    parts += [f"{quoted_key(key)}: {short_of_all(group, inner + INDENT)}"
-              for key, group in groups.items() if key != "name" or name is None]
+    parts = [*told, *[f'"{key}": {short_of_all(group, inner + INDENT)}'
+                      for key, group in groups.items() if key != "name" or name is None]]
     if node.text is not None:
         parts.append(f'"value": {quoted(node.text)}')
-    told = enclosed("{}", parts, inner)
-    return told if name is None else enclosed("{}", [f"{quoted(name)}: {told}"], margin)
+    whole = enclosed("{}", parts, inner)
+    return whole if name is None else enclosed("{}", [f"{quoted(name)}: {whole}"], margin)
+
+
+written_once = lru_cache(512)(written)
 
 
 def short_of_all(nodes: Sequence[Node], margin: str) -> str:
@@ -142,21 +149,18 @@ def short_of_all(nodes: Sequence[Node], margin: str) -> str:
 
 
 @lru_cache(4096)
-def attributes_of(attributes: Tuple[Attribute, ...]) -> Sequence[str]:
-    """Returns each attribute but the name with its key. Many nodes have the same few."""
-    return [f"{quoted(key)}: {flag_of(key, value)}" for key, _, value in attributes
-            if key != "name"]
+def attributes_of(attributes: Tuple[Attribute, ...]) -> Tuple[Optional[str], Sequence[str]]:
+    """Returns the name, and the other attributes with their keys. Many nodes are alike."""
+    told = [f'"{key}": {flag_of(key, value)}' for key, _, value in attributes if key != "name"]
+    return next((value for key, _, value in attributes if key == "name"), None), told
 
 
 def is_text(node: Node) -> bool:
     return node.text is not None and not node.attributes and not node.nodes
 
 
-def named(node: Node, nodes: Sequence[Node]) -> Optional[str]:
-    """Returns the name that is the key of a node. `nodes` are the nodes in it with the key `name`."""
-    for key, _, value in node.attributes:
-        if key == "name":
-            return value
+def name_in(nodes: Sequence[Node]) -> Optional[str]:
+    """Returns the text of the only node of several with the key `name`."""
     return nodes[0].text if len(nodes) == 1 and is_text(nodes[0]) else None
 
 
@@ -168,12 +172,6 @@ def flag_of(key: str, value: str) -> str:
 
 def quoted(text: str) -> str:
     return IN_QUOTES(text if text.isascii() else unicode_of(text))
-
-
-@lru_cache(1024)
-def quoted_key(key: str) -> str:
-    """Returns a key in quotes. There are few, and each is written for each neighbor."""
-    return quoted(key)
 
 
 def enclosed(marks: str, parts: Sequence[str], margin: str) -> str:

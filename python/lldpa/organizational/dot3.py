@@ -98,8 +98,8 @@ class MacPhy(Tlv):
             if self.advertised & (half | full):
                 mode = Node("advertised", "Adv", [("type", "", name)])
                 if half != full:
-                    mode.attributes += [("hd", "HD", yes(bool(self.advertised & half))),
-                                        ("fd", "FD", yes(bool(self.advertised & full)))]
+                    mode.attributes += (("hd", "HD", yes(bool(self.advertised & half))),
+                                        ("fd", "FD", yes(bool(self.advertised & full))))
                 node.nodes.append(mode)
         node.add("current", "MAU oper type", mau_text(self.mau_type))
         return node

@@ -121,8 +121,14 @@ class Tlv(Fields):
     @classmethod
     def nodes(cls, said: Said) -> List[Node]:
         """Returns lldpcli's nodes of all TLVs of this class."""
-        nodes = (one.node() for one in said.all(cls))
-        return [node for node in nodes if node is not None]
+        return [node for node in map(node_of, said.all(cls)) if node is not None]
+
+
+@lru_cache(512)
+def node_of(tlv: Tlv) -> Optional[Node]:
+    """Returns lldpcli's node of a TLV, which neighbors share."""
+    node = tlv.node()
+    return node and node.shared()
 
 
 @dataclass(frozen=True)
@@ -155,7 +161,7 @@ class Said:
 
     def all(self, kind: Type[One]) -> Tuple[One, ...]:
         """Returns each TLV of a class: `all(VlanName)`."""
-        return tuple(tlv for tlv in self.tlvs if isinstance(tlv, kind))
+        return tuple([tlv for tlv in self.tlvs if isinstance(tlv, kind)])
 
 
 READERS: Dict[Tuple[str, int], Reader] = {}

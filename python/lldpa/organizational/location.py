@@ -94,7 +94,7 @@ class Coordinates(Location):
 
     def node(self) -> Node:
         node = location_node("Coordinates")
-        node.attributes.append(("geoid", "Geoid", LLDPCLI_DATUMS.get(self.datum, "unknown")))
+        node.attributes += (("geoid", "Geoid", LLDPCLI_DATUMS.get(self.datum, "unknown")),)
         latitude = fixed(self.latitude, DEGREES[1], self.latitude_resolution, DEGREES[0])
         longitude = fixed(self.longitude, DEGREES[1], self.longitude_resolution, DEGREES[0])
         altitude = fixed(self.altitude, ALTITUDE[1], self.altitude_resolution, ALTITUDE[0])

@@ -1,5 +1,6 @@
 """Reads a neighbor's organizationally specific TLVs, and converts them to rows and JSON."""
 
+from functools import lru_cache
 from typing import Dict, Iterable, List, Optional, Tuple
 
 from . import kinds
@@ -28,11 +29,12 @@ def said_by(org: Org) -> Said:
     for shown, tlv in read:
         if tlv is None or (type(tlv), tlv.part) in unclear:
             rest.append(shown)
-        elif tlv.is_repeated or tlv is first[type(tlv), tlv.part]:
+        elif tlv.is_repeated or first.pop((type(tlv), tlv.part), False):
             tlvs.append(tlv)
     return Said(tuple(tlvs), tuple(rest))
 
 
+@lru_cache(512)
 def read_shown(kind: str, digits: str) -> Optional[Tlv]:
     """Reads a TLV as it is shown: a kind such as `00120f.1`, and the octets in hexadecimal."""
     oui, _, subtype = kind.partition(".")

@@ -8,6 +8,7 @@ use crate::queries::{LineFault, Query};
 use crate::tables::{Lines, Tables, Writer};
 use crate::time::{processor_time, Moment, INEXACT};
 use lldpa::Show;
+use lldpa_people::connection::NO_PLACE;
 use std::sync::{Arc, Weak};
 use std::time::Duration;
 
@@ -53,12 +54,12 @@ impl Server {
         }
     }
 
-    /// Lets a client wait for the next change of a neighbor, unless many wait.
+    /// Lets a client wait for the next change of a neighbor, unless many watch.
     fn let_wait(&mut self, question: &Question) {
         let is_waiting =
             self.control.as_mut().map_or(false, |control| control.let_wait(question, self.changes));
         if !is_waiting {
-            self.reply(question, Answer::of("error: too many clients\n"));
+            self.reply(question, Answer::of(&format!("error: {NO_PLACE}\n")));
         }
     }
 

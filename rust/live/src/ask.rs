@@ -72,12 +72,13 @@ impl Answer {
     fn line(&mut self) -> Result<Vec<u8>> {
         loop {
             let rest = &self.octets[self.begin..];
-            if let Some(length) = rest.iter().position(|octet| *octet == b'\n') {
+            let end = rest.iter().position(|octet| *octet == b'\n');
+            if end.unwrap_or(rest.len()) > LONGEST_LINE {
+                return wrong("the answer has a line of more than 64 kB");
+            }
+            if let Some(length) = end {
                 self.begin += length + 1;
                 return Ok(rest[..length].to_vec());
-            }
-            if rest.len() > LONGEST_LINE {
-                return wrong("the answer has a line of more than 64 kB");
             }
             self.octets.drain(..std::mem::take(&mut self.begin));
             self.receive()?;
@@ -132,7 +133,8 @@ mod tests {
         let (long, much) = ([b'a'; 70_000], b"=200000\n".iter().chain(&[b'\n'; 120_000]).copied());
         let much: Vec<u8> = much.collect();
         type Lines<'a> = std::result::Result<&'a [&'a str], &'a str>;
-        let rows: [(&[u8], Lines<'_>); 9] = [
+        let ended = [&b"=1\n"[..], &long[..66_000], b"\n"].concat();
+        let rows: [(&[u8], Lines<'_>); 10] = [
             (b"=0\n", Ok(&[])),
             (b"=2\na\n\x1b\n", Ok(&["a", "\\x1b"])),
             (b"=1\na\nb\n", Ok(&["a"])),
@@ -141,6 +143,7 @@ mod tests {
             (b"=x\n", Err("another program answers, not lldpa-live")),
             (b"hello\n", Err("another program answers, not lldpa-live")),
             (&long, Err("the answer has a line of more than 64 kB")),
+            (&ended, Err("the answer has a line of more than 64 kB")),
             (&much, Err("the answer is over 512 MB")),
         ];
         for (octets, wanted) in rows {

@@ -85,6 +85,8 @@ pub struct Client {
     pub is_over: bool,
     /// The count of changes that the client knows, while it waits for another one.
     pub known: Option<u64>,
+    /// True once the client has waited: it keeps its place for the next time.
+    pub watches: bool,
 }
 
 impl Client {
@@ -99,6 +101,7 @@ impl Client {
             answered_at: now,
             is_over: false,
             known: None,
+            watches: false,
         }
     }
 

@@ -16,7 +16,7 @@ use std::time::Duration;
 
 const MOST_CLIENTS: usize = 64;
 const MOST_PREFERRED: usize = MOST_CLIENTS + 8; // with root and the socket's owner
-const MOST_WAITING: usize = 16; // clients that wait for a change
+const MOST_WATCHING: usize = 16; // of root and the socket's owner, and as many of others
 const IDLENESS: Duration = Duration::from_secs(60);
 const MOST_UNREAD: usize = 48 << 20; // octets of all unread answers together
 
@@ -126,15 +126,18 @@ impl Control {
         }
     }
 
-    /// Admits a client. If all places are taken, it replaces the client that has been idle longest;
-    /// if none has been idle for a minute, the new client is refused.
+    /// Admits a client. If all places are taken, it replaces the client that has been idle longest,
+    /// but one of root or the owner only if it is theirs too; if none has been idle for a minute, the
+    /// new client is refused.
     fn admit(&mut self, stream: UnixStream, now: Moment) {
         let mut client = Client::new(stream, now);
         let is_preferred = client.peer.is_preferred(&self.listening.path);
         let most = if is_preferred { MOST_PREFERRED } else { MOST_CLIENTS };
         if self.clients.iter().filter(|client| !client.is_over).count() >= most {
-            let is_idle =
-                |client: &Client| client.answer.is_empty() && now.since(client.active_at) >= IDLENESS;
+            let gives_way = |client: &Client| is_preferred || !client.peer.is_preferred(&self.listening.path);
+            let is_idle = |client: &Client| {
+                client.answer.is_empty() && now.since(client.active_at) >= IDLENESS && gives_way(client)
+            };
             let idle = (0..self.clients.len()).filter(|index| is_idle(&self.clients[*index]));
             match idle.min_by_key(|index| self.clients[*index].active_at) {
                 Some(longest) => drop(self.clients.remove(longest)),
@@ -166,11 +169,16 @@ impl Control {
         self.end_slowest();
     }
 
-    /// Lets a client wait until the count of changes is another one. False if too many wait.
+    /// Lets a client wait until the count of changes is another one. False if it has no place.
     pub fn let_wait(&mut self, question: &Question, count: u64) -> bool {
-        let is_able = self.clients.iter().filter(|client| client.known.is_some()).count() < MOST_WAITING;
-        self.clients[question.client].known = Some(count).filter(|_| is_able);
-        is_able
+        let is_preferred = |client: &Client| client.peer.is_preferred(&self.listening.path);
+        let of_ours = is_preferred(&self.clients[question.client]);
+        let watching = self.clients.iter().filter(|client| client.watches);
+        let taken = watching.filter(|client| is_preferred(client) == of_ours).count();
+        let client = &mut self.clients[question.client];
+        client.watches |= taken < MOST_WATCHING;
+        client.known = Some(count).filter(|_| client.watches);
+        client.watches
     }
 
     /// Answers the clients that wait for another count of changes than the one that they know.

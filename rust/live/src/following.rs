@@ -274,7 +274,7 @@ impl Live {
         let of_agent = |moment: Option<Moment>| moment.filter(|_| self.running.is_some());
         let is_refused = self.ports.all.iter().any(|port| port.is_refused());
         let deadlines = [
-            due,
+            due.filter(|due| !self.ports.may_keep_back(*due)),
             is_refused.then(|| now + SECOND),
             (self.is_cut || reads_at_once).then_some(now),
             self.next_look(),

@@ -255,6 +255,8 @@ mod tests {
     use super::*;
     use crate::options::AgentOptions;
     use crate::state::Saved;
+    use std::os::unix::io::OwnedFd;
+    use std::os::unix::net::UnixDatagram;
 
     #[test]
     fn no_port_is_read_while_the_log_is_behind() {
@@ -266,6 +268,35 @@ mod tests {
         live.await_files(now);
         assert_eq!(live.ports.paused_until, now + PAUSE);
         assert!(live.ports.all_rest_until(now, true) >= now + PAUSE);
+    }
+
+    #[test]
+    fn a_second_waits_for_a_port_that_rests() {
+        let words = ["--mac=02:00:00:00:00:01".to_string()];
+        let agent = AgentOptions::read(&words).expect("options");
+        let mut live =
+            Live::without_interfaces(Arguments { agent, ..Arguments::default() }, &["eth0", "eth1"]);
+        live.open(&Saved::default()).expect("an agent");
+        live.following.note_all(&live.links);
+        let (_theirs, ours) = UnixDatagram::pair().expect("two sockets");
+        live.ports.all[0].socket = Awaited::new(File::from(OwnedFd::from(ours)));
+        let now = Moment::now();
+        live.ports.all[1].reception.read_to = now;
+        let deadline = |live: &mut Live, read_to| {
+            live.ports.all[0].reception.read_to = read_to;
+            live.await_files(now);
+            live.deadline(now, Some(now))
+        };
+        let before = now - Duration::from_millis(1);
+        assert_eq!(deadline(&mut live, before), now, "it is read at once");
+        live.ports.share.count(Duration::from_secs(3600), now);
+        let rests_until = live.ports.all_rest_until(now, false);
+        assert!(rests_until > now);
+        assert_eq!(deadline(&mut live, before), rests_until);
+        live.ports.all[0].reception.failures = u32::MAX;
+        assert_eq!(deadline(&mut live, before), now, "no frame of a port that fails is waited for");
+        live.ports.all[0].reception.failures = 0;
+        assert_eq!(deadline(&mut live, now), now, "all frames before the second's end were read");
     }
 
     #[test]

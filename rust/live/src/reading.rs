@@ -138,6 +138,13 @@ impl Ports {
         self.share.rests_until(now, is_question).max(self.paused_until)
     }
 
+    /// True if frames from before this moment may wait at a port that is not read now. Until it is
+    /// read, the agent cannot be given a second that ended at this moment.
+    pub fn may_keep_back(&self, moment: Moment) -> bool {
+        let is_left = |port: &Port| port.is_able() && !port.socket.is_awaited();
+        self.all.iter().any(|port| is_left(port) && port.reception.read_to < moment)
+    }
+
     /// Returns the ports whose sockets are ready, the next one to be read first.
     fn ready(&self, found: &[RawFd]) -> VecDeque<usize> {
         let is_ready = |number: &usize| found.contains(&self.all[*number].socket.file.as_raw_fd());

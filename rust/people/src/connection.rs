@@ -18,6 +18,8 @@ const BETWEEN_LOOKS: Duration = Duration::from_millis(500);
 const WITHOUT_END: Duration = Duration::from_secs(1 << 30);
 const MOST_DIGITS: usize = 11; // of the number of lines
 const PIECE: usize = 64 << 10; // octets that are read at once
+/// Why a client may not wait for changes.
+pub const NO_PLACE: &str = "16 clients watch already";
 const REFUSAL: &str = "error: ";
 const MOST_PORTS: usize = 64;
 /// Questions that can be asked for one port after another.
@@ -90,7 +92,7 @@ impl Connection {
     }
 
     /// Waits until lldpa-live has counted other changes of neighbors than these, and returns how many
-    /// it has counted. Looks again soon if lldpa-live does not count them.
+    /// it has counted. Looks again soon if lldpa-live does not count them. Fails if too many watch.
     pub fn next_changes(&mut self, known: Option<String>) -> Result<Option<String>, Failure> {
         if known.is_some() {
             std::thread::sleep(BETWEEN_LOOKS); // so that many changes are told together
@@ -101,7 +103,7 @@ impl Connection {
         self.patience = patience;
         match answer {
             Ok(answer) => Ok(answer.text.trim_end().strip_prefix("live.changes=").map(String::from)),
-            Err(Failure::Refused(_)) => {
+            Err(Failure::Refused(text)) if text != NO_PLACE => {
                 std::thread::sleep(BETWEEN_LOOKS);
                 Ok(None)
             }
@@ -154,12 +156,13 @@ impl Connection {
     fn line(&mut self) -> Result<String, Failure> {
         loop {
             let rest = &self.octets[self.begin..];
-            if let Some(length) = rest.iter().position(|octet| *octet == b'\n') {
+            let end = rest.iter().position(|octet| *octet == b'\n');
+            if end.unwrap_or(rest.len()) > LONGEST_LINE {
+                return gone("lldpa-live answers with a line of more than 64 kB");
+            }
+            if let Some(length) = end {
                 self.begin += length + 1;
                 return Ok(plain(&rest[..length]));
-            }
-            if rest.len() > LONGEST_LINE {
-                return gone("lldpa-live answers with a line of more than 64 kB");
             }
             self.receive()?;
         }

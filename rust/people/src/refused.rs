@@ -40,8 +40,17 @@ fn is_placeholder(word: &str) -> bool {
     word.bytes().all(|octet| octet.is_ascii_uppercase())
 }
 
-/// Returns the forms of `configure` in the help.
-fn forms() -> Vec<Form> {
+thread_local! {
+    static FORMS: &'static [Form] = Box::leak(read_forms().into());
+}
+
+/// Returns the forms of `configure`, which a thread reads once: a file may have thousands of wrong lines.
+fn forms() -> &'static [Form] {
+    FORMS.with(|forms| *forms)
+}
+
+/// Reads the forms of `configure` in the help.
+fn read_forms() -> Vec<Form> {
     let mut forms: Vec<Form> = Vec::new();
     for line in HELP.split("\nExamples").next().unwrap_or(HELP).lines() {
         if let Some((words, said)) = line.strip_prefix("  ").and_then(|line| line.split_once("  ")) {
@@ -102,7 +111,7 @@ pub fn explained(line: &str, text: &str) -> String {
 
 /// Completes the shortened words of a command.
 pub fn in_full(words: &[String]) -> Vec<String> {
-    let (mut words, mut known) = (words.to_vec(), forms());
+    let (mut words, mut known) = (words.to_vec(), forms().iter().collect::<Vec<_>>());
     for place in 1..words.len() {
         let before = words[place - 1].clone();
         known.retain(|form| {
@@ -145,6 +154,16 @@ mod tests {
                 "unknown command",
                 ": off (rx-and-tx, rx-only, tx-only, disabled)",
             ),
+            (
+                "configure ports eth0 lldp status rx",
+                "unknown command",
+                ": rx (rx-and-tx, rx-only, tx-only, disabled)",
+            ),
+            (
+                "configure system description",
+                "unknown command",
+                ": a word is missing (up to 255 printable characters, in quotes if it has spaces)",
+            ),
             ("configure ports eth9 lldp status off", "no such port", ": eth9 (must be a port of this agent)"),
             (
                 "configure lldp",
@@ -167,9 +186,17 @@ mod tests {
             ("configure p eth0 l s d", "configure ports eth0 lldp status d"),
             ("configure sys h name", "configure system hostname name"),
             ("configure x y", "configure x y"),
+            ("configure l d 9", "configure lldp d 9"),
+            ("configure sys h T", "configure system hostname T"),
+            ("configure p eth0 \"\" s d", "configure ports eth0  s d"),
         ] {
             assert_eq!(in_full(&words_of(line)).join(" "), full);
         }
+    }
+
+    #[test]
+    fn the_help_is_read_once() {
+        assert!(std::ptr::eq(forms(), forms()));
     }
 
     #[test]
@@ -180,6 +207,7 @@ mod tests {
             ("\"\" x", &["", "x"]),
             ("a\"b \"c", &["a\"b", "c"]),
             ("\"a\"b", &["a", "b"]),
+            ("\"a b\" c \"d\"", &["a b", "c", "d"]),
         ] {
             assert_eq!(words_of(line), words, "{line}");
         }

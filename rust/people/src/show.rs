@@ -15,8 +15,17 @@ const CHASSIS_KINDS: [&str; 8] =
     ["component", "ifalias", "portcomp", "mac", "ip", "ifname", "local", "unhandled"];
 const PORT_KINDS: [&str; 8] =
     ["ifalias", "component", "mac", "ip", "ifname", "circuit", "local", "unhandled"];
-const SETTINGS: [&str; 7] =
-    ["tx-interval", "tx-hold", "ttl", "reinit-delay", "tx-fast-init", "tx-credit-max", "max-neighbors"];
+/// The keys of the agent's settings. The last one is how many ports there are.
+const SETTINGS: [&str; 8] = [
+    "tx-interval",
+    "tx-hold",
+    "ttl",
+    "reinit-delay",
+    "tx-fast-init",
+    "tx-credit-max",
+    "max-neighbors",
+    "ports",
+];
 const MOST_DIGITS: usize = 19;
 const LONGEST_NAME: usize = 15;
 
@@ -254,19 +263,16 @@ impl<'a> Reader<'a> {
             for (counter, (key, _)) in counters.iter_mut().zip(COUNTERS) {
                 *counter = self.number(&format!("lldp.{name}.{key}"))?;
             }
-            self.skip_counters(name);
+            self.skip(&format!("lldp.{name}."), &COUNTERS.map(|(key, _)| key), is_number);
             all.push((name, counters));
         }
         Ok(all)
     }
 
-    /// Skips further counters of a port: the agent is newer. No known one may follow.
-    fn skip_counters(&mut self, port: &str) {
-        let front = format!("lldp.{port}.");
-        while let Some((key, value)) = self.next().strip_prefix(&front).and_then(|rest| rest.split_once('='))
-        {
-            let is_known = COUNTERS.iter().any(|(known, _)| *known == key);
-            if is_known || !is_counter(key) || !is_number(value) {
+    /// Skips lines with other keys than the known ones: the agent is newer.
+    fn skip(&mut self, front: &str, known: &[&str], is_value: impl Fn(&str) -> bool) {
+        while let Some((key, value)) = self.next().strip_prefix(front).and_then(|rest| rest.split_once('=')) {
+            if known.contains(&key) || !is_key(key) || !is_value(value) {
                 return;
             }
             self.at += 1;
@@ -283,20 +289,24 @@ impl<'a> Reader<'a> {
     }
 
     fn configuration(&mut self) -> Read<Ordered<&'a str, &'a str>> {
+        let (mut count, mut statuses) = (0, Ordered::default());
         for key in SETTINGS {
-            self.number(&format!("configuration.{key}"))?;
+            count = self.number(&format!("configuration.{key}"))?;
+            self.skip("configuration.", &SETTINGS, |_| true);
         }
-        let begin = self.at + 1;
-        let count = self.number("configuration.ports")?;
-        let mut statuses = Ordered::default();
         while let Some(name) = self.port_of("configuration", "status") {
-            let status = self.text(&format!("configuration.{name}.status"))?;
+            if statuses.get(&name).is_some() {
+                break;
+            }
+            let front = format!("configuration.{name}.");
+            let status = self.text(&format!("{front}status"))?;
             if !STATUSES.contains(&status) {
                 return self.fault_before(&format!("one of {}", STATUSES.join(", ")));
             }
             *statuses.value(name) = status;
+            self.skip(&front, &["status"], |_| true);
         }
-        if (self.at - begin) as u128 != count || statuses.entries.len() as u128 != count {
+        if statuses.entries.len() as u128 != count {
             return self.fault(&format!("the status of {}, each once", counted(count, "port")));
         }
         Ok(statuses)
@@ -309,8 +319,8 @@ fn is_number(text: &str) -> bool {
         && (text == "0" || !text.starts_with('0'))
 }
 
-/// Returns whether a counter, perhaps of a newer agent, may have this key.
-fn is_counter(key: &str) -> bool {
+/// Returns whether a counter or a setting, perhaps of a newer agent, may have this key.
+fn is_key(key: &str) -> bool {
     key.starts_with(|first: char| first.is_ascii_lowercase())
         && key.bytes().all(|octet| octet.is_ascii_lowercase() || octet == b'-')
 }

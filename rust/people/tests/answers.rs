@@ -71,6 +71,26 @@ fn a_table_is_as_wide_as_the_terminal() {
 }
 
 #[test]
+fn the_widest_columns_are_cut_first() {
+    let said = named("chassis.name=a-long-name-of-a-switch", "port.ifname=swp1", &[]);
+    let answer = port("eth0", false, &[&said]);
+    for (width, lines) in [
+        (
+            45,
+            [
+                "PORT  NEIGHBOR                 ITS PORT  LEFT",
+                "eth0  a-long-name-of-a-switch  swp1      98 s",
+            ],
+        ),
+        (30, ["PORT  NEIGHBOR  ITS PORT  LEFT", "eth0  a-long-…  swp1      98 s"]),
+        (20, ["PO…  NE…  IT…  LE…", "et…  a-…  sw…  98…"]),
+    ] {
+        assert_eq!(table_of(&answer, width)[..2], lines, "{width}");
+    }
+    assert_eq!(table_of("", 5), ["no neighbors on no", "ports."]);
+}
+
+#[test]
 fn vlans_have_a_column_where_one_is_said() {
     let vlan = |name, vlan| named(name, "port.ifname=p", &[vlan]);
     let rows = [
@@ -105,6 +125,7 @@ fn what_stands_for_a_name_or_a_port() {
         (&["chassis.ip=fe80:0000:0000:0000:0000:0000:0000:0001", "port.ip=192.0.2.1"], "fe80::1  192.0.2.1"),
         (&["chassis.local=a", "port.mac=02:00:00:00:00:02", "port.descr="], "a  02:00:00:00:00:02"),
         (&["chassis.local=a", "port.local=7", "chassis.name="], "a  7"),
+        (&["chassis.local=fe80:0000::0001", "port.ifname=::0002"], "fe80:0000::0001  ::0002"),
         (&[MAC, "port.local=7", "chassis.name=\\xe4\\xba\\xac\\xe9\\x83\\xbd"], "京都  7"),
         (&[MAC, "port.local=7", "chassis.name=\\x1b[31m\\xe2\\x80\\xae"], "\\x1b[31m\\xe2\\x80\\xae  7"),
     ] {
@@ -164,6 +185,22 @@ fn full_ports_and_silent_ones_are_told() {
     let live = LiveLines::read(&["live.eth1.interface=awaited"]);
     let why = ["eth1: no such interface", "p2 is disabled"];
     assert_eq!(reasons(&show, &live, 80), why);
+    let live = LiveLines::read(&["live.eth0.interface=awaited", "live.eth1.interface=awaited"]);
+    let sending = settings.replace("p2.status=disabled", "p2.status=tx-only");
+    let why = ["eth0, eth1: no such interfaces", "p2 only sends"];
+    assert_eq!(reasons_of(&answer, &sending, &live), why);
+    let sending = sending.replace("eth1.status=disabled", "eth1.status=tx-only");
+    let live = LiveLines::read(&["live.eth0.link=down", "live.eth2.link=down"]);
+    assert_eq!(reasons_of(&answer, &sending, &live), ["eth0 has no link", "eth1, p2 only send"]);
+    let down = ["live.eth0.link=down", "live.eth1.link=down", "live.p2.link=down"];
+    let receiving = settings.replace("=disabled", "=rx-only");
+    let why = ["eth0, eth1, p2 have no link"];
+    assert_eq!(reasons_of(&answer, &receiving, &LiveLines::read(&down)), why);
+}
+
+fn reasons_of(answer: &str, settings: &str, live: &LiveLines<'_>) -> Vec<String> {
+    let lines: Vec<&str> = answer.lines().chain(settings.lines()).collect();
+    reasons(&Show::read(lines).expect("two answers"), live, 80)
 }
 
 #[test]
@@ -263,7 +300,27 @@ fn metrics_have_labels_and_headings() {
         assert!(told.lines().any(|one| one == line), "{line}\n{told}");
     }
     assert_eq!(up(false).lines().last(), Some("lldpa_up 0"));
-    assert!(metrics(&show, &LiveLines::read(&["live.began=now"])).is_err());
+    for line in ["live.began=now", "live.settings-refused=x", "live.eth0.unsent=-1"] {
+        assert!(metrics(&show, &LiveLines::read(&[line])).is_err(), "{line}");
+    }
+}
+
+#[test]
+fn each_metric_has_one_heading_with_its_type() {
+    let neighbors = [&named("chassis.name=a", "port.ifname=p1", &[])[..], &[MAC, "port.ifname=p2"]];
+    let answers = port("eth0", false, &neighbors) + &port("eth1", false, &[]);
+    let counters = ["eth0", "eth1"].map(|port| COUNTERS.map(|(key, _)| format!("lldp.{port}.{key}=1\n")));
+    let text = answers + &counters.concat().concat();
+    let show = Show::read(text.lines().collect()).expect("two answers");
+    let live = LiveLines::read(&["live.log-lines-lost=1", "live.settings-refused=0", "live.eth0.unsent=1"]);
+    let told = metrics(&show, &live).expect("numbers");
+    let types: Vec<&str> = told.lines().filter_map(|line| line.strip_prefix("# TYPE ")).collect();
+    for told in &types {
+        let (name, kind) = told.split_once(' ').expect(told);
+        assert_eq!(kind, if name.ends_with("_total") { "counter" } else { "gauge" }, "{name}");
+        assert_eq!(types.iter().filter(|other| *other == told).count(), 1, "{name}");
+    }
+    assert_eq!(types.len(), 17, "{types:?}");
 }
 
 #[test]
@@ -300,5 +357,41 @@ fn counters_of_a_newer_agent_are_skipped() {
         let lines = known.iter().map(String::as_str).chain([further]).collect();
         let read = Show::read(lines).map(|show| show.counters);
         assert_eq!(read.ok(), is_read.then_some(vec![("eth0", [7; 9])]), "{further}");
+    }
+}
+
+#[test]
+fn settings_of_a_newer_agent_are_skipped() {
+    let text = format!(
+        "{SETTINGS}configuration.eth0.status=rx-only\nconfiguration.ports.status=disabled\n\
+        configuration.p2.status=tx-only\n"
+    );
+    let known: Vec<&str> = text.lines().collect();
+    let statuses = [("eth0", "rx-only"), ("ports", "disabled"), ("p2", "tx-only")];
+    let (of_agent, of_second_port, nowhere) = (1..=8, 10..=10, 0..=0); // after how many lines it is read
+    for (further, places) in [
+        ("configuration.further=3", &of_agent),
+        ("configuration.place=second floor = 2", &of_agent),
+        ("configuration.status=", &of_agent),
+        ("configuration.ports.further=3", &of_second_port),
+        ("configuration.ports.tx-hold=x", &of_second_port),
+        ("configuration.ports.status=disabled", &nowhere),
+        ("configuration.ports.further.more=3", &nowhere),
+        ("configuration.ports.=3", &nowhere),
+        ("configuration.Further=3", &nowhere),
+        ("configuration.further", &nowhere),
+        ("configuration.=3", &nowhere),
+        ("configuration.tx-hold=4", &nowhere),
+        ("configuration.ports=3", &nowhere),
+        ("configuration.eth9.further=3", &nowhere),
+        ("configuration.eth9.status=disabled", &nowhere),
+        ("local-chassis.further=3", &nowhere),
+    ] {
+        for place in 0..=known.len() {
+            let lines = [&known[..place], &[further], &known[place..]].concat();
+            let read = Show::read(lines).ok().map(|show| show.statuses.expect("settings").entries);
+            let wanted = (place > 0 && places.contains(&place)).then(|| statuses.to_vec());
+            assert_eq!(read, wanted, "{further} after {place} lines");
+        }
     }
 }

@@ -37,6 +37,7 @@ fn told(connection: &mut Connection, line: &str) -> Result<Vec<String>, String> 
 #[test]
 fn answers_are_read_line_by_line() {
     let long = [b"=1\n".to_vec(), vec![b'a'; 70_000]].concat();
+    let ended = [b"=1\n".to_vec(), vec![b'a'; 66_000], b"\n".to_vec()].concat();
     for (octets, wanted) in [
         (&b"=0\n"[..], Ok(&[][..])),
         (b"=2\na\n\x1b\xff\n", Ok(&["a", "\\x1b\\xff"])),
@@ -48,6 +49,7 @@ fn answers_are_read_line_by_line() {
         (b"=+1\n", Err("Gone(\"not an answer of lldpa-live: '=+1'\")")),
         (b"=999999999999\n", Err("Gone(\"not an answer of lldpa-live: '=999999999999'\")")),
         (&long, Err("Gone(\"lldpa-live answers with a line of more than 64 kB\")")),
+        (&ended, Err("Gone(\"lldpa-live answers with a line of more than 64 kB\")")),
     ] {
         let octets = octets.to_vec();
         let mut connection = served(move |_| octets.clone(), PATIENCE);

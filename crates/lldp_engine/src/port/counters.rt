@@ -5,7 +5,9 @@ ghost use Rattle.lldp_engine.specs.Code.Counting.{with_received, with_refused, w
 use lldp_table::Learned;
 use lldp_transmit::Mark;
 
-/// The counters of a port, each modulo 2^32. Nothing ever resets them.
+/// The counters of a port, each modulo 2^32. Nothing ever resets them. C reads this struct, as
+/// `lldpa_statistics_told`, so it has these fields in this order within 1.x.
+#[repr(C)]
 #[derive(Clone, Copy, Debug, PartialEq, Eq, Drop)]
 pub struct Counters {
     /// Ordinary frames sent.

@@ -58,12 +58,20 @@ only_unknown : (kinds : List ErrorKind) → kinds ≡ UnknownArgument ∷ [] →
 only_unknown kinds e (inl among) = grind (arith, common_steps)
 only_unknown kinds e (inr among) = grind (arith, common_steps)
 
+-- no other fault is among the faults of these words
+only_of : (kind one : ErrorKind) (kinds : List ErrorKind) → kinds ≡ one ∷ [] → IsAmong kind kinds → kind ≡ one
+only_of kind one kinds e among = grind (arith, common_steps)
+
 pub sorts_words : (roles : Bor (List (Bor Text))) → SortsWords roles
 unfolding clap_on_literals
 sorts_words roles =
     record {
       help = λ named. inl (record { roles = roles; named = named; among = inl refl });
       help_alone = λ rows h. some_fault DisplayHelp _ _ refl h.taken;
+      help_right = λ h. h.2 (only_of h.0 DisplayHelp _ refl h.1.among);
+      version = λ named. inr (record { roles = roles; named = named; among = inl refl });
+      version_alone = λ rows h. some_fault DisplayVersion _ _ refl h.taken;
+      version_right = λ h. h.3 (only_of h.0 DisplayVersion _ refl h.1.among);
       wrong = λ named. (UnknownArgument, record { roles = roles; named = named; among = inl refl }, (λ e. cc), (λ e. cc));
       wrong_alone = λ rows h. some_fault UnknownArgument _ _ refl h.taken;
       no_help = λ h. elim h [ inl a ↦ only_unknown _ refl (inl a.among) | inr b ↦ only_unknown _ refl (inr b.among) ];

@@ -1,12 +1,15 @@
--- If serving ends without a fault, all requested connections were served.
-use Rattle.std.proofs.Common.{◌≡◌, ℕ, suc, List, [], ◌∷◌, length, Option, Ok, Err, refl, sym, ap, ◌∙◌, inl, inr, subst}
-use Rattle.std.specs.Prelude.{is_err, ◌==◌}
+-- If serving ends without a fault, all requested connections were served. A failed bind.
+use Rattle.std.proofs.Common.{◌≡◌, ℕ, ◌+◌, suc, List, [], ◌∷◌, ◌++◌, length, Option, Some, Result, Ok, Err, refl, sym, ap, ◌∙◌, inl, inr, subst, arith}
+use Rattle.std.specs.Prelude.{is_err, unwrap_or, ◌==◌}
 use Rattle.std.specs.List.{filter}
 use Rattle.std.proofs.lemmas.Bool.{cases_Bool, eqb-true}
+use Rattle.std.proofs.lemmas.List.{length-append}
 use Rattle.lldp_engine.specs.AgentState.{AgentState}
 use Rattle.lldp_program.specs.declared.arguments.Listening.{Listening}
-use Rattle.lldp_program.specs.Devices.Acceptors.{Call, accepted, bound, ran, Visit, logged}
-use Rattle.lldp_program.specs.Serving.{HasAsked, HasListened, results_of, calls_of, this_host}
+use Rattle.lldp_program.specs.Devices.Acceptors.{Call, accepted, bound, ran, unbound, Visit, logged}
+use Rattle.lldp_program.specs.Serving.{HasAsked, HasListened, results_of, calls_of, calls_with, this_host}
+use Rattle.lldp_program.specs.declared.device.DeviceFault.{DeviceFault}
+use Rattle.lldp_program.specs.declared.device.DeviceFault.TheVariants.{Failed}
 use Rattle.lldp_program.specs.Laws.Served.{AreServed, ServesAll, asked_in_turn, faulty_among}
 use Rattle.lldp_program.proofs.Serving.{faults_counted}
 
@@ -41,10 +44,25 @@ module _ {C : Type 0} where
     | inr some ↦ let bad = rw some at ended in cc
   ]
   listened to_come taken old new listening before after (inl (Err fault, asked, ended)) = cc
-  listened to_come taken old new listening before after (inr (unbound, same, bad)) = cc
+  listened to_come taken old new listening before after (inr (asked, same, bad)) = cc
+
+  -- a list is not a shorter list, and a bind that worked is none that failed
+  not_unbound : (calls earlier : List (Call C)) (address : List ℕ) (port : ℕ) → unbound address port ∷ earlier ≡ calls ++ bound address port ∷ earlier → ⊥
+  not_unbound [] earlier address port e = cc
+  not_unbound (call ∷ calls) earlier address port e =
+      let lengths : suc (length earlier) ≡ suc (length calls + suc (length earlier)) =
+      ap (λ (all : List (Call C)). length all) e ∙ ap (λ (n : ℕ). suc n) (length-append calls (bound address port ∷ earlier)) in
+      grind (arith)
+
+  failed : (to_come taken : C → Option (List ℕ)) (before after : AgentState) (earlier : List (Call C)) (listening : Listening) (result : Result (Unit {0}) DeviceFault)
+      → HasListened to_come taken (Some earlier) (Some (unbound this_host listening.port ∷ earlier)) listening before after result → (after ≡ before) × (result ≡ Err Failed)
+  failed to_come taken before after earlier listening result (inl (served, asked, ended)) =
+      absurd (not_unbound (calls_with asked.visits served) earlier this_host listening.port (ap (λ (calls : Option (List (Call C))). unwrap_or calls []) asked.asked))
+  failed to_come taken before after earlier listening result (inr (asked, same, bad)) = (same, bad)
 
 pub serves_all : {C : Type 0} → (to_come taken : C → Option (List ℕ)) (old new : Option (List (Call C))) (before after : AgentState) → ServesAll to_come taken old new before after
 serves_all to_come taken old new before after = record {
   counted = λ connections faulty h. served to_come taken old new connections faulty before after h;
   listened = λ listening h. listened to_come taken old new listening before after h;
+  failed = λ earlier listening result h. failed to_come taken before after earlier listening result h;
 }

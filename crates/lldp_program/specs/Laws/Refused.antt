@@ -34,11 +34,15 @@ pub record GoesOn (past : Past) (agent : AgentState) : Type 0 where
   pub same : Stands past agent → Promised past agent → KeepsOn past agent
   pub later : (event : Event) → KeepsOn (with_event past event) agent → KeepsOn past agent
 
--- `lldpa --help` asks for help, and `lldpa --quiet eth0` is wrong. Neither is parsed, and the
--- second asks for nothing else.
+-- `lldpa --help` and `lldpa --version` ask for help, and are not wrong. `lldpa --quiet eth0` is
+-- wrong, and asks for no help. None of them is parsed.
 pub record SortsWords (roles : Bor (List (Bor Text))) : Type 0 where
   pub help : AreRoles roles → AskForHelp (codes "lldpa" ∷ codes "--help" ∷ [])
   pub help_alone : (rows : List Row) → IsParse (codes "lldpa" ∷ codes "--help" ∷ []) rows → ⊥
+  pub help_right : AreWrong (codes "lldpa" ∷ codes "--help" ∷ []) → ⊥
+  pub version : AreRoles roles → AskForHelp (codes "lldpa" ∷ codes "--version" ∷ [])
+  pub version_alone : (rows : List Row) → IsParse (codes "lldpa" ∷ codes "--version" ∷ []) rows → ⊥
+  pub version_right : AreWrong (codes "lldpa" ∷ codes "--version" ∷ []) → ⊥
   pub wrong : AreRoles roles → AreWrong (codes "lldpa" ∷ codes "--quiet" ∷ codes "eth0" ∷ [])
   pub wrong_alone : (rows : List Row) → IsParse (codes "lldpa" ∷ codes "--quiet" ∷ codes "eth0" ∷ []) rows → ⊥
   pub no_help : AskForHelp (codes "lldpa" ∷ codes "--quiet" ∷ codes "eth0" ∷ []) → ⊥

@@ -1,9 +1,12 @@
--- If serving ends without a fault, all requested connections were served, at 127.0.0.1.
-use Rattle.std.specs.Prelude.{◌≡◌, ℕ, List, [], ◌∷◌, length, Option, Ok, is_err}
+-- If serving ends without a fault, all requested connections were served, at 127.0.0.1. If binding
+-- failed, the agent is as before.
+use Rattle.std.specs.Prelude.{◌≡◌, ℕ, List, [], ◌∷◌, length, Option, Some, Result, Ok, Err, is_err}
 use Rattle.std.specs.List.{filter, flat_map}
 use Rattle.lldp_engine.specs.AgentState.{AgentState}
 use Rattle.lldp_program.specs.declared.arguments.Listening.{Listening}
-use Rattle.lldp_program.specs.Devices.Acceptors.{Call, accepted, bound, ran, Visit, logged}
+use Rattle.lldp_program.specs.declared.device.DeviceFault.{DeviceFault}
+use Rattle.lldp_program.specs.declared.device.DeviceFault.TheVariants.{Failed}
+use Rattle.lldp_program.specs.Devices.Acceptors.{Call, accepted, bound, ran, unbound, Visit, logged}
 use Rattle.lldp_program.specs.Serving.{HasAsked, HasListened}
 
 -- the calls if each connection was accepted and its trace was then run, newest call first
@@ -23,10 +26,14 @@ pub record AreServed {C : Type 0} (old new : Option (List (Call C))) (connection
   pub asked : new ≡ logged (asked_in_turn visits) old
 
 -- If serving returned Ok, all requested connections were served. If listening returned Ok, the port
--- of 127.0.0.1 was bound first, all connections were served there, and no run had a fault.
+-- of 127.0.0.1 was bound first, all connections were served there, and no run had a fault. If the
+-- only call is a failed bind, the agent is as before, and the answer is a fault.
 pub record ServesAll {C : Type 0} (to_come taken : C → Option (List ℕ)) (old new : Option (List (Call C)))
     (before after : AgentState) : Type 0 where
   pub counted : (connections faulty : ℕ) → HasAsked to_come taken old new connections before after (Ok faulty) →
       AreServed old new connections faulty
   pub listened : (listening : Listening) → HasListened to_come taken old new listening before after (Ok tt) →
       AreServed (logged (bound (127 ∷ 0 ∷ 0 ∷ 1 ∷ []) listening.port ∷ []) old) new listening.connections 0
+  pub failed : (earlier : List (Call C)) (listening : Listening) (result : Result (Unit {0}) DeviceFault) →
+      HasListened to_come taken (Some earlier) (Some (unbound (127 ∷ 0 ∷ 0 ∷ 1 ∷ []) listening.port ∷ earlier)) listening before after result →
+      (after ≡ before) × (result ≡ Err Failed)

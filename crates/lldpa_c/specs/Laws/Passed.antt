@@ -6,7 +6,7 @@ use Rattle.lldp_text.specs.declared.fault.CommandFault.{CommandFault}
 use Rattle.lldp_text.specs.Text.{ended}
 use Rattle.lldp_engine.specs.declared.command.Show.{Show}
 use Rattle.lldp_engine.specs.AgentState.{AgentState}
-use Rattle.lldp_engine.specs.Command.{Command, show}
+use Rattle.lldp_engine.specs.Command.{Command, show, set}
 use Rattle.lldp_engine.specs.Event as event
 use Rattle.lldp_engine.specs.Lines.{lines_of}
 use Rattle.lldp_engine.specs.Past.{Past, with_event}
@@ -16,7 +16,7 @@ use Rattle.lldpa_c.specs.declared.holder.LldpaAgent.{LldpaAgent}
 use Rattle.lldpa_c.specs.declared.marks.LldpaMarks.{LldpaMarks}
 use Rattle.lldpa_c.specs.declared.lines.LldpaLines.{LldpaLines}
 use Rattle.lldpa_c.specs.Agent.{Takes}
-use Rattle.lldpa_c.specs.Command.{CarriesOut, Obeys, show_numbered}
+use Rattle.lldpa_c.specs.Command.{Obeys, show_numbered}
 use Rattle.lldpa_c.specs.Filled.{Filled}
 use Rattle.lldpa_c.specs.Frame.{Keeps}
 use Rattle.lldpa_c.specs.Machine.{mark_number}
@@ -43,8 +43,8 @@ show_asked said = None
 pub record ArePassedOn : Type 0 where
   pub events : (before after : LldpaAgent) (event : event.Event) (told : LldpaMarks) → Takes before event after told →
       (after.is_open ≡ true) × IsPassedOn before.held.agent event after.held.agent told
-  pub settings : (agent after : AgentState) (setting : event.Setting) (told : LldpaMarks) → CarriesOut setting agent after told →
-      IsPassedOn agent (event.set setting) after told
+  pub settings : (agent after : AgentState) (setting : event.Setting) (number told : ℕ) (marks_before marks : LldpaMarks) →
+      Obeys (Ok (set setting)) agent number marks_before 0 after told marks → IsPassedOn agent (event.set setting) after marks
   pub shows : (said : Result Command CommandFault) (agent after : AgentState) (number told : ℕ) (marks_before marks : LldpaMarks) →
       Obeys said agent number marks_before 0 after told marks → show_numbered told ≡ show_asked said
 

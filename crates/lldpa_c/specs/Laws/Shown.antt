@@ -12,7 +12,6 @@ use Rattle.lldp_engine.specs.AgentState.{AgentState, PortState, IsPort, names_of
 use Rattle.lldp_engine.specs.Frames.{frame_of}
 use Rattle.lldp_engine.specs.Keys.{port_key, neighbor_key, number_lines}
 use Rattle.lldp_engine.specs.NeighborLines.{neighbor_lines, kept_line, count_lines, numbered_lines, port_lines}
-use Rattle.lldp_engine.specs.StatisticsLines.{counter_lines}
 use Rattle.lldp_engine.specs.ConfigurationLines.{configuration_lines}
 use Rattle.lldp_engine.specs.ChassisLines.{chassis_lines, management_lines}
 use Rattle.lldp_text.specs.Text.{escaped}
@@ -20,28 +19,14 @@ use Rattle.lldp_text.specs.Addresses.{mac_text}
 use Rattle.lldpa_c.specs.declared.bodies.LldpaCapabilities.{LldpaCapabilities}
 use Rattle.lldpa_c.specs.declared.bodies.LldpaManagement.{LldpaManagement}
 use Rattle.lldpa_c.specs.declared.held.LldpaHeld.{LldpaHeld}
-use Rattle.lldpa_c.specs.declared.settings.LldpaStatistics.{LldpaStatistics}
 use Rattle.lldpa_c.specs.declared.settings.LldpaConfiguration.{LldpaConfiguration}
 use Rattle.lldpa_c.specs.declared.chassis.LldpaChassis.{LldpaChassis}
 use Rattle.lldpa_c.specs.Bodies.{caps_told, address_told}
 use Rattle.lldpa_c.specs.Frame.{has_no_port, Writes}
 use Rattle.lldpa_c.specs.Held.{TellsNeighbor, neighbors_at}
-use Rattle.lldpa_c.specs.Settings.{statistics_of, TellsConfiguration}
+use Rattle.lldpa_c.specs.Settings.{TellsConfiguration}
 use Rattle.lldpa_c.specs.Chassis.{TellsChassis}
 use Rattle.lldpa_c.specs.Values.{tlv_value}
-
--- each counter, with the key of its line in `show statistics`
-abbrev pub counters_told : LldpaStatistics → List (List ℕ × ℕ)
-counters_told told =
-    (codes "sent=", told.sent)
-    ∷ (codes "shutdowns=", told.shutdowns)
-    ∷ (codes "received=", told.received)
-    ∷ (codes "discarded=", told.discarded)
-    ∷ (codes "errors=", told.errors)
-    ∷ (codes "tlvs-discarded=", told.tlvs_discarded)
-    ∷ (codes "unrecognized=", told.unrecognized)
-    ∷ (codes "ageouts=", told.ageouts)
-    ∷ (codes "drops=", told.drops) ∷ []
 
 -- the word of a status that C receives as a number
 abbrev pub word_numbered : ℕ → List ℕ
@@ -82,14 +67,11 @@ chassis_told told =
     ∷ (codes "local-chassis.caps=" ++ role_worded told.role)
     ∷ management_lines (if told.managed then Some told.management else None)
 
--- The numbers in structs equal those in the lines of `show statistics` and `show configuration`,
--- and in the line `expires=` of a neighbor. What is told of the host is in the lines of `show
--- chassis`. The neighbors with a port's number are those that `show
--- neighbors` has for the port, in the same order, and a frame has the port's name. A port number is
--- refused exactly if no port has it.
+-- The numbers in structs equal those in the lines of `show configuration`, and in the line `expires=`
+-- of a neighbor. What is told of the host is in the lines of `show chassis`. The neighbors with a
+-- port's number are those that `show neighbors` has for the port, in the same order, and a frame has
+-- the port's name. A port number is refused exactly if no port has it.
 pub record AreShown : Type 0 where
-  pub counters : (port : PortState) →
-      counter_lines port ≡ number_lines (port_key port.name) (counters_told (statistics_of port.counters))
   pub settings : (agent : AgentState) (told : LldpaConfiguration) → TellsConfiguration agent told →
       configuration_lines agent ≡ number_lines (codes "configuration.") (settings_told told) ++ statuses_told (names_of agent) (take told.ports told.status)
   pub others : (agent : AgentState) (told : LldpaConfiguration) (i : ℕ) → TellsConfiguration agent told → length agent.ports ≤ i → i < 64 →

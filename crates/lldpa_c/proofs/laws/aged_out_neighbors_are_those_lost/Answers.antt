@@ -1,4 +1,4 @@
-use Rattle.std.proofs.Common.{◌≡◌, ℕ, zero, suc, ◌+◌, ◌-◌, ◌<◌, Bool, true, false, not, cond, inl, inr, List, [], ◌∷◌, length, map, get_or, nat_lt, Option, Some, None, refl, sym, ap, subst, ◌∙◌, arith}
+use Rattle.std.proofs.Common.{◌≡◌, ℕ, zero, suc, ◌+◌, ◌-◌, ◌<◌, Bool, not, inl, inr, List, [], ◌∷◌, length, get_or, nat_lt, Option, Some, None, refl, sym, ap, subst, ◌∙◌, arith}
 use Rattle.std.specs.Prelude.{slice_get, sum_by}
 use Rattle.std.specs.List.{filter, filter_map, list_any}
 use Rattle.std.specs.Option.{option_map}
@@ -8,7 +8,7 @@ use Rattle.std.proofs.lemmas.Option.{slice_get-map}
 use Rattle.lldp_pdu.specs.Msap.{MsapId}
 use Rattle.lldp_table.specs.Contents.{Contents, is_named}
 use Rattle.lldp_table.specs.Events.{Neighbor, Call, tick as tick_call}
-use Rattle.lldp_table.specs.Standing.{Stands as TableStands, table_of}
+use Rattle.lldp_table.specs.Standing.{table_of}
 use Rattle.lldp_table.specs.Code.Steps.{aged, expires, after_tick}
 use Rattle.lldp_table.proofs.Live.Calls.{gone_order}
 use Rattle.lldp_table.proofs.Standing.Calls.{leaves}
@@ -26,7 +26,7 @@ use Rattle.lldp_engine.proofs.Readers.{port_reads, number_reads}
 use Rattle.lldpa_c.specs.Due.{timeless, timeless_port, timeless_neighbors}
 use Rattle.lldpa_c.specs.Held.{neighbors_on, neighbors_at, gone_on, gone_at}
 use Rattle.lldpa_c.specs.Laws.Gone.{lacks, lost_at, octets_of}
-use Rattle.lldpa_c.specs.Ticks.{Takes, LastDid, IsQuiet, ticked, with_ticks, held_by, neighbors_held}
+use Rattle.lldpa_c.specs.Ticks.{Takes, LastDid, ticked, with_ticks, held_by}
 use Rattle.lldpa_c.proofs.Dueness.{stands_ticked, quiet_ticks}
 use Rattle.lldpa_c.proofs.laws.aged_out_neighbors_are_those_lost.Goals as goal
 

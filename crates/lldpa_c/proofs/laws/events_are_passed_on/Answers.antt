@@ -61,7 +61,8 @@ shows (Ok (set setting)) agent after number told marks_before marks o = ap show_
 pub returns-clause-passed : goal.returns-clause-passed
 returns-clause-passed c = record {
   events = λ before after event told t. (t.open_after, passed _ _ event t.sent told t.steps t.told_are);
-  settings = λ agent after setting told t. passed agent after (event.set setting) t.sent told t.steps t.told_are;
+  settings = λ agent after setting number told marks_before marks o.
+      passed agent after (event.set setting) o.2.sent marks o.2.steps o.2.told_are;
   shows = shows;
 }
 

@@ -70,7 +70,6 @@ named agent i port e = get_or_from_slice_get (names_of agent) i port.name [] (sl
 
 pub returns-clause-shown : goal.returns-clause-shown
 returns-clause-shown c = record {
-  counters = λ port. refl;
   settings = λ agent told t. rw (t.interval, t.hold, t.ttl, t.reinit, t.fast_init, t.credit_max, t.max_neighbors, t.status, lines_are agent.ports, t.ports) refl;
   others = λ agent told i t le lt. others told.status told.ports i t.others (omega (arith, le, t.ports)) lt;
   chassis = λ agent told t. rw (t.mac, t.hostname, t.description, t.role, t.management, role_is agent.configuration.role) refl;
