@@ -4,6 +4,7 @@ import json
 import subprocess
 import sys
 import tempfile
+import time
 from pathlib import Path
 from typing import Any, Callable, Iterator, List, Mapping, NamedTuple, Sequence
 
@@ -12,6 +13,8 @@ from auditing import AUDIT, HEAD, WITH_AGENT
 from situations import napalm
 
 SECONDS, MEGABYTES = 30, 500
+# limits in seconds are for a machine that adds so many numbers in so many seconds
+NUMBERS, NUMBERS_SECONDS = 5_000_000, 0.25
 PLAN = f"{HEAD}leaf1,swp1,host01,eth0\n"
 SECTION = rack.pcapng({"": []})[:28]
 INTERFACE = rack.block(1, b"\1\0\0\0\0\0\0\0")
@@ -22,7 +25,7 @@ class Ran(NamedTuple):
 
     faults: Sequence[str]
     output: str
-    seconds: float
+    seconds: float  # at the usual speed
     megabytes: int
 
 
@@ -38,16 +41,26 @@ with open(sys.argv[1], "w") as file:
 """
 
 
+def slowness() -> float:
+    """Returns how many times as long as usual this machine takes now, at least 1."""
+    begin = time.process_time()
+    total = 0
+    for number in range(NUMBERS):
+        total += number
+    return max(1.0, (time.process_time() - begin) / NUMBERS_SECONDS)
+
+
 def measured(words: Sequence[str]) -> Ran:
     """Measures an audit. A wrong status, a traceback, much time or much memory is a fault."""
-    limited = ["prlimit", f"--cpu={2 * SECONDS}", sys.executable, AUDIT, *words]
+    before = slowness()
+    limited = ["prlimit", f"--cpu={int(2 * SECONDS * before)}", sys.executable, AUDIT, *words]
     with tempfile.NamedTemporaryFile("r") as told:
         output = subprocess.run(
             [sys.executable, "-c", MEASURE, told.name, *limited], stdin=subprocess.DEVNULL,
             stdout=subprocess.PIPE, stderr=subprocess.STDOUT, env=WITH_AGENT, check=False,
             text=True, errors="replace").stdout
         seconds, kilobytes, status = told.read().split()
-    used, megabytes = float(seconds), int(kilobytes) >> 10
+    used, megabytes = float(seconds) * 2 / (before + slowness()), int(kilobytes) >> 10
     faults = [f"status {status}"] if status not in ("0", "1", "2") else []
     faults += [f"{used:.0f} s"] if used > SECONDS else []
     faults += [f"{megabytes} MB"] if megabytes > MEGABYTES else []

@@ -22,7 +22,7 @@ from shapes import INTERFACE, SECTION
 from support import run_capture
 
 PCAP = rack.pcap([])
-# a limit far above what linear time takes on a slow machine, and far below quadratic time
+# a limit far above what linear time takes, and far below quadratic time
 SECONDS = 40
 TEN = 10  # seconds for any one file
 PATIENCE = 600  # seconds until an audit hangs
@@ -59,10 +59,11 @@ def captures() -> Iterator[Tuple[bytes, int, int]]:
 
 class Hostile(InAFolder):
     def within(self, body: Callable[[], object], result: object) -> None:
-        """Checks what a function returns, and that it takes less than SECONDS of processor time."""
-        begin = sum(os.times()[:4])
+        """Checks what a function returns, and that it takes less than SECONDS at usual speed."""
+        before, begin = shapes.slowness(), sum(os.times()[:4])
         self.assertEqual(body(), result)
-        self.assertLess(sum(os.times()[:4]) - begin, SECONDS)
+        used = sum(os.times()[:4]) - begin
+        self.assertLess(used * 2 / (before + shapes.slowness()), SECONDS)
 
 
 class Captures(Hostile):
