@@ -12,8 +12,9 @@ has a copy of the crates for each job, and what the checker said; the crates bel
 builds them.
 
 A mutant is `ill-typed`, `refused` by its crate, refused `above` by transcripts and examples, or
-`survived`. A refusal can mean only that a line of a proof no longer fits. mutants.txt beside this
-script keeps the verdicts, so that a later call goes on, here or elsewhere. A line is
+`survived`. The law that reaches the fewest definitions, this one among them, is checked first, and
+the others only if it stands. A refusal can mean only that a line of a proof no longer fits.
+mutants.txt beside this script keeps the verdicts, so that a later call goes on, here or elsewhere. A line is
 
     CRATE MODULE.NAME KEY VERDICT [HOLDER]
 
@@ -41,8 +42,8 @@ from spec_mutants import changes_of, importing
 
 TOP = pathlib.Path(__file__).resolve().parents[2]
 sys.path.append(str(TOP / "tools" / "gate"))
-from reach import (CRATES, EXAMPLES, NOT_DEFINITIONS, VERDICTS, Definition,  # noqa: E402
-                   Specification, verdicts, without_comments)
+from reach import (CRATES, EXAMPLES, NAME, NOT_DEFINITIONS, VERDICTS, Definition,  # noqa: E402
+                   Specification, imports_of, verdicts, without_comments)
 
 KINDS = ("ill-typed", "refused", "above", "timeout", "survived")
 KIT = pathlib.Path(subprocess.check_output(["rt", "doc"], text=True).strip()).parent
@@ -104,6 +105,19 @@ def said_by_laws_alone(crate: str) -> set[str]:
     return of_laws - of_others
 
 
+def reached_by_laws(crate: str) -> dict[str, set[Definition]]:
+    """Returns the definitions that each law of a crate reaches, by the path of its function."""
+    specification = Specification()
+    found: dict[str, set[Definition]] = {}
+    for path in [*CRATES.glob(f"{crate}/src/laws.rt"), *CRATES.glob(f"{crate}/src/laws/**/*.rt")]:
+        module = path.relative_to(CRATES / crate / "src").with_suffix("")
+        imports = imports_of(path.read_text())
+        for name, clauses in re.findall(r"(?ms)^pub fn (\w+)(.*?)^\{\}", path.read_text()):
+            roots = {imports[word] for word in NAME.findall(clauses) if word in imports}
+            found["::".join([*module.parts, name])] = specification.reached_from(roots)
+    return found
+
+
 def all_mutants() -> dict[str, Mutant]:
     specification = Specification()
     left_out = specification.unreached()
@@ -128,6 +142,11 @@ def built(crate: str) -> list[str]:
     return ["--extern", f"{crate}={CRATES}/{crate}/out/rlib/{crate}.rlib"]
 
 
+def all_of(crate: str) -> str:
+    """Returns the path of all functions of a crate that are checked."""
+    return "reads" if crate == "above" else "laws"
+
+
 class Room:
     """A copy of the crates, of which laws and theorems are checked, and no other function."""
 
@@ -136,7 +155,7 @@ class Room:
         shutil.rmtree(folder, ignore_errors=True)
         shutil.copytree(CRATES, folder, ignore=shutil.ignore_patterns("out", "must-fail"))
         self.make_above(folder / "above")
-        self.proved: set[str] = set()
+        self.reached: dict[str, dict[str, set[Definition]]] = {}
 
     def make_above(self, above: pathlib.Path) -> None:
         shutil.copytree(self.crates / "lldpa/proofs", above / "proofs")
@@ -150,11 +169,10 @@ class Room:
         for name, text in ABOVE.items():
             (above / name).write_text("".join(imports) * ("ReadAll" in name) + text)
 
-    def check(self, crate: str, seconds: int, kept: str = "out") -> tuple[int, str]:
-        """Checks a crate over those below it, and keeps in a folder what it checked."""
+    def check(self, crate: str, only: str, seconds: int, kept: str = "out") -> tuple[int, str]:
+        """Checks functions of a crate over those below, and keeps in a folder what it checked."""
         words = ["prlimit", f"--cpu={seconds}:{seconds + 9}", f"{KIT}/bin/rattle", "check",
-                 "src/lib.rt", "--crate-name", crate, "--jobs", "1",
-                 "--only", "reads" if crate == "above" else "laws",
+                 "src/lib.rt", "--crate-name", crate, "--jobs", "1", "--only", only,
                  "--incremental", f"{self.crates}/{crate}/{kept}", "-L", f"dependency={KIT}/rlibs",
                  "--logic-built", f"{KIT}/logic_built",
                  "--antt-project", f"{KIT}/rattle/logic/antt-project.json"]
@@ -174,20 +192,29 @@ class Room:
 
     def prove(self, crate: str) -> None:
         """Checks a crate without a change, so that later checks are short."""
-        status, said = self.check(crate, 3000)
+        status, said = self.check(crate, all_of(crate), 3000)
         if status:
             sys.exit(f"without a change, {crate} is not proved: {said[-2000:]}")
-        self.proved.add(crate)
+        self.reached[crate] = reached_by_laws(crate)
+
+    def nearest(self, mutant: Mutant, crate: str) -> list[str]:
+        """Returns the law that reaches the fewest definitions, if any reaches the mutant's."""
+        laws = self.reached[crate]
+        reaching = [law for law, reached in laws.items() if mutant.of in reached]
+        return sorted(reaching, key=lambda law: len(laws[law]))[:1]
 
     def verdict(self, mutant: Mutant, crate: str) -> tuple[str, str]:
         """Returns the verdict of a crate on a mutant, and what the checker said."""
-        if crate not in self.proved:
+        if crate not in self.reached:
             self.prove(crate)
         folder = self.crates / crate
         shutil.rmtree(folder / "tried", ignore_errors=True)
         shutil.copytree(folder / "out", folder / "tried")
         mutant.plant(self.crates)
-        status, said = self.check(crate, 300, "tried")
+        for only in [*self.nearest(mutant, crate), all_of(crate)]:
+            status, said = self.check(crate, only, 300, "tried")
+            if status not in (0, -signal.SIGXCPU):
+                break
         shutil.copy2(CRATES / mutant.of.file(), self.crates / mutant.of.file())
         if status in (0, -signal.SIGXCPU):
             return ("timeout" if status else "survived"), said
