@@ -1,16 +1,17 @@
 -- If serving ends without a fault, all requested connections were served. A failed bind.
-use Rattle.std.proofs.Common.{◌≡◌, ℕ, ◌+◌, suc, List, [], ◌∷◌, ◌++◌, length, Option, Some, Result, Ok, Err, refl, sym, ap, ◌∙◌, inl, inr, subst, arith}
-use Rattle.std.specs.Prelude.{is_err, unwrap_or, ◌==◌}
+use Rattle.std.proofs.Common.{◌≡◌, ℕ, ◌+◌, zero, suc, List, [], ◌∷◌, ◌++◌, length, Option, Some, Result, Ok, Err, refl, sym, ap, ◌∙◌, inl, inr, subst, arith}
+use Rattle.std.specs.Prelude.{is_err, unwrap_or, slice_get, ◌==◌}
 use Rattle.std.specs.List.{filter}
 use Rattle.std.proofs.lemmas.Bool.{cases_Bool, eqb-true}
 use Rattle.std.proofs.lemmas.List.{length-append}
 use Rattle.lldp_engine.specs.AgentState.{AgentState}
 use Rattle.lldp_program.specs.declared.arguments.Listening.{Listening}
 use Rattle.lldp_program.specs.Devices.Acceptors.{Call, accepted, bound, ran, unbound, Visit, logged}
-use Rattle.lldp_program.specs.Serving.{HasAsked, HasListened, results_of, calls_of, calls_with, this_host}
+use Rattle.lldp_program.specs.Serving.{AreRun, HasAsked, HasListened, results_of, calls_of, calls_with, this_host}
+use Rattle.lldp_program.specs.Trace.Runs.{HasRun}
 use Rattle.lldp_program.specs.declared.device.DeviceFault.{DeviceFault}
 use Rattle.lldp_program.specs.declared.device.DeviceFault.TheVariants.{Failed}
-use Rattle.lldp_program.specs.Laws.Served.{AreServed, ServesAll, asked_in_turn, faulty_among}
+use Rattle.lldp_program.specs.Laws.Served.{AreBetween, AreServed, ServesAll, asked_in_turn, faulty_among}
 use Rattle.lldp_program.proofs.Serving.{faults_counted}
 
 module _ {C : Type 0} where
@@ -29,18 +30,53 @@ module _ {C : Type 0} where
     | inr e ↦ rw e (faulty_results visits)
   ]
 
-  served : (to_come taken : C → Option (List ℕ)) (old new : Option (List (Call C))) (connections faulty : ℕ) (before after : AgentState) → HasAsked to_come taken old new connections before after (Ok faulty) → AreServed old new connections faulty
+  module _ (to_come taken : C → Option (List ℕ)) where
+    abbrev Ran : Visit C → AgentState → AgentState → Type 0
+    Ran visit from to = HasRun (to_come visit.connection) visit.left (taken visit.connection) visit.new from to visit.result
+
+    states_of : (visits : List (Visit C)) (before after : AgentState) → AreRun to_come taken visits before after → List AgentState
+    states_of [] before after run = after ∷ []
+    states_of (visit ∷ earlier) before after (between, run, has) = after ∷ states_of earlier before between run
+
+    are_between : (visits : List (Visit C)) (before after : AgentState) (run : AreRun to_come taken visits before after)
+        → AreBetween to_come taken visits before after (states_of visits before after run)
+    unfolding states_of
+    are_between [] before after run = record {
+      newest = refl;
+      oldest = ap Some run;
+      runs = λ i visit from to at one other. cc;
+    }
+    are_between (visit ∷ earlier) before after (between, run, has) = let rest = are_between earlier before between run in record {
+      newest = refl;
+      oldest = rest.oldest;
+      runs = go rest;
+    } where
+      go : AreBetween to_come taken earlier before between (states_of earlier before between run) → (i : ℕ) (other : Visit C) (from to : AgentState) → slice_get (visit ∷ earlier) i ≡ Some other
+          → slice_get (after ∷ states_of earlier before between run) (1 + i) ≡ Some from → slice_get (after ∷ states_of earlier before between run) i ≡ Some to
+          → Ran other from to
+      go rest zero other from to at one next =
+          let first = rest.newest in
+          let same : visit ≡ other = cc in
+          let from_here : between ≡ from = cc in
+          let to_here : after ≡ to = cc in
+          subst (λ (v : Visit C). Ran v from to) same (subst (λ (state : AgentState). Ran visit state to) from_here (subst (Ran visit between) to_here has))
+      go rest (suc i) other from to at one next = let again : suc (1 + i) ≡ 1 + suc i = omega arith in
+          rest.runs i other from to at (ap (slice_get (after ∷ states_of earlier before between run)) again ∙ one) next
+
+  served : (to_come taken : C → Option (List ℕ)) (old new : Option (List (Call C))) (connections faulty : ℕ) (before after : AgentState) → HasAsked to_come taken old new connections before after (Ok faulty) → AreServed to_come taken old new before after connections faulty
   served to_come taken old new connections faulty before after h = record {
     visits = h.visits;
+    states = states_of to_come taken h.visits before after h.runs;
+    run = are_between to_come taken h.visits before after h.runs;
     many = sym (as_many h.visits) ∙ h.told.0;
     faults = sym (h.told.1 ∙ faults_counted (results_of h.visits) ∙ faulty_results h.visits);
     asked = h.asked ∙ ap (λ (calls : List (Call C)). logged calls old) (in_turn h.visits);
   }
 
   listened : (to_come taken : C → Option (List ℕ)) (old new : Option (List (Call C))) (listening : Listening) (before after : AgentState) → HasListened to_come taken old new listening before after (Ok tt)
-      → AreServed (logged (bound this_host listening.port ∷ []) old) new listening.connections 0
+      → AreServed to_come taken (logged (bound this_host listening.port ∷ []) old) new before after listening.connections 0
   listened to_come taken old new listening before after (inl (Ok faulty, asked, ended)) = elim (cases_Bool (faulty == 0)) [
-    | inl none ↦ subst (AreServed (logged (bound this_host listening.port ∷ []) old) new listening.connections) (eqb-true faulty 0 none) (served to_come taken (logged (bound this_host listening.port ∷ []) old) new listening.connections faulty before after asked)
+    | inl none ↦ subst (AreServed to_come taken (logged (bound this_host listening.port ∷ []) old) new before after listening.connections) (eqb-true faulty 0 none) (served to_come taken (logged (bound this_host listening.port ∷ []) old) new listening.connections faulty before after asked)
     | inr some ↦ let bad = rw some at ended in cc
   ]
   listened to_come taken old new listening before after (inl (Err fault, asked, ended)) = cc
