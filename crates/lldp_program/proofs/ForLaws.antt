@@ -3,6 +3,7 @@ pub mod Sayings
 pub mod Lines
 pub mod OnlyLines
 pub mod Asked
+pub mod Stopped
 pub mod CommandLine
 pub mod Listening
 pub mod Served

@@ -1,9 +1,12 @@
 //! How a trace is cut into lines, what each line asks for, and what is written for frames.
-ghost use Rattle.std.specs.Prelude.{ℕ, List};
+ghost use Rattle.std.specs.Prelude.{ℕ, List, Option};
+ghost use Rattle.lldp_engine.specs.AgentState.{AgentState};
 ghost use Rattle.lldp_engine.specs.Past.{Past};
 ghost use Rattle.lldp_program.specs.Laws.Asked.{AsksItsItems, TellsEachPort, TellsItem};
 ghost use Rattle.lldp_program.specs.Laws.Lines.{CutsLines};
+ghost use Rattle.lldp_program.specs.Laws.Stopped.{StopsInOrder};
 ghost use Rattle.lldp_program.specs.Trace.Items.{Item};
+ghost use Rattle.lldp_program.specs.Trace.Runs.{Failed};
 
 /// An input is cut at each LF and at no other octet. Octets after the last LF are a line too.
 #[tactic(auto, using(crate::proofs::ForLaws::Lines::cuts))]
@@ -30,4 +33,12 @@ pub fn each_port_that_sends_is_told()
 #[tactic(auto, using(crate::proofs::ForLaws::Asked::tells_item))]
 pub fn items_are_told_by_their_lines()
     ensures { (past : Past) (item : Item) → TellsItem past item }
+{}
+
+/// If output fails, the first items were done, the one whose output failed as the last, and all of
+/// their text was written but the end of the last one's.
+#[tactic(auto, using(crate::proofs::ForLaws::Stopped::stops_in_order))]
+pub fn failed_runs_stop_in_order()
+    ensures { (past : Past) (items : List Item) (old new : Option (List ℕ)) (agent : AgentState) →
+        Failed past items old new agent → StopsInOrder past items old new agent }
 {}

@@ -68,9 +68,9 @@ chassis_told told =
     ∷ management_lines (if told.managed then Some told.management else None)
 
 -- The numbers in structs equal those in the lines of `show configuration`, and in the line `expires=`
--- of a neighbor. What is told of the host is in the lines of `show chassis`. The neighbors with a
--- port's number are those that `show neighbors` has for the port, in the same order, and a frame has
--- the port's name. A port number is refused exactly if no port has it.
+-- of a neighbor. What is told of the host is in the lines of `show chassis`, and zeros follow its
+-- texts. The neighbors with a port's number are those that `show neighbors` has for the port, in the
+-- same order, and a frame has the port's name. A port number is refused exactly if no port has it.
 pub record AreShown : Type 0 where
   pub settings : (agent : AgentState) (told : LldpaConfiguration) → TellsConfiguration agent told →
       configuration_lines agent ≡ number_lines (codes "configuration.") (settings_told told) ++ statuses_told (names_of agent) (take told.ports told.status)
@@ -78,6 +78,8 @@ pub record AreShown : Type 0 where
       slice_get told.status i ≡ Some 0
   pub chassis : (agent : AgentState) (told : LldpaChassis) → TellsChassis agent told →
       chassis_lines agent.configuration ≡ chassis_told told
+  pub behind : (agent : AgentState) (told : LldpaChassis) (i : ℕ) → TellsChassis agent told → i < 255 →
+      (told.hostname_length ≤ i → slice_get told.hostname i ≡ Some 0) × (told.description_length ≤ i → slice_get told.description i ≡ Some 0)
   pub left : (name room : List ℕ) (number : ℕ) (neighbor : Neighbor) (told : LldpaHeld) → TellsNeighbor neighbor room told →
       slice_get (neighbor_lines name number neighbor) 3 ≡ Some (neighbor_key name number ++ (codes "expires=" ++ decimal told.left))
   pub neighbors : (agent : AgentState) (i : ℕ) (port : PortState) → slice_get agent.ports i ≡ Some port →

@@ -48,7 +48,7 @@ role_is Station = refl
 role_is Bridge = refl
 role_is Router = refl
 
--- ---- the numbers behind the last port
+-- ---- the zeros behind the last port and behind a text
 
 behind : {X : Type 0} (xs : List X) (n i : ℕ) → slice_get (drop n xs) i ≡ slice_get xs (n + i)
 behind xs zero i = let at : i ≡ 0 + i = omega arith in ap (slice_get xs) at
@@ -58,10 +58,10 @@ behind (x ∷ xs) (suc n) i = let at : suc (n + i) ≡ suc n + i = omega arith i
 zeros : (n i : ℕ) → i < n → slice_get {X = ℕ} (replicate n 0) i ≡ Some 0
 zeros n i lt = let none : ℕ = 0 in slice_get-get_or (replicate n none) i none (omega (arith, lt, length-replicate n none)) ∙ ap Some (get_or-replicate n i none none lt)
 
-others : (status : List ℕ) (n i : ℕ) → drop n status ≡ drop n (replicate 64 0) → n ≤ i → i < 64 → slice_get status i ≡ Some 0
-others status n i e le lt =
+zero_behind : (size : ℕ) (xs : List ℕ) (n i : ℕ) → drop n xs ≡ drop n (replicate size 0) → n ≤ i → i < size → slice_get xs i ≡ Some 0
+zero_behind size xs n i e le lt =
     let at : n + (i - n) ≡ i = omega (arith, le) in
-    ap (slice_get status) (sym at) ∙ sym (behind status n (i - n)) ∙ ap (λ xs. slice_get xs (i - n)) e ∙ behind (replicate 64 0) n (i - n) ∙ ap (slice_get (replicate 64 0)) at ∙ zeros 64 i lt
+    ap (slice_get xs) (sym at) ∙ sym (behind xs n (i - n)) ∙ ap (λ ys. slice_get ys (i - n)) e ∙ behind (replicate size 0) n (i - n) ∙ ap (slice_get (replicate size 0)) at ∙ zeros size i lt
 
 -- ---- names
 
@@ -71,8 +71,10 @@ named agent i port e = get_or_from_slice_get (names_of agent) i port.name [] (sl
 pub returns-clause-shown : goal.returns-clause-shown
 returns-clause-shown c = record {
   settings = λ agent told t. rw (t.interval, t.hold, t.ttl, t.reinit, t.fast_init, t.credit_max, t.max_neighbors, t.status, lines_are agent.ports, t.ports) refl;
-  others = λ agent told i t le lt. others told.status told.ports i t.others (omega (arith, le, t.ports)) lt;
+  others = λ agent told i t le lt. zero_behind 64 told.status told.ports i t.others (omega (arith, le, t.ports)) lt;
   chassis = λ agent told t. rw (t.mac, t.hostname, t.description, t.role, t.management, role_is agent.configuration.role) refl;
+  behind = λ agent told i t lt.
+      (λ le. zero_behind 255 told.hostname told.hostname_length i t.behind_hostname le lt, λ le. zero_behind 255 told.description told.description_length i t.behind_description le lt);
   left = λ name room number neighbor told t. rw t.left refl;
   neighbors = λ agent i port e. rw e refl;
   count = λ agent i port e. rw e refl;
