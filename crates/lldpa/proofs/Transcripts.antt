@@ -999,6 +999,24 @@ spellings_of_commands : Shows (codes "eth" ∷ codes "local-chassis" ∷ codes "
 unfolding computed
 spellings_of_commands = record { options = record usual { receive_only = true; max_neighbors = 3; names = codes "eth0" ∷ codes "eth1" ∷ [] }; asked = words_of_spellings_of_commands; sound = refl; written = refl }
 
+status_told_again : Writes
+    (codes "lldpa" ∷ codes "eth0" ∷ [])
+    (codes "configure lldp tx-interval 5\n" ++ codes "tick\n"
+    ++ codes "configure ports eth0 lldp status tx-only\n" ++ codes "configure ports eth0 lldp status rx-and-tx\n"
+    ++ codes "tick 4\n" ++ codes "tick\n" ++ codes "configure ports eth0 lldp status rx-only\n"
+    ++ codes "configure ports eth0 lldp status disabled\n" ++ codes "configure ports eth0 lldp status rx-only\n"
+    ++ codes "configure ports eth0 lldp status rx-and-tx\n" ++ codes "tick\n" ++ codes "tick\n")
+    ([]
+    ∷ codes "tx eth0 0180c200000e02000000000188cc02070402000000000104050565746830060200150804657468300a096c6f63616c686f73740c056c6c6470610e04008000800000\n"
+    ∷ [] ∷ [] ∷ []
+    ∷ codes "tx eth0 0180c200000e02000000000188cc02070402000000000104050565746830060200150804657468300a096c6f63616c686f73740c056c6c6470610e04008000800000\n"
+    ∷ codes "tx eth0 0180c200000e02000000000188cc02070402000000000104050565746830060200000000\n" ∷ [] ∷ [] ∷ []
+    ∷ []
+    ∷ codes "tx eth0 0180c200000e02000000000188cc02070402000000000104050565746830060200150804657468300a096c6f63616c686f73740c056c6c6470610e04008000800000\n"
+    ∷ [])
+unfolding computed
+status_told_again = record { options = usual; asked = words_of_disabled_hears_nothing; sound = refl; written = refl }
+
 status_while_down : Writes
     (codes "lldpa" ∷ codes "eth0" ∷ [])
     (codes "tick\n" ++ codes "down eth0\n" ++ codes "configure ports eth0 lldp status disabled\n"
