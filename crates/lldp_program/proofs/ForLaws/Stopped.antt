@@ -22,7 +22,7 @@ stops_in_order past items old new agent h =
     let whole : items ≡ done ++ h.later = h.in_order ∙ sym (append_assoc h.before (h.item ∷ []) h.later) in
     let all : take (1 + length h.before) items ≡ done = ap (λ n. take n items) (sym many) ∙ ap (take (length done)) whole ∙ take-append_seam done h.later in
     let text : text_of_all past done ≡ text_of_all past h.before ++ text_of (after_all past h.before) h.item =
-        text_of_all-append past h.before (h.item ∷ []) ∙ ap (λ xs. text_of_all past h.before ++ xs) (append-nil (text_of (after_all past h.before) h.item)) in
+    text_of_all-append past h.before (h.item ∷ []) ∙ ap (λ xs. text_of_all past h.before ++ xs) (append-nil (text_of (after_all past h.before) h.item)) in
     let joined = ap (λ xs. text_of_all past h.before ++ xs) h.cut_off.joined ∙ sym (append_assoc (text_of_all past h.before) h.part h.cut_off.rest) in
     let lengths = length-append (text_of_all past h.before) h.part in
     record {
