@@ -14,7 +14,7 @@ builds them.
 A mutant is `ill-typed`, `refused` by its crate, refused `above` by transcripts and examples, or
 `survived`. The law that reaches the fewest definitions, this one among them, is checked first, and
 the others only if it stands. A refusal can mean only that a line of a proof no longer fits.
-mutants.txt beside this script keeps the verdicts, so that a later call goes on, here or elsewhere. A line is
+mutants.txt beside this script keeps the verdicts, so that a later call goes on. A line is
 
     CRATE MODULE.NAME KEY VERDICT [HOLDER]
 
@@ -138,7 +138,7 @@ def below(crate: str) -> list[str]:
 
 
 def built(crate: str) -> list[str]:
-    """Returns the arguments that give a crate as `rt lib` builds it. No mutant below it is tried."""
+    """Returns the arguments that give a crate below as `rt lib` builds it, without a mutant."""
     return ["--extern", f"{crate}={CRATES}/{crate}/out/rlib/{crate}.rlib"]
 
 
