@@ -148,3 +148,12 @@ pub fn constants_are_the_greatest_settings()
     ensures fast_init { (s : Settings) → AreSettings s → s.fast_init ≤ MOST_FAST }
     ensures reinit { (s : Settings) → AreSettings s → s.reinit ≤ MOST_REINIT }
 {}
+
+/// A port can be opened with txCreditMax, txFastInit and reinitDelay of 1 together, and 1 is the
+/// least value of each of them that the definitions accept.
+pub fn one_is_the_least_setting()
+    ensures allowed { (allowed : Bool) → AreSettings (settings 1 1 1 allowed) }
+    ensures credit { (s : Settings) → AreSettings s → 1 ≤ s.credit_max }
+    ensures fast_init { (s : Settings) → AreSettings s → 1 ≤ s.fast_init }
+    ensures reinit { (s : Settings) → AreSettings s → 1 ≤ s.reinit }
+{}
