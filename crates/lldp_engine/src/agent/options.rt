@@ -53,6 +53,7 @@ impl<'a> Options<'a> {
             && (1..=MOST_FAST).contains(&self.fast_init)
             && (1..=MOST_REINIT).contains(&self.reinit)
     }
+
     /// Checks the names and the hostname. Returns the fault of the first check that fails, if any.
     pub(crate) fn first_fault(&self) -> Option<OpenFault>
         ensures fault { result ≡ fault_of (options_of self.now) }
