@@ -80,10 +80,8 @@ fn number<'a>(
 ) -> Arg<'a>
     ensures { rule_of result ≡ number_rule name.entry.now greatest default.entry.now }
 {
-    valued(alloc, name, default)
-        .value_name("N")
-        .value_parser(value_parser!(u16).range(1..=i64::from(greatest)))
-        .help(help)
+    let numbers = value_parser!(u16).range(1..=i64::from(greatest));
+    text(alloc, name, "N", default, help).value_parser(numbers)
 }
 
 /// Declares an option whose value is a text.

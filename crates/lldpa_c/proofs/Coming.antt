@@ -1,9 +1,9 @@
 -- The lines that a buffer contains after a show was written to it.
-use Rattle.std.proofs.Common.{◌≡◌, ℕ, zero, suc, ◌+◌, ◌-◌, ◌%◌, ◌^◌, ◌<◌, ◌≤◌, Bool, true, false, List, [], ◌∷◌, ◌++◌, length, take, drop, Some, None, refl, sym, ap, subst, ◌∙◌, append-nil, append_assoc, arith}
+use Rattle.std.proofs.Common.{◌≡◌, ℕ, zero, suc, ◌+◌, ◌-◌, ◌%◌, ◌^◌, ◌<◌, ◌≤◌, Bool, true, false, List, [], ◌∷◌, ◌++◌, length, take, drop, None, refl, sym, ap, subst, ◌∙◌, append-nil, append_assoc, arith}
 use Rattle.std.specs.Prelude.{Option, max, slice_get, nat_le}
 use Rattle.std.specs.Option.{option_map}
 use Rattle.std.specs.List.{flat_map}
-use Rattle.std.proofs.lemmas.Bool.{leb-true, leb-false, lt-ltb, le-ltb}
+use Rattle.std.proofs.lemmas.Bool.{leb-true, leb-false, le-ltb}
 use Rattle.std.proofs.lemmas.List.{length-append, length-drop, drop-drop}
 use Rattle.std.proofs.lemmas.Option.{slice_get_past}
 use Rattle.std.proofs.Math.Nat.{mod-eq_of_lt}
@@ -150,11 +150,6 @@ is_full lines from size r c full =
     record { line = f.line; is = ap (slice_get lines) c.next ∙ sym (get_behind from c.count lines) ∙ f.is; over = f.over }
 
 -- ---- whether the first wanted line fits
-
-pub first_over : (lines : List (List ℕ)) (from next room used : ℕ) → IsFull lines next room used → next ≡ from → used ≡ 0 → is_over room (option_map ended (slice_get lines from)) ≡ true
-first_over lines from next room used f e z =
-    let is : slice_get lines from ≡ Some f.line = ap (slice_get lines) (sym e) ∙ f.is in
-    rw is (lt-ltb _ _ (omega (arith, f.over, z, length-append f.line (10 ∷ []))))
 
 pub none_over : (lines : List (List ℕ)) (from room : ℕ) → slice_get lines from ≡ None → is_over room (option_map ended (slice_get lines from)) ≡ false
 none_over lines from room e = rw e refl

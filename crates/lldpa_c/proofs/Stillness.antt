@@ -1,21 +1,16 @@
 -- A tick does not change a port without neighbors and timers, so no number of ticks does.
-use Rattle.std.proofs.Common.{◌≡◌, ℕ, zero, suc, ◌+◌, ◌-◌, ◌^◌, ◌<◌, Bool, true, false, List, [], ◌∷◌, length, take, Some, refl, sym, ap, subst, ◌∙◌, arith, mod-eq_of_lt, ◌≤◌}
+use Rattle.std.proofs.Common.{◌≡◌, ℕ, zero, suc, ◌+◌, ◌-◌, Bool, true, false, List, [], ◌∷◌, take, Some, refl, sym, ap, subst, ◌∙◌, arith, ◌≤◌}
 use Rattle.std.specs.Prelude.{slice_get}
-use Rattle.std.specs.List.{filter, filter_map, AllByRecursion}
+use Rattle.std.specs.List.{AllByRecursion}
 use Rattle.std.proofs.lemmas.Bool.Decides.{nat_tests}
-use Rattle.lldp_table.specs.Contents.{Contents}
-use Rattle.lldp_table.specs.Code.Steps.{aged, expires, after_tick}
 use Rattle.lldp_transmit.specs.declared.event.Mark.{Mark}
 use Rattle.lldp_transmit.specs.declared.event.Mark.TheVariants.{Quiet}
-use Rattle.lldp_transmit.specs.Code.Machine.{Machine, ticked as machine_ticked}
-use Rattle.lldp_engine.specs.declared.port.counters.Counters.{Counters}
-use Rattle.lldp_engine.specs.Counters.{wrapped}
+use Rattle.lldp_transmit.specs.Code.Machine.{Machine}
 use Rattle.lldp_engine.specs.AgentState.{AgentState, PortState}
 use Rattle.lldp_engine.specs.Event.{tick}
 use Rattle.lldp_engine.specs.Past.{with_event, sending}
 use Rattle.lldp_engine.specs.Standing.{Stands}
 use Rattle.lldp_engine.specs.Port.Event.{each_port, tick as port_tick}
-use Rattle.lldp_engine.specs.Code.Counting.{with_aged_out, with_mark}
 use Rattle.lldp_engine.specs.Code.Step.{ports_step, marks_step, agent_after, agent_marks}
 use Rattle.lldp_engine.proofs.Headline.Answered.{promised_step}
 use Rattle.lldp_engine.proofs.Standing.Carrying.{carries, marks_carry}
@@ -37,31 +32,6 @@ module _ (m : Machine) (credit : m.credit ≡ m.credit_max) (wait : m.wait ≡ 0
 
   pub still_machine : may_go m ≡ false → IsStillMachine m
   still_machine h = still_so m.waiting m.active m.allowed m.up h
-
--- ---- a port
-
-table_same : (t : Contents) → t.neighbors ≡ [] → t.gone ≡ [] → t.too_many_left ≡ 0 → after_tick t ≡ t
-table_same t e g z =
-    let same : filter_map aged t.neighbors ≡ t.neighbors = ap (filter_map aged) e ∙ sym e in
-    let none : t.too_many_left - 1 ≡ t.too_many_left = omega (arith, z) in
-    let left : filter expires t.neighbors ≡ t.gone = ap (filter expires) e ∙ sym g in
-    rw (same, left, none) refl
-
-counters_same : (c : Counters) (n : ℕ) → c.ageouts < 2 ^ 32 → n ≡ 0 → with_aged_out c n ≡ c
-counters_same c n l e =
-    let same : wrapped (c.ageouts + n) ≡ c.ageouts = ap wrapped (omega (arith, e)) ∙ mod-eq_of_lt l in
-    ap (λ (a : ℕ). record c { ageouts = a }) same
-
-same_port : (p : PortState) (table : Contents) (machine : Machine) (counters : Counters) → table ≡ p.table → machine ≡ p.machine → counters ≡ p.counters
-    → (let q : PortState = record p { table = table; machine = machine; counters = counters } in q) ≡ p
-same_port p table machine counters a b c = rw (a, b, c) refl
-
-pub still_port : (p : PortState) → p.table.neighbors ≡ [] → p.table.gone ≡ [] → p.table.too_many_left ≡ 0 → p.counters.ageouts < 2 ^ 32 → IsStillMachine p.machine → IsStill p
-still_port p e g z l m = λ n.
-    let table = table_same p.table e g z in
-    let gone : length p.table.neighbors - length (after_tick p.table).neighbors ≡ 0 = ap (λ (t : Contents). length p.table.neighbors - length t.neighbors) table ∙ omega arith in
-    let counters : with_mark (with_aged_out p.counters (length p.table.neighbors - length (after_tick p.table).neighbors)) (machine_ticked p.machine n).1 ≡ p.counters = rw (m n).1 (counters_same p.counters _ l gone) in
-    (same_port p _ _ _ table (m n).0 counters, (m n).1)
 
 -- ---- the ports of an agent
 

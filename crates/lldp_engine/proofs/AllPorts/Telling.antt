@@ -1,9 +1,8 @@
 -- What a frame tells an agent.
-use Rattle.std.proofs.Common.{◌≡◌, ℕ, zero, suc, ◌+◌, ◌<◌, true, List, [], ◌∷◌, length, get_or, Option, None, Some, refl, sym, ap, subst, ◌∙◌, arith}
+use Rattle.std.proofs.Common.{◌≡◌, ℕ, zero, suc, ◌+◌, true, List, [], ◌∷◌, Option, None, Some, refl, sym, ap, subst, ◌∙◌, arith}
 use Rattle.std.specs.Prelude.{◌==◌, ◌&&◌, slice_get}
 use Rattle.std.specs.Option.{option_map}
 use Rattle.std.proofs.lemmas.Bool.Decides.{nat_tests}
-use Rattle.std.proofs.lemmas.Option.{slice_get-get_or}
 use Rattle.lldp_pdu.specs.Frame.{lldpdu_of}
 use Rattle.lldp_engine.specs.Status.{receives}
 use Rattle.lldp_engine.specs.Event as agent
@@ -14,13 +13,9 @@ use Rattle.lldp_engine.specs.Port.Event.{PortEvent, frame, link, status, one_por
 use Rattle.lldp_engine.specs.Code.PortStep.{port_step}
 use Rattle.lldp_engine.specs.Code.Step.{ports_step, agent_after}
 use Rattle.lldp_engine.specs.Told.{Told, nothing, TellsFrame, Tells}
-use Rattle.lldp_engine.specs.Code.Telling.{told_at, ports_told, port_told, agent_told}
+use Rattle.lldp_engine.specs.Code.Telling.{told_at, port_told, agent_told}
 use Rattle.lldp_engine.proofs.OnePort.Telling.{tells_frame}
 use Rattle.lldp_engine.proofs.AllPorts.Sound.{AllSound}
-
--- what the port with this number is told
-pub own_told : (event : PortEvent) (number : ℕ) (ports : List PortState) (port : PortState) → number < length ports → port ≡ get_or ports number port → port_told event port nothing ≡ ports_told (one_port number event) ports
-own_told event number ports port l at = ap (told_at event) (ap Some at ∙ sym (slice_get-get_or ports number port l))
 
 own_step : (event : PortEvent) (n s k q : ℕ) (ports : List PortState) → q ≡ s + k → slice_get (ports_step (one_port q event) n s ports) k ≡ option_map (port_step event n) (slice_get ports k)
 own_step event n s k q [] e = refl

@@ -6,3 +6,9 @@ returns-in-Neighbors-clause-few g c = few_lines c.args.show.now c.args.self.now 
 
 pub returns-in-Statistics-clause-few : goal.returns-in-Statistics-clause-few
 returns-in-Statistics-clause-few g c = few_lines c.args.show.now c.args.self.now c.all_ports-ports.ensures.sound
+
+pub returns-in-Chassis-clause-few : goal.returns-in-Chassis-clause-few
+returns-in-Chassis-clause-few g c = few_lines c.args.show.now c.args.self.now c.all_ports-ports.ensures.sound
+
+pub returns-in-Configuration-clause-few : goal.returns-in-Configuration-clause-few
+returns-in-Configuration-clause-few g c = few_lines c.args.show.now c.args.self.now c.all_ports-ports.ensures.sound
