@@ -1,4 +1,4 @@
--- A tick does not change a port without neighbors and timers, so no number of ticks does.
+-- A tick does not change an agent whose ports are still, so no number of ticks does.
 use Rattle.std.proofs.Common.{◌≡◌, ℕ, zero, suc, ◌+◌, ◌-◌, Bool, true, false, List, [], ◌∷◌, take, Some, refl, sym, ap, subst, ◌∙◌, arith, ◌≤◌}
 use Rattle.std.specs.Prelude.{slice_get}
 use Rattle.std.specs.List.{AllByRecursion}

@@ -7,6 +7,7 @@ use Rattle.clap.specs.declared.builder.value_parser.ValueParser.{ValueParser}
 use Rattle.clap.specs.declared.builder.value_parser.ValueParser.TheVariants.{Signed}
 use Rattle.lldp_program.proofs.arguments.number.Goals as goal
 
+-- the parser of u16, narrowed to the numbers from 1 to n
 narrowed : (p q : ValueParser) (from to : ℤ) (n : ℕ) → p ≡ Signed (pos 0) (pos 65535) → from ≡ pos 1 → to ≡ pos n → n ≤ 65535 → NarrowsTo p (Some from) (Some to) q → q ≡ Signed (pos 1) (pos n)
 narrowed p q from to n is least most fits h = grind (arith, common_steps)
 
