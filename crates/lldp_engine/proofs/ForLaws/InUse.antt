@@ -37,21 +37,17 @@ if_other : {A : Type 0} (b : Bool) (r s : Result A CommandFault) → is_other r 
 if_other true r s h i = h
 if_other false r s h i = i
 
-place_other : {A : Type 0} (o : Option A) → is_other (or_fault o NoSuchPort) ≡ true
-place_other (Some a) = refl
-place_other None = refl
-
-status_other : {A : Type 0} (o : Option A) → is_other (or_fault o Unknown) ≡ true
-status_other (Some a) = refl
-status_other None = refl
+or_other : {A : Type 0} (o : Option A) (fault : CommandFault) → is_other {A = A} (Err fault) ≡ true → is_other (or_fault o fault) ≡ true
+or_other (Some a) fault h = refl
+or_other None fault h = h
 
 word_other : (names : List (List ℕ)) (form : Form) (w : List ℕ) → is_other (after_word names form w) ≡ true
 word_other names (complete command) w = refl
 word_other names (word expected next) w = if_other (bytes_eq w expected) (Ok next) (Err Unknown) refl refl
-word_other names (port next) w = made_other next (or_fault (place_of names w) NoSuchPort) (place_other (place_of names w))
+word_other names (port next) w = made_other next (or_fault (place_of names w) NoSuchPort) (or_other (place_of names w) NoSuchPort refl)
 word_other names (number least greatest next) w = made_other next (number_of w least greatest) (if_other (is_number w) _ (Err Number) (if_other _ (Ok _) (Err Range) refl refl) refl)
 word_other names (text next) w = if_other (is_text w) (Ok (next w)) (Err Text) refl refl
-word_other names (status next) w = made_other next (or_fault (status_of w) Unknown) (status_other (status_of w))
+word_other names (status next) w = made_other next (or_fault (status_of w) Unknown) (or_other (status_of w) Unknown refl)
 
 fault_other : (names : List (List ℕ)) (left : List Form) (w : List ℕ) → is_other {A = Command} (Err (first_fault names left w)) ≡ true
 fault_other names [] w = refl
@@ -79,11 +75,12 @@ words_other names (Err fault) words h = refl
 words_other names (Ok left) [] h = end_other left
 words_other names (Ok left) (w ∷ words) h = words_other names (going_on names left w) words (any_other (forms_left names left w) (first_fault names left w) (fault_other names left w))
 
+not_in_use : (r : Result Command CommandFault) → is_other r ≡ true → r ≡ Err InUse → ⊥
+not_in_use r other e = both_ways (is_other {A = Command} (Err InUse)) refl (subst (λ (s : Result Command CommandFault). is_other s ≡ true) e other)
+
 not_said : (agent : AgentState) (words : List (List ℕ)) → said_by agent words ≡ Err InUse → ⊥
-not_said agent words e =
-    both_ways (is_other {A = Command} (Err InUse)) refl
-    (subst (λ (r : Result Command CommandFault). is_other r ≡ true) e
-    (words_other (names_of agent) (Ok (forms agent.configuration.capacity)) words refl))
+not_said agent words =
+    not_in_use (said_by agent words) (words_other (names_of agent) (Ok (forms agent.configuration.capacity)) words refl)
 
 -- ## Neighbors that ports hold
 
@@ -114,14 +111,17 @@ limit_in_use : (agent : AgentState) (most : ℕ) (b : Bool) → fits agent.ports
 limit_in_use agent most true e h = cc
 limit_in_use agent most false e h = some_holds agent.ports most e
 
+command_in_use : (agent : AgentState) (command : Command) → unless_in_use agent.ports (Ok command) ≡ Err InUse → (most : ℕ) × (command ≡ set (limit most)) × HoldsMore agent most
+command_in_use agent (set (limit n)) h = (n, refl, limit_in_use agent n (fits agent.ports n) refl h)
+command_in_use agent command h = absurd (not_in_use (Ok command) refl h)
+
 said_in_use : (agent : AgentState) (words : List (List ℕ)) (said : Result Command CommandFault) → said_by agent words ≡ said → unless_in_use agent.ports said ≡ Err InUse
     → (most : ℕ) × (said_by agent words ≡ Ok (set (limit most))) × HoldsMore agent most
-said_in_use agent words (Ok (set (limit n))) e h = (n, e, limit_in_use agent n (fits agent.ports n) refl h)
-said_in_use agent words (Ok command) e h = cc
+said_in_use agent words (Ok command) e h = let found = command_in_use agent command h in (found.0, e ∙ ap Ok found.1, found.2)
 said_in_use agent words (Err fault) e h = absurd (not_said agent words (e ∙ h))
 
 given_in_use : (agent : AgentState) (line : List ℕ) (split : Option (List (List ℕ))) → words_of line ≡ split → (or_fault split Quote >>= command_said agent) ≡ Err InUse → WouldLimitBelow agent line
-given_in_use agent line None e h = cc
+given_in_use agent line None e h = absurd (not_in_use (Err Quote) refl h)
 given_in_use agent line (Some words) e h =
     let found = said_in_use agent words (said_by agent words) refl h in (words, found.0, e, found.1, found.2)
 

@@ -232,11 +232,6 @@ module _ {capacity : ℕ} {slots : List Stored} {left : ℕ → ℕ} {order : Li
     laid_forgotten i =
         laid_out (IsOrder-forgotten (length slots) order at x (omega (arith, fits)) i h.indices) h.written (omega (arith, h.fits)) (omega (arith, h.held)) after_forgotten (sound_forgotten shown name h.sound)
 
-  -- ### No neighbor aged out
-
-  pub laid_cleared : IsLaidOut capacity slots left order used 0 limit too_many
-  laid_cleared = laid_out h.indices h.written (omega (arith, h.fits)) h.held refl (sound_cleared shown h.sound)
-
   -- ### `purge`
 
   pub laid_purged : (left' : ℕ → ℕ) → IsLaidOut capacity slots left' order 0 0 limit 0

@@ -16,7 +16,7 @@ use Rattle.lldp_table.specs.declared.learned.Learned.TheVariants.{New, Refreshed
 use Rattle.lldp_table.proofs.Slots.Places.{all-weaker, all-take, map-agree, one-out, not_before, none-with, distinct-take}
 use Rattle.lldp_table.proofs.Ageing.Steps.{running-enter, running-leave}
 use Rattle.lldp_table.proofs.Ageing.Timed.{all_queued, queued_enter, holds_it, queued_leave, enter_here, enter_others, out_of, leave_others, again_others}
-use Rattle.lldp_table.proofs.Slots.Layout.{IsStored, fresh_in, fits, gone_within, laid_cleared, entry_at, HasFree, has_free, after_refreshed, laid_refreshed, after_new, laid_new, moved_out, after_forgotten, laid_forgotten, laid_purged, laid_open}
+use Rattle.lldp_table.proofs.Slots.Layout.{IsStored, fresh_in, fits, gone_within, entry_at, HasFree, has_free, after_refreshed, laid_refreshed, after_new, laid_new, moved_out, after_forgotten, laid_forgotten, laid_purged, laid_open}
 use Rattle.std.proofs.lemmas.Grind.{common_steps}
 
 timed_none : IsTimed [] []
@@ -178,11 +178,6 @@ module _ {capacity : ℕ} {slots : List Stored} {queue : List Due} {order : List
       let here : get_or read (used + i) 0 ≡ get_or (drop used order) i 0 = ap (λ is. get_or is (used + i) 0) r ∙ sym (get_or-drop used order i 0) in
       let there : get_or slots (get_or read (used + i) 0) slot ≡ get_or slots (get_or (drop used order) i 0) blank = ap (λ n. get_or slots n slot) here ∙ get_or_default slots (get_or (drop used order) i 0) slot blank (gone_within h.laid i l) in
       ap (λ (y : Stored). neighbor_of y 1) (e ∙ there)
-
-  -- ## A call that changes no neighbor
-
-  pub cleared_table : IsTable capacity slots queue order used 0 limit too_many
-  cleared_table = record { laid = laid_cleared h.laid; timed = h.timed }
 
   -- ## A purge
 

@@ -2,7 +2,7 @@
 use Rattle.std.proofs.Common.{◌≡◌, ℕ, ◌<◌, ◌≤◌, List, [], ◌∷◌, refl, ap, sym, subst, is_some, arith}
 use Rattle.std.specs.List.{list_any}
 use Rattle.lldp_pdu.specs.Msap.{MsapId}
-use Rattle.lldp_table.specs.Events.{Call, learn, forget, purge, tick, set_limit, TableEvent, learned, live, neighbors, gone, too_many_left, limit_after, answer, event_of, events_of}
+use Rattle.lldp_table.specs.Events.{Call, learn, forget, purge, tick, set_limit, TableEvent, learned, live, neighbors, too_many_left, limit_after, answer, event_of, events_of}
 use Rattle.lldp_table.specs.Contents.{Contents, is_named}
 use Rattle.lldp_table.specs.Code.Steps.{learn_answer, newly_opened, table_after}
 use Rattle.lldp_table.specs.Standing.{Stands, IsPossible, table_of}
@@ -53,10 +53,6 @@ pub held_is_live : (table : Contents) (opened : ℕ) (calls : List Call) (name :
 held_is_live table opened calls name h = rw h.is (has-live (events_of opened calls) (arrived opened calls) name)
 
 -- ## The table after each call
-
--- the table after these events
-abbrev table_by : ℕ → List TableEvent → Contents
-table_by opened past = record { capacity = opened; limit = limit_after opened past; neighbors = neighbors past; gone = gone past; too_many_left = too_many_left past }
 
 -- the table after a call is the table that the definitions give for the list with that call
 pub leaves : (opened : ℕ) (calls : List Call) (call : Call) → IsPossible (table_of opened calls) call → table_after (table_of opened calls) call ≡ table_of opened (call ∷ calls)

@@ -15,3 +15,6 @@ returns-clause-past g c = λ past h.
     let same = c.as_slice.ensures ∙ ap (λ (a : AgentState). a.ports) c.self.view_is in
     c.find_place.ensures ∙ ap (λ (ps : List PortState). place_from 0 (map (λ (p : PortState). p.name) ps) c.args.name.now) same
     ∙ ap (λ (names : List (List ℕ)). place_from 0 names c.args.name.now) (names_read past c.args.self.now h)
+
+pub find_place-requires : goal.find_place-requires
+find_place-requires g c = rw c.as_slice.ensures c.self.invariant.few

@@ -12,3 +12,6 @@ returns-in-Chassis-clause-few g c = few_lines c.args.show.now c.args.self.now c.
 
 pub returns-in-Configuration-clause-few : goal.returns-in-Configuration-clause-few
 returns-in-Configuration-clause-few g c = few_lines c.args.show.now c.args.self.now c.all_ports-ports.ensures.sound
+
+pub put_configuration-requires : goal.put_configuration-requires
+put_configuration-requires g c = rw c.all_ports-ports.ensures.value c.all_ports-ports.ensures.sound.few

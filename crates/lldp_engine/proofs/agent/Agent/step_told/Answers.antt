@@ -86,3 +86,6 @@ returns-clause-tells g c =
     let capacity = c.self.inside.configuration.capacity in
     let sound = subst (λ (a : AgentState). AllSound capacity a.ports) c.self.view_is c.self.invariant.sound in
     told_truly capacity (event_of c.args.event) c.args.self.now _ (told_of c.take_event.result) sound (returns-clause-after g c) (returns-clause-told g c)
+
+pub take_event-requires-clause-few : goal.take_event-requires-clause-few
+take_event-requires-clause-few g c = rw c.as_mut_slice.ensures.value c.self.invariant.few

@@ -1,4 +1,5 @@
-use Rattle.std.proofs.Common.{List, get_or, refl, ap, sym, ◌∙◌, arith, add-one}
+use borrow.Author.Rules.{scaled_Fits}
+use Rattle.std.proofs.Common.{List, length, get_or, ap, sym, ◌∙◌, arith, add-one}
 use Rattle.lldp_engine.specs.Port.EventView.{port_event_of}
 use Rattle.lldp_engine.specs.AgentState.{PortState}
 use Rattle.lldp_engine.specs.Code.PortStep.{port_step, port_mark}
@@ -6,18 +7,12 @@ use Rattle.lldp_engine.specs.Code.Taking.{FitsLimit}
 use Rattle.lldp_engine.proofs.AllPorts.EachPort.{one_more, at_turn, all_taken}
 use Rattle.lldp_engine.proofs.agent.ports.each_takes.Goals as goal
 
-pub loop-i-init : goal.loop-i-init
-loop-i-init g c = record { ports = refl; marks = c.requires.none; few = rw c.requires.none (omega arith) }
-
 pub take-mark-requires : goal.take-mark-requires
 take-mark-requires g c =
     let e = port_event_of c.args.event.now in
     let p = c.index-ports-i.result in
     rw (← c.index-ports-i.is) (at_turn (λ (port : PortState). FitsLimit e port.table) e c.args.interval 0 c.loop-i.i c.args.ports.now p c.loop-i-test.true
     (c.index-ports-i.is ∙ ap (λ (ps : List PortState). get_or ps c.loop-i.i p) c.loop-i.invariant.ports) c.requires.limits)
-
-pub note-requires : goal.note-requires
-note-requires g c = omega (arith, c.loop-i.invariant.few, c.loop-i-test.true, c.requires.few)
 
 pub loop-i-preserved : goal.loop-i-preserved
 loop-i-preserved g c =
@@ -41,3 +36,6 @@ returns g c =
       after = c.loop-i.invariant.ports ∙ all.0;
       marks = rw all.1 at c.loop-i.invariant.marks;
     }
+
+pub offset_bounds-ports-i : goal.offset_bounds-ports-i
+offset_bounds-ports-i g c = scaled_Fits c.loop-i.i (length c.args.ports.now) _ c.loop-i-test.true c.well_formed.0.1

@@ -1,18 +1,18 @@
-use Rattle.std.proofs.Common.{set, ap, sym, ◌∙◌}
+use borrow.Author.Rules.{scaled_Fits}
+use Rattle.std.proofs.Common.{length, set, ap, sym, ◌∙◌}
 use Rattle.std.proofs.lemmas.Option.{slice_get-get_or}
-use Rattle.lldp_engine.specs.AgentState.{PortState}
 use Rattle.lldp_engine.specs.Port.EventView.{port_event_of}
 use Rattle.lldp_engine.specs.Code.PortStep.{port_step, port_mark}
-use Rattle.lldp_engine.specs.Code.Taking.{FitsLimit}
 use Rattle.lldp_engine.specs.Code.Telling.{told_at}
-use Rattle.lldp_engine.proofs.AllPorts.EachPort.{at_own, one_port_after, one_port_marks}
+use Rattle.lldp_engine.proofs.AllPorts.EachPort.{one_port_after, one_port_marks}
 use Rattle.lldp_engine.proofs.agent.ports.take_event.Goals as goal
 
-pub take-mark-requires : goal.take-mark-requires
-take-mark-requires g c =
-    let e = port_event_of c.in-OnePort.own in
-    let can = rw c.in-OnePort.is at c.requires.can in
-    rw (← c.index-ports-port.is) (at_own (λ (port : PortState). FitsLimit e port.table) c.in-OnePort.port c.args.ports.now c.index-ports-port.result can.0 c.index-ports-port.is can.1)
+pub bounds-ports-port : goal.bounds-ports-port
+bounds-ports-port g c = (rw c.in-OnePort.is at c.requires.can).0
+
+pub offset_bounds-ports-port : goal.offset_bounds-ports-port
+offset_bounds-ports-port g c =
+    scaled_Fits c.in-OnePort.port (length c.args.ports.now) _ (bounds-ports-port g c) c.well_formed.0.1
 
 pub returns-in-OnePort-clause-after : goal.returns-in-OnePort-clause-after
 returns-in-OnePort-clause-after g c =
