@@ -63,12 +63,6 @@ pub one_port_marks : (event : PortEvent) (n q : ℕ) (ports : List PortState) (p
     → sending q (port_mark event n p) [] ≡ marks_step (one_port q event) n 0 ports
 one_port_marks event n q ports p lt at = one_mark event n 0 q q ports p (omega arith) lt at
 
--- If P holds for each port, it holds for port i.
-pub at_own : (P : PortState → Type 0) (i : ℕ) (ports : List PortState) (p : PortState) → i < length ports → p ≡ get_or ports i p → AllByRecursion P ports → P p
-at_own P i [] p lt h all = absurd (omega arith)
-at_own P zero (x ∷ xs) p lt h all = subst P (sym h) all.0
-at_own P (suc i) (x ∷ xs) p lt h all = at_own P i xs p (omega arith) h all.1
-
 -- ## An event for each port
 
 -- the ports when the first i of them have handled the event and the others have not
