@@ -3,3 +3,5 @@ pub mod Parts
 pub mod Taken
 pub mod OneKept
 pub mod Bound
+pub mod Cursors
+pub mod Later

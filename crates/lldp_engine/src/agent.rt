@@ -4,6 +4,7 @@ ghost use Rattle.std.specs.List.{AllByRecursion};
 ghost use Rattle.std.specs.Option.{option_map};
 ghost use Rattle.lldp_table.specs.Standing.{Stands as TableStands};
 ghost use Rattle.lldp_transmit.specs.Standing.{machine_of};
+ghost use Rattle.lldp_engine.specs.Code.Cursor.{IsCursorOf};
 ghost use Rattle.lldp_engine.specs.Options.{options_of, InRange, IsRefusal, fault_of};
 ghost use Rattle.lldp_engine.specs.Event.{event_of};
 ghost use Rattle.lldp_engine.specs.AgentState.{names_of, name_of, IsPort, Allows};
@@ -34,9 +35,11 @@ use crate::agent::open_fault::OpenFault;
 use crate::agent::options::Options;
 use crate::agent::ports::{Marks, all_fit, find_place, open_ports, take_event};
 use crate::agent::told::Told;
+use crate::command::Show;
 use crate::port::Port;
 use crate::port::counters::Counters;
 use crate::port::status::Status;
+use crate::show::cursor::{Cursor, seek};
 use lldp_table::{Room, Table};
 use lldp_transmit::Transmit;
 use std::alloc::{Allocator, Global};
@@ -48,6 +51,8 @@ use std::marker::Model;
 pub struct Agent<A: Allocator = Global> {
     configuration: Configuration,
     ports: Room<Port<A>, A>,
+    /// Where the last page of `show neighbors` began. An event resets it.
+    cursor: Cursor,
 }
 
 impl<A: Allocator> Model for Agent<A> {
@@ -56,10 +61,12 @@ impl<A: Allocator> Model for Agent<A> {
     ghost Value = { AgentState };
 
     ghost use Rattle.lldp_engine.specs.Sound.{AreSound};
+    ghost use Rattle.lldp_engine.specs.Code.Cursor.{IsCursor};
 
     ghost view = { λ a. record { configuration = a.configuration; ports = a.ports.items } };
 
-    ghost invariant = { λ a. AreSound a.configuration.capacity a.ports.items };
+    ghost invariant = { λ a. AreSound a.configuration.capacity a.ports.items
+        × IsCursor a.ports.items a.cursor };
 }
 
 impl<A: Allocator> Agent<A> {
@@ -85,6 +92,7 @@ impl<A: Allocator> Agent<A> {
         Ok(Agent {
             configuration: Configuration::open(options),
             ports,
+            cursor: Cursor::START,
         })
     }
 
@@ -95,6 +103,22 @@ impl<A: Allocator> Agent<A> {
             result.now ≡ configuration_after past.options past.events }
     {
         &self.configuration
+    }
+
+    /// Returns a cursor that is not behind line `from` of a show. The agent keeps it, so that the
+    /// cursor of the next page is found from there (no clause states this).
+    pub(crate) fn cursor(&mut self, show: &Show, from: u32) -> Cursor
+        ensures same { self.new ≡ self.old }
+        ensures cursor { IsCursorOf show.now self.new result }
+        ensures before { result.before ≤ from }
+    {
+        match show {
+            Show::Neighbors => {
+                seek(self.ports.as_slice(), &mut self.cursor, from);
+                self.cursor
+            }
+            Show::Statistics | Show::Chassis | Show::Configuration => Cursor::START,
+        }
     }
 
     pub(crate) fn all_ports(&self) -> &[Port<A>]
@@ -286,6 +310,7 @@ impl<A: Allocator> Agent<A> {
         ensures headline { (past : Past) → Stands past self.old →
             PromisedStep past (event_of event.entry) marks.new.items self.new }
     {
+        self.cursor = Cursor::START;
         self.configuration.take(&event);
         let interval = self.configuration.interval();
         take_event(self.ports.as_mut_slice(), &event.whose(), interval, marks)

@@ -5,6 +5,7 @@ pub mod Keeping
 pub mod Telling
 pub mod Whole
 pub mod Drafts
+pub mod Refusing
 pub mod Addresses
 pub mod CapsSpelled
 pub mod SoundForms

@@ -2,5 +2,6 @@
 pub mod CapsSpelling
 pub mod FrameForm
 pub mod KeptOnce
+pub mod PutFaults
 pub mod SoundForm
 pub mod Told

@@ -103,14 +103,14 @@ fn optional_tlvs(after: &[u8]) -> Result<Optional<'_>, PduFault>
     let mut discarded = 0;
     let mut unrecognized = 0;
     while let Some(tlv) = tlvs.next() {
-        if tlv.kind == END_OF_LLDPDU {
-            return Ok(Optional {
-                octets: &after[..len],
-                discarded,
-                unrecognized,
-            });
-        }
         if tlv.kind <= TIME_TO_LIVE {
+            if tlv.kind == END_OF_LLDPDU {
+                return Ok(Optional {
+                    octets: &after[..len],
+                    discarded,
+                    unrecognized,
+                });
+            }
             return Err(PduFault::Repeated);
         }
         len += 2 + tlv.body.len();

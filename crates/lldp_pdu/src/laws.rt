@@ -1,5 +1,5 @@
 //! Laws that the definitions obey, for every list of octets.
-ghost use Rattle.std.specs.Prelude.{◌≡◌, ℕ, true, ◌<◌, ◌≤◌, ◌↔◌, List, ◌++◌, length, map, Some, None};
+ghost use Rattle.std.specs.Prelude.{◌≡◌, ℕ, ◌+◌, ◌*◌, true, ◌<◌, ◌≤◌, ◌↔◌, List, ◌∷◌, ◌++◌, length, map, Some, None};
 ghost use Rattle.std.specs.Iterator.{YieldsThen};
 ghost use Rattle.lldp_pdu.specs.declared.tlv.Tlv.{Tlv};
 ghost use Rattle.lldp_pdu.specs.Tlv.{TlvUnit, AreOctets};
@@ -11,22 +11,20 @@ ghost use Rattle.lldp_pdu.specs.declared.examination.Examined.TheVariants as Exa
 ghost use Rattle.lldp_pdu.specs.Examined.{Answers, IsWithin};
 ghost use Rattle.lldp_pdu.specs.Laws.Told.{Leaves, Gives, HasFields};
 ghost use Rattle.lldp_pdu.specs.Fault.{fault_of};
-ghost use Rattle.lldp_pdu.specs.Lldpdu.{extent, ttl_of};
+ghost use Rattle.lldp_pdu.specs.Lldpdu.{extent, seconds, ttl_of};
 ghost use Rattle.lldp_pdu.specs.Info.{LldpInfo, info_of, IsInfo, TellsItself};
 ghost use Rattle.lldp_pdu.specs.Draft.{Draft, CanPut, CanBuild, IsReadBack, put_fault, lldpdu_octets};
 ghost use Rattle.lldp_pdu.specs.declared.fields.Caps.{Caps};
 ghost use Rattle.lldp_pdu.specs.Msap.{IsIdentifier};
 ghost use Rattle.lldp_pdu.specs.Capabilities.{caps_of};
 ghost use Rattle.lldp_pdu.specs.ManagementAddress.{Address, address_of, IsSpelled};
-ghost use Rattle.lldp_pdu.specs.Frame.{nearest_bridge, lldp_ethertype, lldpdu_of};
+ghost use Rattle.lldp_pdu.specs.Frame.{lldpdu_of};
 ghost use Rattle.lldp_pdu.specs.Laws.CapsSpelling.{AreSpelled};
 ghost use Rattle.lldp_pdu.specs.Laws.FrameForm.{HasForm};
 ghost use Rattle.lldp_pdu.specs.Laws.KeptOnce.{AreKeptOnce, AreCounted};
+ghost use Rattle.lldp_pdu.specs.Laws.PutFaults.{IsRefused};
 ghost use Rattle.lldp_pdu.specs.Laws.SoundForm.{IsSound, HasFaults};
 ghost use Rattle.lldp_pdu.specs.WellFormed.{is_well_formed};
-ghost use Rattle.lldp_pdu.specs.declared.frame.TheConstants.{MOST_OCTETS};
-ghost use Rattle.lldp_pdu.specs.declared.tlv_type.TheConstants as code;
-ghost use Rattle.lldp_pdu.specs.TlvType as standard;
 
 /// Each list of octets has exactly one cut into complete TLVs and a rest.
 #[tactic(auto, using(crate::proofs::Cuts::cut_is_cut, crate::proofs::Cuts::only_cut))]
@@ -47,12 +45,14 @@ pub fn tlvs_give_the_cut()
 /// An LLDPDU is sound exactly if it begins with a Chassis ID and a Port ID of 2 to 256 octets each
 /// and a Time To Live of 2 or more octets and, unless its TTL is 0, no other TLV before its End Of
 /// LLDPDU has one of these types. Any other LLDPDU has the fault of the first of these three TLVs
-/// that is wrong, or Repeated if none is wrong.
+/// that is wrong, or Repeated if none is wrong. The TTL is in the first two octets of its TLV.
 #[tactic(auto, using(crate::proofs::SoundForms::sound_has_form, crate::proofs::SoundForms::form_is_sound, crate::proofs::SoundForms::faults_are))]
 pub fn sound_lldpdus_have_their_form()
     ensures sound { (octets : List ℕ) → (fault_of octets ≡ None) ↔ IsSound octets }
     ensures faults { (octets chassis port ttl : List ℕ) (u : TlvUnit) (us : List TlvUnit) →
         HasFaults octets chassis port ttl u us }
+    ensures seconds { (high low : ℕ) (more : List ℕ) →
+        seconds (high ∷ low ∷ more) ≡ 256 * high + low }
 {}
 
 /// A TLV after the mandatory ones is kept exactly if it is well formed and, for types 4 to 7, no
@@ -89,23 +89,19 @@ pub fn lldpdus_begin_with_extents()
         (more : List ℕ) × (octets ≡ extent octets ++ more) }
 {}
 
-/// `lldpdu_of` returns the LLDPDU, of at most 1,500 octets, that follows an LLDP header.
-#[tactic(auto, using(crate::proofs::Framing::has_lldpdu))]
-pub fn frames_hold_lldpdus()
-    ensures { (source lldpdu : List ℕ) → length source ≡ 6 → length lldpdu ≤ 1500 →
-        lldpdu_of (nearest_bridge ++ source ++ lldp_ethertype ++ lldpdu) ≡ Some lldpdu }
-{}
-
 /// `lldpdu_of` returns an LLDPDU exactly if the frame is 01-80-C2-00-00-0E, a source address of six
 /// octets, 88-CC and this LLDPDU, which has at most 1,500 octets.
 pub fn lldp_frames_have_their_form()
     ensures { (frame lldpdu : List ℕ) → (lldpdu_of frame ≡ Some lldpdu) ↔ HasForm frame lldpdu }
 {}
 
-/// A TLV can be put exactly if no check of `Builder::put` fails.
-#[tactic(auto, using(crate::proofs::Drafts::can_put, crate::proofs::Drafts::passes))]
+/// A TLV can be put exactly if no check of `Builder::put` fails. The fault is that of the first
+/// check that fails: of the type, then of the body, then of the room.
+#[tactic(auto, using(crate::proofs::Drafts::can_put, crate::proofs::Drafts::passes, crate::proofs::Refusing::is_refused))]
 pub fn checked_tlvs_are_put()
-    ensures { (draft : Draft) (tlv : TlvUnit) → CanPut draft tlv ↔ (put_fault draft tlv ≡ None) }
+    ensures put { (draft : Draft) (tlv : TlvUnit) →
+        CanPut draft tlv ↔ (put_fault draft tlv ≡ None) }
+    ensures refused { (draft : Draft) (tlv : TlvUnit) → IsRefused draft tlv }
 {}
 
 /// An LLDPDU that a `Builder` can build has at most 1,500 octets, and examining it returns the
@@ -122,23 +118,6 @@ pub fn management_addresses_are_spelled()
         (address_of body ≡ Some address) ↔ IsSpelled body address }
     ensures given { (body : List ℕ) (given : Mgmt) → AreOctets body →
         address_of body ≡ Some (address_view given) → HasFields body given }
-{}
-
-/// The constants of `tlv_type` equal the types of the standard's table, as the definitions list
-/// them.
-pub fn tlv_types_are_the_standards()
-    ensures end { code.END_OF_LLDPDU ≡ standard.end_of_lldpdu_type }
-    ensures chassis_id { code.CHASSIS_ID ≡ standard.chassis_id_type }
-    ensures port_id { code.PORT_ID ≡ standard.port_id_type }
-    ensures time_to_live { code.TIME_TO_LIVE ≡ standard.time_to_live_type }
-    ensures port_description { code.PORT_DESCRIPTION ≡ standard.port_description_type }
-    ensures system_name { code.SYSTEM_NAME ≡ standard.system_name_type }
-    ensures system_description { code.SYSTEM_DESCRIPTION ≡ standard.system_description_type }
-    ensures system_capabilities { code.SYSTEM_CAPABILITIES ≡ standard.system_capabilities_type }
-    ensures management_address { code.MANAGEMENT_ADDRESS ≡ standard.management_address_type }
-    ensures reserved { code.FIRST_RESERVED ≡ standard.first_reserved_type }
-    ensures specific { code.ORGANIZATIONALLY_SPECIFIC
-        ≡ standard.organizationally_specific_type }
 {}
 
 /// `caps_of` returns capabilities exactly if the body encodes them in four octets and every enabled
@@ -170,9 +149,4 @@ pub fn types_decide_which_bodies_are_well_formed()
         is_well_formed (record { kind = kind; body = body }) ≡ true }
     ensures specific { (body : List ℕ) →
         (is_well_formed (record { kind = 127; body = body }) ≡ true) ↔ 4 ≤ length body }
-{}
-
-/// `MOST_OCTETS`, the capacity of a `Builder`, is 1,500.
-pub fn lldpdus_have_at_most_1500_octets()
-    ensures { MOST_OCTETS ≡ 1500 }
 {}

@@ -6,7 +6,9 @@ ghost use Rattle.lldp_pdu.specs.View.{tlv_view};
 
 use crate::bodies::body_is_well_formed;
 use crate::tlv::Tlv;
-use crate::tlv_type::{PORT_DESCRIPTION, SYSTEM_CAPABILITIES};
+use crate::tlv_type::{
+    FIRST_RESERVED, ORGANIZATIONALLY_SPECIFIC, PORT_DESCRIPTION, SYSTEM_CAPABILITIES,
+};
 
 /// Returns whether the type is 4 to 7. At most one TLV of each of these types is kept.
 fn counts_once(kind: u8) -> bool
@@ -45,16 +47,29 @@ impl Seen {
         }
     }
 
-    /// Returns whether the next TLV is kept, and records its type if the TLV is well formed.
+    /// Returns whether the next TLV is kept, and records its type if the TLV is well formed. The
+    /// types from 9 on, which most TLVs have, need one test.
+    #[inline(always)]
+    #[tactic(auto, unfolding(crate::specs::WellFormed::is_well_formed, crate::specs::Code::Seen::has_flag, crate::specs::Code::Seen::with_flag))]
     pub fn keeps(&mut self, tlv: &Tlv<'_>) -> bool
         ensures kept { result ≡ is_kept_seen self.old.types (tlv_view tlv.now) }
         ensures met { self.new.types ≡ seen_after self.old.types (tlv_view tlv.now) }
     {
+        if tlv.kind >= FIRST_RESERVED {
+            if tlv.kind == ORGANIZATIONALLY_SPECIFIC {
+                return tlv.body.len() >= 4;
+            }
+            return true;
+        }
         if !body_is_well_formed(tlv) {
             return false;
         }
-        let was_met = self.has(tlv.kind);
-        self.add(tlv.kind);
+        if !counts_once(tlv.kind) {
+            return true;
+        }
+        let flag = usize::from(tlv.kind - PORT_DESCRIPTION);
+        let was_met = self.types[flag];
+        self.types[flag] = true;
         !was_met
     }
 }

@@ -3,3 +3,4 @@ pub mod Timed
 pub mod Ticks
 pub mod Steps
 pub mod Due
+pub mod Soonest

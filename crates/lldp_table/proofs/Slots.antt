@@ -2,6 +2,7 @@
 pub mod Tags
 pub mod Places
 pub mod Layout
+pub mod Search
 pub mod Learned
 pub mod Room
 pub mod Counted

@@ -5,5 +5,6 @@ pub mod Queue
 pub mod Marks
 pub mod Ageing
 pub mod Layout
+pub mod Tags
 pub mod Room
 pub mod Lent

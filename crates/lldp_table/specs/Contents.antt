@@ -1,5 +1,5 @@
 -- The contents of a table, and the invariant of every table.
-use Rattle.std.specs.Prelude.{◌≡◌, ℕ, ◌<◌, ◌≤◌, Bool, List, length, map, None}
+use Rattle.std.specs.Prelude.{◌≡◌, ℕ, ◌<◌, ◌≤◌, min, Bool, List, [], ◌∷◌, length, map, Option, Some, None}
 use Rattle.std.specs.List.{list_any, IsDistinct, AllByRecursion}
 use Rattle.lldp_pdu.specs.Tlv.{AreOctets}
 use Rattle.lldp_pdu.specs.Msap.{MsapId, IsIdentifier}
@@ -44,6 +44,17 @@ pub record IsHeld (neighbor : Neighbor) : Type 0 where
   pub extent : IsExtent neighbor.msap neighbor.ttl neighbor.octets
   pub lives : 0 < neighbor.left
   pub left : neighbor.left ≤ neighbor.ttl
+
+-- the smaller of two numbers of ticks; None means that there is no such number
+abbrev pub sooner : Option ℕ → Option ℕ → Option ℕ
+sooner None b = b
+sooner (Some a) None = Some a
+sooner (Some a) (Some b) = Some (min a b)
+
+-- ticks until the first of these neighbors ages out
+abbrev pub least_left : List Neighbor → Option ℕ
+least_left [] = None
+least_left (neighbor ∷ neighbors) = sooner (Some neighbor.left) (least_left neighbors)
 
 -- the MSAP identifiers of neighbors
 abbrev pub names_of : List Neighbor → List MsapId

@@ -1,4 +1,5 @@
 //! An iterator over the neighbors of a table.
+ghost use Rattle.std.specs.Prelude.{◌≡◌, drop};
 ghost use Rattle.std.specs.Iterator.{YieldsFirst, item_count};
 
 use crate::entry::Entry;
@@ -26,6 +27,16 @@ impl<'a> Model for Entries<'a> {
     ghost view = { λ e. neighbors_at e.slots.now (slice_index e.ticks) e.order.now };
 
     ghost invariant = { λ e. AreEntries e.slots.now (slice_index e.ticks) e.order.now };
+}
+
+impl<'a> Entries<'a> {
+    /// Passes over the next `count` neighbors, or over all if there are fewer.
+    pub fn pass(&mut self, count: u8)
+        ensures { self.new ≡ drop count self.old }
+    {
+        let count = usize::from(count).min(self.order.len());
+        self.order = &self.order[count..];
+    }
 }
 
 impl<'a> Iterator for Entries<'a> {

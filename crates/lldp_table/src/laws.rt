@@ -135,9 +135,9 @@ pub fn ticks_take_expired_neighbors_alone()
         (table_of opened (tick ∷ calls)).limit ≡ (table_of opened calls).limit }
 {}
 
-/// The neighbors that can be read as gone are none, unless the last call was a tick. After a tick
-/// they are those that the table held before and does not hold after, in the order in which they
-/// were last added, each as it was held: no neighbor is left out, and none is added.
+/// No neighbor can be read as gone unless the last call was a tick. After a tick exactly those can
+/// be read that the table held before and does not hold after, in the order in which they were last
+/// added, each as it was held.
 pub fn gone_neighbors_were_held_and_are_not()
     ensures held { (opened : ℕ) (calls : List Call) (neighbor : Neighbor) →
         Contains (table_of opened (tick ∷ calls)).gone neighbor

@@ -12,6 +12,7 @@ mod queue;
 mod room;
 mod slot;
 mod table;
+mod tags;
 mod times;
 
 pub use entries::Entries;

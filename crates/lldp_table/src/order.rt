@@ -1,11 +1,13 @@
 //! The order of a table's slots, those in use first, and the functions that search or change it.
-ghost use Rattle.std.specs.Prelude.{◌≡◌, ◌≤◌, ◌<◌, ◌+◌, ◌*◌, ◌-◌, ◌++◌, true, false, List, length, take, map, MatchOption, not, slice_index_or, sum_by, IsPermutation, nat_eq};
+ghost use Rattle.std.specs.Prelude.{◌≡◌, ◌≤◌, ◌<◌, ◌+◌, ◌*◌, ◌-◌, ◌++◌, true, false, List, length, take, map, MatchOption, not, slice_index, slice_index_or, sum_by, IsPermutation, nat_eq};
 ghost use Rattle.std.specs.List.{list_any, filter, filter_map, AllByRecursion, IsDistinct};
 ghost use Rattle.lldp_pdu.specs.View.{msap_view};
 ghost use Rattle.lldp_table.specs.Code.Stored.{Stored, tag_of};
 ghost use Rattle.lldp_table.specs.Msap.{same_msap};
 ghost use Rattle.lldp_table.specs.Code.Ageing.{Aged};
 ghost use Rattle.lldp_table.specs.Code.Queue.{Due, less_first, is_spent, IsTimed};
+ghost use Rattle.memchr.specs.Find.{Nowhere};
+ghost use Rattle.lldp_table.specs.Code.Tags.{IsTagged};
 ghost use Rattle.lldp_table.specs.Code.Marks.{has_mark, parted};
 ghost use Rattle.lldp_table.specs.Code.Layout.{blank, msap_at, octets_at, neighbors_at, gone_at, with_next};
 
@@ -13,13 +15,36 @@ use crate::limits::MOST_NEIGHBORS;
 use crate::queue::Queue;
 use crate::room::Room;
 use crate::slot::Slot;
+use crate::tags::Tags;
 use arrayvec::ArrayVec;
 use lldp_pdu::{MOST_OCTETS, Msap};
+use memchr::memchr;
 use std::alloc::Allocator;
 
+/// Returns the place of `slot` in `order`. A slot that was never moved is at the place of its index.
+fn place_in(order: &[u8], slot: usize) -> Option<usize>
+    requires { slot < MOST_NEIGHBORS }
+    ensures { MatchOption result
+        (Nowhere (λ k. slice_index order.now k ≡ slot) 0 (length order.now))
+        (λ at. (at < length order.now) × (slice_index order.now at ≡ slot)) }
+{
+    if slot < order.len() && usize::from(order[slot]) == slot {
+        return Some(slot);
+    }
+    memchr(slot as u8, order)
+}
+
 /// Returns the place in `order` of the slot with the MSAP identifier `name`, whose tag is `tag`.
-pub(crate) fn place_of(slots: &[Slot], order: &[u8], name: &Msap<'_>, tag: u32) -> Option<usize>
+pub(crate) fn place_of(
+    slots: &[Slot],
+    order: &[u8],
+    tags: &Tags,
+    name: &Msap<'_>,
+    tag: u16,
+) -> Option<usize>
     requires tag { tag ≡ tag_of (msap_view name.now) }
+    requires tagged { IsTagged tags.now slots.now }
+    requires few { length slots.now ≤ MOST_NEIGHBORS }
     requires within { AllByRecursion (λ i. i < length slots.now) order.now }
     ensures { MatchOption result
         (list_any (same_msap (msap_view name.now)) (map (msap_at slots.now) order.now) ≡ false)
@@ -27,10 +52,14 @@ pub(crate) fn place_of(slots: &[Slot], order: &[u8], name: &Msap<'_>, tag: u32) 
         × (same_msap (msap_view name.now) (msap_at slots.now (slice_index_or order.now at 0))
         ≡ true)) }
 {
-    for (at, slot) in order.iter().enumerate() {
-        if slots[*slot as usize].is_named(name, tag) {
-            return Some(at);
+    let mut from = 0;
+    'tagged: while let Some(slot) = tags.find(tag, from, slots.len()) {
+        if slots[slot].is_named(name) {
+            if let Some(at) = place_in(order, slot) {
+                return Some(at);
+            }
         }
+        from = slot + 1;
     }
     None
 }

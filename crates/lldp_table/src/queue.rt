@@ -1,20 +1,24 @@
 //! The slots in use, in the order in which their neighbors expire.
 ghost use Rattle.std.specs.Prelude.{◌≡◌, ℕ, true, false, ◌≤◌, ◌<◌, ◌+◌, ◌^◌, [], ◌∷◌, ◌++◌, length, take, drop, slice_index, nat_eq};
 ghost use Rattle.std.specs.List.{list_any, AllByRecursion};
-ghost use Rattle.lldp_table.specs.Code.Queue.{due, dues, holds, ticks_left, put, enter, leave, less_first, add_first, is_spent, total, IsRunning, IsQueue};
+ghost use Rattle.lldp_table.specs.Code.Queue.{due, dues, holds, ticks_left, put, enter, leave, less_first, add_first, first_gap, is_spent, total, IsRunning, IsQueue};
 
 use crate::limits::MOST_NEIGHBORS;
-use crate::times::{Times, lefts_in};
+use crate::times::{Times, left_in, lefts_in};
 use arrayvec::ArrayVec;
 use memchr::memchr;
 use std::marker::Model;
 
-/// Returns the place of `slot` in `slots`, which must contain it.
+/// Returns the place of `slot` in `slots`, which must contain it. Neighbors whose frames come in turn
+/// are refreshed in the order in which they expire, so the first slot is tried first.
 fn place_in(slots: &[u8], slot: u8) -> usize
     requires { list_any (nat_eq slot) slots.now ≡ true }
     ensures within { result < length slots.now }
     ensures there { slice_index slots.now result ≡ slot }
 {
+    if slots[0] == slot {
+        return 0;
+    }
     match memchr(slot, slots) {
         Some(at) => at,
         None => unreachable!(),
@@ -241,6 +245,21 @@ impl Queue {
             return false;
         }
         self.times.get(self.slots[0]) == 0
+    }
+
+    /// Returns the remaining ticks of the first slot, which are the fewest.
+    pub(crate) fn soonest(&self) -> Option<u16>
+        ensures { result ≡ first_gap self.now.shown }
+    {
+        let first = self.slots.first()?;
+        Some(self.times.look(*first))
+    }
+
+    /// Returns the remaining ticks of a slot in the queue.
+    pub(crate) fn left_of(&self, slot: u8) -> u16
+        ensures { result ≡ ticks_left self.now.shown slot }
+    {
+        left_in(self.slots.as_slice(), &self.times, slot)
     }
 
     /// Returns the remaining ticks of each slot in the queue, by slot index.

@@ -1,5 +1,5 @@
 //! The memory for one neighbor.
-ghost use Rattle.std.specs.Prelude.{◌≡◌, ◌+◌, ◌*◌, ◌≤◌, ◌<◌, ◌^◌, true, length};
+ghost use Rattle.std.specs.Prelude.{◌≡◌, ◌+◌, ◌*◌, ◌%◌, ◌≤◌, ◌<◌, ◌^◌, true, length};
 ghost use Rattle.std.specs.Str.{bytes_eq};
 ghost use Rattle.lldp_pdu.specs.Cut.{cut};
 ghost use Rattle.lldp_pdu.specs.Lldpdu.{msap_of, tlv_at};
@@ -14,9 +14,6 @@ use std::marker::Model;
 /// The memory for one neighbor. It stores the extent of the neighbor's frame.
 #[derive(Drop)]
 pub(crate) struct Slot {
-    /// The tag of the MSAP identifier, which decides most comparisons. It comes before the octets
-    /// because it is read together with the MSAP identifier at their start.
-    tag: u32,
     ttl: u16,
     /// How many octets are stored.
     length: u16,
@@ -32,7 +29,7 @@ impl Model for Slot {
 
     ghost view = { λ s. record { octets = take s.length s.room; ttl = s.ttl } };
 
-    ghost invariant = { λ s. IsSlot s.room s.length s.tag };
+    ghost invariant = { λ s. IsSlot s.room s.length };
 }
 
 /// Returns the body of the next TLV, or no octets if there is none.
@@ -46,13 +43,6 @@ fn next_body<'a>(tlvs: &mut Tlvs<'a>) -> &'a [u8]
     }
 }
 
-/// Returns the chassis ID in an LLDPDU: the body of its first TLV.
-fn chassis_in(octets: &[u8]) -> &[u8]
-    ensures { result.now ≡ (msap_of octets.now).chassis }
-{
-    next_body(&mut Tlvs::new(octets))
-}
-
 /// Returns the MSAP identifier in an LLDPDU: the bodies of its first two TLVs.
 fn msap_in(octets: &[u8]) -> Msap<'_>
     ensures { msap_view result ≡ msap_of octets.now }
@@ -63,46 +53,45 @@ fn msap_in(octets: &[u8]) -> Msap<'_>
     Msap { chassis, port }
 }
 
-/// The factor by which a tag is multiplied for each octet that is mixed into it.
-const FACTOR: u32 = 16_777_619;
+/// A tag is a remainder of division by this prime number. It is odd and above 255, so octets that
+/// differ in one place give different remainders.
+const DIVISOR: u64 = 65_521;
 
-/// The factor for two octets at once: the square of `FACTOR`, modulo 2^32.
-const FACTOR_OF_TWO: u32 = 637_696_617;
-
-/// The factor for four octets at once: the fourth power of `FACTOR`, modulo 2^32.
-const FACTOR_OF_FOUR: u32 = 1_345_077_009;
-
-/// Returns the tag 0 with these two octets mixed into it.
-fn pair(a: u8, b: u8) -> u32
-    ensures { result ≡ a * FACTOR + b }
+/// Returns the remainder of a number.
+fn remainder(number: u64) -> u16
+    ensures { result ≡ number % 65521 }
 {
-    u32::from(a) * FACTOR + u32::from(b)
+    (number % DIVISOR) as u16
 }
 
-/// Mixes four octets into a tag. Only one of the multiplications depends on the tag.
-fn mix_four(tag: u32, four: [u8; 4]) -> u32
+/// Mixes four octets into a tag at once.
+fn mix_four(tag: u16, four: [u8; 4]) -> u16
     ensures { result ≡ mixed tag four }
 {
-    let [a, b, c, d] = four;
-    let new = pair(a, b)
-        .wrapping_mul(FACTOR_OF_TWO)
-        .wrapping_add(pair(c, d));
-    tag.wrapping_mul(FACTOR_OF_FOUR).wrapping_add(new)
+    remainder(u64::from(tag) * 0x1_0000_0000 + u64::from(u32::from_be_bytes(four)))
 }
 
-/// Mixes these octets into a tag, one after another.
-fn mix_singly(tag: u32, octets: &[u8]) -> u32
+/// Mixes the last octets into a tag, fewer than four.
+fn mix_last(tag: u16, octets: &[u8]) -> u16
+    requires { length octets.now < 4 }
     ensures { result ≡ mixed tag octets.now }
 {
-    let mut mix = tag;
-    for octet in octets {
-        mix = mix.wrapping_mul(FACTOR).wrapping_add(u32::from(*octet));
+    let tag_before = u64::from(tag);
+    match octets {
+        [a, b, c] => remainder(
+            tag_before * 0x100_0000
+                + u64::from(*a) * 0x1_0000
+                + u64::from(*b) * 0x100
+                + u64::from(*c),
+        ),
+        [a, b] => remainder(tag_before * 0x1_0000 + u64::from(*a) * 0x100 + u64::from(*b)),
+        [a] => remainder(tag_before * 0x100 + u64::from(*a)),
+        _ => tag,
     }
-    mix
 }
 
 /// Mixes these octets into a tag: four at a time, and then the few that are left.
-fn mix_octets(tag: u32, octets: &[u8]) -> u32
+fn mix_octets(tag: u16, octets: &[u8]) -> u16
     ensures { result ≡ mixed tag octets.now }
 {
     let mut mix = tag;
@@ -111,11 +100,11 @@ fn mix_octets(tag: u32, octets: &[u8]) -> u32
         mix = mix_four(mix, [*a, *b, *c, *d]);
         rest = others;
     }
-    mix_singly(mix, rest)
+    mix_last(mix, rest)
 }
 
 /// Returns the tag of an MSAP identifier: a mix of all its octets.
-pub(crate) fn mix_name(name: &Msap<'_>) -> u32
+pub(crate) fn mix_name(name: &Msap<'_>) -> u16
     ensures { result ≡ tag_of (msap_view name.now) }
 {
     mix_octets(mix_octets(0, name.chassis), name.port)
@@ -139,7 +128,6 @@ impl Slot {
         ensures { result ≡ blank }
     {
         Slot {
-            tag: 0,
             ttl: 0,
             length: 0,
             room: [0; MOST_OCTETS],
@@ -166,26 +154,23 @@ impl Slot {
         msap_in(self.octets())
     }
 
-    /// Returns whether the stored frame has the MSAP identifier `name`, whose tag is `tag`.
-    pub(crate) fn is_named(&self, name: &Msap<'_>, tag: u32) -> bool
-        requires { tag ≡ tag_of (msap_view name.now) }
+    /// Returns whether the stored frame has the MSAP identifier `name`.
+    pub(crate) fn is_named(&self, name: &Msap<'_>) -> bool
         ensures { result ≡ same_msap (msap_view name.now) (msap_of self.now.octets) }
     {
-        if self.tag != tag {
-            return false;
-        }
-        if !may_be_same(name.chassis, chassis_in(self.octets())) {
-            return false;
-        }
         let held = self.msap();
-        name.chassis == held.chassis && name.port == held.port
+        if !may_be_same(name.chassis, held.chassis) {
+            return false;
+        }
+        if !may_be_same(name.port, held.port) {
+            return false;
+        }
+        name.port == held.port && name.chassis == held.chassis
     }
 
-    /// Stores a frame in place of the previous one. `tag` is the tag of its MSAP identifier. Returns
-    /// whether the octets are the same as before.
-    pub(crate) fn store(&mut self, octets: &[u8], ttl: u16, tag: u32) -> bool
-        requires short { length octets.now ≤ MOST_OCTETS }
-        requires tag { tag ≡ tag_of (msap_of octets.now) }
+    /// Stores a frame in place of the previous one. Returns whether the octets are the same as before.
+    pub(crate) fn store(&mut self, octets: &[u8], ttl: u16) -> bool
+        requires { length octets.now ≤ MOST_OCTETS }
         ensures octets { self.new.octets ≡ octets.now }
         ensures ttl { self.new.ttl ≡ ttl }
         ensures same { result ≡ bytes_eq self.old.octets octets.now }
@@ -196,7 +181,6 @@ impl Slot {
         }
         self.room[..octets.len()].copy_from_slice(octets);
         self.length = octets.len() as u16;
-        self.tag = tag;
         false
     }
 }

@@ -3,7 +3,7 @@ ghost use Rattle.std.specs.Prelude.{◌≡◌, ℕ, List, ◌≤◌, ◌<◌, �
 ghost use Rattle.lldp_pdu.specs.Kept.{kept_of};
 ghost use Rattle.lldp_pdu.specs.View.{msap_view};
 ghost use Rattle.lldp_pdu.specs.Lldpdu.{msap_of};
-ghost use Rattle.lldp_table.specs.Contents.{IsExtent, IsHeld, IsSound, holds_name, names_of};
+ghost use Rattle.lldp_table.specs.Contents.{IsExtent, IsHeld, IsSound, holds_name, least_left, names_of};
 ghost use Rattle.lldp_table.specs.Code.Stored.{tag_of};
 ghost use Rattle.lldp_table.specs.Code.Steps.{learn_answer, learned_as, after_learn, after_forget, after_purge, after_tick, after_set_limit, newly_opened};
 ghost use Rattle.lldp_table.specs.declared.learned.Learned.TheVariants.{New, Refreshed};
@@ -19,6 +19,7 @@ use crate::order::{expire, octets_of, place_of, write_next};
 use crate::queue::Queue;
 use crate::room::Room;
 use crate::slot::{Slot, mix_name};
+use crate::tags::Tags;
 use arrayvec::ArrayVec;
 use lldp_pdu::{Info, Msap};
 use std::alloc::{AllocError, Allocator};
@@ -45,6 +46,7 @@ pub struct Table<A: Allocator> {
     gone: u8,
     /// The slots in use, in the order in which their neighbors expire.
     queue: Queue,
+    tags: Tags,
     limit: u8,
     /// The remaining ticks of the too-many timer (tooManyNeighborsTimer in the standard).
     too_many: u16,
@@ -57,7 +59,8 @@ impl<A: Allocator> Model for Table<A> {
     ghost Value = { Counted Contents };
 
     ghost use Rattle.lldp_table.specs.Code.Queue.{ticks_left};
-    ghost use Rattle.lldp_table.specs.Code.Layout.{contents_of, IsTable};
+    ghost use Rattle.lldp_table.specs.Code.Layout.{contents_of};
+    ghost use Rattle.lldp_table.specs.Code.Tags.{IsTaggedTable};
 
     ghost view = { λ t. record {
       shown = contents_of t.slots.capacity t.slots.items (ticks_left t.queue.shown)
@@ -65,8 +68,8 @@ impl<A: Allocator> Model for Table<A> {
       accesses = t.queue.accesses;
     } };
 
-    ghost invariant = { λ t. IsTable t.slots.capacity t.slots.items t.queue.shown
-        t.order.items t.used t.gone t.limit t.too_many };
+    ghost invariant = { λ t. IsTaggedTable t.slots.capacity t.slots.items t.queue.shown
+        t.order.items t.used t.gone t.limit t.too_many t.tags };
 }
 
 impl<A: Allocator> Table<A> {
@@ -84,6 +87,7 @@ impl<A: Allocator> Table<A> {
             used: 0,
             gone: 0,
             queue: Queue::new(),
+            tags: Tags::new(),
             limit,
             too_many: 0,
         })
@@ -127,7 +131,7 @@ impl<A: Allocator> Table<A> {
         let ttl = info.ttl();
         let octets = info.octets();
         if let Some(at) = self.place(&name, tag) {
-            return self.refresh(at, octets, ttl, tag);
+            return self.refresh(at, octets, ttl);
         }
         if self.has_room() {
             self.admit(octets, ttl, tag);
@@ -139,20 +143,19 @@ impl<A: Allocator> Table<A> {
     }
 
     /// Returns the neighbor's place in the order, if a neighbor with this MSAP identifier is held.
-    fn place(&self, name: &Msap<'_>, tag: u32) -> Option<usize>
+    fn place(&self, name: &Msap<'_>, tag: u16) -> Option<usize>
         requires { tag ≡ tag_of (msap_view name.now) }
         ensures { MatchOption result (holds_name self.now.shown (msap_view name.now) ≡ false)
             (λ at. slice_get (names_of self.now.shown.neighbors) at ≡ Some (msap_view name.now)) }
     {
         let order = &self.order[..self.used as usize];
-        place_of(self.slots.as_slice(), order, name, tag)
+        place_of(self.slots.as_slice(), order, &self.tags, name, tag)
     }
 
     /// Stores a frame and its TTL for the neighbor at this place, which has the frame's identifier.
     /// Tells whether the neighbor's octets changed.
-    fn refresh(&mut self, at: usize, octets: &[u8], ttl: u16, tag: u32) -> Outcome
+    fn refresh(&mut self, at: usize, octets: &[u8], ttl: u16) -> Outcome
         requires extent { IsExtent (msap_of octets.now) ttl octets.now }
-        requires tag { tag ≡ tag_of (msap_of octets.now) }
         requires there { slice_get (names_of self.old.shown.neighbors) at ≡ Some (msap_of octets.now) }
         ensures after { self.new.shown
             ≡ learned_as Refreshed self.old.shown (msap_of octets.now) ttl octets.now }
@@ -160,7 +163,7 @@ impl<A: Allocator> Table<A> {
             ≡ outcome_for self.old.shown (octets_held self.old.shown (msap_of octets.now)) octets.now }
     {
         let slot = self.order[at];
-        let same = self.slots.at_mut(slot as usize).store(octets, ttl, tag);
+        let same = self.slots.at_mut(slot as usize).store(octets, ttl);
         self.queue.leave(slot);
         self.queue.enter(slot, ttl);
         self.gone = 0;
@@ -172,7 +175,7 @@ impl<A: Allocator> Table<A> {
     }
 
     /// Adds a new neighbor with this frame and its TTL after the others. There must be room.
-    fn admit(&mut self, octets: &[u8], ttl: u16, tag: u32)
+    fn admit(&mut self, octets: &[u8], ttl: u16, tag: u16)
         requires extent { IsExtent (msap_of octets.now) ttl octets.now }
         requires tag { tag ≡ tag_of (msap_of octets.now) }
         requires new { holds_name self.old.shown (msap_of octets.now) ≡ false }
@@ -182,7 +185,8 @@ impl<A: Allocator> Table<A> {
         let used = self.used as usize;
         write_next(&mut self.slots, &mut self.order, used);
         let slot = self.order[used];
-        self.slots.at_mut(slot as usize).store(octets, ttl, tag);
+        self.slots.at_mut(slot as usize).store(octets, ttl);
+        self.tags.set(slot, tag);
         self.queue.enter(slot, ttl);
         self.used += 1;
         self.gone = 0;
@@ -335,11 +339,19 @@ impl<A: Allocator> Table<A> {
         ensures held { IsHeld result }
         ensures sound { IsSound self.now.shown }
     {
-        let slot = self.order[i as usize] as usize;
+        let slot = self.order[i as usize];
         Entry {
-            slot: self.slots.at(slot),
-            left: self.queue.lefts()[slot],
+            slot: self.slots.at(slot as usize),
+            left: self.queue.left_of(slot),
         }
+    }
+
+    /// Returns how many ticks (seconds) are left until the first neighbor ages out, or None if there
+    /// is no neighbor.
+    pub fn soonest(&self) -> Option<u16>
+        ensures { result ≡ least_left self.now.shown.neighbors }
+    {
+        self.queue.soonest()
     }
 
     /// Returns how many neighbors aged out at the last call, if that was a tick, and otherwise 0.

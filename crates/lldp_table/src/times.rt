@@ -1,6 +1,6 @@
-//! The stored times. `get` reads a time and `set` writes one, and both count the access. `lefts_in`
-//! reads all times through a shared reference, so it cannot count. The sum of all gaps, which the
-//! queue keeps, is not a stored time.
+//! The stored times. `get` reads a time and `set` writes one, and both count the access. `look` reads
+//! a time through a shared reference, so it cannot count, and no tick uses it. The sum of all gaps,
+//! which the queue keeps, is not a stored time.
 ghost use Rattle.std.specs.Prelude.{◌≡◌, ℕ, ◌+◌, ◌<◌, length, slice_index, slice_set};
 ghost use Rattle.std.specs.List.{AllByRecursion};
 ghost use Rattle.lldp_table.specs.Code.Queue.{dues, ticks_left, IsQueue};
@@ -60,7 +60,7 @@ impl Times {
     }
 
     /// Returns the time of a slot without counting the access.
-    fn look(&self, slot: u8) -> u16
+    pub(crate) fn look(&self, slot: u8) -> u16
         requires { slot < MOST_NEIGHBORS }
         ensures { result ≡ slice_index self.now.shown slot }
     {
@@ -68,7 +68,22 @@ impl Times {
     }
 }
 
-/// Returns the remaining ticks of each of these slots. Only this function reads times uncounted.
+/// Returns the remaining ticks of one of these slots.
+pub(crate) fn left_in(slots: &[u8], times: &Times, slot: u8) -> u16
+    requires { IsQueue times.now.shown slots.now }
+    ensures { result ≡ ticks_left (dues times.now.shown slots.now) slot }
+{
+    let mut left = 0;
+    for other in slots {
+        left += times.look(*other);
+        if *other == slot {
+            return left;
+        }
+    }
+    left
+}
+
+/// Returns the remaining ticks of each of these slots.
 pub(crate) fn lefts_in(slots: &[u8], times: &Times) -> [u16; MOST_NEIGHBORS]
     requires { IsQueue times.now.shown slots.now }
     ensures { AllByRecursion (λ i. slice_index result i

@@ -75,6 +75,7 @@ fn table_of_one(rt: HostRuntime) -> Result<(), Fail> {
     let (a, b) = (lldpdu(b'0', 120), lldpdu(b'1', 120));
     let mut table = Table::open(rt.alloc(), 1)?;
     assert_eq!(rt; (table.len(), table.limit(), table.capacity()), (0, 1, 1));
+    assert_eq!(rt; table.soonest(), None);
     learns(&rt, &mut table, &a, Learned::New);
     learns(&rt, &mut table, &b, Learned::Dropped);
     assert!(rt; table.too_many());
@@ -101,6 +102,7 @@ fn refresh_to_an_earlier_expiry(rt: HostRuntime) -> Result<(), Fail> {
     expect_held(&rt, &table, (2, 40, false));
     expect_entry(&rt, &table, 0, &c, 8);
     expect_entry(&rt, &table, 1, &d, 4);
+    assert_eq!(rt; table.soonest(), Some(4));
     ticks(&rt, &mut table, 3, 0);
     ticks(&rt, &mut table, 1, 1);
     learns(&rt, &mut table, &a, Learned::New);
@@ -135,7 +137,8 @@ fn equal_expiries(rt: HostRuntime) -> Result<(), Fail> {
 #[test]
 fn memory(rt: HostRuntime) -> Result<(), Fail> {
     for limit in [1u8, 32, 128] {
-        let scarce = LocalHeap::new(rt.alloc(), usize::from(limit) * 1500)?;
+        // a heap rounds its size up to a multiple of 16
+        let scarce = LocalHeap::new(rt.alloc(), usize::from(limit) * 1500 - 16)?;
         assert!(rt; Table::open(&scarce, limit).is_err());
         assert_eq!(rt; scarce.used(), 0);
         let ample = LocalHeap::new(rt.alloc(), usize::from(limit) * 3200)?;

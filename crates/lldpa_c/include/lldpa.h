@@ -561,8 +561,9 @@ typedef struct lldpa_lines {
  *   told  written on success
  * Returns the first of these that applies: LLDPA_OUT_OF_RANGE for the show, LLDPA_NOT_OPEN, LLDPA_NO_ROOM if not
  * even the first line fits; otherwise 0. It writes only on success. To get all lines, call it again with `next` as
- * `from`, and make no other call on the agent in between. A call also goes through the lines before `from`, so one
- * call with a buffer for the whole show is fastest.
+ * `from`, and make no other call on the agent in between. A call that writes neighbors goes on where the last one
+ * stopped, if nothing changed in between and `from` does not come before; otherwise it also goes through the neighbors
+ * before `from`.
  */
 uint8_t lldpa_show_lines(const lldpa_agent *agent, uint32_t show, uint32_t from, uint8_t *room, size_t room_length,
                          lldpa_lines *told);

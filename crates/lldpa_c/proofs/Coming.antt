@@ -10,7 +10,7 @@ use Rattle.std.proofs.Math.Nat.{mod-eq_of_lt}
 use Rattle.lldp_engine.specs.Takes.{Takes}
 use Rattle.lldp_text.specs.Text.{ended}
 use Rattle.lldpa_c.specs.declared.lines.Filling.{Filling}
-use Rattle.lldpa_c.specs.Filling.{View, begun, put_if, put_unless, come_at, come, come_all, view, LeavesRest, TakesLine}
+use Rattle.lldpa_c.specs.Filling.{View, begun, put_if, put_unless, come_all, view, LeavesRest, TakesLine}
 use Rattle.lldpa_c.specs.Answer.{is_over}
 use Rattle.lldpa_c.specs.Filled.{Fills, IsFull}
 
@@ -27,7 +27,7 @@ pub record Comes (size : ℕ) (v r : View) (lines : List (List ℕ)) : Type 0 wh
 come_full : (size : ℕ) (v : View) (lines : List (List ℕ)) → v.is_full ≡ true → come_all size v lines ≡ v
 come_full size v [] full = refl
 come_full size v (line ∷ lines) full =
-    let here : come v.is_full size v (ended line) ≡ v = ap (λ (b : Bool). come b size v (ended line)) full in
+    let here : put_unless v.is_full size v (ended line) ≡ v = ap (λ (b : Bool). put_unless b size v (ended line)) full in
     ap (λ (w : View). come_all size w lines) here ∙ come_full size v lines full
 
 none_comes : (size : ℕ) (v : View) → v.used ≤ size → v.is_full ≡ false → Comes size v v []
@@ -42,14 +42,14 @@ none_comes size v within room = record {
 
 -- the first line is added if it fits, and then the others; otherwise no line is added
 one_comes : (b : Bool) (size : ℕ) (v : View) (line : List ℕ) (lines : List (List ℕ)) → nat_le (v.used + length (ended line)) size ≡ b
-    → v.skip ≡ 0 → v.is_full ≡ false → v.used ≤ size → v.next + length (line ∷ lines) < 2 ^ 32
-    → ((w : View) → w.skip ≡ 0 → w.is_full ≡ false → w.used ≤ size → w.next + length lines < 2 ^ 32 → Comes size w (come_all size w lines) lines)
+    → v.is_full ≡ false → v.used ≤ size → v.next + length (line ∷ lines) < 2 ^ 32
+    → ((w : View) → w.is_full ≡ false → w.used ≤ size → w.next + length lines < 2 ^ 32 → Comes size w (come_all size w lines) lines)
     → Comes size v (come_all size (put_if b v (ended line)) lines) (line ∷ lines)
-one_comes true size v line lines is skip room within few others =
+one_comes true size v line lines is room within few others =
     let text = ended line in
     let w : View = put_if true v text in
     let low : (v.next + 1) % 2 ^ 32 ≡ v.next + 1 = mod-eq_of_lt (omega (arith, few)) in
-    let c = others w skip room (leb-true _ _ is) (omega (arith, low, few)) in
+    let c = others w room (leb-true _ _ is) (omega (arith, low, few)) in
     record {
       count = suc c.count;
       next = omega (arith, c.next, low);
@@ -58,7 +58,7 @@ one_comes true size v line lines is skip room within few others =
       done = λ room. ap suc (c.done room);
       full = λ full. let f = c.full full in record { line = f.line; is = f.is; over = f.over };
     }
-one_comes false size v line lines is skip room within few others =
+one_comes false size v line lines is room within few others =
     let w : View = put_if false v (ended line) in
     subst (λ (r : View). Comes size v r (line ∷ lines)) (sym (come_full size w lines refl)) record {
       count = 0;
@@ -69,31 +69,21 @@ one_comes false size v line lines is skip room within few others =
       full = λ _. record { line = line; is = refl; over = omega (arith, leb-false _ _ is, length-append line (10 ∷ [])) };
     }
 
-come_open : (size : ℕ) (lines : List (List ℕ)) (v : View) → v.skip ≡ 0 → v.is_full ≡ false → v.used ≤ size → v.next + length lines < 2 ^ 32 → Comes size v (come_all size v lines) lines
-come_open size [] v skip room within few = none_comes size v within room
-come_open size (line ∷ lines) v skip room within few =
+come_open : (size : ℕ) (lines : List (List ℕ)) (v : View) → v.is_full ≡ false → v.used ≤ size → v.next + length lines < 2 ^ 32 → Comes size v (come_all size v lines) lines
+come_open size [] v room within few = none_comes size v within room
+come_open size (line ∷ lines) v room within few =
     let text = ended line in
-    let here : come v.is_full size v text ≡ put_if (nat_le (v.used + length text) size) v text =
-    ap (λ (b : Bool). come b size v text) room ∙ ap (λ (n : ℕ). come_at n size v text) skip ∙ ap (λ (b : Bool). put_unless b size v text) room in
-    subst (λ (w : View). Comes size v (come_all size w lines) (line ∷ lines)) (sym here) (one_comes _ size v line lines refl skip room within few (λ w. come_open size lines w))
-
--- if k lines are to be skipped, the lines after the first k are added
-pub come_behind : (size k : ℕ) (lines : List (List ℕ)) (v : View) → v.skip ≡ k → v.is_full ≡ false → v.used ≤ size → v.next + length (drop k lines) < 2 ^ 32 → Comes size v (come_all size v lines) (drop k lines)
-come_behind size zero lines v skip room within few = come_open size lines v skip room within few
-come_behind size (suc k) [] v skip room within few = none_comes size v within room
-come_behind size (suc k) (line ∷ lines) v skip room within few =
-    let w : View = record v { skip = k } in
-    let here : come v.is_full size v (ended line) ≡ w =
-    ap (λ (b : Bool). come b size v (ended line)) room ∙ ap (λ (n : ℕ). come_at n size v (ended line)) skip in
-    let c = come_behind size k lines w refl room within few in
-    subst (λ (x : View). Comes size v (come_all size x lines) (drop k lines)) (sym here) record { count = c.count; next = c.next; text = c.text; within = c.within; done = c.done; full = c.full }
+    let here : put_unless v.is_full size v text ≡ put_if (nat_le (v.used + length text) size) v text = ap (λ (b : Bool). put_unless b size v text) room in
+    subst (λ (w : View). Comes size v (come_all size w lines) (line ∷ lines)) (sym here) (one_comes _ size v line lines refl room within few (λ w. come_open size lines w))
 
 -- from the initial state, the lines of a show from number `from` on are added
-pub all_come : (lines : List (List ℕ)) (from size n : ℕ) (a r : View) → n ≡ size → a ≡ begun from → r ≡ come_all n a lines → from < 2 ^ 32 → length lines ≤ 6127808
+pub all_come : (lines : List (List ℕ)) (from size n : ℕ) (a r : View) → n ≡ size → a ≡ begun from → r ≡ come_all n a (drop from lines) → from < 2 ^ 32 → length lines ≤ 6127808
     → Comes size (begun from) r (drop from lines)
 all_come lines from size n a r e b is fits few =
-    subst (λ (x : View). Comes size (begun from) x (drop from lines)) (sym (is ∙ ap (λ (x : View). come_all n x lines) b ∙ ap (λ (m : ℕ). come_all m (begun from) lines) e))
-    (come_behind size from lines (begun from) refl refl (omega arith) (omega (arith, fits, few, length-drop from lines)))
+    let v : View = begun from in
+    let low : from + length (drop from lines) < 2 ^ 32 = omega (arith, fits, few, length-drop from lines) in
+    subst (λ (x : View). Comes size v x (drop from lines)) (sym (is ∙ ap (λ (x : View). come_all n x (drop from lines)) b ∙ ap (λ (m : ℕ). come_all m v (drop from lines)) e))
+    (come_open size (drop from lines) v refl (omega arith) low)
 
 -- ---- lines that a sink accepts
 
@@ -104,7 +94,7 @@ taken size a b [] e h = (ap view (sym h), ap (λ (f : Filling). length f.room.no
 taken size a b (line ∷ lines) e h =
     let t = h.1 in
     let others = taken size h.0 b lines (t.size ∙ e) h.2 in
-    (others.0 ∙ ap (λ (v : View). come_all size v lines) (t.view ∙ ap (λ (n : ℕ). come (view a).is_full n (view a) (ended line)) e), others.1, others.2 ∙ t.same)
+    (others.0 ∙ ap (λ (v : View). come_all size v lines) (t.view ∙ ap (λ (n : ℕ). put_unless (view a).is_full n (view a) (ended line)) e), others.1, others.2 ∙ t.same)
 
 further : (u k : ℕ) (xs ys : List ℕ) → u ≤ k → drop u xs ≡ drop u ys → drop k xs ≡ drop k ys
 further u k xs ys h e =
@@ -149,7 +139,7 @@ is_full lines from size r c full =
     let f = c.full full in
     record { line = f.line; is = ap (slice_get lines) c.next ∙ sym (get_behind from c.count lines) ∙ f.is; over = f.over }
 
--- ---- whether the first wanted line fits
+-- ---- whether the first line fits
 
 pub none_over : (lines : List (List ℕ)) (from room : ℕ) → slice_get lines from ≡ None → is_over room (option_map ended (slice_get lines from)) ≡ false
 none_over lines from room e = rw e refl

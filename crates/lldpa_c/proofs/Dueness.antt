@@ -8,7 +8,8 @@ use Rattle.std.proofs.Math.ListN.{drop_of_length-le}
 use Rattle.std.proofs.lemmas.Bool.{cases_lt, lt-ltb, le-ltb}
 use Rattle.std.proofs.lemmas.Bool.Decides.{nat_tests}
 use Rattle.lldp_table.specs.Events.{Neighbor}
-use Rattle.lldp_table.specs.Contents.{Contents}
+use Rattle.lldp_table.specs.Contents.{Contents, sooner, least_left}
+use Rattle.lldp_table.proofs.Ageing.Soonest.{sooner_assoc}
 use Rattle.lldp_table.specs.Code.Steps.{aged}
 use Rattle.lldp_transmit.specs.declared.event.Mark.{Mark}
 use Rattle.lldp_transmit.specs.declared.event.Mark.TheVariants.{Quiet}
@@ -29,15 +30,11 @@ use Rattle.lldp_engine.specs.Code.Counting.{with_aged_out, with_mark}
 use Rattle.lldp_engine.specs.Code.PortStep.{port_step, port_mark}
 use Rattle.lldp_engine.specs.Code.Step.{ports_step, marks_step}
 use Rattle.lldpa_c.specs.Ticks.{held_by, ticked, with_ticks, IsQuiet}
-use Rattle.lldpa_c.specs.Due.{sooner, until_sends, least_left, due_on, timeless_machine, timeless_counters, timeless_neighbors, timeless_port, timeless, IsDue}
+use Rattle.lldpa_c.specs.Due.{until_sends, due_on, timeless_machine, timeless_counters, timeless_neighbors, timeless_port, timeless, IsDue}
 use Rattle.lldpa_c.specs.declared.due.TheConstants.{NEVER}
 use Rattle.lldpa_c.proofs.Ticking.{no_longer, fewer, held_step}
 
 -- ---- the smaller of two numbers
-
-pub sooner_assoc : (a b c : Option ℕ) → sooner (sooner a b) c ≡ sooner a (sooner b c)
-sooner_assoc (Some a) (Some b) (Some c) = ap (λ (n : ℕ). Some n) (omega arith)
-sooner_assoc _ _ _ = refl
 
 -- a number of ticks, reduced by k
 abbrev fewer_by : ℕ → Option ℕ → Option ℕ
@@ -286,18 +283,11 @@ none_is_due agent e = record {
   there = λ less. absurd (omega arith);
 }
 
--- ---- steps of the loops over neighbors and ports
+-- ---- steps of the loop over ports
 
 sooner_none : (o : Option ℕ) → sooner o None ≡ o
 sooner_none None = refl
 sooner_none (Some d) = refl
-
-pub least_more : (least found : Option ℕ) (left : ℕ) (x : Neighbor) (all rest ns : List Neighbor) → found ≡ sooner least (Some left) → left ≡ x.left → all ≡ x ∷ rest
-    → sooner least (least_left all) ≡ least_left ns → sooner found (least_left rest) ≡ least_left ns
-least_more least found left x all rest ns e f g h = rw (e, f) (sooner_assoc least (Some x.left) (least_left rest) ∙ (rw g at h))
-
-pub least_all : (least : Option ℕ) (all ns : List Neighbor) → all ≡ [] → sooner least (least_left all) ≡ least_left ns → least ≡ least_left ns
-least_all least all ns e h = sym (sooner_none least) ∙ (rw e at h)
 
 due_here : (ports : List PortState) (i : ℕ) (table : Contents) (m : Machine) → option_map (λ (p : PortState). p.table) (slice_get ports i) ≡ Some table
     → option_map (λ (p : PortState). p.machine) (slice_get ports i) ≡ Some m

@@ -10,3 +10,5 @@ pub mod Newly
 pub mod Disabling
 pub mod Items
 pub mod Rows
+pub mod Lengths
+pub mod Holding

@@ -1,6 +1,7 @@
 -- The number of ticks until a port sends or a neighbor ages out, if there is no other event.
-use Rattle.std.specs.Prelude.{◌≡◌, ℕ, ◌+◌, ◌-◌, ◌<◌, ◌≤◌, ◌&&◌, nat_lt, min, if◌then◌else◌, List, [], ◌∷◌, map, Option, Some, None}
+use Rattle.std.specs.Prelude.{◌≡◌, ℕ, ◌+◌, ◌-◌, ◌<◌, ◌≤◌, ◌&&◌, nat_lt, if◌then◌else◌, List, [], ◌∷◌, map, Option, Some, None}
 use Rattle.lldp_table.specs.Events.{Neighbor}
+use Rattle.lldp_table.specs.Contents.{sooner, least_left}
 use Rattle.lldp_transmit.specs.Code.Machine.{Machine}
 use Rattle.lldp_engine.specs.declared.port.counters.Counters.{Counters}
 use Rattle.lldp_engine.specs.Counters.{wrapped}
@@ -10,23 +11,12 @@ use Rattle.lldp_engine.specs.Standing.{Stands}
 use Rattle.lldpa_c.specs.declared.due.TheConstants.{NEVER}
 use Rattle.lldpa_c.specs.Ticks.{ticked, IsQuiet}
 
--- the smaller of two numbers of ticks; None means that nothing is due
-abbrev pub sooner : Option ℕ → Option ℕ → Option ℕ
-sooner None b = b
-sooner (Some a) None = Some a
-sooner (Some a) (Some b) = Some (min a b)
-
 -- ticks until a machine sends: its timer ends, a waiting frame is sent, or the port may start
 abbrev pub until_sends : Machine → Option ℕ
 until_sends m =
     if m.active
     then (if m.waiting then Some 1 else (if nat_lt 0 m.timer then Some m.timer else None))
     else (if m.allowed && m.up then Some m.wait else None)
-
--- ticks until the first of these neighbors ages out
-abbrev pub least_left : List Neighbor → Option ℕ
-least_left [] = None
-least_left (neighbor ∷ neighbors) = sooner (Some neighbor.left) (least_left neighbors)
 
 -- ticks until one of these ports sends or loses a neighbor; 0 and 1 both mean the next tick
 abbrev pub due_on : List PortState → Option ℕ

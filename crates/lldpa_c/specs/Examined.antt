@@ -1,7 +1,8 @@
 -- The fields of an LLDPDU, in the struct for C.
-use Rattle.std.specs.Prelude.{◌≡◌, ℕ, ◌+◌, ◌<◌, ◌≤◌, List, length, take, Option, Some, None}
+use Rattle.std.specs.Prelude.{◌≡◌, ℕ, ◌+◌, ◌<◌, ◌≤◌, List, length, take, Option, Some, None, IsSome}
 use Rattle.lldp_pdu.specs.declared.fault.PduFault.{PduFault}
 use Rattle.lldp_pdu.specs.FaultNumber.{pdu_fault_number}
+use Rattle.lldp_pdu.specs.Fault.{fault_of}
 use Rattle.lldp_pdu.specs.Msap.{MsapId}
 use Rattle.lldp_pdu.specs.Info.{LldpInfo}
 use Rattle.lldp_pdu.specs.Lldpdu.{extent, ttl_of, msap_of}
@@ -40,6 +41,13 @@ pub record Tells (octets : List ℕ) (told : LldpaExamined) : Type 0 where
   pub port : Holds octets told.port (msap_of octets).port
   pub life : 0 < ttl_of octets → TellsLife octets told
   pub gone : ttl_of octets ≡ 0 → TellsNothing told
+
+-- The answer is the number of the LLDPDU's fault, and nothing is written; or it is 0, and the fields
+-- are written.
+pub record Examines (octets : List ℕ) (told_before : LldpaExamined) (answer : ℕ) (told : LldpaExamined) : Type 0 where
+  pub answer_is : answer ≡ fault_number (fault_of octets)
+  pub right : fault_of octets ≡ None → Tells octets told
+  pub refused : IsSome (fault_of octets) → told ≡ told_before
 
 -- ---- the ranges of the identifiers: each body comes after a TLV header of 2 octets
 

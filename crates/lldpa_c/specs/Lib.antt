@@ -21,6 +21,7 @@ pub mod Values
 pub mod Laws
 pub mod Ticks
 pub mod Held
+pub mod Reading
 pub mod Due
 pub mod Still
 pub mod Settings

@@ -1,14 +1,18 @@
 -- The options with which C opens an agent.
-use Rattle.std.specs.Prelude.{◌≡◌, ℕ, ◌==◌, map, take, Option, Some, None, IsSome, if◌then◌else◌}
+use Rattle.std.specs.Prelude.{◌≡◌, ℕ, ◌==◌, map, take, ◌⊎◌, true, false, Option, Some, None, IsSome, if◌then◌else◌}
 use Rattle.std.specs.List.{All}
 use Rattle.std.specs.Str.{IsUtf8}
 use Rattle.lldp_engine.specs.declared.agent.options.Role.{Role}
 use Rattle.lldp_engine.specs.declared.agent.options.Role.TheVariants.{Station, Bridge, Router}
+use Rattle.lldp_engine.specs.declared.agent.open_fault.OpenFault.{OpenFault}
 use Rattle.lldp_engine.specs.AgentState.{AgentState}
 use Rattle.lldp_engine.specs.Options.{Options, InRange, fault_of}
 use Rattle.lldp_engine.specs.Past.{opened}
 use Rattle.lldp_engine.specs.Standing.{Stands}
+use Rattle.lldpa_c.specs.declared.holder.LldpaAgent.{LldpaAgent}
 use Rattle.lldpa_c.specs.declared.options.LldpaOptions.{LldpaOptions}
+use Rattle.lldpa_c.specs.Faults.{refusal_number}
+use Rattle.lldpa_c.specs.Frame.{Keeps}
 
 -- the role with this number, if there is one
 abbrev pub role_numbered : ℕ → Option Role
@@ -47,3 +51,14 @@ pub record Opens (o : LldpaOptions) (agent : AgentState) : Type 0 where
   pub read : IsRead o
   pub checked : fault_of (asked o) ≡ None
   pub stands : Stands (opened (asked o)) agent
+
+-- The contract of opening. The first of these that applies is answered: the handle is open, the options
+-- cannot be read, they have a fault, or there is no memory. Otherwise an agent is opened.
+pub record OpensOnce (o : LldpaOptions) (before : LldpaAgent) (answer : ℕ) (after : LldpaAgent) : Type 0 where
+  pub is_open : answer ≡ 0 → after.is_open ≡ true
+  pub agent : answer ≡ 0 → Opens o after.held.agent
+  pub refused : ¬ (answer ≡ 0) → Keeps before after
+  pub again : before.is_open ≡ true → answer ≡ 104
+  pub range : before.is_open ≡ false → ¬ (IsRead o) → answer ≡ 100
+  pub faulty : before.is_open ≡ false → IsRead o → (fault : OpenFault) → fault_of (asked o) ≡ Some fault → answer ≡ refusal_number fault
+  pub others : before.is_open ≡ false → IsRead o → fault_of (asked o) ≡ None → (answer ≡ 0) ⊎ (answer ≡ 21)

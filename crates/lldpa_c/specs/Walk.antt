@@ -1,11 +1,12 @@
 -- A walk over the kept TLVs of an extent: the octets before the End Of LLDPDU or an incomplete TLV.
-use Rattle.std.specs.Prelude.{◌≡◌, ℕ, ◌+◌, ◌-◌, ◌<◌, ◌≤◌, ◌==◌, List, length, take, drop, None, if◌then◌else◌}
+use Rattle.std.specs.Prelude.{◌≡◌, ℕ, ◌+◌, ◌-◌, ◌<◌, ◌≤◌, ◌==◌, Bool, false, List, [], ◌∷◌, length, take, drop, None, IsTrue, if◌then◌else◌}
 use Rattle.lldp_pdu.specs.Tlv.{TlvUnit}
 use Rattle.lldp_pdu.specs.Cut.{cut}
 use Rattle.lldp_pdu.specs.Fault.{fault_of}
 use Rattle.lldp_pdu.specs.Lldpdu.{extent, ttl_of}
 use Rattle.lldp_pdu.specs.Code.Seen.{kept_seen}
 use Rattle.lldpa_c.specs.declared.kept.LldpaKept.{LldpaKept}
+use Rattle.lldpa_c.specs.Place.{octets_at}
 
 -- the octets are the extent of an LLDPDU without a fault and with a TTL above 0
 pub record IsExtent (octets : List ℕ) : Type 0 where
@@ -20,6 +21,15 @@ tlvs_from octets next = if next == 0 then drop 3 (cut octets).tlvs else (cut (dr
 -- the kept TLVs that a walk has not found yet
 abbrev pub left_of : List ℕ → LldpaKept → List TlvUnit
 left_of octets walk = kept_seen walk.met (tlvs_from octets walk.next)
+
+-- The walk finds the first of the kept TLVs that are left, and then the others are left. If none is
+-- left, it finds nothing, and stays as it is.
+pub record Advances (octets : List ℕ) (before : LldpaKept) (found : Bool) (after : LldpaKept) : Type 0 where
+  pub given : IsTrue found → left_of octets before
+      ≡ record { kind = after.kind; body = octets_at octets after.body } ∷ left_of octets after
+  pub within : IsTrue found → after.body.start + after.body.length ≤ length octets
+  pub ended : found ≡ false → left_of octets before ≡ []
+  pub kept : found ≡ false → after ≡ before
 
 -- The octets end with a TLV header of two octets, this body, and `others`.
 pub record GivesKept (octets body others : List ℕ) : Type 0 where

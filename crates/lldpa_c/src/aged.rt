@@ -2,9 +2,8 @@
 ghost use Rattle.std.specs.Prelude.{◌≡◌, ◌<◌, ◌≤◌, ℕ, None, Some, length, drop, slice_get};
 ghost use Rattle.lldp_table.specs.Events.{Neighbor};
 ghost use Rattle.lldp_engine.specs.AgentState.{IsPort};
-ghost use Rattle.lldpa_c.specs.Answer.{answer_of};
-ghost use Rattle.lldpa_c.specs.Frame.{Keeps};
-ghost use Rattle.lldpa_c.specs.Held.{gone_at, count_checks, gone_checks, TellsNeighbor};
+ghost use Rattle.lldpa_c.specs.Held.{gone_at, TellsNeighbor};
+ghost use Rattle.lldpa_c.specs.Reading.{ReadsAgedCount, ReadsAged};
 
 use crate::answer::{NO_PORT, NOT_OPEN, OK, OUT_OF_RANGE};
 use crate::held::{LldpaHeld, tell_entry};
@@ -21,10 +20,7 @@ pub extern "C" fn lldpa_aged_count(
     port: u32,
     count: &mut u32,
 ) -> u8
-    ensures count { result ≡ 0 → count.new ≡ length (gone_at agent.old.held.agent port) }
-    ensures answer { result ≡ answer_of (count_checks agent.old port) }
-    ensures kept { Keeps agent.old agent.new }
-    ensures refused { ¬ (result ≡ 0) → count.new ≡ count.old }
+    ensures count { ReadsAgedCount agent.old port count.old result agent.new count.new }
 {
     let Some(held) = agent.take(alloc) else {
         return NOT_OPEN;
@@ -73,14 +69,8 @@ pub extern "C" fn lldpa_aged(
     room: &mut [u8],
     told: &mut LldpaHeld,
 ) -> u8
-    ensures told { (neighbor : Neighbor) →
-        slice_get (gone_at agent.old.held.agent port) index ≡ Some neighbor → result ≡ 0 →
-        TellsNeighbor neighbor room.new told.new }
-    ensures rest { result ≡ 0 →
-        drop told.new.pdu.extent room.new ≡ drop told.new.pdu.extent room.old }
-    ensures answer { result ≡ answer_of (gone_checks agent.old port index (length room.old)) }
-    ensures kept { Keeps agent.old agent.new }
-    ensures refused { ¬ (result ≡ 0) → (room.new ≡ room.old) × (told.new ≡ told.old) }
+    ensures told { ReadsAged agent.old port index room.old told.old result
+        agent.new room.new told.new }
 {
     let Some(held) = agent.take(alloc) else {
         return NOT_OPEN;

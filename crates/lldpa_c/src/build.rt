@@ -1,8 +1,8 @@
 //! Builds LLDPDUs in the caller's buffer.
-ghost use Rattle.std.specs.Prelude.{◌≡◌, ◌≤◌, ◌<◌, ◌↔◌, ℕ, [], ◌∷◌, length, map, take, drop, slice_index_or, IsTrue};
+ghost use Rattle.std.specs.Prelude.{◌≡◌, ◌≤◌, ◌<◌, ◌↔◌, ℕ, [], ◌∷◌, length, map, drop, slice_index_or, IsTrue};
 ghost use Rattle.lldp_pdu.specs.Msap.{IsIdentifier};
-ghost use Rattle.lldp_pdu.specs.Draft.{IsReadBack, lldpdu_octets, put_fault};
-ghost use Rattle.lldpa_c.specs.Building.{tlv_of, fault_number, put_all, put_faults, begun};
+ghost use Rattle.lldp_pdu.specs.Draft.{put_fault};
+ghost use Rattle.lldpa_c.specs.Building.{tlv_of, fault_number, put_all, put_faults, Builds};
 
 use crate::answer::{NO_ROOM, OUT_OF_RANGE};
 use crate::faults::tlv_fault_number;
@@ -60,32 +60,8 @@ pub extern "C" fn lldpa_build(
     room: &mut [u8],
     written: &mut usize,
 ) -> u8
-    ensures answers { IsIdentifier chassis.now → IsIdentifier port.now →
-        length tlvs.now ≤ length faults.old →
-        length (lldpdu_octets (put_all (begun chassis.now port.now ttl) (map tlv_of tlvs.now)))
-        ≤ length room.old → result ≡ 0 }
-    ensures within { result ≡ 0 → written.new ≤ length room.new }
-    ensures octets { result ≡ 0 → take written.new room.new
-        ≡ lldpdu_octets (put_all (begun chassis.now port.now ttl) (map tlv_of tlvs.now)) }
-    ensures back { result ≡ 0 →
-        IsReadBack (put_all (begun chassis.now port.now ttl) (map tlv_of tlvs.now))
-        (take written.new room.new) }
-    ensures room { IsIdentifier chassis.now → IsIdentifier port.now →
-        length tlvs.now ≤ length faults.old → length room.old
-        < length (lldpdu_octets (put_all (begun chassis.now port.now ttl) (map tlv_of tlvs.now))) →
-        result ≡ 101 }
-    ensures faults { IsIdentifier chassis.now → IsIdentifier port.now →
-        length tlvs.now ≤ length faults.old → (i : ℕ) → i < length tlvs.now →
-        slice_index_or faults.new i 0
-        ≡ slice_index_or (put_faults (begun chassis.now port.now ttl) (map tlv_of tlvs.now)) i 0 }
-    ensures rest_of_faults { drop (length tlvs.now) faults.new ≡ drop (length tlvs.now) faults.old }
-    ensures rest_of_room { result ≡ 0 →
-        drop written.new room.new ≡ drop written.new room.old }
-    ensures range { ¬ (IsIdentifier chassis.now × IsIdentifier port.now) →
-        (result ≡ 100) × (faults.new ≡ faults.old) }
-    ensures short { IsIdentifier chassis.now → IsIdentifier port.now →
-        length faults.old < length tlvs.now → (result ≡ 101) × (faults.new ≡ faults.old) }
-    ensures refused { ¬ (result ≡ 0) → (room.new ≡ room.old) × (written.new ≡ written.old) }
+    ensures built { Builds chassis.now port.now ttl tlvs.now faults.old room.old written.old
+        result faults.new room.new written.new }
 {
     if !is_identifier(chassis) || !is_identifier(port) {
         return OUT_OF_RANGE;

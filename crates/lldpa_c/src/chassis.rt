@@ -1,9 +1,7 @@
 //! Writes what an agent says about its host.
 ghost use Rattle.std.specs.Prelude.{◌≡◌, ◌≤◌, length, take, drop, replicate};
-ghost use Rattle.lldpa_c.specs.Answer.{answer_of};
-ghost use Rattle.lldpa_c.specs.Frame.{Keeps};
-ghost use Rattle.lldpa_c.specs.Held.{open_checks};
 ghost use Rattle.lldpa_c.specs.Chassis.{role_number, TellsChassis};
+ghost use Rattle.lldpa_c.specs.Reading.{ReadsChassis};
 
 use crate::answer::{NOT_OPEN, OK};
 use crate::holder::LldpaAgent;
@@ -76,10 +74,7 @@ pub extern "C" fn lldpa_chassis(
     agent: &mut LldpaAgent,
     told: &mut LldpaChassis,
 ) -> u8
-    ensures told { result ≡ 0 → TellsChassis agent.old.held.agent told.new }
-    ensures answer { result ≡ answer_of (open_checks agent.old) }
-    ensures kept { Keeps agent.old agent.new }
-    ensures refused { ¬ (result ≡ 0) → told.new ≡ told.old }
+    ensures told { ReadsChassis agent.old told.old result agent.new told.new }
 {
     let Some(held) = agent.take(alloc) else {
         return NOT_OPEN;

@@ -1,14 +1,12 @@
 //! Computes when an agent has something to do.
 ghost use Rattle.std.specs.Prelude.{◌≡◌};
-ghost use Rattle.lldpa_c.specs.Answer.{answer_of};
-ghost use Rattle.lldpa_c.specs.Due.{sooner, until_sends, least_left, due_on, IsDue};
-ghost use Rattle.lldpa_c.specs.Frame.{Keeps};
-ghost use Rattle.lldpa_c.specs.Held.{open_checks};
+ghost use Rattle.lldp_table.specs.Contents.{sooner};
+ghost use Rattle.lldpa_c.specs.Due.{until_sends, due_on, IsDue};
+ghost use Rattle.lldpa_c.specs.Reading.{ReadsDue};
 
 use crate::answer::{NOT_OPEN, OK};
 use crate::holder::LldpaAgent;
 use lldp_engine::Agent;
-use lldp_table::Table;
 use lldp_transmit::Parts;
 use std::alloc::Global;
 
@@ -44,17 +42,6 @@ fn until_sends(machine: &Parts) -> Option<u16>
     }
 }
 
-/// Returns the ticks until the first neighbor of a table ages out, or None if the table is empty.
-fn least_left(table: &Table<Global>) -> Option<u16>
-    ensures { result ≡ least_left table.now.shown.neighbors }
-{
-    let mut least = None;
-    for entry in table.entries() {
-        least = sooner(least, Some(entry.left()));
-    }
-    least
-}
-
 /// Returns the ticks until a port sends or a neighbor ages out, or None if nothing is due.
 fn due_on(agent: &Agent) -> Option<u16>
     ensures { result ≡ due_on agent.now.ports }
@@ -62,7 +49,7 @@ fn due_on(agent: &Agent) -> Option<u16>
     let mut due = None;
     for port in 0..agent.ports() {
         let sends = until_sends(&agent.machine(port).parts());
-        due = sooner(due, sooner(least_left(agent.table(port)), sends));
+        due = sooner(due, sooner(agent.table(port).soonest(), sends));
     }
     due
 }
@@ -80,10 +67,7 @@ fn seconds_of(agent: &Agent) -> u32
 /// Writes the seconds until a port sends or a neighbor ages out, if there is no other event.
 #[unsafe(no_mangle)]
 pub extern "C" fn lldpa_due(alloc: Global, agent: &mut LldpaAgent, seconds: &mut u32) -> u8
-    ensures due { result ≡ 0 → IsDue agent.old.held.agent seconds.new }
-    ensures answer { result ≡ answer_of (open_checks agent.old) }
-    ensures kept { Keeps agent.old agent.new }
-    ensures refused { ¬ (result ≡ 0) → seconds.new ≡ seconds.old }
+    ensures due { ReadsDue agent.old seconds.old result agent.new seconds.new }
 {
     let Some(held) = agent.take(alloc) else {
         return NOT_OPEN;

@@ -2,7 +2,7 @@
 ghost use Rattle.std.specs.Prelude.{◌≡◌, None, IsSome};
 ghost use Rattle.lldp_pdu.specs.Fault.{fault_of};
 ghost use Rattle.lldp_pdu.specs.View.{msap_view};
-ghost use Rattle.lldpa_c.specs.Examined.{fault_number, Tells, chassis_place, port_place, told_gone, told_alive};
+ghost use Rattle.lldpa_c.specs.Examined.{fault_number, Tells, Examines, chassis_place, port_place, told_gone, told_alive};
 
 use crate::place::LldpaPlace;
 use lldp_pdu::{Examined, Info, Msap, examine};
@@ -101,9 +101,7 @@ pub(crate) fn tell_examined(pdu: &[u8], told: &mut LldpaExamined) -> u8
 /// `tell_examined` does.
 #[unsafe(no_mangle)]
 pub extern "C" fn lldpa_examine(pdu: &[u8], told: &mut LldpaExamined) -> u8
-    ensures fault { result ≡ fault_number (fault_of pdu.now) }
-    ensures told { fault_of pdu.now ≡ None → Tells pdu.now told.new }
-    ensures refused { IsSome (fault_of pdu.now) → told.new ≡ told.old }
+    ensures told { Examines pdu.now told.old result told.new }
 {
     tell_examined(pdu, told)
 }

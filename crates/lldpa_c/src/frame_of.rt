@@ -11,6 +11,7 @@ ghost use Rattle.lldpa_c.specs.Frame.{mark_numbered, frame_checks, Writes, Keeps
 use crate::answer::{NO_PORT, NOT_OPEN, OUT_OF_RANGE};
 use crate::giving::give;
 use crate::holder::LldpaAgent;
+use arrayvec::ArrayVec;
 use lldp_engine::{Agent, Mark};
 use std::alloc::Global;
 
@@ -46,7 +47,9 @@ fn write(agent: &Agent, port: u32, mark: Mark, room: &mut [u8], written: &mut us
     if port >= u32::from(agent.ports()) {
         return NO_PORT;
     }
-    give(agent.frame(port as u8, mark).as_slice(), room, written)
+    let mut frame = ArrayVec::new();
+    agent.write_frame(port as u8, mark, &mut frame);
+    give(frame.as_slice(), room, written)
 }
 
 /// Writes the frame that a mark asks for on a port, with the current settings.

@@ -1,11 +1,11 @@
 //! Walks over the kept TLVs of an LLDPDU.
-ghost use Rattle.std.specs.Prelude.{◌≡◌, ◌≤◌, ◌+◌, ◌-◌, [], ◌∷◌, true, false, length, drop, None, IsTrue, IfNone, IfSome};
+ghost use Rattle.std.specs.Prelude.{◌≡◌, ◌-◌, [], ◌∷◌, drop, None, IfNone, IfSome};
 ghost use Rattle.lldp_pdu.specs.Cut.{cut};
 ghost use Rattle.lldp_pdu.specs.View.{tlv_view};
 ghost use Rattle.lldp_pdu.specs.Kept.{kept_of};
 ghost use Rattle.lldp_pdu.specs.Code.Seen.{none_seen, kept_seen};
-ghost use Rattle.lldpa_c.specs.Place.{octets_at, EndsWith};
-ghost use Rattle.lldpa_c.specs.Walk.{tlvs_from, left_of, IsExtent, GivesKept};
+ghost use Rattle.lldpa_c.specs.Place.{EndsWith};
+ghost use Rattle.lldpa_c.specs.Walk.{tlvs_from, left_of, IsExtent, GivesKept, Advances};
 
 use crate::place::LldpaPlace;
 use lldp_pdu::{Seen, Tlv, Tlvs};
@@ -82,15 +82,7 @@ fn first_kept(octets: &[u8], met: Seen) -> Option<Found<'_>>
 /// incomplete TLV). Returns false, and leaves the walk unchanged, if no TLV is left.
 #[unsafe(no_mangle)]
 pub extern "C" fn lldpa_next_kept(extent: &[u8], walk: &mut LldpaKept) -> bool
-    ensures given { IsTrue result → left_of extent.now walk.old
-        ≡ record {
-          kind = walk.new.kind;
-          body = octets_at extent.now walk.new.body;
-        } ∷ left_of extent.now walk.new }
-    ensures within { IsTrue result →
-        walk.new.body.start + walk.new.body.length ≤ length extent.now }
-    ensures ended { result ≡ false → left_of extent.now walk.old ≡ [] }
-    ensures kept { result ≡ false → walk.new ≡ walk.old }
+    ensures given { Advances extent.now walk.old result walk.new }
     ensures begun { IsExtent extent.now → walk.old.next ≡ 0 → walk.old.met ≡ none_seen →
         left_of extent.now walk.old ≡ kept_of extent.now }
 {

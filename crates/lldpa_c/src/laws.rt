@@ -1,17 +1,20 @@
 //! Laws about the numbers and values that C passes and receives.
+ghost use Rattle.std.specs.Prelude.{ℕ};
 ghost use Rattle.lldpa_c.specs.declared.options.LldpaOptions.{LldpaOptions};
 ghost use Rattle.lldpa_c.specs.Laws.Asked.{AsksForEach};
 ghost use Rattle.lldpa_c.specs.Laws.Gone.{AreGone};
 ghost use Rattle.lldpa_c.specs.Laws.Left.{AreLeaving};
 ghost use Rattle.lldpa_c.specs.Laws.Machines.{AreTaken};
-ghost use Rattle.lldpa_c.specs.Laws.Opened.{AreOptions};
+ghost use Rattle.lldpa_c.specs.declared.holder.LldpaAgent.{LldpaAgent};
+ghost use Rattle.lldpa_c.specs.Opening.{OpensOnce};
+ghost use Rattle.lldpa_c.specs.Laws.Opened.{AreOptions, OpensInOrder};
 ghost use Rattle.lldpa_c.specs.Laws.Order.{AreInOrder, EventsAreInOrder};
 ghost use Rattle.lldpa_c.specs.Laws.Passed.{ArePassedOn, AreContinued, AreKept};
 ghost use Rattle.lldpa_c.specs.Laws.Passing.{AreSeconds, ArePassing};
-ghost use Rattle.lldpa_c.specs.Laws.Read.{AreRanges, AreBuilt};
-ghost use Rattle.lldpa_c.specs.Laws.Refused.{AreAllOrNothing, AreNotWritten};
+ghost use Rattle.lldpa_c.specs.Laws.Read.{AreRanges, AreBuilt, AreExamined, AreWalked};
+ghost use Rattle.lldpa_c.specs.Laws.Refused.{AreAllOrNothing, AreSpared, AreNotWritten};
 ghost use Rattle.lldpa_c.specs.Laws.Reported.{AreReported};
-ghost use Rattle.lldpa_c.specs.Laws.Shown.{AreShown, AreLines, AreRead};
+ghost use Rattle.lldpa_c.specs.Laws.Shown.{AreShown, AreOfPorts, AreLines, AreRead};
 ghost use Rattle.lldpa_c.specs.Laws.Words.{AreWords};
 ghost use Rattle.lldpa_c.specs.Numbers.{AreGiven, AreTold};
 
@@ -34,23 +37,30 @@ pub fn options_ask_field_by_field()
     ensures { (o : LldpaOptions) → AsksForEach o }
 {}
 
-/// Which options are read, and what the agent is when it was opened.
+/// Which options are read, and what the agent is when it was opened. Of several errors the first in
+/// the order of the header is told.
 pub fn options_are_read_or_refused()
-    ensures { (o : LldpaOptions) → AreOptions o }
+    ensures options { (o : LldpaOptions) → AreOptions o }
+    ensures order { (o : LldpaOptions) (before after : LldpaAgent) (answer : ℕ) →
+        OpensOnce o before answer after → OpensInOrder o before answer after }
 {}
 
 /// The numbers in structs and the texts of TLVs equal those in the lines of shows. The fields of
 /// capabilities and management addresses equal octets of a TLV's body.
 pub fn told_values_are_shown()
     ensures shown { AreShown }
+    ensures ports { AreOfPorts }
     ensures lines { AreLines }
     ensures read { AreRead }
 {}
 
-/// Faults have their numbers, ranges their lengths, and a TLV that is built its number.
+/// Faults have their numbers, ranges their lengths, and a TLV that is built its number. What is
+/// built is told as it was given, what is told is what a port counts, and a walk finds each kept TLV.
 pub fn lldpdus_are_told_in_full()
     ensures ranges { AreRanges }
     ensures built { AreBuilt }
+    ensures examined { AreExamined }
+    ensures walked { AreWalked }
 {}
 
 /// Events reach the engine, and C receives each frame to send. A command tells the show to print,
@@ -65,6 +75,12 @@ pub fn events_are_passed_on()
 /// open.
 pub fn calls_do_all_or_nothing()
     ensures { AreAllOrNothing }
+{}
+
+/// A call that reads a closed agent, or a port that the agent does not have, writes nothing. Nor
+/// does building with identifiers of another length, or without a number for each TLV.
+pub fn refused_calls_write_nothing()
+    ensures { AreSpared }
 {}
 
 /// Some TLVs have no text, by their type or their length alone.

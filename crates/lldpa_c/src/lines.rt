@@ -55,21 +55,20 @@ fn append(room: &mut [u8], used: usize, text: &[u8]) -> Option<usize>
     Some(end)
 }
 
-/// Copies the lines of a show to the caller's buffer. Each wanted line is first written to `line`,
-/// and is copied when the next line begins or the show ends, if it fits.
+/// Copies the lines of a show to the caller's buffer. Each line is first written to `line`, and is
+/// copied when the next line begins or the show ends, if it fits.
 #[derive(Drop)]
 struct Filling<'a> {
     room: &'a mut [u8],
     used: usize,
     next: u32,
-    before: u32,
     is_full: bool,
-    is_wanted: bool,
+    is_waiting: bool,
     line: Writer,
 }
 
 impl<'a> Filling<'a> {
-    /// Returns a state in which nothing is written. `from` is the first line that is wanted.
+    /// Returns a state in which nothing is written. The next line is line `from`.
     fn new(room: &'a mut [u8], from: u32) -> Filling<'a>
         ensures room { result.room.now ≡ room.old }
         ensures same { result.room.ghost_name ≡ room.entry.ghost_name }
@@ -80,23 +79,22 @@ impl<'a> Filling<'a> {
             room,
             used: 0,
             next: from,
-            before: from,
             is_full: false,
-            is_wanted: false,
+            is_waiting: false,
             line: Writer::new(),
         }
     }
 
-    /// Copies `line` to the buffer, if the line is wanted and fits.
+    /// Copies `line` to the buffer, if a line waits there and fits.
     fn settle(&mut self)
         ensures moved { settled self.new ≡ view self.old }
         ensures rest { LeavesRest self.old self.new }
-        ensures unwanted { self.new.is_wanted ≡ false }
+        ensures none_waits { self.new.is_waiting ≡ false }
         ensures size { length self.new.room.now ≡ length self.old.room.now }
         ensures same { self.new.room.ghost_name ≡ self.old.room.ghost_name }
     {
         let used = self.used;
-        if self.is_wanted && !self.is_full {
+        if self.is_waiting && !self.is_full {
             match append(self.room, used, self.line.as_slice()) {
                 Some(end) => {
                     self.used = end;
@@ -106,19 +104,20 @@ impl<'a> Filling<'a> {
                 None => self.is_full = true,
             }
         }
-        self.is_wanted = false;
+        self.is_waiting = false;
     }
 
-    /// Copies the lines of a show that are wanted, as many as fit.
-    fn take(&mut self, agent: &Agent, show: Show)
-        ensures lines { settled self.new
-            ≡ come_all (length self.old.room.now) (view self.old) (lines_of show agent.now) }
+    /// Copies the lines of a show from line `from` on, as many as fit.
+    fn take(&mut self, agent: &mut Agent, show: Show, from: u32)
+        ensures agent { agent.new ≡ agent.old }
+        ensures lines { settled self.new ≡ come_all (length self.old.room.now) (view self.old)
+            (drop from (lines_of show agent.old)) }
         ensures rest { LeavesRest self.old self.new }
-        ensures few { length (lines_of show agent.now) ≤ 6127808 }
+        ensures few { length (lines_of show agent.old) ≤ 6127808 }
         ensures size { length self.new.room.now ≡ length self.old.room.now }
         ensures same { self.new.room.ghost_name ≡ self.old.room.ghost_name }
     {
-        agent.show_lines(&show, self);
+        agent.show_from(&show, from, self);
         self.settle();
     }
 }
@@ -131,11 +130,7 @@ impl LineSink for Filling<'_> {
         if self.is_full {
             return None;
         }
-        if self.before > 0 {
-            self.before -= 1;
-            return None;
-        }
-        self.is_wanted = true;
+        self.is_waiting = true;
         self.line.clear();
         Some(&mut self.line)
     }
@@ -149,17 +144,18 @@ impl LineSink for Filling<'_> {
 // Not inlined: this function's stack frame exceeds a page. When it was inlined, LLVM moved a branch
 // of the caller before the loop that probes pages. The loop overwrote a register of that branch.
 #[inline(never)]
-fn fill(agent: &Agent, show: Show, from: u32, room: &mut [u8]) -> LldpaLines
+fn fill(agent: &mut Agent, show: Show, from: u32, room: &mut [u8]) -> LldpaLines
+    ensures same { agent.new ≡ agent.old }
     ensures within { result.length ≤ length room.new }
-    ensures octets { Fills (lines_of show agent.now) from result.next
+    ensures octets { Fills (lines_of show agent.old) from result.next
         (take result.length room.new) }
     ensures rest { drop result.length room.new ≡ drop result.length room.old }
-    ensures done { result.done ≡ true → result.next ≡ max from (length (lines_of show agent.now)) }
+    ensures done { result.done ≡ true → result.next ≡ max from (length (lines_of show agent.old)) }
     ensures full { result.done ≡ false →
-        IsFull (lines_of show agent.now) result.next (length room.new) result.length }
+        IsFull (lines_of show agent.old) result.next (length room.new) result.length }
 {
     let mut filling = Filling::new(room, from);
-    filling.take(agent, show);
+    filling.take(agent, show, from);
     LldpaLines {
         length: filling.used,
         next: filling.next,
@@ -187,10 +183,10 @@ pub extern "C" fn lldpa_show_lines(
     let Some(show) = show_numbered(show) else {
         return OUT_OF_RANGE;
     };
-    let Some(held) = agent.take(alloc) else {
+    let Some(mut held) = agent.take(alloc) else {
         return NOT_OPEN;
     };
-    let lines = fill(&held, show, from, room);
+    let lines = fill(&mut held, show, from, room);
     agent.put(held);
     if lines.next == from && !lines.done {
         return NO_ROOM;

@@ -1,12 +1,11 @@
 //! Opens an agent.
-ghost use Rattle.std.specs.Prelude.{◌≡◌, ◌⊎◌, ◌<◌, ◌↔◌, IsTrue, true, false, length, map, min, take, Some, None, IfSome, IfNone, IfOk, IfErr};
+ghost use Rattle.std.specs.Prelude.{◌≡◌, ◌<◌, ◌↔◌, IsTrue, length, map, min, take, Some, None, IfSome, IfNone, IfOk, IfErr};
 ghost use Rattle.std.specs.List.{All};
 ghost use Rattle.std.specs.Str.{IsUtf8};
 ghost use Rattle.lldp_engine.specs.declared.agent.open_fault.OpenFault.{OpenFault as Fault};
 ghost use Rattle.lldp_engine.specs.Options.{InRange, fault_of};
 ghost use Rattle.lldpa_c.specs.Faults.{refusal_number};
-ghost use Rattle.lldpa_c.specs.Opening.{role_numbered, asked, IsRead, Opens};
-ghost use Rattle.lldpa_c.specs.Frame.{Keeps};
+ghost use Rattle.lldpa_c.specs.Opening.{role_numbered, asked, IsRead, Opens, OpensOnce};
 
 use crate::answer::{IS_OPEN, OK, OUT_OF_RANGE};
 use crate::faults::refusal_number;
@@ -110,15 +109,7 @@ pub extern "C" fn lldpa_open(
     options: &LldpaOptions<'_>,
     agent: &mut LldpaAgent,
 ) -> u8
-    ensures is_open { result ≡ 0 → agent.new.is_open ≡ true }
-    ensures opened { result ≡ 0 → Opens options.now agent.new.held.agent }
-    ensures refused { ¬ (result ≡ 0) → Keeps agent.old agent.new }
-    ensures again { agent.old.is_open ≡ true → result ≡ 104 }
-    ensures range { agent.old.is_open ≡ false → ¬ (IsRead options.now) → result ≡ 100 }
-    ensures fault { agent.old.is_open ≡ false → IsRead options.now → (fault : Fault) →
-        fault_of (asked options.now) ≡ Some fault → result ≡ refusal_number fault }
-    ensures opens { agent.old.is_open ≡ false → IsRead options.now →
-        fault_of (asked options.now) ≡ None → (result ≡ 0) ⊎ (result ≡ 21) }
+    ensures opened { OpensOnce options.now agent.old result agent.new }
 {
     if agent.is_open {
         return IS_OPEN;

@@ -1,9 +1,6 @@
 //! Writes the counters of a port and the settings of an agent.
-ghost use Rattle.std.specs.Prelude.{◌≡◌, Some, length, map, take, drop, replicate, slice_get};
-ghost use Rattle.std.specs.Option.{option_map};
-ghost use Rattle.lldpa_c.specs.Answer.{answer_of};
-ghost use Rattle.lldpa_c.specs.Frame.{Keeps};
-ghost use Rattle.lldpa_c.specs.Held.{count_checks, open_checks};
+ghost use Rattle.std.specs.Prelude.{◌≡◌, length, map, take, drop, replicate};
+ghost use Rattle.lldpa_c.specs.Reading.{ReadsStatistics, ReadsConfiguration};
 ghost use Rattle.lldpa_c.specs.Settings.{status_number, TellsConfiguration};
 
 use crate::answer::{NO_PORT, NOT_OPEN, OK};
@@ -37,11 +34,7 @@ pub extern "C" fn lldpa_statistics(
     port: u32,
     told: &mut Counters,
 ) -> u8
-    ensures told { result ≡ 0 → option_map (λ p. p.counters)
-        (slice_get agent.old.held.agent.ports port) ≡ Some told.new }
-    ensures answer { result ≡ answer_of (count_checks agent.old port) }
-    ensures kept { Keeps agent.old agent.new }
-    ensures refused { ¬ (result ≡ 0) → told.new ≡ told.old }
+    ensures told { ReadsStatistics agent.old port told.old result agent.new told.new }
 {
     let Some(held) = agent.take(alloc) else {
         return NOT_OPEN;
@@ -107,10 +100,7 @@ pub extern "C" fn lldpa_configuration(
     agent: &mut LldpaAgent,
     told: &mut LldpaConfiguration,
 ) -> u8
-    ensures told { result ≡ 0 → TellsConfiguration agent.old.held.agent told.new }
-    ensures answer { result ≡ answer_of (open_checks agent.old) }
-    ensures kept { Keeps agent.old agent.new }
-    ensures refused { ¬ (result ≡ 0) → told.new ≡ told.old }
+    ensures told { ReadsConfiguration agent.old told.old result agent.new told.new }
 {
     let Some(held) = agent.take(alloc) else {
         return NOT_OPEN;

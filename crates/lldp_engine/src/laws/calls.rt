@@ -21,7 +21,8 @@ ghost use Rattle.lldp_engine.specs.Told.{told_of, Tells};
 ghost use Rattle.lldp_engine.specs.Laws.Calls.{set_by, comes_to, words_for, IsTrueOf};
 
 /// Each setting sets its own part of the configuration, and no other event sets any. A frame, a
-/// link event and a status come to their port alone, a tick, a limit and any other setting to each.
+/// link event and a status come to their port alone. A tick, a limit and any other setting come to
+/// each port.
 #[tactic(auto, using(crate::proofs::ForLaws::Calls::events_do_what_they_say))]
 pub fn events_do_what_they_say()
     ensures set { (event : Event) (c : Configuration) →

@@ -1,7 +1,8 @@
 //! The lines of show commands.
-ghost use Rattle.std.specs.Prelude.{◌≡◌, ◌<◌, ◌≤◌, ℕ, List, length, IsSome, slice_get};
+ghost use Rattle.std.specs.Prelude.{◌≡◌, ◌<◌, ◌≤◌, ℕ, List, drop, length, IsSome, slice_get};
 ghost use Rattle.std.specs.Option.{option_map};
 ghost use Rattle.lldp_engine.specs.Lines.{lines_of};
+ghost use Rattle.lldp_engine.specs.Code.Cursor.{IsCursorOf};
 ghost use Rattle.lldp_engine.specs.Past.{Past, agent_of};
 ghost use Rattle.lldp_engine.specs.Standing.{Stands};
 ghost use Rattle.lldp_engine.specs.Takes.{Takes};
@@ -11,9 +12,11 @@ use crate::agent::Agent;
 use crate::command::Show;
 use crate::show::chassis_lines::put_chassis;
 use crate::show::configuration_lines::put_configuration;
+use crate::show::cursor::Cursor;
 use crate::show::line::LineSink;
-use crate::show::neighbor_lines::put_neighbors;
+use crate::show::neighbor_lines::{put_from, put_neighbors};
 use crate::show::one_line::OneLine;
+use crate::show::skip_lines::SkipLines;
 use crate::show::statistics_lines::put_statistics;
 use lldp_text::Line;
 use std::alloc::Allocator;
@@ -41,6 +44,34 @@ impl<A: Allocator> Agent<A> {
             Show::Statistics => put_statistics(sink, ports),
             Show::Chassis => put_chassis(sink, configuration),
             Show::Configuration => put_configuration(sink, configuration, ports),
+        }
+    }
+
+    /// Writes exactly the lines of a show from line `from` on, counted from 0, as `show_lines` does.
+    /// The agent keeps where it began, so that the next page does not go through all earlier lines
+    /// (no clause states this).
+    pub fn show_from<S: LineSink>(&mut self, show: &Show, from: u32, sink: &mut S)
+        ensures same { self.new ≡ self.old }
+        ensures value { Takes S.takes sink.old sink.new
+            (drop from (lines_of show.now self.old)) }
+        ensures few { length (lines_of show.now self.old) ≤ 6127808 }
+    {
+        let cursor = self.cursor(show, from);
+        let mut later = SkipLines::new(sink, from - cursor.before);
+        self.show_at(show, cursor, &mut later);
+    }
+
+    /// Writes the lines of a show that are not before the cursor.
+    fn show_at<S: LineSink>(&self, show: &Show, cursor: Cursor, sink: &mut S)
+        requires { IsCursorOf show.now self.now cursor }
+        ensures value { Takes S.takes sink.old sink.new
+            (drop cursor.before (lines_of show.now self.now)) }
+        ensures few { length (lines_of show.now self.now) ≤ 6127808 }
+    {
+        if cursor.before == 0 {
+            self.show_lines(show, sink);
+        } else {
+            put_from(sink, self.all_ports(), cursor);
         }
     }
 

@@ -1,11 +1,13 @@
 //! The lines of `show neighbors`.
-ghost use Rattle.std.specs.Prelude.{◌≡◌, ◌≤◌, length, map};
+ghost use Rattle.std.specs.Prelude.{◌≡◌, ◌≤◌, ◌+◌, drop, length, map};
 ghost use Rattle.std.specs.List.{AllByRecursion};
 ghost use Rattle.lldp_pdu.specs.Kept.{IsKeptTlv};
-ghost use Rattle.lldp_engine.specs.NeighborLines.{kept_line, neighbor_lines, yes_or_no, count_lines, port_lines, neighbors_lines};
+ghost use Rattle.lldp_engine.specs.NeighborLines.{kept_line, neighbor_lines, numbered_lines, yes_or_no, count_lines, port_lines, neighbors_lines};
+ghost use Rattle.lldp_engine.specs.Code.Cursor.{IsBehind};
 ghost use Rattle.lldp_engine.specs.Takes.{Takes};
 
 use crate::port::Port;
+use crate::show::cursor::Cursor;
 use crate::show::line::{LineSink, Value, neighbor_front, port_front, put_line};
 use lldp_pdu::Kept;
 use lldp_table::Entry;
@@ -76,19 +78,30 @@ fn put_counts<A: Allocator, S: LineSink>(sink: &mut S, port: &Port<A>)
     );
 }
 
-/// Writes the lines of a port and of its neighbors.
-fn put_port<A: Allocator, S: LineSink>(sink: &mut S, port: &Port<A>)
-    ensures { Takes S.takes sink.old sink.new (port_lines port.now) }
+/// Writes the lines of a port's neighbors from index `first` on.
+fn put_numbered<A: Allocator, S: LineSink>(sink: &mut S, port: &Port<A>, first: u8)
+    requires { first ≤ length port.now.table.neighbors }
+    ensures { Takes S.takes sink.old sink.new
+        (numbered_lines port.now.name (first + 1) (drop first port.now.table.neighbors)) }
 {
-    put_counts(sink, port);
-    let mut number = 0;
-    for entry in port.table().entries() {
+    let mut number = first;
+    let mut entries = port.table().entries();
+    entries.pass(first);
+    for entry in entries {
         if sink.is_done() {
             return;
         }
         number += 1;
         put_neighbor(sink, port.name(), number, entry);
     }
+}
+
+/// Writes the lines of a port and of its neighbors.
+fn put_port<A: Allocator, S: LineSink>(sink: &mut S, port: &Port<A>)
+    ensures { Takes S.takes sink.old sink.new (port_lines port.now) }
+{
+    put_counts(sink, port);
+    put_numbered(sink, port, 0);
 }
 
 /// Writes the lines of `show neighbors`.
@@ -101,4 +114,14 @@ pub(crate) fn put_neighbors<A: Allocator, S: LineSink>(sink: &mut S, ports: &[Po
         }
         put_port(sink, port);
     }
+}
+
+/// Writes the lines of `show neighbors` that are not before the cursor.
+pub(crate) fn put_from<A: Allocator, S: LineSink>(sink: &mut S, ports: &[Port<A>], cursor: Cursor)
+    requires { IsBehind ports.now cursor }
+    ensures { Takes S.takes sink.old sink.new (drop cursor.before (neighbors_lines ports.now)) }
+{
+    let port = cursor.port as usize;
+    put_numbered(sink, &ports[port], cursor.neighbor);
+    put_neighbors(sink, &ports[port + 1..]);
 }

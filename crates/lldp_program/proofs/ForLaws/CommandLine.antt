@@ -1,13 +1,14 @@
 -- The options, the roles and the ranges of the command line.
-use Rattle.std.proofs.Common.{◌≡◌, ◌∙◌, ℕ, ◌≤◌, List, [], Option, Some, Ok, refl, sym, ap, Bor, option_map}
+use Rattle.std.proofs.Common.{◌≡◌, ◌∙◌, ℕ, ◌≤◌, List, [], ◌∷◌, Option, Some, Ok, refl, sym, ap, Bor, option_map}
 use Rattle.std.specs.Prelude.{unwrap_or}
+use Rattle.hex.specs.Hex.{decode_of, decode_pairs, pair_value}
 use Rattle.clap.specs.Walk.{Row, Text, byte_or_zero, one_of}
 use Rattle.clap.proofs.WalkLemmas.{byte_read}
 use Rattle.lldp_engine.specs.declared.agent.options.Role.{Role}
 use Rattle.lldp_engine.specs.declared.agent.options.Role.TheVariants.{Station, Bridge, Router}
 use Rattle.lldp_engine.specs.Options.{Options}
 use Rattle.lldp_program.specs.CommandLine.Usage.{Asks, AsksManagement, role_named}
-use Rattle.lldp_program.specs.Laws.CommandLine.{number_to, AreAsked, HasOptions, HasRoles, SaysAddress, SaysNumber, TakesRange, word_of_role}
+use Rattle.lldp_program.specs.Laws.CommandLine.{number_to, ArePair, AreAsked, HasOptions, HasRoles, SaysAddress, SaysNumber, SpellMacs, TakesRange, word_of_role}
 
 pub has_options : (roles : Bor (List (Bor Text))) → HasOptions roles
 has_options roles =
@@ -54,6 +55,19 @@ says_number name rows n asked text m given w small =
 says_address : (text : Text) (given : Option (List ℕ)) → AsksManagement (Some text) given → SaysAddress text given
 says_address text given (octets, is, dotted) =
     (dotted.a, dotted.b, dotted.c, dotted.d, dotted.fit.0, dotted.fit.1, dotted.fit.2, dotted.fit.3, dotted.spelled, is ∙ ap (λ (t : List ℕ). Some t) dotted.value)
+
+pairs : (i high low octet : ℕ) → ArePair high low octet → pair_value high low i ≡ Ok octet
+pairs i high low octet h = rw (h.high_is, h.low_is, h.octet_is) refl
+
+pub spell_macs : SpellMacs
+unfolding decode_pairs
+spell_macs a b c d e f g h i j k l m n o p q r am an ao ap' aq ar = record {
+  long = refl;
+  colons = refl;
+  digits = six;
+} where
+  six : decode_of (a ∷ b ∷ c ∷ d ∷ e ∷ f ∷ g ∷ h ∷ i ∷ j ∷ k ∷ l ∷ []) ≡ Ok (m ∷ n ∷ o ∷ p ∷ q ∷ r ∷ [])
+  six = rw (pairs 0 a b m am, pairs 2 c d n an, pairs 4 e f o ao, pairs 6 g h p ap', pairs 8 i j q aq, pairs 10 k l r ar) refl
 
 pub are_asked : (rows : List Row) (o : Options) → Asks rows o → AreAsked rows o
 are_asked rows o asks =

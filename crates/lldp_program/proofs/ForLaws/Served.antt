@@ -1,5 +1,5 @@
 -- If serving ends without a fault, all requested connections were served. A failed bind.
-use Rattle.std.proofs.Common.{◌≡◌, ℕ, ◌+◌, zero, suc, List, [], ◌∷◌, ◌++◌, length, Option, Some, Result, Ok, Err, refl, sym, ap, ◌∙◌, inl, inr, subst, arith}
+use Rattle.std.proofs.Common.{◌≡◌, ◌<◌, ℕ, ◌+◌, zero, suc, List, [], ◌∷◌, ◌++◌, length, Option, Some, Result, Ok, Err, refl, sym, ap, ◌∙◌, inl, inr, subst, arith}
 use Rattle.std.specs.Prelude.{is_err, unwrap_or, slice_get, ◌==◌}
 use Rattle.std.specs.List.{filter}
 use Rattle.std.proofs.lemmas.Bool.{cases_Bool, eqb-true}
@@ -7,12 +7,17 @@ use Rattle.std.proofs.lemmas.List.{length-append}
 use Rattle.lldp_engine.specs.AgentState.{AgentState}
 use Rattle.lldp_program.specs.declared.arguments.Listening.{Listening}
 use Rattle.lldp_program.specs.Devices.Acceptors.{Call, accepted, bound, ran, unbound, Visit, logged}
-use Rattle.lldp_program.specs.Serving.{AreRun, HasAsked, HasListened, results_of, calls_of, calls_with, this_host}
+use Rattle.lldp_program.specs.Serving.{AreRun, HasAsked, HasListened, results_of, calls_of, calls_with, this_host, without_fault}
 use Rattle.lldp_program.specs.Trace.Runs.{HasRun}
 use Rattle.lldp_program.specs.declared.device.DeviceFault.{DeviceFault}
 use Rattle.lldp_program.specs.declared.device.DeviceFault.TheVariants.{Failed}
-use Rattle.lldp_program.specs.Laws.Served.{AreBetween, AreServed, ServesAll, asked_in_turn, faulty_among}
+use Rattle.lldp_program.specs.Laws.Served.{AreBetween, AreServed, FellShort, ServesAll, asked_in_turn, faulty_among}
 use Rattle.lldp_program.proofs.Serving.{faults_counted}
+
+-- a run had a fault, unless the answer is Ok
+some_faulty : (faulty : ℕ) (fault : DeviceFault) → Err fault ≡ without_fault (Ok faulty) → 0 < faulty
+some_faulty zero fault e = cc
+some_faulty (suc n) fault e = omega arith
 
 module _ {C : Type 0} where
   as_many : (visits : List (Visit C)) → length (results_of visits) ≡ length visits
@@ -82,6 +87,13 @@ module _ {C : Type 0} where
   listened to_come taken old new listening before after (inl (Err fault, asked, ended)) = cc
   listened to_come taken old new listening before after (inr (asked, same, bad)) = cc
 
+  short : (to_come taken : C → Option (List ℕ)) (old new : Option (List (Call C))) (listening : Listening) (before after : AgentState) (fault : DeviceFault) → HasListened to_come taken old new listening before after (Err fault)
+      → FellShort to_come taken old new listening before after
+  short to_come taken old new listening before after fault (inl (Ok faulty, asked, ended)) =
+      inr (inr (faulty, some_faulty faulty fault ended, served to_come taken (logged (bound this_host listening.port ∷ []) old) new listening.connections faulty before after asked))
+  short to_come taken old new listening before after fault (inl (Err reason, asked, ended)) = inr (inl (reason, asked))
+  short to_come taken old new listening before after fault (inr (asked, same, bad)) = inl (asked, same)
+
   -- a list is not a shorter list, and a bind that worked is none that failed
   not_unbound : (calls earlier : List (Call C)) (address : List ℕ) (port : ℕ) → unbound address port ∷ earlier ≡ calls ++ bound address port ∷ earlier → ⊥
   not_unbound [] earlier address port e = cc
@@ -100,5 +112,6 @@ pub serves_all : {C : Type 0} → (to_come taken : C → Option (List ℕ)) (old
 serves_all to_come taken old new before after = record {
   counted = λ connections faulty h. served to_come taken old new connections faulty before after h;
   listened = λ listening h. listened to_come taken old new listening before after h;
+  short = λ listening fault h. short to_come taken old new listening before after fault h;
   failed = λ earlier listening result h. failed to_come taken before after earlier listening result h;
 }

@@ -1,9 +1,10 @@
 -- Exactly which options the command line accepts, and what each option asks for.
-use Rattle.std.specs.Prelude.{codes, ◌≡◌, ◌<◌, ◌≤◌, ◌↔◌, ℕ, true, false, List, [], ◌∷◌, Option, Some, None, map, option_and_then, pos, find}
+use Rattle.std.specs.Prelude.{codes, ◌≡◌, ◌<◌, ◌≤◌, ◌↔◌, ℕ, ◌+◌, ◌*◌, true, false, List, [], ◌∷◌, Option, Some, None, map, option_and_then, pos, find}
 use Rattle.std.specs.Net.Text.{dotted_text}
 use Rattle.std.specs.Str.{bytes_eq}
 use Rattle.std.specs.List.{AllByRecursion}
 use Rattle.std.specs.Borrow.{Bor}
+use Rattle.hex.specs.Hex.{hex_digit_value}
 use Rattle.clap.specs.Lexer.{usize_max}
 use Rattle.clap.specs.Simple.{new_shape}
 use Rattle.clap.specs.Walk.{Row, Rule, Text, all_of, first_of, one_of, texts}
@@ -91,6 +92,20 @@ TakesRange roles o =
     InRange o
     ↔ (TakesNumber roles (codes "max-neighbors") o.max_neighbors × TakesNumber roles (codes "tx-credit-max") o.credit_max
     × TakesNumber roles (codes "tx-fast-init") o.fast_init × TakesNumber roles (codes "reinit-delay") o.reinit)
+
+-- two hexadecimal digits, in either case, are the octet
+pub record ArePair (high low octet : ℕ) : Type 0 where
+  pub above : ℕ
+  pub below : ℕ
+  pub high_is : hex_digit_value high ≡ Some above
+  pub low_is : hex_digit_value low ≡ Some below
+  pub octet_is : octet ≡ above * 16 + below
+
+-- Any six pairs of digits with `:` between them are the text of the address of their six octets.
+abbrev pub SpellMacs : Type 0
+SpellMacs =
+    (a b c d e f g h i j k l : ℕ) (m n o p q r : ℕ) → ArePair a b m → ArePair c d n → ArePair e f o → ArePair g h p → ArePair i j q → ArePair k l r →
+    IsMac (a ∷ b ∷ 58 ∷ c ∷ d ∷ 58 ∷ e ∷ f ∷ 58 ∷ g ∷ h ∷ 58 ∷ i ∷ j ∷ 58 ∷ k ∷ l ∷ []) (m ∷ n ∷ o ∷ p ∷ q ∷ r ∷ [])
 
 -- if the text of this option spells a number below 256, n is that number
 abbrev pub SaysNumber : Text → List Row → ℕ → Type 0

@@ -1,6 +1,6 @@
 -- If serving ends without a fault, all requested connections were served, at 127.0.0.1. If binding
 -- failed, the agent is as before.
-use Rattle.std.specs.Prelude.{◌≡◌, ℕ, ◌+◌, List, [], ◌∷◌, length, Option, Some, Result, Ok, Err, is_err, slice_get}
+use Rattle.std.specs.Prelude.{◌≡◌, ◌<◌, ◌⊎◌, ℕ, ◌+◌, List, [], ◌∷◌, length, Option, Some, Result, Ok, Err, is_err, slice_get}
 use Rattle.std.specs.List.{filter, flat_map}
 use Rattle.lldp_engine.specs.AgentState.{AgentState}
 use Rattle.lldp_program.specs.declared.arguments.Listening.{Listening}
@@ -9,6 +9,7 @@ use Rattle.lldp_program.specs.declared.device.DeviceFault.TheVariants.{Failed}
 use Rattle.lldp_program.specs.Devices.Acceptors.{Call, accepted, bound, ran, unbound, Visit, logged}
 use Rattle.lldp_program.specs.Serving.{HasAsked, HasListened}
 use Rattle.lldp_program.specs.Trace.Runs.{HasRun}
+use Rattle.lldp_program.specs.declared.serve.ServeFault.{ServeFault}
 
 -- the calls if each connection was accepted and its trace was then run, newest call first
 abbrev pub asked_in_turn : {C : Type 0} → List (Visit C) → List (Call C)
@@ -39,15 +40,29 @@ pub record AreServed {C : Type 0} (to_come taken : C → Option (List ℕ)) (old
   pub faults : faulty_among visits ≡ faulty
   pub asked : new ≡ logged (asked_in_turn visits) old
 
+-- Binding failed, and no other call was made; or accepting failed; or all connections were served,
+-- and a run had a fault.
+abbrev pub FellShort : {C : Type 0} → (C → Option (List ℕ)) → (C → Option (List ℕ)) → Option (List (Call C)) →
+    Option (List (Call C)) → Listening → AgentState → AgentState → Type 0
+FellShort to_come taken old new listening before after =
+    ((new ≡ logged (unbound (127 ∷ 0 ∷ 0 ∷ 1 ∷ []) listening.port ∷ []) old) × (after ≡ before))
+    ⊎ (((fault : ServeFault)
+    × HasAsked to_come taken (logged (bound (127 ∷ 0 ∷ 0 ∷ 1 ∷ []) listening.port ∷ []) old) new listening.connections before after (Err fault))
+    ⊎ ((faulty : ℕ) × (0 < faulty)
+    × AreServed to_come taken (logged (bound (127 ∷ 0 ∷ 0 ∷ 1 ∷ []) listening.port ∷ []) old) new before after listening.connections faulty))
+
 -- If serving returned Ok, all requested connections were served. If listening returned Ok, the port
--- of 127.0.0.1 was bound first, all connections were served there, and no run had a fault. If the
--- only call is a failed bind, the agent is as before, and the answer is a fault.
+-- of 127.0.0.1 was bound first, all connections were served there, and no run had a fault. It
+-- returns a fault only if one of these fell short. If the only call is a failed bind, the agent is
+-- as before, and the answer is a fault.
 pub record ServesAll {C : Type 0} (to_come taken : C → Option (List ℕ)) (old new : Option (List (Call C)))
     (before after : AgentState) : Type 0 where
   pub counted : (connections faulty : ℕ) → HasAsked to_come taken old new connections before after (Ok faulty) →
       AreServed to_come taken old new before after connections faulty
   pub listened : (listening : Listening) → HasListened to_come taken old new listening before after (Ok tt) →
       AreServed to_come taken (logged (bound (127 ∷ 0 ∷ 0 ∷ 1 ∷ []) listening.port ∷ []) old) new before after listening.connections 0
+  pub short : (listening : Listening) (fault : DeviceFault) → HasListened to_come taken old new listening before after (Err fault) →
+      FellShort to_come taken old new listening before after
   pub failed : (earlier : List (Call C)) (listening : Listening) (result : Result (Unit {0}) DeviceFault) →
       HasListened to_come taken (Some earlier) (Some (unbound (127 ∷ 0 ∷ 0 ∷ 1 ∷ []) listening.port ∷ earlier)) listening before after result →
       (after ≡ before) × (result ≡ Err Failed)

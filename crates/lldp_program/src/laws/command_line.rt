@@ -4,7 +4,7 @@ ghost use Rattle.std.specs.List.{filter};
 ghost use Rattle.std.specs.Borrow.{Bor};
 ghost use Rattle.clap.specs.Walk.{Row, Text};
 ghost use Rattle.lldp_engine.specs.Options.{Options};
-ghost use Rattle.lldp_program.specs.Laws.CommandLine.{AreAsked, HasOptions, HasRoles, TakesRange};
+ghost use Rattle.lldp_program.specs.Laws.CommandLine.{AreAsked, HasOptions, HasRoles, SpellMacs, TakesRange};
 ghost use Rattle.lldp_program.specs.CommandLine.Usage.{Asks};
 ghost use Rattle.lldp_program.specs.Laws.Listening.{AskByTexts, AskByWords};
 ghost use Rattle.lldp_program.specs.Serving.{faults_of};
@@ -21,10 +21,13 @@ pub fn options_are_these_alone()
         TakesRange roles options }
 {}
 
-/// Each option has the value of its own argument, or its default.
+/// Each option has the value of its own argument, or its default. Every MAC address can be asked
+/// for, by digits of either case.
 #[tactic(auto, using(crate::proofs::ForLaws::CommandLine::are_asked))]
 pub fn options_are_what_their_words_say()
-    ensures { (rows : List Row) (options : Options) → Asks rows options → AreAsked rows options }
+    ensures asked { (rows : List Row) (options : Options) → Asks rows options →
+        AreAsked rows options }
+    ensures macs { SpellMacs }
 {}
 
 /// For all texts of `--listen` and `--connections`, the first spells the port to listen at, and the

@@ -10,15 +10,16 @@ ghost use Rattle.lldp_program.specs.Laws.Ends.{AnswersByStatus, EndsTelling, Ref
 ghost use Rattle.lldp_program.specs.Laws.Refused.{GoesOn, RefusesBadAddresses, SortsWords};
 ghost use Rattle.lldp_program.specs.declared.fault.ProgramFault.{ProgramFault};
 
-/// Failures and ends are counted one by one, each at the calls that failed or ended alone.
+/// Each failed call of a device adds one to the count of its failures, and each read of no octets
+/// adds one to the count of its ends. No other call changes these counts.
 #[tactic(auto, using(crate::proofs::ForLaws::Ends::counts_calls))]
 pub fn devices_count_their_calls()
     ensures { (n m : ℕ) → CountsCalls n m }
 {}
 
-/// A stream that stayed as it was, with no more failures, was told nothing: then no refusal was
-/// told, and the status is 0. With status 0 and without `--listen`, exactly the text of the input
-/// was written, for an agent with the options of the arguments.
+/// If nothing was written to the stream of faults and no write to it failed, no refusal was
+/// reported, and the status is 0. With status 0 and without `--listen`, exactly the text of the
+/// input was written, for an agent with the options of the arguments.
 #[tactic(auto, using(crate::proofs::ForLaws::Ends::statuses_are_told))]
 pub fn no_fault_ends_the_program_in_silence()
     ensures told { (fault : ProgramFault) (old new : List ℕ) (n m : ℕ) →
@@ -41,7 +42,7 @@ pub fn arguments_are_refused()
     ensures words { (roles : Bor (List (Bor Text))) → SortsWords roles }
 {}
 
-/// An agent that goes on from a past and an event goes on from the past.
+/// An agent that goes on from a past with one more event also goes on from the past without it.
 #[tactic(auto, using(crate::proofs::ForLaws::Refused::goes_on))]
 pub fn agents_go_on_from_each_earlier_past()
     ensures { (past : Past) (agent : AgentState) → GoesOn past agent }

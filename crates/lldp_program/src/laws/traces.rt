@@ -35,8 +35,8 @@ pub fn items_are_told_by_their_lines()
     ensures { (past : Past) (item : Item) → TellsItem past item }
 {}
 
-/// If output fails, the first items were done, the one whose output failed as the last, and all of
-/// their text was written but the end of the last one's.
+/// If output fails, the items up to the one whose output failed were done, and their text was
+/// written, except for the end of the last one's.
 #[tactic(auto, using(crate::proofs::ForLaws::Stopped::stops_in_order))]
 pub fn failed_runs_stop_in_order()
     ensures { (past : Past) (items : List Item) (old new : Option (List ℕ)) (agent : AgentState) →

@@ -4,7 +4,7 @@ use Rattle.std.specs.List.{list_any, AllByRecursion, IsDistinct, remove, insert}
 use Rattle.std.specs.List.Sorted.{IsPermutation}
 use Rattle.std.proofs.Math.ListN.{drop_of_length-le}
 use Rattle.std.proofs.Math.Seq.{drop-cons, take-append_seam, drop-append_seam}
-use Rattle.std.proofs.lemmas.Bool.{cases_Bool, eqb-true, eqb-false, eq-eqb, le-leb, lt-leb, ltb-true, cond-true, cond-false}
+use Rattle.std.proofs.lemmas.Bool.{cases_Bool, eqb-true, eqb-false, eq-eqb, ne_eqb, le-leb, lt-leb, ltb-true, cond-true, cond-false}
 use Rattle.std.proofs.lemmas.List.{take_more, take-append-drop, append_assoc, map-append, take-map, drop-map, get_or-set_same, get_or-set_other}
 use Rattle.std.proofs.lemmas.List.Elements.{All-from_recursion, recursion_from_All}
 use Rattle.std.proofs.lemmas.List.Sorted.{All-permutation}
@@ -289,6 +289,20 @@ module _ (times slots : List ℕ) (h : IsQueue times slots) (k left : ℕ) (l : 
         all-both (λ i. nat_eq here i ≡ false) (λ i. left + ticks_left (due here now ∷ dues times behind_it) i ≡ ticks_left (dues times slots) i) (λ i. left + now + ticks_left (dues times behind_it) i ≡ ticks_left (dues times slots) i)
         (λ i d q. let b = behind (due here now) (dues times behind_it) i d in omega (arith, b, q)) behind_it
         (subst (λ n. AllByRecursion (λ i. nat_eq here i ≡ false) (drop n slots)) e (not_behind slots k l h.distinct)) all_here.1
+
+  -- the same sum for one slot alone
+  module _ (slot : ℕ) (r : left + ticks_left (dues times (drop k slots)) slot ≡ ticks_left (dues times slots) slot) where
+    one_from : left + ticks_left (due here now ∷ dues times behind_it) slot ≡ ticks_left (dues times slots) slot
+    one_from = ap (λ (is : List ℕ). left + ticks_left (dues times is) slot) (sym from_here) ∙ r
+
+    pub one_here : here ≡ slot → left + now ≡ ticks_left (dues times slots) slot
+    one_here e = ap (λ n. left + n) (sym (at_first (due here now) (dues times behind_it) slot (eq-eqb here slot e))) ∙ one_from
+
+    pub one_behind : (here ≡ slot → ⊥) → left + now + ticks_left (dues times behind_it) slot ≡ ticks_left (dues times slots) slot
+    one_behind d = omega (arith, one_from, behind (due here now) (dues times behind_it) slot (ne_eqb here slot d))
+
+pub one_after : (times slots : List ℕ) (k left slot : ℕ) → length slots ≤ k → left + ticks_left (dues times (drop k slots)) slot ≡ ticks_left (dues times slots) slot → left ≡ ticks_left (dues times slots) slot
+one_after times slots k left slot l r = grind (arith, common_steps, drop_of_length-le)
 
 pub some_there : (slots : List ℕ) → false ≡ nat_eq (length slots) 0 → 0 < length slots
 some_there slots h = let n = eqb-false (length slots) 0 (sym h) in omega (arith, n)

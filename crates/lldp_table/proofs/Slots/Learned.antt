@@ -7,16 +7,21 @@ use Rattle.std.proofs.lemmas.List.{get_or_default, get_or-take, get_or-drop, tak
 use Rattle.std.proofs.lemmas.List.Sorted.{IsPermutation-sym, IsPermutation-append_comm, length_permutation}
 use Rattle.lldp_pdu.specs.Msap.{MsapId}
 use Rattle.lldp_table.specs.Msap.{same_msap}
-use Rattle.lldp_table.specs.Contents.{Contents, IsExtent, is_named}
+use Rattle.lldp_table.specs.Contents.{Contents, IsExtent, is_named, least_left}
 use Rattle.lldp_table.specs.Code.Steps.{fresh, learned_as, after_forget}
 use Rattle.lldp_table.specs.Code.Layout.{neighbor_of, neighbor_at, neighbors_at, msap_at, blank, with_next, contents_of, AreEntries, IsTable}
-use Rattle.lldp_table.specs.Code.Queue.{Due, holds, ticks_left, enter, leave, IsQueued, IsTimed}
-use Rattle.lldp_table.specs.Code.Stored.{Stored}
+use Rattle.lldp_table.specs.Code.Queue.{Due, holds, ticks_left, first_gap, enter, leave, IsQueued, IsTimed}
+use Rattle.lldp_pdu.specs.Lldpdu.{msap_of}
+use Rattle.lldp_table.specs.Code.Stored.{Stored, tag_of}
+use Rattle.lldp_table.specs.Code.Tags.{IsTagged}
+use Rattle.lldp_table.proofs.Msap.{same_msap-true}
+use Rattle.lldp_table.proofs.Slots.Search.{tagged_again, tagged_next}
 use Rattle.lldp_table.specs.declared.learned.Learned.TheVariants.{New, Refreshed}
-use Rattle.lldp_table.proofs.Slots.Places.{all-weaker, all-take, map-agree, one-out, not_before, none-with, distinct-take}
+use Rattle.lldp_table.proofs.Slots.Places.{at_place, all-weaker, all-take, map-agree, one-out, not_before, none-with, distinct-take}
 use Rattle.lldp_table.proofs.Ageing.Steps.{running-enter, running-leave}
 use Rattle.lldp_table.proofs.Ageing.Timed.{all_queued, queued_enter, holds_it, queued_leave, enter_here, enter_others, out_of, leave_others, again_others}
-use Rattle.lldp_table.proofs.Slots.Layout.{IsStored, fresh_in, fits, gone_within, entry_at, HasFree, has_free, after_refreshed, laid_refreshed, after_new, laid_new, moved_out, after_forgotten, laid_forgotten, laid_purged, laid_open}
+use Rattle.lldp_table.proofs.Ageing.Soonest.{first_soonest}
+use Rattle.lldp_table.proofs.Slots.Layout.{IsStored, fresh_in, fits, index_within, gone_within, entry_at, HasFree, has_free, after_refreshed, laid_refreshed, after_new, laid_new, moved_out, after_forgotten, laid_forgotten, laid_purged, laid_open}
 use Rattle.std.proofs.lemmas.Grind.{common_steps}
 
 timed_none : IsTimed [] []
@@ -83,6 +88,11 @@ module _ {capacity : ℕ} {slots : List Stored} {queue : List Due} {order : List
       module _ {read : List ℕ} {left : ℕ} {queue' : List Due} (r : read ≡ order) (k : left ≡ ttl) (q : queue' ≡ enter (get_or read at 0) left (leave (get_or read at 0) queue)) where
         pub refreshed_after : contents_of capacity (set slots (get_or read at 0) slot) (ticks_left queue') order used 0 limit too_many ≡ learned_as Refreshed (contents_of capacity slots (ticks_left queue) order used gone limit too_many) name ttl octets
         refreshed_after = rw (q, r, k) (after_refreshed h.laid name ttl octets slot _ at l e stored_again)
+
+        pub tagged_refreshed : {tags : List ℕ} → IsTagged tags slots → IsTagged tags (set slots (get_or read at 0) slot)
+        tagged_refreshed {tags} g =
+            let same : msap_of slot.octets ≡ msap_at slots s = ap msap_of o ∙ t.msap_is ∙ same_msap-true name (msap_at slots s) e in
+            rw r (tagged_again tags slots s slot g (index_within h.laid at l) same)
 
         pub refreshed_table : IsTable capacity (set slots (get_or read at 0) slot) queue' order used 0 limit too_many
         refreshed_table = rw (q, r, k) (record { laid = laid_refreshed h.laid name ttl octets slot _ at l e stored_again t; timed = timed_again })
@@ -157,6 +167,15 @@ module _ {capacity : ℕ} {slots : List Stored} {queue : List Due} {order : List
             let f = free in
             rw (q, r, k) (record { laid = laid_new f.laid name ttl octets slot _ none_there l f.free stored_new t; timed = timed_new })
 
+        -- the tag of the new neighbor is set
+        pub tagged_new : {tags tags' : List ℕ} {tag : ℕ} → IsTagged tags slots → tags' ≡ set tags (get_or read used 0) tag → tag ≡ tag_of (msap_of octets) → IsTagged tags' (set slots' (get_or read used 0) slot)
+        tagged_new {tags} {tags'} {tag} g w m =
+            let f = free in
+            let within : next < length slots' = at_place (λ i. i < length slots') order' used 0 in_line f.laid.indices.within in
+            let few : length slots' ≤ 128 = omega (arith, f.laid.written, f.laid.sound.room, f.laid.sound.most) in
+            let there = tagged_next tags slots order used tag slot g h.laid.indices.all in
+            rw (w, r, ws, wo) (there (rw (ws, wo) at within) (rw ws at few) (m ∙ ap (λ os. tag_of (msap_of os)) (sym o)))
+
   -- ## Reading the neighbors
 
   -- `times` has the remaining ticks of each slot in the queue
@@ -169,8 +188,12 @@ module _ {capacity : ℕ} {slots : List Stored} {queue : List Due} {order : List
     pub are_entries : AreEntries slots (slice_index times) (take used order)
     are_entries = grind (arith, common_steps, all-take, all-weaker, entries_shown)
 
-    pub entry_shown : (at : ℕ) → at < used → (read : List ℕ) (slot : Stored) → read ≡ order → slot ≡ get_or slots (get_or read at 0) slot → neighbor_of slot (get_or times (get_or read at 0) 0) ≡ neighbor_at slots (ticks_left queue) (get_or order at 0)
-    entry_shown at l read slot r e = ap (neighbor_of slot) (told (get_or read at 0) (rw r (is_in at l))) ∙ entry_at h.laid at read slot r e l
+  pub entry_shown : (at : ℕ) → at < used → (read : List ℕ) (slot : Stored) → read ≡ order → slot ≡ get_or slots (get_or read at 0) slot → neighbor_of slot (ticks_left queue (get_or read at 0)) ≡ neighbor_at slots (ticks_left queue) (get_or order at 0)
+  entry_shown at l read slot r e = entry_at h.laid at read slot r e l
+
+  -- the first slot of the queue has the fewest ticks left
+  pub soonest_shown : first_gap queue ≡ least_left (neighbors_at slots (ticks_left queue) (take used order))
+  soonest_shown = first_soonest slots queue (take used order) h.timed.queued
 
   -- `read` is the order and `slot` the slot that were read for place i of those that aged out
   pub gone_shown : (i : ℕ) → i < gone → (read : List ℕ) (slot : Stored) → read ≡ order → slot ≡ get_or slots (get_or read (used + i) 0) slot → neighbor_of slot 1 ≡ neighbor_at slots (λ i. 1) (get_or (drop used order) i 0)

@@ -1,6 +1,6 @@
 -- A queue of the slots in use, in the order in which their neighbors expire. Each slot has a gap:
 -- its remaining ticks minus those of the slot before it.
-use Rattle.std.specs.Prelude.{◌≡◌, ℕ, ◌+◌, ◌-◌, ◌<◌, ◌^◌, Bool, false, if◌then◌else◌, ◌==◌, nat_le, nat_eq, List, [], ◌∷◌, length, map, slice_index}
+use Rattle.std.specs.Prelude.{◌≡◌, ℕ, ◌+◌, ◌-◌, ◌<◌, ◌^◌, Bool, false, if◌then◌else◌, ◌==◌, nat_le, nat_eq, List, [], ◌∷◌, length, map, slice_index, Option, Some, None}
 use Rattle.std.specs.List.{list_any, sum_by, AllByRecursion, IsDistinct}
 use Rattle.lldp_table.specs.declared.limits.TheConstants.{MOST_NEIGHBORS}
 
@@ -52,6 +52,11 @@ leave slot (e ∷ queue) = if e.slot == slot then add_first e.gap queue else e �
 abbrev pub is_spent : List Due → Bool
 is_spent [] = false
 is_spent (e ∷ queue) = e.gap == 0
+
+-- the gap of the first slot, which is its remaining ticks
+abbrev pub first_gap : List Due → Option ℕ
+first_gap [] = None
+first_gap (e ∷ queue) = Some e.gap
 
 -- the queue is empty, or its first slot, and so every slot, has ticks left
 abbrev pub IsRunning : List Due → Type 0

@@ -27,7 +27,7 @@ fn address(alloc: Global, body: &[u8]) -> Result<String, Fail> {
 /// Reads the octets of each row about a whole LLDPDU or a body, and compares the result.
 #[test]
 fn octets_read(rt: HostRuntime) -> Result<(), Fail> {
-    for (kind, count) in [("examine", 44usize), ("caps", 6), ("mgmt", 10)] {
+    for (kind, count) in [("examine", 45usize), ("caps", 6), ("mgmt", 10)] {
         let rows = rows_of(rt.alloc(), kind)?;
         assert_eq!(rt; rows.len(), count);
         for row in rows.iter() {
@@ -62,7 +62,7 @@ fn put(rt: &impl Abort, alloc: Global, builder: &mut Builder, given: &str) -> Re
 #[test]
 fn built(rt: HostRuntime) -> Result<(), Fail> {
     let rows = rows_of(rt.alloc(), "build")?;
-    assert_eq!(rt; rows.len(), 22);
+    assert_eq!(rt; rows.len(), 25);
     for row in rows.iter() {
         let mut fields = row.told.split('\t');
         let chassis = octets(rt.alloc(), fields.next().unwrap_or(""))?;

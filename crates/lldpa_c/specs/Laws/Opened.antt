@@ -1,9 +1,10 @@
 -- Which options `lldpa_open` reads, and the agent that it opens.
-use Rattle.std.specs.Prelude.{◌≡◌, ℕ, ◌≤◌, [], ◌∷◌, map, take, Some, slice_get}
+use Rattle.std.specs.Prelude.{◌≡◌, ℕ, ◌<◌, ◌≤◌, true, false, [], ◌∷◌, length, map, take, Some, slice_get}
 use Rattle.std.specs.List.{All}
 use Rattle.std.specs.Str.{IsAscii}
 use Rattle.lldp_engine.specs.AgentState.{AgentState, names_of}
 use Rattle.lldp_engine.specs.Past.{configuration_after}
+use Rattle.lldpa_c.specs.declared.holder.LldpaAgent.{LldpaAgent}
 use Rattle.lldpa_c.specs.declared.options.LldpaOptions.{LldpaOptions}
 use Rattle.lldpa_c.specs.declared.options.LldpaText.{LldpaText}
 use Rattle.lldpa_c.specs.Opening.{asked, IsRead, Opens}
@@ -28,3 +29,18 @@ pub record AreOptions (o : LldpaOptions) : Type 0 where
   pub agent : (agent : AgentState) → Opens o agent →
       (names_of agent ≡ map (λ text. text.octets.now) o.ports.now) × (agent.configuration ≡ configuration_after (asked o) [])
       × (neighbors_held agent ≡ 0)
+
+-- the numbers are in range, and the texts are ASCII
+abbrev pub AreRead : LldpaOptions → Type 0
+AreRead o = AreInRange o × All (λ text. IsAscii text.octets.now) o.ports.now × IsAscii o.hostname.octets.now
+
+-- An open handle is told first, then a number out of range or a hostname that is not UTF-8, then that
+-- there is no port or that there are over 64: also if what comes later is wrong too. Only an answer of 0
+-- changes the handle.
+pub record OpensInOrder (o : LldpaOptions) (before : LldpaAgent) (answer : ℕ) (after : LldpaAgent) : Type 0 where
+  pub again : before.is_open ≡ true → (answer ≡ 104) × (after.is_open ≡ true) × (after.held.agent ≡ before.held.agent)
+  pub range : before.is_open ≡ false → ¬ (AreInRange o) → (answer ≡ 100) × (after.is_open ≡ false)
+  pub text : before.is_open ≡ false → o.hostname.octets.now ≡ 255 ∷ [] → (answer ≡ 100) × (after.is_open ≡ false)
+  pub none : before.is_open ≡ false → AreRead o → o.ports.now ≡ [] → (answer ≡ 22) × (after.is_open ≡ false)
+  pub many : before.is_open ≡ false → AreRead o → 64 < length o.ports.now → (answer ≡ 23) × (after.is_open ≡ false)
+  pub success : answer ≡ 0 → (before.is_open ≡ false) × (after.is_open ≡ true) × (names_of after.held.agent ≡ map (λ text. text.octets.now) o.ports.now)

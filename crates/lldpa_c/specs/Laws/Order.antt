@@ -1,5 +1,6 @@
 -- The checks of exported functions, in the order in which the header lists them.
-use Rattle.std.specs.Prelude.{◌≡◌, ℕ, ◌+◌, ◌<◌, ◌≤◌, Bool, false, List, length, Option, Some, None, Ok, Err, slice_get}
+use Rattle.std.specs.Prelude.{◌≡◌, ◌⊎◌, ℕ, ◌+◌, ◌<◌, ◌≤◌, Bool, false, List, length, Option, Some, None, Ok, Err, slice_get}
+use Rattle.lldp_pdu.specs.Draft.{lldpdu_octets}
 use Rattle.lldp_transmit.specs.declared.event.Mark.{Mark}
 use Rattle.lldp_text.specs.Text.{escaped}
 use Rattle.lldp_text.specs.declared.fault.CommandFault.{CommandFault}
@@ -11,11 +12,13 @@ use Rattle.lldp_engine.specs.Event.{frame, link}
 use Rattle.lldp_engine.specs.Frames.{frame_of}
 use Rattle.lldp_engine.specs.Given.{command_given}
 use Rattle.lldp_engine.specs.Lines.{lines_of}
+use Rattle.lldpa_c.specs.declared.build.LldpaTlv.{LldpaTlv}
 use Rattle.lldpa_c.specs.declared.holder.LldpaAgent.{LldpaAgent}
 use Rattle.lldpa_c.specs.declared.marks.LldpaMarks.{LldpaMarks}
 use Rattle.lldpa_c.specs.declared.ticks.LldpaTicks.{LldpaTicks}
 use Rattle.lldpa_c.specs.Agent.{Answers}
 use Rattle.lldpa_c.specs.Answer.{answer_of}
+use Rattle.lldpa_c.specs.Building.{Builds, drafted}
 use Rattle.lldpa_c.specs.Command.{Obeyed, show_numbered}
 use Rattle.lldpa_c.specs.Faults.{command_fault_number}
 use Rattle.lldpa_c.specs.Filled.{lines_checks}
@@ -65,6 +68,10 @@ IsFrameTooLong handle port number room =
     (mark : Mark) × (mark_numbered number ≡ Some mark)
     × (room < length (frame_of handle.held.agent.configuration (name_of handle.held.agent port) mark))
 
+-- the length is not that of an identifier
+abbrev pub IsNoIdentifier : List ℕ → Type 0
+IsNoIdentifier body = (length body < 2) ⊎ (256 < length body)
+
 -- Each function answers the number of the first check that fails, or 0.
 pub record AreInOrder : Type 0 where
   pub opened : (handle : LldpaAgent) → First (IsClosed handle) 102 IsSuccess (answer_of (open_checks handle))
@@ -89,6 +96,10 @@ pub record AreInOrder : Type 0 where
       (answer_of (value_checks kind body room))
   pub escapes : (text : List ℕ) (room : ℕ) →
       First (511 < length text) 100 (First (room < length (escaped text)) 101 IsSuccess) (answer_of (escape_checks text room))
+  pub building : (chassis port faults_before faults room_before room : List ℕ) (ttl written_before answer written : ℕ) (tlvs : List LldpaTlv) →
+      Builds chassis port ttl tlvs faults_before room_before written_before answer faults room written →
+      First (IsNoIdentifier chassis ⊎ IsNoIdentifier port) 100 (First (length faults_before < length tlvs) 101
+      (First (length room_before < length (lldpdu_octets (drafted chassis port ttl tlvs))) 101 IsSuccess)) answer
 
 -- The same for the functions that change an agent.
 pub record EventsAreInOrder : Type 0 where

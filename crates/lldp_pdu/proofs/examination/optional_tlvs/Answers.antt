@@ -18,7 +18,7 @@ returns-then-tlv-eq-END_OF_LLDPDU-clause-ok c =
 pub overflow_add-len-in-Some : goal.overflow_add-len-in-Some
 overflow_add-len-in-Some c =
     let b = bounds c.args.after.now c.loop-tlv.tlvs c.loop-tlv.seen.types c.loop-tlv.len c.loop-tlv.discarded c.loop-tlv.unrecognized (λ i. omega (arith, c.type_inv.after i)) c.loop-tlv.invariant in
-    omega (arith, one_more c.loop-tlv.tlvs c.next.new.self (tlv_view c.in-Some.tlv) c.in-Some.ensures.steps.0 (ne_eqb _ _ c.if-tlv-eq-END_OF_LLDPDU.false), b.len)
+    omega (arith, one_more c.loop-tlv.tlvs c.next.new.self (tlv_view c.in-Some.tlv) c.in-Some.ensures.steps.0 (ne_eqb _ _ (λ e. omega (arith, e, c.if-tlv-le-TIME_TO_LIVE.false))), b.len)
 
 pub overflow_add-discarded : goal.overflow_add-discarded
 overflow_add-discarded c =

@@ -1,5 +1,6 @@
 use Rattle.std.proofs.Common.{◌≡◌, drop}
-use Rattle.lldpa_c.specs.Due.{sooner, due_on}
+use Rattle.lldp_table.specs.Contents.{sooner}
+use Rattle.lldpa_c.specs.Due.{due_on}
 use Rattle.lldpa_c.proofs.due.due_on.Given as goal
 
 -- the minimum over the ports so far and the remaining ports is the minimum over all ports

@@ -1,4 +1,4 @@
-use Rattle.std.proofs.Common.{◌≡◌, ℕ, zero, suc, ◌+◌, ◌-◌, ◌<◌, Bool, not, inl, inr, List, [], ◌∷◌, length, get_or, nat_lt, Option, Some, None, refl, sym, ap, subst, ◌∙◌, arith}
+use Rattle.std.proofs.Common.{◌≡◌, ℕ, zero, suc, ◌+◌, ◌-◌, ◌<◌, Bool, not, inl, inr, List, [], ◌∷◌, length, nat_lt, Option, Some, None, refl, sym, ap, subst, ◌∙◌, arith}
 use Rattle.std.specs.Prelude.{slice_get, sum_by}
 use Rattle.std.specs.List.{filter, filter_map, list_any}
 use Rattle.std.specs.Option.{option_map}
@@ -28,6 +28,7 @@ use Rattle.lldpa_c.specs.Held.{neighbors_on, neighbors_at, gone_on, gone_at}
 use Rattle.lldpa_c.specs.Laws.Gone.{lacks, lost_at, octets_of}
 use Rattle.lldpa_c.specs.Ticks.{Takes, LastDid, ticked, with_ticks, held_by}
 use Rattle.lldpa_c.proofs.Dueness.{stands_ticked, quiet_ticks}
+use Rattle.lldpa_c.proofs.Holding.{get_of}
 use Rattle.lldpa_c.proofs.laws.aged_out_neighbors_are_those_lost.Goals as goal
 
 -- ---- a second
@@ -47,11 +48,6 @@ step_at : (n i : ℕ) (ports : List PortState) (k : ℕ) → slice_get (ports_st
 step_at n i [] k = refl
 step_at n i (p ∷ ports) zero = refl
 step_at n i (p ∷ ports) (suc k) = step_at n (i + 1) ports k
-
-get_of : (ports : List PortState) (i : ℕ) (p : PortState) → slice_get ports i ≡ Some p → (i < length ports) × (p ≡ get_or ports i p)
-get_of [] i p h = absurd cc
-get_of (x ∷ xs) zero p h = (omega arith, let e : x ≡ p = cc in sym e)
-get_of (x ∷ xs) (suc i) p h = let b = get_of xs i p h in (omega (arith, b.0), b.1)
 
 port_loses : (past : Past) (agent : AgentState) (i n : ℕ) → Stands past agent → (found : Option PortState) → slice_get agent.ports i ≡ found
     → gone_on (option_map (port_step port_tick n) found) ≡ lost (neighbors_on (option_map (port_step port_tick n) found)) (neighbors_on found)

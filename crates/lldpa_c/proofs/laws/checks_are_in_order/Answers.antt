@@ -21,6 +21,7 @@ use Rattle.lldp_table.specs.Events.{Neighbor}
 use Rattle.lldpa_c.specs.Held.{found_checks, neighbors_at, gone_at}
 use Rattle.lldpa_c.specs.Texts.{words_of}
 use Rattle.lldpa_c.specs.Values.{tlv_value}
+use Rattle.lldpa_c.proofs.Lengths.{no_identifier, is_identifier, not_less}
 use Rattle.lldpa_c.specs.Laws.Order.{First, IsSuccess, IsClosed, HasNoPort, IsTooLong, IsTooLongAt, FindsInOrder, IsLineTooLong, IsFrameTooLong}
 use Rattle.lldpa_c.proofs.laws.checks_are_in_order.Goals as goal
 
@@ -111,6 +112,17 @@ returns-clause-checks c = record {
   escapes = λ text room.
       first (nat_lt 511 (length text)) 100 _ (First (room < length (escaped text)) 101 IsSuccess) (lt-ltb 511 (length text)) (ltb-true _ _)
       (first (nat_lt room (length (escaped text))) 101 0 IsSuccess (lt-ltb room (length (escaped text))) (ltb-true _ _) refl);
+  building = λ chassis port faults_before faults room_before room ttl written_before answer written tlvs b. (
+    λ wrong. (b.range (λ both. elim wrong [ inl one ↦ absurd (no_identifier chassis one both.0) | inr two ↦ absurd (no_identifier port two both.1) ])).0,
+    λ right.
+        let one = is_identifier chassis (λ wrong. right (inl wrong)) in
+        let two = is_identifier port (λ wrong. right (inr wrong)) in (
+          λ few. (b.short one two few).0,
+          λ enough.
+              let all = not_less (length faults_before) (length tlvs) enough in
+              (λ over. b.over one two all over, λ fits. b.fits one two all (not_less (length room_before) _ fits)),
+        ),
+  );
 }
 
 -- ---- events

@@ -1,17 +1,22 @@
-use Rattle.std.proofs.Common.{◌≡◌, ℕ, zero, suc, ◌+◌, ◌≤◌, false, List, [], ◌∷◌, map, take, None, refl, ap, subst, ◌∙◌, arith}
+use Rattle.std.proofs.Common.{◌≡◌, ℕ, zero, suc, ◌+◌, ◌<◌, ◌≤◌, Bool, true, false, List, [], ◌∷◌, length, map, take, None, Some, refl, ap, subst, ◌∙◌, arith}
 use Rattle.std.specs.Prelude.{IsSome}
 use Rattle.std.specs.Str.{IsUtf8, IsAscii, is_utf8, chars}
-use Rattle.std.proofs.lemmas.Bool.{ne_eqb}
+use Rattle.std.proofs.lemmas.Bool.{ne_eqb, lt-ltb}
+use Rattle.std.proofs.lemmas.List.{length-map}
 use Rattle.std.proofs.lemmas.List.Elements.{All-get_or, All-take}
 use Rattle.std.proofs.lemmas.Option.{slice_get_within, get_or_from_slice_get}
 use Rattle.std.proofs.lemmas.Str.{IsUtf8-from_ascii, is_utf8-from_IsUtf8}
 use Rattle.lldp_table.specs.Events.{events_of, neighbors}
 use Rattle.lldp_engine.specs.AgentState.{names_of}
-use Rattle.lldp_engine.specs.Options.{Options}
+use Rattle.lldp_engine.specs.declared.agent.open_fault.OpenFault.TheVariants.{NoPorts, TooManyPorts}
+use Rattle.lldp_engine.specs.Options.{Options, fault_of}
 use Rattle.lldp_engine.specs.Past.{opened, configuration_after, ports_after, agent_of}
 use Rattle.lldp_engine.specs.Port.Past.{port_after}
+use Rattle.lldpa_c.specs.declared.holder.LldpaAgent.{LldpaAgent}
+use Rattle.lldpa_c.specs.declared.options.LldpaOptions.{LldpaOptions}
 use Rattle.lldpa_c.specs.declared.options.LldpaText.{LldpaText}
-use Rattle.lldpa_c.specs.Opening.{asked, role_numbered}
+use Rattle.lldpa_c.specs.Opening.{asked, role_numbered, IsRead, OpensOnce}
+use Rattle.lldpa_c.specs.Laws.Opened.{AreInRange, AreRead}
 use Rattle.lldpa_c.specs.Ticks.{held_by, neighbors_held}
 use Rattle.lldpa_c.proofs.laws.options_are_read_or_refused.Goals as goal
 
@@ -63,21 +68,27 @@ configured : (o : Options) → (agent_of (opened o)).configuration ≡ configura
 unfolding agent_of
 configured o = refl
 
-pub returns : goal.returns
-returns c o = record {
-  read = λ r names hostname. record {
-    role = some_role o.role r.role;
-    names = λ k d lt. IsUtf8-from_ascii _ (All-take (λ (text : LldpaText). IsAscii text.octets.now) 65 o.ports.now names k d lt);
-    hostname = IsUtf8-from_ascii _ hostname;
-    range = record { neighbors = r.max_neighbors; credit = r.credit_max; fast = r.fast_init; wait = r.reinit };
-  };
-  range = λ r. record {
-    role = three_roles o.role r.role;
-    max_neighbors = r.range.neighbors;
-    credit_max = r.range.credit;
-    fast_init = r.range.fast;
-    reinit = r.range.wait;
-  };
+is_read : (o : LldpaOptions) → AreRead o → IsRead o
+is_read o r = record {
+  role = some_role o.role r.0.role;
+  names = λ k d lt. IsUtf8-from_ascii _ (All-take (λ (text : LldpaText). IsAscii text.octets.now) 65 o.ports.now r.1 k d lt);
+  hostname = IsUtf8-from_ascii _ r.2;
+  range = record { neighbors = r.0.max_neighbors; credit = r.0.credit_max; fast = r.0.fast_init; wait = r.0.reinit };
+}
+
+in_range : (o : LldpaOptions) → IsRead o → AreInRange o
+in_range o r = record {
+  role = three_roles o.role r.role;
+  max_neighbors = r.range.neighbors;
+  credit_max = r.range.credit;
+  fast_init = r.range.fast;
+  reinit = r.range.wait;
+}
+
+pub returns-clause-options : goal.returns-clause-options
+returns-clause-options c o = record {
+  read = λ r names hostname. is_read o (r, names, hostname);
+  range = in_range o;
   hostname = λ e r. refused _ e r.hostname;
   names = λ i text here e r.
       let read = All-get_or (λ (text : LldpaText). IsUtf8 text.octets.now) (take 65 o.ports.now) i text (slice_get_within _ i text here) r.names in
@@ -87,4 +98,38 @@ returns c o = record {
     ap (λ x. x.configuration) opens.stands.is ∙ configured (asked o),
     ap neighbors_held opens.stands.is ∙ held_opened (asked o),
   );
+}
+
+-- ---- the order of the errors
+
+no_port : (o : LldpaOptions) → o.ports.now ≡ [] → fault_of (asked o) ≡ Some NoPorts
+no_port o e = rw e refl
+
+too_many : (o : LldpaOptions) → 64 < length o.ports.now → fault_of (asked o) ≡ Some TooManyPorts
+too_many o h =
+    let names = (asked o).names in
+    let long : 64 < length names = omega (arith, h, length-map o.ports.now (λ (text : LldpaText). text.octets.now)) in
+    rw (ne_eqb (length names) 0 (λ e. absurd (omega (arith, e, long))), lt-ltb 64 (length names) long) refl
+
+module _ (o : LldpaOptions) (before after : LldpaAgent) (answer : ℕ) (once : OpensOnce o before answer after) where
+  stays_closed : (n : ℕ) → 0 < n → answer ≡ n → before.is_open ≡ false → (answer ≡ n) × (after.is_open ≡ false)
+  stays_closed n some a closed = (a, (once.refused (λ z. absurd (omega (arith, some, a, z)))).is_open ∙ closed)
+
+  was_closed : answer ≡ 0 → (b : Bool) → before.is_open ≡ b → before.is_open ≡ false
+  was_closed z true is = absurd (omega (arith, z, once.again is))
+  was_closed z false is = is
+
+pub returns-clause-order : goal.returns-clause-order
+returns-clause-order c o before after answer once = record {
+  again = λ is.
+      let a = once.again is in
+      let same = once.refused (λ z. absurd (omega (arith, a, z))) in
+      (a, same.is_open ∙ is, same.agent is);
+  range = λ closed differs. stays_closed o before after answer once 100 (omega arith) (once.range closed (λ read. differs (in_range o read))) closed;
+  text = λ closed e. stays_closed o before after answer once 100 (omega arith) (once.range closed (λ read. refused _ e read.hostname)) closed;
+  none = λ closed read e. stays_closed o before after answer once 22 (omega arith) (once.faulty closed (is_read o read) NoPorts (no_port o e)) closed;
+  many = λ closed read h. stays_closed o before after answer once 23 (omega arith) (once.faulty closed (is_read o read) TooManyPorts (too_many o h)) closed;
+  success = λ z.
+      let opens = once.agent z in
+      (was_closed o before after answer once z _ refl, once.is_open z, ap names_of opens.stands.is ∙ names_opened (asked o));
 }

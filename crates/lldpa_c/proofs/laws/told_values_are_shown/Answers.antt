@@ -1,5 +1,5 @@
 use Rattle.std.proofs.Common.{◌≡◌, ℕ, zero, suc, ◌+◌, ◌-◌, ◌<◌, ◌≤◌, Bool, true, false, List, [], ◌∷◌, ◌++◌, map, drop, Some, None, refl, sym, ap, ◌∙◌, append_assoc, arith}
-use Rattle.std.specs.Prelude.{if◌then◌else◌, length, codes, replicate, slice_get, slice_index}
+use Rattle.std.specs.Prelude.{if◌then◌else◌, length, codes, decimal, replicate, slice_get, slice_index}
 use Rattle.std.specs.Option.{option_map}
 use Rattle.std.proofs.lemmas.Bool.{lt-ltb, ltb-true, not-false, le-leb, ne_eqb}
 use Rattle.std.proofs.lemmas.List.{length-replicate, get_or-replicate}
@@ -11,7 +11,9 @@ use Rattle.lldp_pdu.specs.Kept.{IsKeptTlv}
 use Rattle.lldp_pdu.specs.WellFormed.{is_well_formed}
 use Rattle.lldp_pdu.specs.Capabilities.{caps_fields}
 use Rattle.lldp_pdu.specs.ManagementAddress.{Address, address_fields}
+use Rattle.lldp_engine.specs.declared.port.counters.Counters.{Counters}
 use Rattle.lldp_engine.specs.declared.port.status.Status.{Status}
+use Rattle.lldp_engine.specs.Keys.{port_key, neighbor_key, number_lines}
 use Rattle.lldp_engine.specs.declared.port.status.Status.TheVariants.{RxAndTx, RxOnly, TxOnly, Disabled}
 use Rattle.lldp_engine.specs.AgentState.{AgentState, PortState, names_of, name_of}
 use Rattle.lldp_engine.specs.ConfigurationLines.{status_text, status_line}
@@ -20,10 +22,12 @@ use Rattle.lldp_engine.specs.declared.agent.options.Role.{Role}
 use Rattle.lldp_engine.specs.declared.agent.options.Role.TheVariants.{Station, Bridge, Router}
 use Rattle.lldp_engine.specs.Frames.{frame_of}
 use Rattle.lldpa_c.specs.Bodies.{caps_told, address_told}
+use Rattle.lldpa_c.specs.Held.{neighbors_at}
 use Rattle.lldpa_c.specs.Settings.{status_number}
 use Rattle.lldpa_c.specs.Chassis.{role_number}
 use Rattle.lldpa_c.specs.Values.{may_write}
-use Rattle.lldpa_c.specs.Laws.Shown.{word_numbered, statuses_told, role_worded}
+use Rattle.lldpa_c.specs.Laws.Shown.{word_numbered, statuses_told, role_worded, counters_told}
+use Rattle.lldpa_c.proofs.Holding.{held_at}
 use Rattle.lldpa_c.proofs.laws.told_values_are_shown.Goals as goal
 
 -- ---- statuses
@@ -68,16 +72,36 @@ zero_behind size xs n i e le lt =
 named : (agent : AgentState) (i : ℕ) (port : PortState) → slice_get agent.ports i ≡ Some port → name_of agent i ≡ port.name
 named agent i port e = get_or_from_slice_get (names_of agent) i port.name [] (slice_get-map (λ port. port.name) agent.ports i ∙ ap (option_map (λ port. port.name)) e)
 
+some_is : {X : Type 0} (x y : X) → Some x ≡ Some y → x ≡ y
+some_is x y h = cc
+
 pub returns-clause-shown : goal.returns-clause-shown
 returns-clause-shown c = record {
-  settings = λ agent told t. rw (t.interval, t.hold, t.ttl, t.reinit, t.fast_init, t.credit_max, t.max_neighbors, t.status, lines_are agent.ports, t.ports) refl;
-  others = λ agent told i t le lt. zero_behind 64 told.status told.ports i t.others (omega (arith, le, t.ports)) lt;
-  chassis = λ agent told t. rw (t.mac, t.hostname, t.description, t.role, t.management, role_is agent.configuration.role) refl;
-  behind = λ agent told i t lt.
+  settings = λ before after told_before told r.
+      let t = r.right refl in
+      rw (t.interval, t.hold, t.ttl, t.reinit, t.fast_init, t.credit_max, t.max_neighbors, t.status, lines_are before.held.agent.ports, t.ports) refl;
+  others = λ before after told_before told i r le lt. let t = r.right refl in zero_behind 64 told.status told.ports i t.others (omega (arith, le, t.ports)) lt;
+  chassis = λ before after told_before told r.
+      let t = r.right refl in rw (t.mac, t.hostname, t.description, t.role, t.management, role_is before.held.agent.configuration.role) refl;
+  behind = λ before after told_before told i r lt.
+      let t = r.right refl in
       (λ le. zero_behind 255 told.hostname told.hostname_length i t.behind_hostname le lt, λ le. zero_behind 255 told.description told.description_length i t.behind_description le lt);
-  left = λ name room number neighbor told t. rw t.left refl;
+  unmanaged = λ before after told_before told r e. let t = r.right refl in t.none (sym t.management ∙ rw e refl);
+  statistics = λ before after i port told_before told r e.
+      ap (λ (c : Counters). number_lines (port_key port.name) (counters_told c)) (some_is _ _ (sym (ap (option_map (λ (p : PortState). p.counters)) e) ∙ r.right refl));
+  counted = λ before after i count_before count port r e.
+      let n : count ≡ length (neighbors_at before.held.agent i) = r.right refl in rw (n, e) refl;
+  times = λ before after i index number name room_before room told_before told neighbor past r here stands.
+      let t = r.right neighbor here refl in
+      let h = held_at past before.held.agent i index neighbor stands here in (
+        ap (λ n. Some (neighbor_key name number ++ (codes "ttl=" ++ decimal n))) (sym (t.pdu.ttl ∙ h.extent.ttl_is)),
+        ap (λ n. Some (neighbor_key name number ++ (codes "expires=" ++ decimal n))) (sym t.left),
+      );
+}
+
+pub returns-clause-ports : goal.returns-clause-ports
+returns-clause-ports c = record {
   neighbors = λ agent i port e. rw e refl;
-  count = λ agent i port e. rw e refl;
   nowhere = λ agent port h. rw (slice_get_past agent.ports port h) refl;
   frames = λ agent i port mark octets e w. w.are ∙ ap (λ name. frame_of agent.configuration name mark) (named agent i port e);
   ports = λ agent port. (λ h. ltb-true _ _ (not-false _ h), λ lt. rw (lt-ltb _ _ lt) refl);

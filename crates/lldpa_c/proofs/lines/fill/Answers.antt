@@ -1,4 +1,4 @@
-use Rattle.std.proofs.Common.{◌≤◌, ℕ, List, take, drop, length, ap, sym, subst, ◌∙◌}
+use Rattle.std.proofs.Common.{◌≤◌, ℕ, List, length, take, drop, ap, sym, subst, ◌∙◌}
 use Rattle.std.proofs.lemmas.Bool.{not-true, not-false}
 use Rattle.lldp_engine.specs.Lines.{lines_of}
 use Rattle.lldpa_c.specs.Filled.{Fills, IsFull}
@@ -13,6 +13,7 @@ returns c =
     let come = all_come _ _ _ _ _ _ (ap length c.new-filling.ensures.room) c.new-filling.ensures.view c.take.ensures.lines c.ranges.from.fits c.take.ensures.few in
     let is = c.room-1.given.1.1 (sym (c.take.ensures.same ∙ c.new-filling.ensures.same)) in
     record {
+      same = c.take.ensures.agent;
       within = subst (λ (n : ℕ). sink.used ≤ n) (sym c.room-1.given.1.0) come.within;
       octets = subst (λ (room : List ℕ). Fills lines c.args.from sink.next (take sink.used room)) (sym is) (fills _ _ _ _ come);
       rest = ap (drop sink.used) is ∙ c.take.ensures.rest.rest ∙ ap (drop sink.used) c.new-filling.ensures.room;

@@ -21,7 +21,7 @@ returns-clause-answer c =
     let agent = c.args.agent.now.held.agent in
     let lines = lines_of c.in-Some.show agent in
     let room = length c.args.room.now in
-    let same : c.deref.result.now ≡ agent = c.deref.ensures ∙ c.in-Some-take.ensures.some.1 in
+    let same : c.deref_mut.result.now ≡ agent = c.deref_mut.ensures.value ∙ c.in-Some-take.ensures.some.1 in
     let f = rw same at c.fill-lines.ensures in
     let fits : is_over room (option_map ended (slice_get lines c.args.from)) ≡ false = elim c.else-lines-from.branch [
       | else-lines-from-via-then-lines-from+else-not-lines w ↦ none_over lines c.args.from room (no_more lines c.args.from (sym w.if-lines-from.true ∙ f.done (not-false _ w.if-not-lines.false)))

@@ -17,4 +17,4 @@ returns-clause-past g c = λ past h.
     ∙ ap (λ (names : List (List ℕ)). place_from 0 names c.args.name.now) (names_read past c.args.self.now h)
 
 pub find_place-requires : goal.find_place-requires
-find_place-requires g c = rw c.as_slice.ensures c.self.invariant.few
+find_place-requires g c = rw c.as_slice.ensures c.self.invariant.0.few

@@ -14,4 +14,4 @@ pub invariant_of-result : goal.invariant_of-result
 invariant_of-result g c =
     let o = options_of c.args.options.now in
     let number : length o.names ≡ length c.args.options.now.ports.now = simp length-map in
-    rw c.open.ensures (opened_are_sound o _ c.requires c.in_ok-ports.ensures c.in_default.ensures.names (omega (arith, number, c.in_default.ensures.few)))
+    (rw c.open.ensures (opened_are_sound o _ c.requires c.in_ok-ports.ensures c.in_default.ensures.names (omega (arith, number, c.in_default.ensures.few))), λ some. absurd (omega (arith, some)))

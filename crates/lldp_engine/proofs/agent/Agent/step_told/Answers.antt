@@ -28,7 +28,7 @@ pub take_event-requires-clause-can : goal.take_event-requires-clause-can
 take_event-requires-clause-can g c =
     let e = event_of c.args.event in
     let allowed = subst (λ (a : AgentState). Allows a e) (sym c.self.view_is) c.requires in
-    rw (c.whose.ensures.value, c.as_mut_slice.ensures.value) (can_take _ e allowed c.self.invariant.sound)
+    rw (c.whose.ensures.value, c.as_mut_slice.ensures.value) (can_take _ e allowed c.self.invariant.0.sound)
 
 pub returns-clause-after : goal.returns-clause-after
 returns-clause-after g c =
@@ -73,10 +73,12 @@ invariant_of-self g c =
     let allowed = subst (λ (a : AgentState). Allows a e) (sym c.self.view_is) c.requires in
     let same_length = ap length c.as_mut_slice.ensures.value in
     let is : (with_items c.self.inside.ports c.take_event.new.ports).items ≡ c.take_event.new.ports = with_items_is c.self.inside.ports c.take_event.new.ports (omega (arith, same_length)) in
-    let room : c.self.inside.configuration.capacity ≡ c.take.new.self.capacity = sym (configured-capacity e c.self.inside.configuration) ∙ ap (λ x. x.capacity) (sym c.take.ensures) in
-    subst (λ (k : ℕ). AreSound k (with_items c.self.inside.ports c.take_event.new.ports).items) room
-    (stay_sound c.self.inside.configuration.capacity (whose e) c.interval-interval.result c.self.inside.ports.items _ (is ∙ (rw c.whose.ensures.value at c.take_event.ensures.after) ∙ ap (ports_step (whose e) c.interval-interval.result 0) c.as_mut_slice.ensures.value)
-    (λ k. octets_for k e c.whose.ensures.octets) (can_take _ e allowed c.self.invariant.sound) c.self.invariant)
+    let room : c.self.inside.configuration.capacity ≡ c.take.new.self.capacity = sym (configured-capacity e c.self.inside.configuration) ∙ ap (λ x. x.capacity) (sym c.take.ensures) in (
+      subst (λ (k : ℕ). AreSound k (with_items c.self.inside.ports c.take_event.new.ports).items) room
+          (stay_sound c.self.inside.configuration.capacity (whose e) c.interval-interval.result c.self.inside.ports.items _ (is ∙ (rw c.whose.ensures.value at c.take_event.ensures.after) ∙ ap (ports_step (whose e) c.interval-interval.result 0) c.as_mut_slice.ensures.value)
+          (λ k. octets_for k e c.whose.ensures.octets) (can_take _ e allowed c.self.invariant.0.sound) c.self.invariant.0),
+      λ some. absurd (omega (arith, some)),
+    )
 
 pub returns-clause-told : goal.returns-clause-told
 returns-clause-told g c = search rules
@@ -84,8 +86,8 @@ returns-clause-told g c = search rules
 pub returns-clause-tells : goal.returns-clause-tells
 returns-clause-tells g c =
     let capacity = c.self.inside.configuration.capacity in
-    let sound = subst (λ (a : AgentState). AllSound capacity a.ports) c.self.view_is c.self.invariant.sound in
+    let sound = subst (λ (a : AgentState). AllSound capacity a.ports) c.self.view_is c.self.invariant.0.sound in
     told_truly capacity (event_of c.args.event) c.args.self.now _ (told_of c.take_event.result) sound (returns-clause-after g c) (returns-clause-told g c)
 
 pub take_event-requires-clause-few : goal.take_event-requires-clause-few
-take_event-requires-clause-few g c = rw c.as_mut_slice.ensures.value c.self.invariant.few
+take_event-requires-clause-few g c = rw c.as_mut_slice.ensures.value c.self.invariant.0.few

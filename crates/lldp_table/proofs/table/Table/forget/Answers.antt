@@ -14,14 +14,17 @@ use Rattle.std.proofs.lemmas.Grind.{common_steps}
 
 pub leave-requires : goal.leave-requires
 leave-requires g c =
-    let f = named_there c.self.invariant.laid (shown_is c.self.view_is) (msap_view c.args.msap.now) c.in-Some.at c.in-Some.ensures in
-    rw (c.remove-slot.ensures.value, get_or_default c.self.inside.order.items c.in-Some.at c.remove-slot.result 0 (omega (arith, f.0, fits c.self.invariant.laid))) (is_in c.self.invariant c.in-Some.at f.0)
+    let f = named_there c.self.invariant.table.laid (shown_is c.self.view_is) (msap_view c.args.msap.now) c.in-Some.at c.in-Some.ensures in
+    rw (c.remove-slot.ensures.value, get_or_default c.self.inside.order.items c.in-Some.at c.remove-slot.result 0 (omega (arith, f.0, fits c.self.invariant.table.laid))) (is_in c.self.invariant.table c.in-Some.at f.0)
 
 pub invariant_of-self-in-Some : goal.invariant_of-self-in-Some
 invariant_of-self-in-Some g c =
     let name = msap_view c.args.msap.now in
-    let f = named_there c.self.invariant.laid (shown_is c.self.view_is) name c.in-Some.at c.in-Some.ensures in
-    rw (c.push.ensures.items, c.remove-slot.ensures.items) (forgotten_table c.self.invariant c.in-Some.at f.0 name f.1 c.remove-slot.ensures.value c.leave.ensures)
+    let f = named_there c.self.invariant.table.laid (shown_is c.self.view_is) name c.in-Some.at c.in-Some.ensures in
+    record {
+      table = rw (c.push.ensures.items, c.remove-slot.ensures.items) (forgotten_table c.self.invariant.table c.in-Some.at f.0 name f.1 c.remove-slot.ensures.value c.leave.ensures);
+      tagged = c.self.invariant.tagged;
+    }
 
 pub returns-in-None-clause-after : goal.returns-in-None-clause-after
 returns-in-None-clause-after g c = grind (arith, common_steps, forgets_none)
@@ -32,8 +35,8 @@ returns-in-Some-clause-answer g c = sym (held_there (msap_view c.args.msap.now) 
 pub returns-in-Some-clause-after : goal.returns-in-Some-clause-after
 returns-in-Some-clause-after g c =
     let name = msap_view c.args.msap.now in
-    let f = named_there c.self.invariant.laid (shown_is c.self.view_is) name c.in-Some.at c.in-Some.ensures in
-    rw (c.push.ensures.items, c.remove-slot.ensures.items) (forgotten_after c.self.invariant c.in-Some.at f.0 name f.1 c.remove-slot.ensures.value c.leave.ensures)
+    let f = named_there c.self.invariant.table.laid (shown_is c.self.view_is) name c.in-Some.at c.in-Some.ensures in
+    rw (c.push.ensures.items, c.remove-slot.ensures.items) (forgotten_after c.self.invariant.table c.in-Some.at f.0 name f.1 c.remove-slot.ensures.value c.leave.ensures)
     ∙ ap (λ (table : Contents). after_forget table name) (shown_is c.self.view_is)
 
 pub returns-in-None-clause-answers : goal.returns-in-None-clause-answers

@@ -8,15 +8,15 @@ use Rattle.lldp_table.proofs.table.Table.gone_entry.Goals as goal
 
 pub invariant_of-result : goal.invariant_of-result
 invariant_of-result g c =
-    let l = gone_place c.self.invariant.laid (shown_is c.self.view_is) c.args.i c.requires in
-    subst IsHeld (sym (gone_shown c.self.invariant c.args.i l c.deref.result.now c.at.result.now c.deref.ensures.0 c.at.ensures)) (gone_held c.self.invariant.laid c.args.i l)
+    let l = gone_place c.self.invariant.table.laid (shown_is c.self.view_is) c.args.i c.requires in
+    subst IsHeld (sym (gone_shown c.self.invariant.table c.args.i l c.deref.result.now c.at.result.now c.deref.ensures.0 c.at.ensures)) (gone_held c.self.invariant.table.laid c.args.i l)
 
 pub returns-clause-value : goal.returns-clause-value
 returns-clause-value g c =
-    let l = gone_place c.self.invariant.laid (shown_is c.self.view_is) c.args.i c.requires in
+    let l = gone_place c.self.invariant.table.laid (shown_is c.self.view_is) c.args.i c.requires in
     ap (λ (table : Contents). slice_get table.gone c.args.i) (sym (shown_is c.self.view_is))
-    ∙ gone_get c.self.invariant.laid c.args.i l
-    ∙ ap Some (sym (gone_shown c.self.invariant c.args.i l c.deref.result.now c.at.result.now c.deref.ensures.0 c.at.ensures))
+    ∙ gone_get c.self.invariant.table.laid c.args.i l
+    ∙ ap Some (sym (gone_shown c.self.invariant.table c.args.i l c.deref.result.now c.at.result.now c.deref.ensures.0 c.at.ensures))
 
 pub returns-clause-held : goal.returns-clause-held
 returns-clause-held g c = invariant_of-result g c

@@ -2,6 +2,7 @@ use Rattle.std.proofs.Common.{[], sym, subst, arith}
 use Rattle.lldp_table.specs.Contents.{Contents}
 use Rattle.lldp_table.specs.Standing.{Stands}
 use Rattle.lldp_table.proofs.Slots.Learned.{open_table}
+use Rattle.lldp_table.proofs.Slots.Search.{tagged_none}
 use Rattle.lldp_table.proofs.Standing.Calls.{stands_open}
 use Rattle.lldp_table.proofs.table.Table.open.Goals as goal
 use Rattle.std.proofs.lemmas.Grind.{common_steps}
@@ -9,7 +10,10 @@ use Rattle.std.proofs.lemmas.Grind.{common_steps}
 pub invariant_of-result : goal.invariant_of-result
 invariant_of-result g c =
     let room = c.in_ok-open.ensures in
-    open_table c.in_ok-open.field-0.capacity c.in_ok-open.field-0.items c.new-2.result.shown c.new.result.items c.args.limit (omega (arith, room.capacity)) room.items c.new-2.ensures c.new.ensures c.requires.least c.requires.most
+    record {
+      table = open_table c.in_ok-open.field-0.capacity c.in_ok-open.field-0.items c.new-2.result.shown c.new.result.items c.args.limit (omega (arith, room.capacity)) room.items c.new-2.ensures c.new.ensures c.requires.least c.requires.most;
+      tagged = tagged_none c.new-3.result c.in_ok-open.field-0.items c.new-3.ensures room.items;
+    }
 
 pub returns-clause-empty : goal.returns-clause-empty
 returns-clause-empty g c = grind (arith, common_steps)

@@ -9,7 +9,10 @@ use Rattle.lldp_table.proofs.table.Table.purge.Goals as goal
 
 pub invariant_of-self : goal.invariant_of-self
 invariant_of-self g c =
-    purged_table c.self.invariant c.clear.new.self.shown _ _ _ _ c.clear.ensures (omega arith) (omega arith) (omega arith) (omega arith)
+    record {
+      table = purged_table c.self.invariant.table c.clear.new.self.shown 0 0 c.self.inside.limit 0 c.clear.ensures (omega arith) (omega arith) (omega arith) (omega arith);
+      tagged = c.self.invariant.tagged;
+    }
 
 pub returns-clause-after : goal.returns-clause-after
 returns-clause-after g c = grind (arith, common_steps, ap after_purge (shown_is c.self.view_is))
