@@ -1,4 +1,5 @@
-//! Finds liblldpa.a for the linker. Ends the build if there is no archive of the right version.
+//! Finds liblldpa.a for the linker. If there is no archive of the right version, the crate's compilation
+//! says so and ends; `cargo doc` needs none.
 
 use std::env;
 use std::fs;
@@ -11,16 +12,15 @@ const ARCHIVE: &str = "liblldpa.a";
 /// second one that is not smaller.
 const WANTED: (&str, &str) = (env!("CARGO_PKG_VERSION_MAJOR"), env!("CARGO_PKG_VERSION_MINOR"));
 
+const ADVICE: &str = "tools/library/library.sh of lldpa's repository builds liblldpa.a, and the package \
+    liblldpa-dev has it. Set LLDPA_LIB_DIR to the folder that has it.";
+
 /// The octets before the version in the archive. The version is a little-endian u32.
 const BEFORE_VERSION: &[u8] = b"liblldpa version\0\0\0\0";
 
-/// Returns the folder in `LLDPA_LIB_DIR`, if set. Ends the build if the folder has no archive.
+/// Returns the folder in `LLDPA_LIB_DIR`, if set.
 fn named() -> Option<PathBuf> {
-    let folder = PathBuf::from(env::var_os("LLDPA_LIB_DIR")?);
-    if !folder.join(ARCHIVE).is_file() {
-        missing(&format!("LLDPA_LIB_DIR is {}, which has no {ARCHIVE}", folder.display()));
-    }
-    Some(folder)
+    Some(PathBuf::from(env::var_os("LLDPA_LIB_DIR")?))
 }
 
 /// Returns the output folder of tools/library/library.sh, if it contains an archive.
@@ -51,31 +51,35 @@ fn fits(major: u32, minor: u32) -> bool {
     WANTED.0.parse() == Ok(major) && WANTED.1.parse().map_or(false, |least: u32| least <= minor)
 }
 
-/// Ends the build, and says what to do.
-fn missing(what: &str) -> ! {
-    eprintln!("lldpa: {what}.");
-    eprintln!("lldpa: tools/library/library.sh of lldpa's repository builds {ARCHIVE}, and the package liblldpa-dev has it.");
-    eprintln!("lldpa: Set LLDPA_LIB_DIR to the folder that has it.");
-    std::process::exit(1);
+/// Returns the folder of an archive that fits, or why there is none.
+fn found() -> Result<PathBuf, String> {
+    let folder = named().or_else(built).or_else(installed).ok_or(format!("there is no {ARCHIVE}"))?;
+    let archive = folder.join(ARCHIVE);
+    println!("cargo:rerun-if-changed={}", archive.display());
+    let name = archive.display();
+    if !archive.is_file() {
+        return Err(format!("LLDPA_LIB_DIR is {}, which has no {ARCHIVE}", folder.display()));
+    }
+    match version_of(&archive) {
+        Some((major, minor)) if fits(major, minor) => Ok(folder),
+        Some((major, minor)) => Err(format!(
+            "{name} is of version {major}.{minor}, and this crate needs {}.{} or a later {0}.x",
+            WANTED.0, WANTED.1
+        )),
+        None => Err(format!("{name} does not say its version")),
+    }
 }
 
 fn main() {
     println!("cargo:rerun-if-env-changed=LLDPA_LIB_DIR");
-    let folder = match named().or_else(built).or_else(installed) {
-        Some(folder) => folder,
-        None => missing(&format!("there is no {ARCHIVE}")),
-    };
-    let archive = folder.join(ARCHIVE);
-    let name = archive.display();
-    match version_of(&archive) {
-        Some((major, minor)) if fits(major, minor) => (),
-        Some((major, minor)) => missing(&format!(
-            "{name} is of version {major}.{minor}, and this crate needs {}.{} or a later {0}.x",
-            WANTED.0, WANTED.1
-        )),
-        None => missing(&format!("{name} does not say its version")),
+    match found() {
+        Ok(folder) => {
+            println!("cargo:rustc-link-search=native={}", folder.display());
+            println!("cargo:rustc-link-lib=static=lldpa");
+        }
+        Err(why) => {
+            println!("cargo:rerun-if-changed=no-archive"); // no such file, so this runs each time
+            println!("cargo:rustc-env=LLDPA_HAS_NO_ARCHIVE={why}. {ADVICE}");
+        }
     }
-    println!("cargo:rerun-if-changed={}", archive.display());
-    println!("cargo:rustc-link-search=native={}", folder.display());
-    println!("cargo:rustc-link-lib=static=lldpa");
 }

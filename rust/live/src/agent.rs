@@ -1,5 +1,6 @@
 //! The open agent.
 
+use crate::counters::{self, Numbers};
 use crate::lines::Line;
 use crate::links::Mac;
 use crate::options::AgentOptions;
@@ -79,9 +80,19 @@ impl Running {
         sent
     }
 
-    /// Returns the lines of a show that is not about neighbors, in little memory.
-    pub fn show(&self, show: Show) -> String {
-        let lines = (0..).map_while(|line| self.agent.show_line(show, line));
-        lines.map(|line| line + "\n").collect()
+    /// Returns whether the LLDPDUs of all neighbors have less octets together.
+    pub fn holds_less_than(&self, octets: usize) -> bool {
+        let ports = (0..self.names.len()).map(|number| number as u8);
+        let neighbors = ports.flat_map(|number| self.agent.neighbors(number).into_iter().flatten());
+        let mut left = octets;
+        neighbors.map(|one| one.octets().len()).all(|length| {
+            left = left.saturating_sub(length);
+            left > 0
+        })
+    }
+
+    /// Returns what the agent has counted at each port.
+    pub fn counted(&self) -> Vec<Numbers> {
+        counters::read(&self.agent.show(Show::Statistics))
     }
 }

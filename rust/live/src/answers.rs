@@ -1,10 +1,15 @@
 //! Answers clients' questions.
 
+use crate::agent::Running;
 use crate::client::Answer;
 use crate::control::{Control, Question};
+use crate::counters::Totals;
 use crate::live::{Live, Turn};
 use crate::port::Port;
 use crate::queries::{LineFault, Query};
+use crate::reports::{notice, warn};
+use crate::rights::text_of;
+use crate::status::Status;
 use crate::tables::{Lines, Tables, Writer};
 use crate::time::{processor_time, Moment, INEXACT};
 use lldpa::Show;
@@ -18,7 +23,7 @@ const MOST_AT_ONCE: Duration = Duration::from_millis(50);
 const MOST_TO_CATCH_UP: Duration = Duration::from_millis(250);
 /// The time between checks of the host's name and the socket: some systems report no changes.
 const BETWEEN_LOOKS: Duration = Duration::from_secs(10);
-/// Up to so many octets of LLDPDUs, the agent itself writes the lines of all neighbors.
+/// Below so many octets of LLDPDUs, the agent itself writes the lines of neighbors.
 const FEW_OCTETS: usize = 1 << 16;
 
 /// The clients, and what is kept for their questions.
@@ -91,6 +96,23 @@ impl Live {
         self.ports.share.leave_out(processor_time().saturating_sub(before));
     }
 
+    /// Lets the group use the control socket that was not known at the start.
+    pub fn take_group(&mut self) {
+        let (mut lookup, control) = match (self.lookup.take(), &mut self.server.control) {
+            (Some(lookup), Some(control)) => (lookup, control),
+            _ => return,
+        };
+        let name = &lookup.name.clone();
+        match lookup.read().map(|group| control.listening.take_group(group)) {
+            Some(Ok(())) => notice(&format!("group {name} may use the control socket from now on")),
+            Some(Err(fault)) => {
+                let what = "was found, but cannot be let in after the start";
+                warn(&format!("group {name} {what}: {}; a restart lets it in", text_of(&fault)));
+            }
+            None => warn(&format!("group {name} is no longer looked for")),
+        }
+    }
+
     fn hear_clients(&mut self, turn: &Turn) {
         let now = Moment::now();
         let is_due = self.server.control.as_ref().map_or(false, |control| control.is_due(now));
@@ -134,7 +156,7 @@ impl Live {
 
     fn answer(&mut self, line: &[u8], query: Result<Query<'_>, LineFault>) -> Answer {
         let query = match query {
-            Ok(Query::Live(port)) => return self.for_port(port, Live::status),
+            Ok(Query::Live(port)) => return self.for_port(port, Live::live),
             Ok(Query::Changes(_)) => return Answer::of_changes(self.server.changes),
             Ok(query) => query,
             Err(fault) => return Answer::of(&fault.to_string()),
@@ -192,38 +214,42 @@ impl Live {
     }
 
     fn neighbors(&mut self, only: Option<usize>) -> Answer {
-        let tables = self.tables(only);
         match &self.running {
-            Some(running) if only.is_none() && tables.octets < FEW_OCTETS => {
-                Answer::of(&running.agent.show(Show::Neighbors))
+            Some(running) if running.holds_less_than(FEW_OCTETS) => {
+                let lines = running.agent.show(Show::Neighbors);
+                let name = only.map_or("", |number| &self.ports.all[number].name);
+                let front = format!("lldp.{name}{}", if name.is_empty() { "" } else { "." });
+                let chosen = lines.split_inclusive('\n').filter(|line| line.starts_with(&front));
+                Answer::of(&chosen.collect::<String>())
             }
-            _ => Answer::new("", Some(Writer::new(tables, Lines::Neighbors))),
+            _ => Answer::new("", Some(Writer::new(self.tables(only), Lines::Neighbors))),
         }
     }
 
-    /// Returns the lines of `show statistics` for each port, or for one.
-    pub fn statistics_lines(&self, only: Option<usize>) -> impl Iterator<Item = String> + '_ {
-        let agent = self.running.as_ref().map(|running| &running.agent);
-        self.chosen(only).filter_map(move |(number, port)| {
-            let statistics = agent?.statistics(number).ok()?;
-            Some(port.counters.lines(&port.name, &statistics))
-        })
+    /// Returns the counters of each port, or of one.
+    pub fn totals(&self, only: Option<usize>) -> Vec<Totals> {
+        let counted = self.running.as_ref().map_or(Vec::new(), Running::counted);
+        let total = |(number, port): (u8, &Port)| {
+            let numbers = port.counters.total(counted.get(usize::from(number))?);
+            Some(Totals { port: port.name.clone(), numbers })
+        };
+        self.chosen(only).filter_map(total).collect()
     }
 
     fn statistics(&mut self, only: Option<usize>) -> Answer {
-        Answer::of(&self.statistics_lines(only).collect::<String>())
+        Answer::of(&self.totals(only).iter().map(Totals::lines).collect::<String>())
     }
 
     /// Returns the answer to `live`, or to `live PORT`.
-    fn status(&mut self, only: Option<usize>) -> Answer {
-        let lines = self.status_lines(only);
+    fn live(&mut self, only: Option<usize>) -> Answer {
+        let lines = self.status(only).lines();
         Answer::new(&lines, Some(Writer::new(self.tables(only), Lines::Since)))
     }
 
-    /// Returns the lines of `live` that are not about neighbors.
-    pub fn status_lines(&mut self, only: Option<usize>) -> String {
+    /// Returns what `live` says, except about neighbors.
+    pub fn status(&mut self, only: Option<usize>) -> Status {
         self.ports.count_drops();
-        let own = [
+        let own = vec![
             ("began", self.began.to_string()),
             ("agent", if self.running.is_some() { "running" } else { "waiting" }.into()),
             ("seconds", self.clock.given.to_string()),
@@ -233,9 +259,8 @@ impl Live {
             ("log-lines-lost", self.log.lost.to_string()),
             ("metrics-unwritten", self.metrics.unwritten.to_string()),
         ];
-        let mut text: String = own.iter().map(|(key, value)| format!("live.{key}={value}\n")).collect();
-        text.extend(self.chosen(only).map(|one| one.1.status_lines()));
-        text
+        let ports = self.chosen(only).map(|(_, port)| (port.name.clone(), port.status()));
+        Status { own, ports: ports.collect() }
     }
 }
 
@@ -243,7 +268,9 @@ impl Live {
 mod tests {
     use super::*;
     use crate::arguments::Arguments;
+    use crate::options::AgentOptions;
     use crate::reading::Frame;
+    use crate::state::Saved;
     use crate::time::SECOND;
     use std::io::Write;
     use std::os::unix::net::UnixStream;
@@ -272,6 +299,43 @@ mod tests {
         live.server.asked_at = Some(now - MOST_TO_CATCH_UP);
         assert!(live.is_caught_up(&turn(later, now - SECOND)), "it waits long enough");
         std::fs::remove_dir_all(&folder).expect("a folder");
+    }
+
+    /// Lets a port hear a neighbor whose LLDPDU has about 1,400 octets, or a small one.
+    fn hear(live: &mut Live, port: usize, number: u8, is_large: bool) {
+        let front = [1, 0x80, 0xc2, 0, 0, 0x0e, 2, 0, 0, 0, 0, 1, 0x88, 0xcc];
+        let mut octets = [&front[..], &[2, 2, 7, number, 4, 2, 7, b'p', 6, 2, 0, 99]].concat();
+        for _ in 0..if is_large { 3 } else { 0 } {
+            octets.extend([0xff, 200, 0, 1, 2].iter().chain(&[7; 453]));
+        }
+        octets.extend([0, 0]);
+        live.receive(&Frame { moment: live.clock.end_of(0), port, octets });
+    }
+
+    #[test]
+    fn lines_of_small_tables_are_those_of_the_agent_itself() {
+        let words = ["--mac=02:00:00:00:00:01", "--max-neighbors=128", "--receive-only"];
+        let agent = AgentOptions::read(&words.map(String::from)).expect("options");
+        let arguments = Arguments { agent, ..Arguments::default() };
+        let mut live = Live::without_interfaces(arguments, &["eth0", "eth1", "e"]);
+        live.open(&Saved::default()).expect("an agent");
+        (0..3).for_each(|port| live.give_link(port, true));
+        (0..3).for_each(|number| hear(&mut live, usize::from(number), number, false));
+        for number in 0..100 {
+            let answers = [None, Some(0), Some(1), Some(2)].map(|only| live.neighbors(only));
+            let octets = live.tables(None).octets;
+            let is_small = octets < FEW_OCTETS;
+            assert!(answers.iter().all(|answer| answer.rest.is_none() == is_small), "{octets}");
+            let [all, of_ports @ ..] = answers.map(Answer::lines);
+            assert_eq!(all, live.running.as_ref().expect("an agent").agent.show(Show::Neighbors));
+            assert_eq!(of_ports.concat(), all);
+            assert!(of_ports.iter().zip(["eth0", "eth1", "e"]).all(|(lines, port)| {
+                lines.starts_with(&format!("lldp.{port}.neighbors="))
+                    && lines.matches(".too-many=").count() == 1
+            }));
+            hear(&mut live, 0, 3 + number, true);
+        }
+        assert!(live.tables(None).octets > FEW_OCTETS);
     }
 
     #[test]

@@ -7,7 +7,6 @@ use std::fmt;
 
 const HELP: &str = "\
 usage: lldpa-live [OPTION...] PORT... [-- OPTIONS OF LLDPA]
-       lldpa-live [--control PATH] --ask LINE
 
 Runs the LLDP agent lldpa on Ethernet interfaces until a signal ends it.
 
@@ -17,8 +16,6 @@ Runs the LLDP agent lldpa on Ethernet interfaces until a signal ends it.
 options:
   -h, --help             print this help
   -V, --version          print the version
-  --ask LINE             send LINE, such as 'show neighbors', to a running
-                         lldpa-live, print its answer, and exit
   --config PATH          read settings from a file or a folder of *.conf; may
                          be repeated
   --control PATH         the control socket (default /run/lldpa/control)
@@ -36,6 +33,7 @@ options:
   --metrics FILE         write metrics for Prometheus to FILE when something
                          changes, and each half minute
   --no-description       do not announce the operating system of this host
+  --no-log               write no log, although --log is given
   --no-management        do not announce an address of this host
   --once N               wait until each port has a neighbor, at most N seconds,
                          then print the neighbors and exit
@@ -43,7 +41,8 @@ options:
   --state FILE           save the neighbors in FILE each minute and at the end,
                          and restore them at the start
   --user NAME            when started as root, become this user once the sockets
-                         are open (default nobody)
+                         are open (default _lldpa if there is such a user, else
+                         nobody)
 
 example: lldpa-live --log /var/lib/lldpa eth0 eth1 -- --role router
 lldpa-live(8) describes these options, lldpa(1) those after --.
@@ -68,10 +67,10 @@ pub struct Arguments {
     pub log_keep: u64,
     pub metrics: Option<String>,
     pub once: Option<u64>,
-    pub ask: Option<String>,
     pub events: bool,
     pub forget_on_down: bool,
     pub no_description: bool,
+    pub no_log: bool,
     pub no_management: bool,
     pub only_existing: bool,
     pub agent: AgentOptions,
@@ -139,6 +138,9 @@ impl fmt::Display for ArgumentFault {
     fn fmt(&self, out: &mut fmt::Formatter<'_>) -> fmt::Result {
         match self {
             ArgumentFault::NoPort => write!(out, "a PORT is required"),
+            ArgumentFault::UnknownOption(word) if AgentOptions::have(word) => {
+                write!(out, "unknown option: {word} (options of lldpa follow --)")
+            }
             ArgumentFault::UnknownOption(word) => write!(out, "unknown option: {word}"),
             ArgumentFault::NoValue(option) => write!(out, "{option}: a value is required"),
             ArgumentFault::NoNumber { option, value, last } => {
@@ -189,9 +191,10 @@ impl Request {
             }
         }
         arguments.agent = AgentOptions::read(words.get(end + 1..).unwrap_or(&[]))?;
-        if arguments.ask.is_none() && arguments.selectors.is_empty() {
+        if arguments.selectors.is_empty() {
             return Err(ArgumentFault::NoPort);
         }
+        arguments.log = arguments.log.take().filter(|_| !arguments.no_log);
         arguments.refuse_ports();
         Ok(Request::Run(Box::new(arguments)))
     }
@@ -214,9 +217,9 @@ impl Arguments {
             ("--events", None) => self.events = true,
             ("--forget-on-down", None) => self.forget_on_down = true,
             ("--no-description", None) => self.no_description = true,
+            ("--no-log", None) => self.no_log = true,
             ("--no-management", None) => self.no_management = true,
             ("--only-existing", None) => self.only_existing = true,
-            ("--ask", _) => self.ask = Some(value()?),
             ("--config", _) => self.config.push(value()?),
             ("--control", _) => self.control = value()?,
             ("--control-group", _) => self.control_group = Some(value()?),
@@ -345,9 +348,11 @@ mod tests {
         assert!(!(least.events || least.forget_on_down || least.no_description));
         assert!(!(least.no_management || least.only_existing));
         assert_eq!((&least.control[..], least.log_most, least.log_keep), ("/run/lldpa/control", 64, 1024));
-        assert_eq!((least.once, least.ask, least.log, least.state), (None, None, None, None));
+        assert_eq!((least.once, least.log, least.state), (None, None, None));
         assert_eq!(least.metrics, None);
-        assert_eq!(read("--ask live").expect("arguments").ask.as_deref(), Some("live"));
+        for line in ["--no-log --log g eth0", "--log g eth0 --no-log", "--no-log eth0"] {
+            assert_eq!(read(line).expect("arguments").log, None, "{line}");
+        }
     }
 
     #[test]
@@ -357,7 +362,14 @@ mod tests {
             ("--events --", "a PORT is required"),
             ("--nothing eth0", "unknown option: --nothing"),
             ("-x eth0", "unknown option: -x"),
+            ("--ask live", "unknown option: --ask"),
             ("--events=1 eth0", "unknown option: --events=1"),
+            ("eth0 --receive-only", "unknown option: --receive-only (options of lldpa follow --)"),
+            ("eth0 --role router", "unknown option: --role (options of lldpa follow --)"),
+            ("--max-neighbors=4 eth0", "unknown option: --max-neighbors=4 (options of lldpa follow --)"),
+            ("eth0 --hostname", "unknown option: --hostname (options of lldpa follow --)"),
+            ("eth0 --receive-only=1", "unknown option: --receive-only=1 (options of lldpa follow --)"),
+            ("--listen 4711 eth0", "unknown option: --listen"),
             ("eth0 --state", "--state: a value is required"),
             ("--once 0 eth0", "--once: 0 is not a number from 1 to 86400"),
             ("--once=86401 eth0", "--once: 86401 is not a number from 1 to 86400"),

@@ -69,6 +69,20 @@ impl Answer {
     }
 }
 
+#[cfg(test)]
+impl Answer {
+    /// Returns the lines, without their number.
+    pub fn lines(mut self) -> String {
+        let mut text: Vec<u8> = Vec::new();
+        while !self.is_empty() {
+            text.extend(self.text.drain(..));
+            self.refill();
+        }
+        let text = String::from_utf8(text).expect("a text");
+        text.split_once('\n').expect("a number").1.into()
+    }
+}
+
 pub struct Client {
     pub stream: Awaited<UnixStream>,
     pub peer: Peer,

@@ -66,7 +66,7 @@ impl Live {
         let running = self.running.as_mut().ok_or(Refusal::NoAgent)?;
         let done = running.agent.command(line)?;
         if let Some(show) = done.show {
-            return Ok(running.show(show));
+            return Ok(running.agent.show(show));
         }
         let statuses = running.agent.configuration().status;
         self.server.forget_tables();

@@ -2,6 +2,7 @@
 //! root and the owner may connect, with 0660 also the group. They may do everything. With 0666
 //! everybody may ask, but only root, owner and group may `configure` and `update`.
 
+use crate::budget::MOST_UNREAD;
 use crate::client::{Answer, Client, LONGEST_SENDING};
 use crate::listening::Listening;
 use crate::reports::warn;
@@ -18,7 +19,6 @@ const MOST_CLIENTS: usize = 64;
 const MOST_PREFERRED: usize = MOST_CLIENTS + 8; // with root and the socket's owner
 const MOST_WATCHING: usize = 16; // of root and the socket's owner, and as many of others
 const IDLENESS: Duration = Duration::from_secs(60);
-const MOST_UNREAD: usize = 48 << 20; // octets of all unread answers together
 
 /// A client's line, and whether the client may change the agent.
 pub struct Question {
@@ -160,7 +160,7 @@ impl Control {
         Some(Question {
             client: index,
             line: client.next_line(),
-            may_change: client.peer.may_change(&self.listening.path),
+            may_change: client.peer.may_change(&self.listening.path, self.listening.group),
         })
     }
 

@@ -1,103 +1,101 @@
-//! The counters of a port since lldpa-live began. An agent counts from 0, and also what rebuilds the
-//! tables of the agent that it replaces; people are shown neither.
+//! The counters of a port since lldpa-live began, which are those in the agent's own lines. An agent
+//! counts from 0, and also what rebuilds the tables of the agent that it replaces; people are shown
+//! neither.
 
-use lldpa::Statistics;
+use lldpa_people::counters::Counters as Shown;
+use lldpa_people::show::Show;
 
-const KEYS: [&str; 9] = [
-    "sent",
-    "shutdowns",
-    "received",
-    "discarded",
-    "errors",
-    "tlvs-discarded",
-    "unrecognized",
-    "ageouts",
-    "drops",
-];
+/// The key and the number of each counter of a port, in the order of the agent's lines.
+pub type Numbers = Vec<(String, u32)>;
 
-type Numbers = [u32; 9];
-
-/// The counters of an agent, in the order of `KEYS`.
-fn in_key_order(statistics: &Statistics) -> Numbers {
-    [
-        statistics.sent,
-        statistics.shutdowns,
-        statistics.received,
-        statistics.discarded,
-        statistics.errors,
-        statistics.tlvs_discarded,
-        statistics.unrecognized,
-        statistics.ageouts,
-        statistics.drops,
-    ]
+/// Returns the counters of each port that these lines of `show statistics` are about.
+pub fn read(lines: &str) -> Vec<Numbers> {
+    let show = Show::read(lines.lines().collect()).unwrap_or_default();
+    let number = |(key, number): &(&str, u128)| (key.to_string(), *number as u32); // the agent has 32 bits
+    show.counters.iter().map(|(_, counters)| counters.0.entries.iter().map(number).collect()).collect()
 }
 
-#[derive(Clone, Copy, Debug, Default)]
+fn of(numbers: &[(String, u32)], key: &str) -> u32 {
+    numbers.iter().find(|(one, _)| one == key).map_or(0, |(_, number)| *number)
+}
+
+#[derive(Clone, Debug, Default)]
 pub struct Counters {
     /// What earlier agents have counted, less what this agent had counted once it was rebuilt.
     before: Numbers,
 }
 
 impl Counters {
-    /// Returns the totals. `statistics` has the present counters of the agent.
-    fn total(&self, statistics: &Statistics) -> Numbers {
-        let mut total = in_key_order(statistics);
-        for (number, before) in total.iter_mut().zip(self.before) {
-            *number = number.wrapping_add(before);
-        }
-        total
+    /// Returns the totals. `numbers` has the present counters of the agent.
+    pub fn total(&self, numbers: &[(String, u32)]) -> Numbers {
+        let total = |(key, number): &(String, u32)| (key.clone(), number.wrapping_add(of(&self.before, key)));
+        numbers.iter().map(total).collect()
     }
 
-    /// Goes on with another agent. `last` has the counters of the agent before, and `first` those of
-    /// the new one, which was just rebuilt.
-    pub fn go_on(&mut self, last: &Statistics, first: &Statistics) {
+    /// Goes on with another agent. `last` has the counters of the agent before, none of which a new
+    /// port has, and `first` those of the new agent, which was just rebuilt.
+    pub fn go_on(&mut self, last: &[(String, u32)], first: &[(String, u32)]) {
         let total = self.total(last);
-        for ((before, total), first) in self.before.iter_mut().zip(total).zip(in_key_order(first)) {
-            *before = total.wrapping_sub(first);
-        }
+        let before = |(key, first): &(String, u32)| (key.clone(), of(&total, key).wrapping_sub(*first));
+        self.before = first.iter().map(before).collect();
+    }
+}
+
+/// The totals of a port.
+pub struct Totals {
+    pub port: String,
+    pub numbers: Numbers,
+}
+
+impl Totals {
+    /// Returns the lines of `show statistics` about the port.
+    pub fn lines(&self) -> String {
+        let line = |(key, number): &(String, u32)| format!("lldp.{}.{key}={number}\n", self.port);
+        self.numbers.iter().map(line).collect()
     }
 
-    /// Returns the lines of `show statistics`.
-    pub fn lines(&self, port: &str, statistics: &Statistics) -> String {
-        let line = |(key, number)| format!("lldp.{port}.{key}={number}\n");
-        KEYS.iter().zip(self.total(statistics)).map(line).collect()
+    /// Returns what these lines say.
+    pub fn told(&self) -> (&str, Shown<'_>) {
+        let mut told = Shown::default();
+        self.numbers.iter().for_each(|(key, number)| *told.0.value(key) = (*number).into());
+        (&self.port, told)
     }
 }
 
 #[cfg(test)]
 mod tests {
     use super::*;
-    use lldpa::{Agent, Options, Show};
 
-    #[test]
-    fn lines_are_those_of_an_agent_that_replaced_none() {
-        let mut agent = Agent::open(&Options { ports: &["eth0"], ..Options::default() }).expect("an agent");
-        let front = b"\x01\x80\xc2\0\0\x0e\x02\0\0\0\0\x01\x88\xcc";
-        for pdu in [&b"\x02\x02\x07a\x04\x02\x07b\x06\x02\0\x02\0\0"[..], b"\x02\x02\x07a\0\0", b"x"] {
-            let _ = agent.frame(0, &[&front[..], pdu].concat());
-        }
-        (0..5).for_each(|_| drop(agent.tick()));
-        let statistics = agent.statistics(0).expect("a port");
-        assert_eq!(Counters::default().lines("eth0", &statistics), agent.show(Show::Statistics));
-        assert!(
-            statistics.received > 0
-                && statistics.ageouts > 0
-                && statistics.sent > 0
-                && statistics.discarded > 0
-        );
+    fn numbers(received: u32, drops: u32) -> Numbers {
+        vec![("received".into(), received), ("drops".into(), drops)]
     }
 
     #[test]
     fn totals_leave_out_what_rebuilds_a_table() {
-        let counted = |received| Statistics { received, ..Statistics::default() };
         let mut counters = Counters::default();
-        counters.go_on(&counted(0), &counted(4)); // a restored state
-        assert_eq!(counters.total(&counted(4))[2], 0);
-        assert_eq!(counters.total(&counted(10))[2], 6);
-        counters.go_on(&counted(10), &counted(3));
-        assert_eq!(counters.total(&counted(3))[2], 6);
-        assert_eq!(counters.total(&counted(5))[2], 8);
-        counters.go_on(&counted(u32::MAX), &counted(0));
-        assert_eq!(counters.total(&counted(0))[2], 2);
+        counters.go_on(&[], &numbers(4, 1)); // a restored state
+        assert_eq!(counters.total(&numbers(4, 1)), numbers(0, 0));
+        assert_eq!(counters.total(&numbers(10, 1)), numbers(6, 0));
+        counters.go_on(&numbers(10, 1), &numbers(3, 9));
+        assert_eq!(counters.total(&numbers(3, 9)), numbers(6, 0));
+        assert_eq!(counters.total(&numbers(5, 9)), numbers(8, 0));
+        counters.go_on(&numbers(u32::MAX, 9), &numbers(0, 0));
+        assert_eq!(counters.total(&numbers(0, 2)), numbers(2, 2));
+    }
+
+    #[test]
+    fn each_counter_of_the_agent_is_shown() {
+        let keys = ["sent", "shutdowns", "received", "discarded", "errors", "tlvs-discarded"];
+        let keys = keys.iter().chain(&["unrecognized", "ageouts", "drops", "early-frames"]);
+        let of_port = |port: &str, first: u32| -> String {
+            keys.clone().zip(first..).map(|(key, number)| format!("lldp.{port}.{key}={number}\n")).collect()
+        };
+        let lines = of_port("eth0", 0) + &of_port("p1", u32::MAX - 10);
+        let read = read(&lines);
+        let all =
+            ["eth0", "p1"].iter().zip(read).map(|(port, numbers)| Totals { port: port.to_string(), numbers });
+        let all: Vec<Totals> = all.collect();
+        assert_eq!(all.iter().map(Totals::lines).collect::<String>(), lines);
+        assert_eq!(all[1].told().1.of("early-frames"), Some(u128::from(u32::MAX - 1)));
     }
 }

@@ -1,15 +1,14 @@
-//! lldpa-ctl: this program under another name. What it asks and prints is in the crate lldpa-people.
+//! lldpa-ctl, lldpctl and lldpcli: this program under other names. What it asks and prints is in the crate lldpa-people.
 
 use crate::listening::connect;
-use crate::rights::{give_up, user_to_be};
+use crate::rights::{give_up, user_of_client};
 use crate::sys::terminal;
 use lldpa_people::client::{self, Host};
-use lldpa_people::refused::words_of;
+use lldpa_people::lldpcli::program::{self, LLDPCLI, LLDPCTL, OF_CONSOLE};
 use std::io::Error;
+use std::os::unix::io::AsFd;
 use std::os::unix::net::UnixStream;
 use std::time::Duration;
-
-const NAME: &str = "lldpa-ctl";
 
 struct System;
 
@@ -21,43 +20,50 @@ impl Host for System {
     }
 
     fn give_up_root(&self) {
-        let _ = user_to_be(None).map(give_up);
+        let _ = give_up(user_of_client());
     }
 
     fn terminal_width(&self) -> Option<usize> {
         terminal::width()
     }
 
-    fn local_time(&self) -> String {
-        terminal::local_time()
+    fn local_time(&self, seconds: i64) -> String {
+        terminal::local_time(seconds)
     }
 
     fn output_was_closed(&self) -> bool {
         terminal::output_was_closed()
     }
-}
 
-/// Returns whether the program was called by the name of lldpa-ctl.
-pub fn is_wanted() -> bool {
-    let name = std::env::args_os().next().unwrap_or_default();
-    std::path::Path::new(&name).file_name() == Some(NAME.as_ref())
-}
-
-/// Returns lldpa-ctl's arguments for a question to which people want a table, or lines without end.
-pub fn arguments_for(control: &str, line: &str) -> Option<Vec<String>> {
-    let mut words = words_of(line);
-    match words.first_mut() {
-        Some(first) if first == "table" => *first = "neighbors".into(),
-        Some(first) if first == "watch" || first == "metrics" => (),
-        _ => return None,
+    fn is_terminal(&self) -> bool {
+        terminal::is_output()
     }
-    Some([vec!["--control".into(), control.into(), "--".into()], words].concat())
+
+    fn input_is_terminal(&self) -> bool {
+        terminal::is_input()
+    }
+
+    fn wait(&self, stream: &UnixStream) -> Result<bool, Error> {
+        terminal::wait_for(stream.as_fd())
+    }
 }
 
-/// Runs lldpa-ctl with these arguments, and returns its status.
-pub fn run(arguments: &[String]) -> i32 {
-    terminal::take_signals();
-    client::run(arguments, &System)
+/// Runs the program by whose name this one was called, with these arguments, and returns its status. None
+/// if it was called by another name.
+pub fn run(arguments: &[String]) -> Option<i32> {
+    let path = std::env::args_os().next().unwrap_or_default();
+    let name = std::path::Path::new(&path).file_name()?.to_str()?;
+    match name {
+        client::NAME => {
+            terminal::take_signals();
+            Some(client::run(arguments, &System))
+        }
+        LLDPCTL | LLDPCLI | OF_CONSOLE => {
+            terminal::take_signals();
+            Some(program::run(name, arguments, &System))
+        }
+        _ => None,
+    }
 }
 
 #[cfg(test)]
@@ -80,21 +86,5 @@ mod tests {
         assert_eq!(stream.read(&mut [0]).expect("an answer"), 1);
         answering.join().expect("no panic").expect("a client");
         fs::remove_file(&path).expect("a socket");
-    }
-
-    #[test]
-    fn some_questions_are_those_of_people() {
-        for (line, wanted) in [
-            ("table", Some("--control /a -- neighbors")),
-            (" table eth0 eth1", Some("--control /a -- neighbors eth0 eth1")),
-            ("watch eth0", Some("--control /a -- watch eth0")),
-            ("metrics", Some("--control /a -- metrics")),
-            ("live", None),
-            ("show neighbors", None),
-            ("tables", None),
-            ("", None),
-        ] {
-            assert_eq!(arguments_for("/a", line).map(|words| words.join(" ")).as_deref(), wanted, "{line}");
-        }
     }
 }

@@ -226,7 +226,8 @@ impl Live {
     }
 
     pub fn report_address(&mut self) {
-        let is_missing = self.announced.management.is_none() && !self.arguments.no_management;
+        let is_asked = !self.arguments.no_management && !self.arguments.agent.numbers.receive_only;
+        let is_missing = is_asked && self.announced.management.is_none();
         if self.announced.note_missing(is_missing) {
             notice("there is no IPv4 address to announce");
         }
@@ -263,6 +264,7 @@ impl Live {
             let status = format!("{} on {}{refused}", counted(neighbors, "neighbor"), counted(ports, "port"));
             self.manager.set_status(status);
         }
+        self.manager.send_status(Moment::now());
         self.events.end_minute();
         self.manager.send_keepalive(Moment::now());
     }
@@ -274,7 +276,7 @@ impl Live {
         let of_agent = |moment: Option<Moment>| moment.filter(|_| self.running.is_some());
         let is_refused = self.ports.all.iter().any(|port| port.is_refused());
         let deadlines = [
-            due.filter(|due| !self.ports.may_keep_back(*due)),
+            due.map(|due| if self.ports.may_keep_back(due) { self.latest(due, now) } else { due }),
             is_refused.then(|| now + SECOND),
             (self.is_cut || reads_at_once).then_some(now),
             self.next_look(),

@@ -5,7 +5,7 @@
 use crate::links::Links;
 use crate::netlink::messages;
 use crate::queries::Query;
-use crate::time::{Moment, WallTime};
+use crate::state::Times;
 use crate::{settings, state};
 use lldpa::CommandFault;
 use std::fs::File;
@@ -104,10 +104,9 @@ fn fuzz_settings() {
 
 #[test]
 fn fuzz_state() {
-    let wall = WallTime::after_1970(Duration::from_secs(110));
-    let now = Moment::after_boot(Duration::from_secs(60));
-    assert_eq!(state::saved_in(STATE.as_bytes(), wall, now).map(|saved| saved.lines.len()).ok(), Some(4));
+    let now = Times::read("110.000 60.000").expect("times");
+    assert_eq!(state::saved_in(STATE.as_bytes(), &now).map(|saved| saved.lines.len()).ok(), Some(4));
     feed(&[STATE.as_bytes()], |octets| {
-        let _ = state::saved_in(octets, wall, now);
+        let _ = state::saved_in(octets, &now);
     });
 }

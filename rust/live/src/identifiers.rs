@@ -1,8 +1,6 @@
-//! Identifiers of neighbors, as `show` prints them and as text for people.
+//! Identifiers of neighbors, as `show` prints them.
 
 use lldpa::{tlv_text, Msap};
-use lldpa_people::table::address_text;
-use lldpa_people::texts::printable;
 
 pub const CHASSIS_ID: u8 = 1;
 pub const PORT_ID: u8 = 2;
@@ -29,20 +27,6 @@ pub fn id(msap: &Msap<'_>) -> String {
     format!("{} {}", chassis_id(msap.chassis), identifier(PORT_ID, msap.port))
 }
 
-/// Returns an identifier or an address as text for people, and its key.
-pub fn name_of(kind: u8, body: &[u8]) -> (String, String) {
-    let (key, value) = shown(kind, body);
-    let name = match key.rsplit('.').next() {
-        Some("mac" | "unhandled") => value,
-        Some("ip" | "mgmt") => {
-            let address = value.split(',').next().unwrap_or("");
-            address_text(address)
-        }
-        _ => printable(body.get(1..).unwrap_or(&[])),
-    };
-    (name, key)
-}
-
 #[cfg(test)]
 mod tests {
     use super::*;
@@ -57,21 +41,5 @@ mod tests {
             assert_eq!(id(&Msap { chassis, port }), wanted);
         }
         assert_eq!(chassis_id(b"\x07a"), "local=a");
-    }
-
-    #[test]
-    fn names_are_for_people() {
-        let six = [&b"\x05\x02\x20\x01\x0d\xb8"[..], &[0; 11], &[1]].concat();
-        let compatible = [&b"\x05\x02"[..], &[0; 12], &[192, 0, 2, 7]].concat();
-        for (kind, body, name, key) in [
-            (CHASSIS_ID, &b"\x04\x02\0\0\0\0\x01"[..], "02:00:00:00:00:01", "chassis.mac"),
-            (CHASSIS_ID, b"\x07a b", "a b", "chassis.local"),
-            (CHASSIS_ID, b"\x05\x01\xc0\0\x02\x07", "192.0.2.7", "chassis.ip"),
-            (CHASSIS_ID, &six, "2001:db8::1", "chassis.ip"),
-            (CHASSIS_ID, &compatible, "::192.0.2.7", "chassis.ip"),
-            (PORT_ID, b"\x05eth\x1b", "eth\\x1b", "port.ifname"),
-        ] {
-            assert_eq!(name_of(kind, body), (name.to_string(), key.to_string()));
-        }
     }
 }

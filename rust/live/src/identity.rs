@@ -2,6 +2,7 @@
 
 use crate::links::{Link, Links, Mac};
 use crate::patterns;
+use std::collections::BTreeSet;
 use std::net::Ipv4Addr;
 
 const OS_RELEASE: [&str; 2] = ["/etc/os-release", "/usr/lib/os-release"];
@@ -17,19 +18,29 @@ pub fn chassis_address(ports: &[String], links: &Links) -> Option<Mac> {
     hardware.and_then(|one| one.permanent.or(one.address)).or_else(|| ours().next()?.address)
 }
 
-/// Returns the management address: the first global IPv4 address of a port, else of an interface
-/// above a port, else of a VLAN on one of these, else of hardware, else of any interface (lowest
-/// index first). If there are patterns, they must allow the address.
+/// Returns the management address: the first global IPv4 address of a port, else of what is above
+/// and on the ports (see `stack`), else of hardware, else of any interface (lowest index first). If
+/// there are patterns, they must allow the address.
 pub fn management_address(ports: &[String], links: &Links, patterns: &[String]) -> Option<Ipv4Addr> {
-    let ours = || ports.iter().filter_map(|name| links.named(name));
-    let stack = || ours().chain(ours().flat_map(|one| above(one, links)));
-    let vlans = links.all().filter(|one| one.vlan_on != 0 && stack().any(|lower| lower.index == one.vlan_on));
     let hardware = links.all().filter(|one| one.is_hardware && one.is_ethernet);
-    let mut all = stack().chain(vlans).chain(hardware).chain(links.all());
+    let mut all = stack(ports, links).into_iter().chain(hardware).chain(links.all());
     let is_allowed = |address: &Ipv4Addr| patterns::allows(patterns, &address.to_string());
     let known: Vec<_> =
         links.addresses.iter().map(|known| known.0).filter(|one| is_allowed(&one.1)).collect();
     all.find_map(|one| known.iter().find(|known| known.0 == one.index)).map(|one| one.1)
+}
+
+/// Returns the ports, then the interfaces above them, then those on all these, such as VLANs and
+/// macvlans, then those above these, and so on to the end. Each is there once.
+fn stack<'a>(ports: &[String], links: &'a Links) -> Vec<&'a Link> {
+    let (mut stack, mut known) = (Vec::new(), BTreeSet::new());
+    let mut next: Vec<&Link> = ports.iter().filter_map(|name| links.named(name)).collect();
+    while !next.is_empty() {
+        let masters: Vec<&Link> = next.iter().flat_map(|one| above(one, links)).collect();
+        stack.extend(next.into_iter().chain(masters).filter(|one| known.insert(one.index)));
+        next = links.all().filter(|one| known.contains(&one.lower) && !known.contains(&one.index)).collect();
+    }
+    stack
 }
 
 /// Returns the interfaces above this one: its bond, team or bridge, the interface above that, etc.
@@ -129,7 +140,7 @@ mod tests {
         let mut known =
             links(&[("docker0", false), ("eth0", true), ("bond0", false), ("v", false), ("eth1", true)]);
         known.known.get_mut(&2).expect("eth0").0.master = 3;
-        known.known.get_mut(&4).expect("v").0.vlan_on = 3;
+        known.known.get_mut(&4).expect("v").0.lower = 3;
         let at = |last: u8, index: i32| ((index, Ipv4Addr::new(192, 0, 2, last)), 0);
         let all = [at(1, 1), at(2, 2), at(3, 3), at(4, 4), at(5, 5)];
         let ports = ["eth0".to_string()];
@@ -146,5 +157,28 @@ mod tests {
             assert_eq!(found, Some(Ipv4Addr::new(192, 0, 2, last)), "{patterns:?}");
         }
         assert_eq!(management_address(&ports, &known, &["10.*".into()]), None);
+    }
+
+    #[test]
+    fn what_is_above_and_on_a_port_is_followed_to_the_end() {
+        // of each interface after eth0, which is 1: what it is on, and what is above it
+        for (made, wanted) in [
+            (&[(1, 3), (0, 0)][..], "1 2 3"),                 // a bridge over a VLAN
+            (&[(0, 0), (1, 0), (3, 2)], "1 3 4 2"),           // a VLAN in a VLAN below a bridge
+            (&[(1, 0), (2, 0), (3, 0), (4, 0)], "1 2 3 4 5"), // each on the one before
+            (&[(3, 0), (2, 0)], "1"),                         // a circle beside it
+            (&[(1, 3), (2, 2)], "1 2 3"),                     // one on it
+            (&[(0, 0), (0, 0)], "1"),
+        ] {
+            let mut known = links(&vec![("x", false); made.len() + 1]);
+            known.known.get_mut(&1).expect("eth0").0.name = "eth0".into();
+            for ((lower, master), index) in made.iter().zip(2..) {
+                let one = &mut known.known.get_mut(&index).expect("an interface").0;
+                (one.lower, one.master) = (*lower, *master);
+            }
+            let found: Vec<String> =
+                stack(&["eth0".into()], &known).iter().map(|one| one.index.to_string()).collect();
+            assert_eq!(found.join(" "), wanted, "{made:?}");
+        }
     }
 }

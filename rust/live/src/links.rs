@@ -33,8 +33,10 @@ pub struct Link {
     pub permanent: Option<Mac>,
     /// The index of the bond, team or bridge above it, or 0.
     pub master: i32,
-    /// The index of the interface that this VLAN is on, or 0.
-    pub vlan_on: i32,
+    /// The index of the interface that this one is on, as a VLAN or a macvlan is, or 0.
+    pub lower: i32,
+    /// How often the carrier came or went. The kernel tells it at most once a second.
+    pub carrier_changes: u32,
 }
 
 /// The known interfaces and addresses, each with the value of `list` when it was last reported.

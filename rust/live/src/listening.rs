@@ -1,6 +1,7 @@
 //! Listens at the control socket's path, which one process uses at a time. Checks clients' rights.
 
-use crate::rights::at;
+use crate::reports::warn;
+use crate::rights::{at, text_of};
 use crate::sys::{files, sockets};
 use crate::waiting::Awaited;
 use std::fs::{self, DirBuilder, File, OpenOptions, Permissions};
@@ -18,7 +19,8 @@ const ONLY_OWNER: u32 = 0o177; // as a umask
 /// A listening socket. Until it is dropped or the process ends, no other lldpa-live uses its path.
 pub struct Listening {
     pub path: String,
-    group: Option<u32>,
+    /// The group that may use the socket too.
+    pub group: Option<u32>,
     lock: Option<File>,
     pub socket: Awaited<UnixListener>,
     /// Becomes ready when the socket is removed.
@@ -40,6 +42,12 @@ impl Listening {
     /// True unless the socket is missing. Also true if this user may not look for it.
     pub fn is_there(&self) -> bool {
         !matches!(fs::symlink_metadata(&self.path), Err(fault) if fault.kind() == ErrorKind::NotFound)
+    }
+
+    /// Lets a group use the socket from now on.
+    pub fn take_group(&mut self, group: u32) -> Result<()> {
+        self.group = Some(group);
+        hand_over(&self.path, group)
     }
 
     /// Creates a removed socket again, with its group if this user may still set that.
@@ -118,8 +126,12 @@ fn listener(path: &str, group: Option<u32>) -> Result<UnixListener> {
     files::set_umask(mask);
     let socket = bound?;
     socket.set_nonblocking(true)?;
-    if let Some(group) = group {
-        hand_over(path, group)?;
+    match group.map(|group| hand_over(path, group)) {
+        // A group never decides whether the agent runs.
+        Some(Err(fault)) if [ErrorKind::PermissionDenied, ErrorKind::Unsupported].contains(&fault.kind()) => {
+            warn(&format!("{path}: the group cannot use this control socket: {}", text_of(&fault)));
+        }
+        given => given.unwrap_or(Ok(()))?,
     }
     Ok(socket)
 }
@@ -132,8 +144,11 @@ fn hand_over(path: &str, group: u32) -> Result<()> {
         return Err(Error::new(ErrorKind::AlreadyExists, "this is not a socket"));
     }
     let by_number = format!("/proc/self/fd/{}", file.as_raw_fd());
-    files::give(&by_number, None, Some(group))?;
-    fs::set_permissions(&by_number, Permissions::from_mode(0o660))
+    match files::give(&by_number, None, Some(group)) {
+        Ok(()) => fs::set_permissions(&by_number, Permissions::from_mode(0o660)),
+        // Only root, or the owner as a member of the group, may change the group of a file.
+        Err(_) => files::let_group_use(&by_number, group),
+    }
 }
 
 /// The user and the groups that a client's process had when it connected.
@@ -149,12 +164,14 @@ impl Peer {
     }
 
     /// True if the client is root, or may write to the socket as its owner or by its group. (The
-    /// kernel checks clients when they connect, but lets in everybody if the mode is 0666.)
-    pub fn may_change(&self, path: &str) -> bool {
+    /// kernel checks clients when they connect, but lets in everybody if the mode is 0666.) A group
+    /// that was let in by a list of access rights is not that of the file.
+    pub fn may_change(&self, path: &str, group: Option<u32>) -> bool {
+        let is_member = |group: u32| self.groups.contains(&group);
         match fs::symlink_metadata(path) {
             _ if self.user == 0 => true,
             Ok(found) if found.uid() == self.user => found.mode() & 0o200 != 0,
-            Ok(found) => found.mode() & 0o020 != 0 && self.groups.contains(&found.gid()),
+            Ok(found) => found.mode() & 0o020 != 0 && is_member(group.unwrap_or_else(|| found.gid())),
             Err(_) => false,
         }
     }
@@ -189,12 +206,12 @@ mod tests {
         ] {
             fs::set_permissions(&path, Permissions::from_mode(mode)).expect("a mode");
             let peer = Peer { user, groups };
-            assert_eq!(peer.may_change(&path), may_change, "{mode:o} {user}");
+            assert_eq!(peer.may_change(&path, None), may_change, "{mode:o} {user}");
             assert_eq!(peer.is_preferred(&path), user == owner || user == 0, "{user}");
         }
         fs::remove_file(&path).expect("a file");
         let peer = |user| Peer { user, groups: vec![group] };
-        assert!(peer(0).may_change(&path) && peer(0).is_preferred(&path));
-        assert!(!peer(other).may_change(&path) && !peer(other).is_preferred(&path));
+        assert!(peer(0).may_change(&path, None) && peer(0).is_preferred(&path));
+        assert!(!peer(other).may_change(&path, None) && !peer(other).is_preferred(&path));
     }
 }

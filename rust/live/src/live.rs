@@ -9,6 +9,7 @@ use crate::following::{Announced, Following};
 use crate::lines::Line;
 use crate::links::{Link, Links};
 use crate::log::Log;
+use crate::lookup::Lookup;
 use crate::metrics::Metrics;
 use crate::notify::Manager;
 use crate::outbox::Outbox;
@@ -27,8 +28,12 @@ const MOST_TICKS: u32 = 65535; // seconds in one line
 /// How many frames one turn gives to the agent, and for how long: then signals and questions follow.
 const MOST_FRAMES: usize = 64;
 const LONGEST_GIVING: Duration = Duration::from_millis(25);
-/// How long frames wait while the log is behind, before it is asked again.
-const PAUSE: Duration = Duration::from_millis(5);
+/// How long a second waits at most for frames that came before its end and were not read yet. It is
+/// longer than the ports rest to save processor time.
+const MOST_LATE: Duration = Duration::from_millis(800);
+/// So much of a turn counts for that wait: this process may have been stopped meanwhile, and then all
+/// frames that came are given in their order.
+const LONGEST_TURN: Duration = Duration::from_millis(500);
 
 /// The result of `turn`: the moment reached, and whether signals or clients wait to be handled.
 pub struct Turn {
@@ -72,6 +77,8 @@ pub struct Live {
     pub announced: Announced,
     pub following: Following,
     pub server: Server,
+    /// Looks for the group of the control socket, if it was not known at the start.
+    pub lookup: Option<Lookup>,
     pub manager: Manager,
     pub events: Events,
     pub log: Log,
@@ -83,6 +90,8 @@ pub struct Live {
     outbox: Outbox,
     /// True if frames that could be given to the agent wait for the next turn.
     pub is_cut: bool,
+    /// How long a second has waited for frames.
+    late: Duration,
 }
 
 impl Live {
@@ -98,6 +107,7 @@ impl Live {
             announced: Announced::new(arguments.agent.management),
             following: Following::default(),
             server: Server::new(control),
+            lookup: None,
             manager: Manager::new(),
             events: Events::default(),
             log: Log::new(arguments.log.clone(), arguments.log_most, arguments.log_keep),
@@ -106,6 +116,7 @@ impl Live {
             last_chassis: 0,
             outbox: Outbox::default(),
             is_cut: false,
+            late: Duration::ZERO,
             arguments,
         })
     }
@@ -124,7 +135,13 @@ impl Live {
         let has_signal = found.contains(&self.wakers.signals.file.as_raw_fd());
         let has_news = found.contains(&self.links.socket.file.as_raw_fd());
         let news = if has_news { self.links.read().unwrap_or_default() } else { Vec::new() };
-        let others = self.ports.count_of(&found) + usize::from(has_signal) + usize::from(has_news);
+        let is_found = |one: &Lookup| found.contains(&one.answer.file.as_raw_fd());
+        let has_group = self.lookup.as_ref().map_or(false, is_found);
+        let of_others = [has_signal, has_news, has_group].map(usize::from);
+        let others = self.ports.count_of(&found) + of_others.iter().sum::<usize>();
+        if has_group {
+            self.take_group();
+        }
         let left = self.ports.read(&mut self.clock, &found, before);
         // If the agent acts at a second that ended while this turn waited, that second is given at
         // the next turn: then all frames before it have certainly been read.
@@ -132,17 +149,16 @@ impl Live {
         let all = if due.map_or(false, |due| due <= now) { before } else { now };
         let moment = self.give(news, left.map_or(all, |left| left.min(all)));
         self.follow();
+        self.note_late(before);
         self.ports.share.count(processor_time(), Moment::now());
         Turn { began: before, moment, has_signal, is_asked: found.len() > others }
     }
 
     fn await_files(&mut self, now: Moment) {
-        if self.log.is_behind() {
-            self.ports.paused_until = now + PAUSE;
-        }
         let epoll = &self.wakers.epoll;
         self.wakers.signals.wait_for(epoll, IN);
         self.links.socket.wait_for(epoll, IN);
+        self.lookup.iter_mut().for_each(|lookup| lookup.answer.wait_for(epoll, IN));
         self.wakers.host_name.iter_mut().for_each(|file| file.wait_for(epoll, PRIORITY));
         self.ports.await_frames(epoll, now, self.server.has_question());
         self.server.control.iter_mut().for_each(|control| control.await_clients(epoll, now));
@@ -156,7 +172,9 @@ impl Live {
         }
         let (came, went) = ran_and_later(news);
         let mut downs = self.follow_links(&came);
-        let moment = self.give_frames(moment, went.is_empty());
+        let is_down = !(went.is_empty() && downs.is_empty());
+        let moment = self.give_frames(moment, !is_down);
+        let moment = if self.late < MOST_LATE { moment } else { Moment::now() };
         self.give_seconds(moment);
         downs.extend(self.follow_links(&went));
         if self.arguments.forget_on_down {
@@ -164,6 +182,18 @@ impl Live {
         }
         self.send(); // before ports may be removed
         moment
+    }
+
+    /// Notes after a turn whether a second still waits.
+    fn note_late(&mut self, before: Moment) {
+        let now = Moment::now();
+        let is_late = self.running.is_some() && self.clock.missing(now) > 0;
+        self.late = if is_late { self.late + now.since(before).min(LONGEST_TURN) } else { Duration::ZERO };
+    }
+
+    /// Returns until when a second that has ended may wait for frames.
+    pub fn latest(&self, due: Moment, now: Moment) -> Moment {
+        due.max(now) + MOST_LATE.saturating_sub(self.late)
     }
 
     /// Gives the agent the frames up to this moment, but only some if `may_cut`. Returns the moment
@@ -255,20 +285,9 @@ mod tests {
     use super::*;
     use crate::options::AgentOptions;
     use crate::state::Saved;
+    use crate::time::SECOND;
     use std::os::unix::io::OwnedFd;
     use std::os::unix::net::UnixDatagram;
-
-    #[test]
-    fn no_port_is_read_while_the_log_is_behind() {
-        let mut live = Live::without_interfaces(Arguments::default(), &[]);
-        let now = Moment::now();
-        live.await_files(now);
-        assert_eq!(live.ports.paused_until, Moment::default());
-        live.log = Log::behind();
-        live.await_files(now);
-        assert_eq!(live.ports.paused_until, now + PAUSE);
-        assert!(live.ports.all_rest_until(now, true) >= now + PAUSE);
-    }
 
     #[test]
     fn a_second_waits_for_a_port_that_rests() {
@@ -297,6 +316,29 @@ mod tests {
         assert_eq!(deadline(&mut live, before), now, "no frame of a port that fails is waited for");
         live.ports.all[0].reception.failures = 0;
         assert_eq!(deadline(&mut live, now), now, "all frames before the second's end were read");
+    }
+
+    #[test]
+    fn a_second_does_not_wait_long_for_frames() {
+        let words = ["--mac=02:00:00:00:00:01".to_string()];
+        let agent = AgentOptions::read(&words).expect("options");
+        let mut live = Live::without_interfaces(Arguments { agent, ..Arguments::default() }, &["eth0"]);
+        live.open(&Saved::default()).expect("an agent");
+        let ended = live.clock.end_of(1);
+        while Moment::now() <= ended {
+            std::thread::sleep(Duration::from_millis(10));
+        }
+        let (old, long) = (Moment::now() - 3 * SECOND, 3600 * SECOND);
+        live.note_late(Moment::now() - long);
+        assert_eq!(live.late, LONGEST_TURN, "this process may have been stopped");
+        assert_eq!(live.latest(old, ended), ended + (MOST_LATE - LONGEST_TURN));
+        live.give(Vec::new(), old);
+        assert_eq!(live.clock.given, 0, "it waits");
+        live.note_late(Moment::now() - long);
+        live.give(Vec::new(), old);
+        assert!(live.clock.given >= 1, "it was given although frames may be left");
+        live.note_late(Moment::now());
+        assert_eq!(live.late, Duration::ZERO);
     }
 
     #[test]

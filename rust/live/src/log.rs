@@ -1,8 +1,10 @@
 //! The log of a session: the lines that the agent is given, with the time in comments. A thread
-//! writes the log files and the state; lldpa-live waits for this thread only at the end. If the
-//! disk is slow, lines are kept up to a limit, and further lines are lost and counted. After a loss
+//! writes the log files and the state; lldpa-live waits for this thread only at the end. The thread
+//! writes all lines that wait at once, so a slow disk costs a write now and then. If lines have
+//! waited too long nevertheless, or are too many, further lines are lost and counted. After a loss
 //! the log continues in a new file, since a trace with a gap would replay differently.
 
+use crate::budget::{MOST_HEADS, MOST_WAITING};
 use crate::files::{Fault, Files, Progress, Written};
 use crate::hex::Hex;
 use crate::lines::Line;
@@ -16,12 +18,10 @@ use std::sync::mpsc::{channel, Receiver, Sender};
 use std::thread;
 use std::time::Duration;
 
-const MOST_WAITING: usize = 4_000_000; // octets of lines; heads of files do not count
-/// Above so many waiting octets no further frames are read, while the thread works on.
-const MANY_WAITING: usize = MOST_WAITING / 4;
-const LONGEST_PAUSE: Duration = Duration::from_secs(2);
-const MOST_HEADS: usize = 2; // beginnings of files that wait
-const TO_STALL: Duration = Duration::from_secs(5);
+/// How long lines may wait before further ones are lost.
+const MOST_BEHIND: Duration = Duration::from_secs(2);
+/// How long a job of the thread may make no progress, for the last state to be worth a try.
+const TO_HANG: Duration = Duration::from_secs(5);
 const BETWEEN_TRIES: Duration = Duration::from_secs(10);
 const LONGEST_STEP: Duration = SECOND; // the longest wait for the next piece at the end
 const MEGABYTE: u64 = 1_000_000;
@@ -35,12 +35,20 @@ enum Job {
     WriteState(String, State),
 }
 
-/// What a job of the thread is, for its end: a write has so many octets and lines.
+/// What a job of the thread is, for its end: a write has so many octets and lines, and waits since
+/// this moment of `Log::now`.
+#[derive(Clone, Copy)]
 enum Kind {
     Begin,
     Lines,
-    Write(usize, u64),
+    Write { octets: usize, lines: u64, since: Duration },
     State,
+}
+
+/// The end of so many jobs, which the thread has done as one.
+struct Done {
+    jobs: usize,
+    written: Written,
 }
 
 #[derive(Clone, Copy, Debug, Default, PartialEq, Eq)]
@@ -57,13 +65,19 @@ pub struct Log {
     path: Option<String>,
     most: u64,
     keep: u64,
-    thread: Option<(Sender<Job>, Receiver<Written>)>,
+    thread: Option<(Sender<Job>, Receiver<Done>)>,
     progress: Progress,
-    /// The unfinished jobs of the thread.
+    steps: u64, // of `progress`, as last seen
+    /// The unfinished jobs of the thread, and how many octets of lines they have.
     waiting: VecDeque<Kind>,
-    /// How long the thread has worked on its present job.
-    waited: Duration,
-    looked: Moment, // when this was last checked
+    waiting_octets: usize,
+    /// The time that has passed. Of a time in which this process was stopped, a second counts.
+    now: Duration,
+    looked: Moment, // when this was last noted
+    /// Since when, as `now`, the thread has made no progress with its present job.
+    stuck_since: Duration,
+    /// Until when, as `now`, the thread has made progress with something else than lines.
+    busy_until: Duration,
     trouble: Trouble,
     pub lost: u64,
     lost_reported: u64,
@@ -96,7 +110,7 @@ impl Log {
         let mut files = Files::new(path, self.keep, self.progress.clone());
         let (jobs, theirs) = channel::<Job>();
         let (ours, answers) = channel();
-        let work = move || theirs.iter().try_for_each(|job| ours.send(done(&mut files, job)));
+        let work = move || do_all(&mut files, &theirs, &ours);
         thread::Builder::new().name("log".into()).stack_size(1 << 17).spawn(work)?;
         self.thread = Some((jobs, answers));
         Ok(())
@@ -111,7 +125,7 @@ impl Log {
         }
         let heads = self.waiting.iter().filter(|one| matches!(one, Kind::Begin)).count();
         self.is_begun = true;
-        self.is_whole = heads < MOST_HEADS && (self.trouble == Trouble::None || self.waiting_octets() == 0);
+        self.is_whole = heads < MOST_HEADS && (self.trouble == Trouble::None || self.waiting_octets == 0);
         if self.is_whole {
             (self.size, self.head) = (0, 0);
             self.send(Kind::Begin, Job::Begin(command_line.into(), lines));
@@ -154,27 +168,28 @@ impl Log {
     fn hand_over(&mut self) {
         let (octets, lines) =
             (std::mem::take(&mut self.pending).into_bytes(), std::mem::take(&mut self.pending_lines));
-        self.is_whole &= self.waiting_octets() + octets.len() <= MOST_WAITING;
+        self.is_whole &= self.waiting_octets + octets.len() <= MOST_WAITING;
         if !self.is_whole && lines > 0 {
             self.lost += lines;
             self.stall("cannot keep up and loses lines; lldpa-live continues");
         } else if lines > 0 {
+            self.pass();
             self.size += octets.len() as u64;
-            self.send(Kind::Write(octets.len(), lines), Job::Write(octets));
+            self.waiting_octets += octets.len();
+            self.send(Kind::Write { octets: octets.len(), lines, since: self.now }, Job::Write(octets));
         }
     }
 
-    /// Gives a state to the thread, unless its present job has lasted 5 seconds or another state
-    /// waits.
+    /// Gives a state to the thread, unless its present job hangs or another state waits.
     pub fn write_state(&mut self, path: &str, state: State) {
         if !self.waiting.iter().any(|one| matches!(one, Kind::State)) {
             self.write_last_state(path, state);
         }
     }
 
-    /// Gives the thread the state at the end, unless its present job has lasted 5 seconds.
+    /// Gives the thread the state at the end, unless its present job hangs.
     pub fn write_last_state(&mut self, path: &str, state: State) {
-        if self.waited < TO_STALL {
+        if self.now.saturating_sub(self.stuck_since) < TO_HANG {
             self.send(Kind::State, Job::WriteState(path.into(), state));
         }
     }
@@ -182,39 +197,57 @@ impl Log {
     fn send(&mut self, kind: Kind, job: Job) {
         if let Some((jobs, _)) = &self.thread {
             let _ = jobs.send(job);
-            self.looked = if self.waiting.is_empty() { Moment::now() } else { self.looked };
+            self.pass();
+            if self.waiting.is_empty() {
+                self.stuck_since = self.now;
+            }
             self.waiting.push_back(kind);
         }
     }
 
-    fn waiting_octets(&self) -> usize {
-        let octets = |kind: &Kind| if let Kind::Write(octets, _) = kind { *octets } else { 0 };
-        self.waiting.iter().map(octets).sum()
+    fn pass(&mut self) {
+        let now = Moment::now();
+        self.now += now.since(self.looked).min(SECOND);
+        self.looked = now;
     }
 
-    /// True if frames should wait until the thread has written lines. Not for long: then the disk
-    /// hangs, and lines are lost.
-    pub fn is_behind(&self) -> bool {
-        self.waiting_octets() > MANY_WAITING && self.waited < LONGEST_PAUSE && self.trouble == Trouble::None
-    }
-
-    /// Gives the pending lines to the thread, handles its answers, and notes if an answer is overdue.
-    /// Time in which this process was stopped counts as one second at most.
+    /// Gives the pending lines to the thread, handles its answers, and notes if lines wait too long.
     pub fn turn(&mut self) {
         self.hand_over();
+        self.pass();
         while let Some(done) = self.thread.as_ref().and_then(|thread| thread.1.try_recv().ok()) {
             self.note_done(done);
         }
-        let now = Moment::now();
-        self.waited = if self.waiting.is_empty() {
-            Duration::ZERO
-        } else {
-            self.waited + now.since(self.looked).min(SECOND)
-        };
-        self.looked = now;
-        if self.waiting_octets() > 0 && self.waited >= TO_STALL {
-            self.stall("has made no progress for 5 seconds; lldpa-live continues");
+        self.note_progress();
+        if self.behind() > MOST_BEHIND {
+            self.is_whole = false; // further lines are lost; those that wait are written
+            self.stall(&format!(
+                "is more than {} seconds behind and loses lines; lldpa-live continues",
+                MOST_BEHIND.as_secs()
+            ));
         }
+    }
+
+    fn note_progress(&mut self) {
+        let steps = self.progress.steps();
+        let is_stuck = std::mem::replace(&mut self.steps, steps) == steps && !self.waiting.is_empty();
+        if is_stuck {
+            return;
+        }
+        self.stuck_since = self.now;
+        if !matches!(self.waiting.front(), None | Some(Kind::Write { .. })) {
+            self.busy_until = self.now;
+        }
+    }
+
+    /// Returns how long lines have waited, without the time in which the thread made progress with
+    /// a head or a state.
+    fn behind(&self) -> Duration {
+        let since = self.waiting.iter().find_map(|one| match one {
+            Kind::Write { since, .. } => Some(*since),
+            _ => None,
+        });
+        since.map_or(Duration::ZERO, |since| self.now.saturating_sub(since.max(self.busy_until)))
     }
 
     fn stall(&mut self, what: &str) {
@@ -228,51 +261,49 @@ impl Log {
         warn(&format!("the log in {} {what}", self.path.as_deref().unwrap_or("")));
     }
 
-    /// Notes how the first of the unfinished jobs ended.
-    fn note_done(&mut self, done: Written) {
-        self.waited = Duration::ZERO;
-        let lines = match (self.waiting.pop_front(), &done) {
-            (Some(Kind::State) | None, _) => return self.note_state(done),
-            (Some(Kind::Begin), Ok((_, size))) => {
-                (self.head, self.written) = (*size, 0);
-                0
+    /// Notes how the first of the unfinished jobs ended. Several jobs are writes of lines.
+    fn note_done(&mut self, done: Done) {
+        self.stuck_since = self.now;
+        let (mut lines, written) = (0, done.written);
+        for _ in 0..done.jobs {
+            match (self.waiting.pop_front(), &written) {
+                (Some(Kind::State) | None, _) => return self.note_state(written),
+                (Some(Kind::Begin), Ok((_, size))) => (self.head, self.written) = (*size, 0),
+                (Some(Kind::Lines), Ok((_, size))) => self.head = size.saturating_sub(self.written),
+                (Some(Kind::Begin | Kind::Lines), Err(_)) => (),
+                (Some(Kind::Write { octets, lines: further, .. }), _) => {
+                    self.waiting_octets -= octets;
+                    self.written += octets as u64;
+                    lines += further;
+                    continue;
+                }
             }
-            (Some(Kind::Lines), Ok((_, size))) => {
-                self.head = size.saturating_sub(self.written);
-                0
-            }
-            (Some(Kind::Begin | Kind::Lines), Err(_)) => 0,
-            (Some(Kind::Write(octets, lines)), _) => {
-                self.written += octets as u64;
-                lines
-            }
-        };
-        match done {
+            self.busy_until = self.now;
+        }
+        match written {
             Err(fault) => {
                 self.lost += lines;
                 self.fail(&fault);
             }
             // A file that has lost lines does not go on; another one begins.
-            Ok((path, _)) if self.trouble != Trouble::None && self.is_whole => self.go_on(&path, lines > 0),
+            Ok((path, _)) if self.trouble != Trouble::None && self.is_whole => self.go_on(&path),
             Ok(_) => (),
         }
     }
 
     /// Reports a state that could not be written, unless the last one failed for the same reason.
-    fn note_state(&mut self, done: Written) {
-        let fault = done.err().map_or(String::new(), |fault| fault.to_string());
+    fn note_state(&mut self, written: Written) {
+        self.busy_until = self.now;
+        let fault = written.err().map_or(String::new(), |fault| fault.to_string());
         if !fault.is_empty() && fault != self.state_fault {
             warn(&format!("the state was not written: {fault}"));
         }
         self.state_fault = fault;
     }
 
-    fn go_on(&mut self, path: &str, has_lines: bool) {
+    fn go_on(&mut self, path: &str) {
         let lost = self.lost - self.lost_reported;
         warn(&format!("the log continues in {path}; {}", unwritten(lost)));
-        if self.trouble == Trouble::Stalled && has_lines {
-            self.size = u64::MAX / 2; // so that another file begins
-        }
         self.lost_reported = self.lost;
         self.trouble = Trouble::None;
     }
@@ -296,7 +327,7 @@ impl Log {
         match self.is_whole {
             _ if !self.is_begun => false,
             true => self.trouble == Trouble::None && size >= self.most.max(self.head + self.most / 2),
-            false => self.waiting_octets() == 0 && Moment::now() >= self.next_try,
+            false => self.waiting_octets == 0 && Moment::now() >= self.next_try,
         }
     }
 
@@ -334,7 +365,7 @@ impl Log {
 
     /// Says how many lines still wait to be written. None if no line waits.
     fn what_it_lacks(&self) -> Option<String> {
-        let lines = |kind: &Kind| if let Kind::Write(_, lines) = kind { *lines } else { 0 };
+        let lines = |kind: &Kind| if let Kind::Write { lines, .. } = kind { *lines } else { 0 };
         let lines = self.waiting.iter().map(lines).sum::<u64>() as usize;
         (lines > 0).then(|| format!("lacks {} at its end", counted(lines, "line")))
     }
@@ -343,6 +374,30 @@ impl Log {
 fn unwritten(lost: u64) -> String {
     let lines_were = if lost == 1 { "line was" } else { "lines were" };
     format!("{lost} {lines_were} not written")
+}
+
+/// Does the jobs that come, in their order. Lines that wait one after another are written at once.
+fn do_all(files: &mut Files, jobs: &Receiver<Job>, answers: &Sender<Done>) {
+    let mut next = jobs.recv().ok();
+    while let Some(mut job) = next.take() {
+        let mut count = 1;
+        if let Job::Write(octets) = &mut job {
+            while let Ok(further) = jobs.try_recv() {
+                match further {
+                    Job::Write(more) => octets.extend(more),
+                    other => {
+                        next = Some(other);
+                        break;
+                    }
+                }
+                count += 1;
+            }
+        }
+        if answers.send(Done { jobs: count, written: done(files, job) }).is_err() {
+            return;
+        }
+        next = next.or_else(|| jobs.recv().ok());
+    }
 }
 
 /// Does a job, and returns the path and the size of the log's file.
@@ -358,19 +413,27 @@ fn done(files: &mut Files, job: Job) -> Written {
 }
 
 #[cfg(test)]
-impl Log {
-    /// Returns a log whose thread has much to write.
-    pub fn behind() -> Log {
-        Log { waiting: [Kind::Write(MANY_WAITING + 1, 1)].into(), ..Log::default() }
-    }
-}
-
-#[cfg(test)]
 mod tests {
     use super::*;
 
     fn at(seconds: u64) -> Moment {
         Moment::after_boot(Duration::from_secs(seconds))
+    }
+
+    fn lines_of(octets: usize, lines: u64) -> Kind {
+        Kind::Write { octets, lines, since: Duration::ZERO }
+    }
+
+    /// Returns a log with a thread that the test is: it reads the jobs and writes the answers.
+    fn threaded() -> (Log, Receiver<Job>, Sender<Done>) {
+        let mut log = Log::new(Some("log".into()), 1, 1);
+        let ((jobs, theirs), (ours, answers)) = (channel(), channel());
+        log.thread = Some((jobs, answers));
+        (log, theirs, ours)
+    }
+
+    fn done_with(jobs: usize, path: &str) -> Done {
+        Done { jobs, written: Ok((path.into(), 10)) }
     }
 
     /// Returns the pending lines, with `#` for a comment.
@@ -397,9 +460,7 @@ mod tests {
 
     #[test]
     fn lines_reach_the_thread_in_their_order() {
-        let mut log = Log::new(Some("log".into()), 1, 1);
-        let ((jobs, theirs), (_ours, answers)) = (channel(), channel());
-        log.thread = Some((jobs, answers));
+        let (mut log, theirs, _ours) = threaded();
         log.begin("eth0", vec![Line::Ticks(1)]);
         log.write(at(5), &Line::Ticks(2));
         log.write_lines(vec![Line::Ticks(3)]);
@@ -456,8 +517,8 @@ mod tests {
         for (job, wanted) in [
             (Kind::Begin, None),
             (Kind::State, None),
-            (Kind::Write(9, 1), Some("lacks 1 line at its end")),
-            (Kind::Write(9, 2), Some("lacks 3 lines at its end")),
+            (lines_of(9, 1), Some("lacks 1 line at its end")),
+            (lines_of(9, 2), Some("lacks 3 lines at its end")),
         ] {
             log.waiting.push_back(job);
             assert_eq!(log.what_it_lacks().as_deref(), wanted);
@@ -484,64 +545,140 @@ mod tests {
 
     #[test]
     fn a_file_that_lost_lines_does_not_continue_but_the_next_one_does() {
-        let mut log = Log::new(Some("log".into()), 1, 1);
-        let ((jobs, _theirs), (ours, answers)) = (channel(), channel());
-        log.thread = Some((jobs, answers));
-        let is_done = |path: &str| ours.send(Ok((path.into(), 10))).expect("a log");
+        let (mut log, _theirs, ours) = threaded();
         log.begin("eth0", Vec::new());
         log.write(at(5), &Line::Ticks(1));
         log.turn();
         log.write(at(5), &"x".repeat(MOST_WAITING));
         log.turn();
-        is_done("1");
-        is_done("1");
+        (0..2).for_each(|_| ours.send(done_with(1, "1")).expect("a log"));
         log.turn();
         assert_eq!((log.state(), log.lost, log.lost_reported), ("stalled", 1, 0));
         log.begin("eth0", Vec::new());
-        is_done("2");
+        ours.send(done_with(1, "2")).expect("a log");
         log.turn();
         assert_eq!((log.state(), log.lost, log.lost_reported), ("on", 1, 1));
         assert!(!log.wants_beginning(), "no line was written after the stall");
     }
 
     #[test]
-    fn a_stall_ends_with_its_file_and_a_fault_at_once() {
-        let mut log = Log::new(Some("log".into()), 1, 1);
-        let ((jobs, _theirs), (ours, answers)) = (channel(), channel());
-        log.thread = Some((jobs, answers));
+    fn lines_that_come_after_two_seconds_of_waiting_are_lost() {
+        let (mut log, _theirs, ours) = threaded();
         log.begin("eth0", Vec::new());
+        ours.send(done_with(1, "1")).expect("a log");
         log.write(at(5), &Line::Ticks(1));
         log.turn();
-        ours.send(Ok(("1".into(), 10))).expect("a log");
+        log.now += MOST_BEHIND / 2;
+        log.write(at(6), &Line::Ticks(1));
         log.turn();
-        log.waited = TO_STALL;
+        assert_eq!((log.state(), log.lost), ("on", 0));
+        log.now += MOST_BEHIND / 2;
         log.turn();
-        assert_eq!((log.state(), log.lost), ("stalled", 0));
-        ours.send(Ok(("1".into(), 20))).expect("a log");
+        assert_eq!((log.state(), log.lost, log.waiting.len()), ("stalled", 0, 2));
+        log.write(at(7), &Line::Ticks(1));
         log.turn();
-        assert_eq!((log.state(), log.lost, log.wants_beginning()), ("on", 0, true));
+        assert_eq!((log.lost, log.wants_beginning()), (1, false), "the file is not yet written");
+        ours.send(done_with(2, "1")).expect("a log");
+        log.turn();
+        assert_eq!((log.state(), log.wants_beginning(), log.waiting_octets), ("stalled", true, 0));
         log.begin("eth0", Vec::new());
-        log.write(at(5), &"x".repeat(7));
+        ours.send(done_with(1, "2")).expect("a log");
         log.turn();
-        (0..2).for_each(|_| ours.send(Err(Fault::NoRoom)).expect("a log"));
+        assert_eq!((log.state(), log.lost, log.is_whole), ("on", 1, true));
+    }
+
+    #[test]
+    fn each_line_has_its_own_wait() {
+        let (mut log, _theirs, ours) = threaded();
+        log.begin("eth0", Vec::new());
+        ours.send(done_with(1, "1")).expect("a log");
+        for _ in 0..9 {
+            log.write(at(5), &Line::Ticks(1));
+            log.turn();
+            log.now += MOST_BEHIND * 3 / 4;
+            log.write(at(5), &Line::Ticks(1));
+            ours.send(done_with(1, "1")).expect("a log");
+            log.turn();
+            assert_eq!(log.state(), "on");
+            ours.send(done_with(1, "1")).expect("a log");
+            log.turn();
+        }
+        for _ in 0..2 {
+            log.write(at(5), &Line::Ticks(1));
+            log.turn();
+            log.now += MOST_BEHIND * 3 / 4;
+        }
         log.turn();
-        assert_eq!((log.state(), log.lost, log.is_whole), ("full", 1, false));
+        assert_eq!(log.state(), "stalled", "the first of them has waited longest");
+    }
+
+    #[test]
+    fn lines_wait_for_a_head_and_a_state_while_these_make_progress() {
+        let (mut log, _theirs, ours) = threaded();
+        log.begin("eth0", Vec::new());
+        log.write(at(5), &Line::Ticks(1));
+        for _ in 0..9 {
+            log.turn();
+            log.now += MOST_BEHIND * 3 / 4;
+            log.progress.step();
+        }
+        log.turn();
+        assert_eq!(log.state(), "on");
+        ours.send(done_with(1, "1")).expect("a log");
+        log.turn();
+        log.progress.step(); // a step of writing lines is none of a head
+        log.now += MOST_BEHIND * 3 / 4;
+        log.turn();
+        assert_eq!(log.state(), "on");
+        log.progress.step();
+        log.now += MOST_BEHIND * 3 / 4;
+        log.turn();
+        assert_eq!(log.state(), "stalled");
+    }
+
+    #[test]
+    fn a_fault_ends_the_file_at_once() {
+        let (mut log, _theirs, ours) = threaded();
+        log.begin("eth0", Vec::new());
+        (0..2).for_each(|_| {
+            log.write(at(5), &"x".repeat(7));
+            log.turn();
+        });
+        ours.send(done_with(1, "1")).expect("a log");
+        ours.send(Done { jobs: 2, written: Err(Fault::NoRoom) }).expect("a log");
+        log.turn();
+        assert_eq!((log.state(), log.lost, log.is_whole), ("full", 2, false));
+        assert_eq!((log.waiting.len(), log.waiting_octets), (0, 0));
+    }
+
+    #[test]
+    fn lines_that_wait_are_written_at_once() {
+        let ((jobs, theirs), (ours, answers)) = (channel(), channel());
+        let mut files = Files::new("/nowhere".into(), 1, Progress::default());
+        let state = Job::WriteState("/nowhere/state".into(), State::new(Vec::new(), Vec::new()));
+        let write = || Job::Write(b"tick\n".to_vec());
+        let all = [write(), write(), write(), Job::WriteLines(Vec::new()), write(), state, write(), write()];
+        all.into_iter().for_each(|job| jobs.send(job).expect("a thread"));
+        drop(jobs);
+        do_all(&mut files, &theirs, &ours);
+        let counts: Vec<usize> = answers.try_iter().map(|done| done.jobs).collect();
+        assert_eq!(counts, [3, 1, 1, 1, 2]);
     }
 
     #[test]
     fn one_state_waits_but_the_last_one_is_written_too() {
-        let mut log = Log::new(None, 1, 1);
-        let ((jobs, theirs), (_ours, answers)) = (channel(), channel());
-        log.thread = Some((jobs, answers));
-        let (state, before) = (|| State::new(Vec::new(), Vec::new()), Moment::now());
+        let (mut log, theirs, _ours) = threaded();
+        log.path = None;
+        let state = || State::new(Vec::new(), Vec::new());
+        log.now = TO_HANG;
         log.write_state("state", state());
         log.turn();
-        assert!(log.waited <= Moment::now().since(before), "the time before the job does not count");
+        assert!(log.stuck_since >= TO_HANG, "the time before the job does not count");
         log.write_state("state", state());
         assert_eq!(theirs.try_iter().count(), 1);
         log.write_last_state("state", state());
         assert_eq!((theirs.try_iter().count(), log.waiting.len()), (1, 2));
-        log.waited = TO_STALL;
+        log.now += TO_HANG;
         log.write_last_state("state", state());
         assert_eq!(theirs.try_iter().count(), 0);
     }

@@ -5,7 +5,7 @@ mod agent;
 mod allowance;
 mod answers;
 mod arguments;
-mod ask;
+mod budget;
 mod changes;
 mod client;
 mod commands;
@@ -26,6 +26,7 @@ mod links;
 mod listening;
 mod live;
 mod log;
+mod lookup;
 mod metrics;
 mod neighbors;
 mod netlink;
@@ -44,14 +45,18 @@ mod received;
 mod replacing;
 mod reports;
 mod rights;
+#[cfg(test)]
+mod same_lines;
 mod settings;
 mod share;
 mod start;
 mod state;
+mod status;
 #[allow(unsafe_code)]
 mod sys;
 mod tables;
 mod time;
+mod told;
 mod waiting;
 
 use arguments::{ArgumentFault, Request};
@@ -64,8 +69,11 @@ const WRONG_ARGUMENTS: i32 = 2;
 fn main() {
     let words: Vec<String> =
         std::env::args_os().skip(1).map(|word| word.to_string_lossy().into_owned()).collect();
-    if ctl::is_wanted() {
-        std::process::exit(ctl::run(&words));
+    if let Some(status) = ctl::run(&words) {
+        std::process::exit(status);
+    }
+    if let [lookup::WORD, name] = words.iter().map(String::as_str).collect::<Vec<_>>()[..] {
+        std::process::exit(lookup::serve(name));
     }
     let status = match Request::read(&words) {
         Ok(Request::Print(text)) => i32::from(std::io::stdout().write_all(text.as_bytes()).is_err()),

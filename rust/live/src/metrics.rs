@@ -3,16 +3,17 @@
 //! the text, so that nothing waits for a large table or for a disk that hangs, and the metrics can
 //! still say so if the log's disk hangs.
 
+use crate::budget::MOST_METRICS;
+use crate::counters::Totals;
 use crate::files::replace;
 use crate::live::Live;
 use crate::port::Port;
 use crate::reports::{notice, warn};
+use crate::status::Status;
 use crate::tables::Tables;
 use crate::time::{Moment, SECOND};
-use lldpa_people::live_lines::LiveLines;
-use lldpa_people::metrics::{metrics, up};
-use lldpa_people::show::Show;
-use std::io::Write;
+use lldpa_people::metrics::{self, service_of, up};
+use std::io::{BufWriter, Write};
 use std::result;
 use std::sync::mpsc::{channel, Receiver, Sender, TryRecvError};
 use std::sync::Arc;
@@ -30,66 +31,23 @@ const PATIENCE: Duration = Duration::from_secs(6);
 const STEP: Duration = Duration::from_secs(2);
 const LONGEST_END: Duration = SECOND;
 const FOR_ALL: u32 = 0o644; // node_exporter is another user
+const PIECE: usize = 1 << 16; // octets that are written at once
 
 /// What a file is made of.
 pub struct Measures {
-    /// The lines of `live` that are not about neighbors.
-    live: String,
-    /// The lines of `show statistics` for each port.
-    statistics: Vec<String>,
+    status: Status,
+    totals: Vec<Totals>,
     tables: Arc<Tables>,
 }
 
 impl Measures {
-    /// Returns the metrics. Their lines are made for one port after another, so that large tables
-    /// take little memory as text.
-    fn text(&self) -> result::Result<String, String> {
-        let live: Vec<&str> = self.live.lines().collect();
-        let mut all = Groups::default();
-        all.add(&metrics(&Show::default(), &LiveLines::read(&live))?);
-        for (neighbors, statistics) in self.tables.lines_by_port().zip(&self.statistics) {
-            let show = Show::read(neighbors.lines().chain(statistics.lines()).collect())?;
-            let text = metrics(&show, &LiveLines::default())?;
-            all.add(text.strip_prefix(&up(true)).unwrap_or(&text));
-        }
-        Ok(all.0.into_iter().map(|group| group.heading + &group.samples).collect())
-    }
-}
-
-/// The samples of a metric, with their heading.
-#[derive(Default)]
-struct Group {
-    heading: String,
-    samples: String,
-}
-
-/// The metrics of several texts. Each metric has one group, as the format requires.
-#[derive(Default)]
-struct Groups(Vec<Group>);
-
-impl Groups {
-    /// Adds the metrics of a text. A new one comes after the one that it follows in the text.
-    fn add(&mut self, text: &str) {
-        let (mut place, mut lines) = (self.0.len(), text.split_inclusive('\n').peekable());
-        while lines.peek().is_some() {
-            let mut group = Group::default();
-            while let Some(line) = lines.next_if(|line| line.starts_with('#')) {
-                group.heading.push_str(line);
-            }
-            while let Some(line) = lines.next_if(|line| !line.starts_with('#')) {
-                group.samples.push_str(line);
-            }
-            match self.0.iter().position(|one| one.heading == group.heading) {
-                Some(found) => {
-                    self.0[found].samples.push_str(&group.samples);
-                    place = found + 1;
-                }
-                None => {
-                    self.0.insert(place, group);
-                    place += 1;
-                }
-            }
-        }
+    /// Returns the text in parts. If the metrics of ports and neighbors had more than `most` octets,
+    /// some neighbors are only counted.
+    fn parts(&self, most: usize, service: Option<String>) -> result::Result<Vec<String>, String> {
+        let mut all = metrics::Metrics::of(service, most);
+        self.tables.add_to(&mut all);
+        let counters: Vec<_> = self.totals.iter().map(Totals::told).collect();
+        all.parts(&counters, &self.status.told())
     }
 }
 
@@ -258,14 +216,18 @@ impl Metrics {
 }
 
 fn done(path: &str, job: Job) -> Written {
-    let began = Instant::now();
-    let text = match job {
-        Job::Write(measures) => measures.text(),
-        Job::WriteDown => Ok(up(false)),
+    let (began, service) = (Instant::now(), service_of(path));
+    let parts = match job {
+        Job::Write(measures) => measures.parts(MOST_METRICS, service),
+        Job::WriteDown => Ok(vec![up(service.as_deref(), false)]),
     };
-    let written = text.and_then(|text| {
-        let written = replace(path, FOR_ALL, |mut file| file.write_all(text.as_bytes()));
-        written.map_err(|fault| fault.to_string())
+    let written = parts.and_then(|parts| {
+        let put = |file| {
+            let mut out = BufWriter::with_capacity(PIECE, file);
+            parts.iter().try_for_each(|part| out.write_all(part.as_bytes()))?;
+            out.flush()
+        };
+        replace(path, FOR_ALL, put).map_err(|fault| fault.to_string())
     });
     Written { fault: written.err().unwrap_or_default(), took: began.elapsed() }
 }
@@ -277,11 +239,8 @@ impl Live {
         self.metrics.look(now);
         let told = self.told();
         if self.metrics.is_due(told, now) {
-            let measures = Measures {
-                live: self.status_lines(None),
-                statistics: self.statistics_lines(None).collect(),
-                tables: self.tables(None),
-            };
+            let measures =
+                Measures { status: self.status(None), totals: self.totals(None), tables: self.tables(None) };
             self.metrics.begin(Job::Write(measures), told, now);
         }
     }
@@ -311,32 +270,49 @@ impl Live {
 #[cfg(test)]
 mod tests {
     use super::*;
-    use crate::counters::Counters;
+    use crate::counters;
     use crate::neighbors::{Digests, Neighbor};
     use lldpa::{Agent, Options, Show as Shown};
+    use lldpa_people::live_lines::LiveLines;
+    use lldpa_people::show::Show;
     use std::fs;
     use std::os::unix::fs::PermissionsExt;
 
+    impl Measures {
+        fn text(&self, most: usize) -> String {
+            self.parts(most, None).expect("metrics").concat()
+        }
+    }
+
+    const PORTS: [&str; 2] = ["eth0", "eth1"];
+    /// A neighbor that says all that metrics tell, and more.
+    const FRAME: &[u8] =
+        b"\x01\x80\xc2\0\0\x0e\x02\0\0\0\0\x01\x88\xcc\x02\x02\x07a\x04\x02\x07b\x06\x02\0\x09\
+        \x08\x01u\x0a\x03s\"1\x0c\x01d\x10\x0c\x05\x01\xc0\0\x02\x07\x02\0\0\0\x01\0\
+        \xfe\x06\0\x80\xc2\x01\0\x78\xfe\x06\0\x12\x0f\x04\x05\xf2\0\0";
+
+    fn status() -> Status {
+        let link = |state: &str| vec![("link", state.to_string())];
+        let own = vec![("agent", "running".into()), ("log", "on".into())];
+        Status { own, ports: vec![("eth0".into(), link("up")), ("eth1".into(), link("down"))] }
+    }
+
     /// Two ports, the first one without a neighbor.
     fn measures() -> (Measures, Vec<String>) {
-        let (ports, digests) = (["eth0", "eth1"], Digests::default());
-        let mut agent = Agent::open(&Options { ports: &ports, ..Options::default() }).expect("an agent");
-        let front = b"\x01\x80\xc2\0\0\x0e\x02\0\0\0\0\x01\x88\xcc";
-        let frame = [&front[..], b"\x02\x02\x07a\x04\x02\x07b\x06\x02\0\x09\x0a\x03s\"1\0\0"].concat();
-        let _ = agent.frame(1, &frame);
-        let msap = lldpa::examine(&frame[14..]).expect("an LLDPDU").msap();
-        let known = [Neighbor::new(&msap, &digests, 1, 0, String::new())];
+        let mut agent = Agent::open(&Options { ports: &PORTS, ..Options::default() }).expect("an agent");
+        let _ = agent.frame(1, FRAME);
+        let msap = lldpa::examine(&FRAME[14..]).expect("an LLDPDU").msap();
+        let known = [Neighbor::new(&msap, &Digests::default(), 1, 0, String::new())];
         let mut tables = Tables::new();
         tables.add(&agent, 0, "eth0", true, &[]);
         tables.add(&agent, 1, "eth1", false, &known);
-        let statistics = |number| agent.statistics(number).expect("a port");
-        let statistics =
-            [0, 1].map(|number| Counters::default().lines(ports[usize::from(number)], &statistics(number)));
-        let live = "live.agent=running\nlive.log=on\nlive.eth0.link=up\nlive.eth1.link=down\n".to_string();
+        let statistics = agent.show(Shown::Statistics);
+        let totals = PORTS.iter().zip(counters::read(&statistics));
+        let totals = totals.map(|(port, numbers)| Totals { port: port.to_string(), numbers }).collect();
         let neighbors = agent.show(Shown::Neighbors).replacen("too-many=no", "too-many=yes", 1);
-        let lines = [live.clone(), neighbors, statistics.concat()];
-        let measures = Measures { live, statistics: statistics.into(), tables: Arc::new(tables) };
-        (measures, lines.iter().flat_map(|text| text.lines().map(String::from)).collect())
+        let measures = Measures { status: status(), totals, tables: Arc::new(tables) };
+        let lines = [measures.status.lines(), neighbors, statistics].concat();
+        (measures, lines.lines().map(String::from).collect())
     }
 
     #[test]
@@ -344,49 +320,49 @@ mod tests {
         let (measures, lines) = measures();
         let (live, shown): (Vec<&str>, Vec<&str>) =
             lines.iter().map(|line| &line[..]).partition(|line| line.starts_with("live."));
-        let wanted = metrics(&Show::read(shown).expect("shows"), &LiveLines::read(&live));
-        let text = measures.text().expect("metrics");
-        assert_eq!(Ok(&text), wanted.as_ref());
+        let show = Show::read(shown).expect("shows");
+        let mut wanted = metrics::Metrics::of(None, MOST_METRICS);
+        show.ports.iter().for_each(|port| wanted.add(port));
+        let wanted = wanted.parts(&show.counters, &LiveLines::read(&live)).expect("numbers");
+        let text = measures.text(MOST_METRICS);
+        assert_eq!(text, wanted.concat());
         for line in [
             "lldpa_up 1\n",
             "lldpa_link_up{port=\"eth1\"} 0\n",
             "lldpa_neighbors{port=\"eth0\"} 0\nlldpa_neighbors{port=\"eth1\"} 1\n",
             "lldpa_too_many{port=\"eth0\"} 1\n",
-            "name=\"s\\\"1\"",
+            "name=\"s\\\"1\",port_descr=\"u\",management=\"192.0.2.7\",pvid=\"120\",max_frame_size=\"1522\"} 1\n",
+            "lldpa_received_total{port=\"eth1\"} 1\n",
         ] {
-            assert!(text.contains(line), "{line}");
+            assert!(text.contains(line), "{line}\n{text}");
         }
+    }
+
+    #[test]
+    fn neighbors_without_room_are_counted() {
+        let (measures, _) = measures();
+        let whole = measures.text(MOST_METRICS);
+        assert!(!whole.contains("left_out"));
+        let cut = measures.text(1);
+        assert!(cut.ends_with("\nlldpa_neighbors_left_out 1\n"), "{cut}");
+        let is_of_neighbor = |line: &&str| {
+            ["lldpa_neighbor_info", "lldpa_expires_seconds"].iter().any(|name| line.contains(name))
+        };
+        let kept = |text: &str| -> Vec<String> {
+            let lines = text.lines().filter(|line| !is_of_neighbor(line) && !line.contains("left_out"));
+            lines.map(String::from).collect()
+        };
+        assert_eq!(kept(&cut), kept(&whole), "all else is there");
+        assert!(!cut.lines().any(|line| is_of_neighbor(&line)));
     }
 
     #[test]
     fn an_agent_that_waits_has_no_tables() {
-        let tables = Arc::new(Tables::new());
-        let measures = Measures { live: "live.agent=waiting\n".into(), statistics: Vec::new(), tables };
-        let text = measures.text().expect("metrics");
+        let status = Status { own: vec![("agent", "waiting".into())], ports: Vec::new() };
+        let measures = Measures { status, totals: Vec::new(), tables: Arc::new(Tables::new()) };
+        let text = measures.text(MOST_METRICS);
         assert!(text.contains("\nlldpa_up 0\n") && text.contains("{state=\"waiting\"} 1\n"));
         assert!(!text.contains("lldpa_neighbors"));
-    }
-
-    #[test]
-    fn each_metric_has_one_group() {
-        let rows: [(&[&str], &str); 7] = [
-            (&[], ""),
-            (&["", ""], ""),
-            (&["#a\na 1\na 2\n"], "#a\na 1\na 2\n"),
-            (&["#a\n#b\na 1\n", "#a\n#b\na 2\n"], "#a\n#b\na 1\na 2\n"),
-            (&["#a\na 1\n#b\nb 1\n", "#a\na 2\n#b\nb 2\n"], "#a\na 1\na 2\n#b\nb 1\nb 2\n"),
-            (&["#a\na 1\n#c\nc 1\n", "#a\na 2\n#b\nb 2\n#c\nc 2\n"], "#a\na 1\na 2\n#b\nb 2\n#c\nc 1\nc 2\n"),
-            (
-                &["#b\nb 1\n", "#a\na 2\n#b\nb 2\n", "#b\nb 3\n#c\nc 3\n"],
-                "#b\nb 1\nb 2\nb 3\n#c\nc 3\n#a\na 2\n",
-            ),
-        ];
-        for (texts, wanted) in rows {
-            let mut all = Groups::default();
-            texts.iter().for_each(|text| all.add(text));
-            let found: String = all.0.iter().map(|group| group.heading.clone() + &group.samples).collect();
-            assert_eq!(found, wanted, "{texts:?}");
-        }
     }
 
     fn at(milliseconds: u64) -> Moment {
@@ -490,6 +466,21 @@ mod tests {
     }
 
     #[test]
+    fn a_file_of_another_name_names_its_service() {
+        let folder = std::env::temp_dir().join(format!("lldpa-live-service-{}", std::process::id()));
+        fs::create_dir_all(&folder).expect("a folder");
+        let path = folder.join("lldpa2.prom").to_string_lossy().into_owned();
+        for (job, count) in [(Job::Write(measures().0), 33), (Job::WriteDown, 1)] {
+            assert_eq!(done(&path, job).fault, "");
+            let text = fs::read_to_string(&path).expect("a file");
+            let samples: Vec<&str> = text.lines().filter(|line| !line.starts_with('#')).collect();
+            assert_eq!(samples.len(), count, "{text}");
+            assert!(samples.iter().all(|line| line.contains("{service=\"lldpa2\"")), "{text}");
+        }
+        fs::remove_dir_all(&folder).expect("a folder");
+    }
+
+    #[test]
     fn the_thread_writes_the_file_and_the_end() {
         let folder = std::env::temp_dir().join(format!("lldpa-live-metrics-{}", std::process::id()));
         fs::create_dir_all(&folder).expect("a folder");
@@ -497,7 +488,7 @@ mod tests {
         let mut metrics = Metrics::new(Some(path.to_string_lossy().into_owned()));
         metrics.start().expect("a thread");
         let (measures, _) = measures();
-        let text = measures.text().expect("metrics");
+        let text = measures.text(MOST_METRICS);
         metrics.begin(Job::Write(measures), Told::default(), Moment::now());
         while metrics.waiting > 0 {
             thread::sleep(Duration::from_millis(1));
@@ -507,7 +498,7 @@ mod tests {
         assert_eq!(fs::metadata(&path).expect("a file").permissions().mode() & 0o777, 0o644);
         metrics.begin_end();
         metrics.end();
-        assert_eq!(fs::read_to_string(&path).expect("a file"), up(false));
+        assert_eq!(fs::read_to_string(&path).expect("a file"), up(None, false));
         assert_eq!((metrics.unwritten, fs::read_dir(&folder).expect("a folder").count()), (0, 1));
         fs::remove_dir_all(&folder).expect("a folder");
         metrics.begin_end();

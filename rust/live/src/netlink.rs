@@ -5,6 +5,9 @@ use crate::links::{Link, Mac};
 use std::net::Ipv4Addr;
 
 const AF_INET: u8 = libc::AF_INET as u8;
+/// Kinds of interfaces that are on another one, and whose frames are frames of that one. (For other
+/// kinds IFLA_LINK means something else, such as the other end of a veth pair or a tunnel's way.)
+const ON_OTHERS: [&str; 5] = ["vlan", "macvlan", "macvtap", "ipvlan", "macsec"];
 
 fn half(octets: &[u8], at: usize) -> Option<u16> {
     Some(u16::from_ne_bytes(octets.get(at..at + 2)?.try_into().ok()?))
@@ -45,8 +48,8 @@ fn text(octets: &[u8]) -> String {
 pub fn link_of(body: &[u8], is_there: bool) -> Option<Link> {
     let attributes = body.get(16..).filter(|_| body[0] == 0)?;
     let mac = |kind| attribute(attributes, kind).and_then(|octets| Mac::try_from(octets).ok());
-    let index_in =
-        |kind| attribute(attributes, kind).and_then(|octets| number(octets, 0)).unwrap_or(0) as i32;
+    let number_in = |kind| attribute(attributes, kind).and_then(|octets| number(octets, 0)).unwrap_or(0);
+    let index_in = |kind| number_in(kind) as i32;
     let made_as = attribute(attributes, libc::IFLA_LINKINFO)
         .and_then(|info| attribute(info, libc::IFLA_INFO_KIND))
         .map_or(String::new(), text);
@@ -61,7 +64,8 @@ pub fn link_of(body: &[u8], is_there: bool) -> Option<Link> {
         address: mac(libc::IFLA_ADDRESS),
         permanent: mac(libc::IFLA_PERM_ADDRESS),
         master: index_in(libc::IFLA_MASTER),
-        vlan_on: if made_as == "vlan" && is_here { index_in(libc::IFLA_LINK) } else { 0 },
+        lower: if ON_OTHERS.contains(&&made_as[..]) && is_here { index_in(libc::IFLA_LINK) } else { 0 },
+        carrier_changes: number_in(libc::IFLA_CARRIER_CHANGES),
     })
 }
 
@@ -150,8 +154,26 @@ mod tests {
             (
                 ether,
                 0,
+                vec![name(), kind_of(b"veth"), attribute_of(libc::IFLA_LINK, &four(3))],
+                Link { is_hardware: false, ..plain.clone() },
+            ),
+            (
+                ether,
+                0,
+                vec![name(), kind_of(b"macvlan"), attribute_of(libc::IFLA_LINK, &four(3))],
+                Link { is_hardware: false, lower: 3, ..plain.clone() },
+            ),
+            (
+                ether,
+                0,
+                vec![name(), attribute_of(libc::IFLA_CARRIER_CHANGES, &four(7))],
+                Link { carrier_changes: 7, ..plain.clone() },
+            ),
+            (
+                ether,
+                0,
                 vec![name(), kind_of(b"vlan"), attribute_of(libc::IFLA_LINK, &four(3))],
-                Link { is_hardware: false, vlan_on: 3, ..plain.clone() },
+                Link { is_hardware: false, lower: 3, ..plain.clone() },
             ),
             (
                 ether,

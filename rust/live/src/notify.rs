@@ -2,12 +2,13 @@
 //! sd_notify(3). Never waits: a datagram that cannot be sent at once is lost.
 
 use crate::sys::sockets;
-use crate::time::{awake, Moment};
+use crate::time::{awake, Moment, SECOND};
 use std::env::var;
 use std::fs::File;
 use std::io::Write;
 use std::time::Duration;
 
+const LEAST_BETWEEN_STATUSES: Duration = SECOND;
 const LEAST_BETWEEN_KEEPALIVES: Duration = Duration::from_millis(10);
 const KEEPALIVES_A_SPAN: u32 = 4; // in the time that the watchdog allows
 
@@ -16,7 +17,11 @@ pub struct Manager {
     socket: Option<(File, Vec<u8>)>,
     span: Option<Duration>,
     next_keepalive: Moment,
+    /// The present status, and the one that was sent last.
     status: String,
+    sent: String,
+    /// When another status may be sent.
+    next_status: Moment,
 }
 
 /// Returns the watchdog's limit between signs of life. None without a watchdog.
@@ -41,7 +46,14 @@ impl Manager {
     pub fn new() -> Manager {
         let address = var("NOTIFY_SOCKET").ok().and_then(|name| address_of(&name));
         let socket = address.and_then(|address| Some((sockets::open_datagrams().ok()?, address)));
-        Manager { socket, span: watchdog_span(), next_keepalive: Moment::default(), status: String::new() }
+        Manager {
+            socket,
+            span: watchdog_span(),
+            next_keepalive: Moment::default(),
+            status: String::new(),
+            sent: String::new(),
+            next_status: Moment::default(),
+        }
     }
 
     pub fn is_there(&self) -> bool {
@@ -61,11 +73,18 @@ impl Manager {
         self.send(&format!("RELOADING=1\nMONOTONIC_USEC={}", awake().as_micros()));
     }
 
-    /// Sets the status that `systemctl status` shows, if it has changed.
+    /// Sets the status that `systemctl status` shows.
     pub fn set_status(&mut self, status: String) {
-        if status != self.status {
-            self.send(&format!("STATUS={status}"));
-            self.status = status;
+        self.status = status;
+    }
+
+    /// Sends the status if it has changed, but at most once a second: in a flood neighbors come and
+    /// go all the time, and each message is work for systemd.
+    pub fn send_status(&mut self, now: Moment) {
+        if self.status != self.sent && now >= self.next_status {
+            self.send(&format!("STATUS={}", self.status));
+            self.sent = self.status.clone();
+            self.next_status = now + LEAST_BETWEEN_STATUSES;
         }
     }
 
@@ -78,6 +97,48 @@ impl Manager {
     }
 
     pub fn deadline(&self) -> Option<Moment> {
-        self.span.filter(|_| self.socket.is_some()).map(|_| self.next_keepalive)
+        self.socket.as_ref()?;
+        let of_keepalive = self.span.map(|_| self.next_keepalive);
+        let of_status = (self.status != self.sent).then_some(self.next_status);
+        of_keepalive.into_iter().chain(of_status).min()
+    }
+}
+
+#[cfg(test)]
+mod tests {
+    use super::*;
+    use std::os::unix::net::UnixDatagram;
+
+    #[test]
+    fn a_status_is_sent_at_once_and_others_once_a_second() {
+        let path = std::env::temp_dir().join(format!("lldpa-live-notify-{}", std::process::id()));
+        let heard = UnixDatagram::bind(&path).expect("a socket");
+        heard.set_nonblocking(true).expect("a socket");
+        let mut manager = Manager::new();
+        let socket = sockets::open_datagrams().expect("a socket");
+        let address = address_of(&path.to_string_lossy()).expect("an address");
+        (manager.socket, manager.span) = (Some((socket, address)), None);
+        let at = |milliseconds: u64| Moment::after_boot(Duration::from_millis(5000 + milliseconds));
+        // when a status is set, and what is then told
+        for (milliseconds, status, wanted) in [
+            (0, "a", Some("STATUS=a")),
+            (0, "a", None),
+            (1, "b", None),
+            (999, "c", None),
+            (1000, "c", Some("STATUS=c")),
+            (1001, "d", None),
+            (1500, "c", None),
+            (9000, "c", None),
+            (9001, "e", Some("STATUS=e")),
+        ] {
+            manager.set_status(status.into());
+            manager.send_status(at(milliseconds));
+            let mut room = [0; 99];
+            let told = heard.recv(&mut room).ok().map(|length| &room[..length]);
+            assert_eq!(told, wanted.map(str::as_bytes), "{milliseconds}");
+            let is_open = manager.status != manager.sent;
+            assert_eq!(manager.deadline(), is_open.then_some(manager.next_status), "{milliseconds}");
+        }
+        std::fs::remove_file(&path).expect("a socket");
     }
 }

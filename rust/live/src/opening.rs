@@ -6,6 +6,7 @@ use crate::changes;
 use crate::identifiers;
 use crate::identity::{chassis_address, description};
 use crate::lines::{set_text, unsent, Line};
+use crate::links::Link;
 use crate::live::Live;
 use crate::neighbors::Neighbor;
 use crate::options::is_text;
@@ -82,9 +83,9 @@ impl Live {
         self.following.is_wait_reported = true;
         self.ports.all.iter_mut().for_each(|port| port.interface.is_awaited = true);
         let awaited = self.arguments.selectors.join(" ");
-        notice(&format!(
-            "{awaited}: no such interface yet; waiting for one, and until then nothing is sent or received"
-        ));
+        let named = self.arguments.selectors.iter().filter_map(|name| self.links.named(name));
+        let what = what_is_missing(&named.collect::<Vec<_>>());
+        notice(&format!("{awaited}: {what}; waiting for one, and until then nothing is sent or received"));
         self.manager.send("READY=1"); // so that it does not hold up the start of the system
         self.manager.set_status(format!("waiting for an interface: {awaited}"));
     }
@@ -131,6 +132,38 @@ impl Live {
             neighbor.came = saved.arrivals.get(&name).copied().unwrap_or(neighbor.came);
             port.neighbors.push(neighbor);
             self.server.changes += 1;
+        }
+    }
+}
+
+/// Returns why none of the interfaces that were asked for can be used. These are there.
+fn what_is_missing(found: &[&Link]) -> &'static str {
+    match found.len() {
+        0 => "no such interface yet",
+        _ if found.iter().any(|link| link.is_ethernet) => "no such interface with a MAC address yet",
+        _ => "no such Ethernet interface yet, and lldpa-live runs on no others",
+    }
+}
+
+#[cfg(test)]
+mod tests {
+    use super::*;
+
+    #[test]
+    fn an_interface_that_is_there_is_not_called_missing() {
+        let link = |is_ethernet| Link { is_ethernet, ..Link::default() };
+        let (lo, eth0) = (link(false), link(true));
+        let (missing, other) =
+            ("no such interface yet", "no such Ethernet interface yet, and lldpa-live runs on no others");
+        let without_address = "no such interface with a MAC address yet";
+        for (found, wanted) in [
+            (&[][..], missing),
+            (&[&lo], other),
+            (&[&lo, &lo], other),
+            (&[&eth0], without_address),
+            (&[&lo, &eth0], without_address),
+        ] {
+            assert_eq!(what_is_missing(found), wanted);
         }
     }
 }

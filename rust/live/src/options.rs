@@ -44,6 +44,16 @@ impl AgentOptions {
         Ok(options)
     }
 
+    /// Returns whether the agent has the option in this word.
+    pub fn have(word: &str) -> bool {
+        let (name, _) = split(word);
+        let read = |word: String| AgentOptions::read(&[word]);
+        let is_unknown = |fault: &ArgumentFault| {
+            !matches!(fault, ArgumentFault::NoSuchValue { .. } | ArgumentFault::NoNumber { .. })
+        };
+        read(name.into()).is_ok() || !read(format!("{name}=")).err().map_or(false, |fault| is_unknown(&fault))
+    }
+
     fn set(&mut self, name: &str, value: &str) -> Result<(), ArgumentFault> {
         let wrong = |wanted| ArgumentFault::NoSuchValue { option: name.into(), value: value.into(), wanted };
         let number = |last: u8| match number(value, last.into()).map(u8::try_from) {

@@ -7,6 +7,7 @@ use crate::neighbors::Neighbor;
 use crate::packet;
 use crate::reports::notice;
 use crate::rights::text_of;
+use crate::status::Values;
 use crate::time::Moment;
 use crate::waiting::Awaited;
 use std::fmt;
@@ -44,6 +45,8 @@ pub struct Interface {
     pub is_awaited: bool,
     /// The state of the link that was last given to the agent.
     pub is_up: Option<bool>,
+    /// How often the carrier had changed when the kernel last told it.
+    carrier_changes: Option<u32>,
     pub gone_since: Option<Moment>,
 }
 
@@ -121,6 +124,9 @@ impl Port {
             if self.interface.index.is_some() {
                 self.interface.gone_since = None;
                 self.interface.address = link.address;
+                if self.has_missed_change(link) {
+                    changes.extend(self.set_link(!link.is_running));
+                }
                 changes.extend(self.set_link(link.is_running));
             }
         } else if self.interface.index == Some(link.index) {
@@ -153,9 +159,19 @@ impl Port {
         self.interface.fault = fault;
     }
 
+    /// True if the link went and came again, or came and went, and only the count of its changes says
+    /// so: the kernel tells the carrier at most once a second.
+    fn has_missed_change(&mut self, link: &Link) -> bool {
+        let before = self.interface.carrier_changes.replace(link.carrier_changes);
+        let is_same = self.interface.is_up == Some(link.is_running);
+        let further = before.map(|before| link.carrier_changes.wrapping_sub(before));
+        is_same && further.map_or(false, |further| (2..1 << 31).contains(&further))
+    }
+
     fn lose_interface(&mut self, loss: &Loss, now: Moment) -> Option<bool> {
         packet::release(&self.socket.file);
         self.interface.index = None;
+        self.interface.carrier_changes = None;
         self.interface.gone_since = Some(now);
         let (what, next) = match loss {
             Loss::Gone => ("gone".into(), "of that name".into()),
@@ -218,9 +234,9 @@ impl Port {
         begins
     }
 
-    /// Returns the lines of `live` about this port.
-    pub fn status_lines(&self) -> String {
-        let lines = [
+    /// Returns what `live` says about this port.
+    pub fn status(&self) -> Values {
+        vec![
             ("interface", if self.is_present() { "present" } else { "awaited" }.to_string()),
             ("link", if self.interface.is_up == Some(true) { "up" } else { "down" }.to_string()),
             ("kernel-drops", self.counts.kernel_drops.to_string()),
@@ -228,8 +244,7 @@ impl Port {
             ("other-frames", self.counts.other_frames.to_string()),
             ("unsent", self.counts.unsent.to_string()),
             ("left-out", self.counts.left_out.to_string()),
-        ];
-        lines.iter().map(|(key, value)| format!("live.{}.{key}={value}\n", self.name)).collect()
+        ]
     }
 }
 
@@ -246,6 +261,38 @@ impl Port {
 #[cfg(test)]
 mod tests {
     use super::*;
+
+    #[test]
+    fn a_change_of_the_carrier_that_the_kernel_did_not_tell_is_counted() {
+        let mut port = Port::over("eth0", File::open("/dev/null").expect("a file"));
+        let up = |is_running, carrier_changes| Link {
+            index: 1,
+            name: "eth0".into(),
+            is_there: true,
+            is_running,
+            carrier_changes,
+            ..Link::default()
+        };
+        // what the kernel tells, and the changes of the link
+        for (link, wanted) in [
+            (up(true, 4), &[true][..]),
+            (up(true, 4), &[]),
+            (up(true, 5), &[]), // as an interface begins
+            (up(false, 6), &[false]),
+            (up(false, 7), &[]),
+            (up(true, 8), &[true]),
+            (up(true, 10), &[false, true]),
+            (up(true, 10), &[]),
+            (up(true, 15), &[false, true]),
+            (up(false, 16), &[false]),
+            (up(false, 18), &[true, false]),
+            (up(true, 21), &[true]),
+            (up(true, 19), &[]), // an older list
+            (up(true, 21), &[false, true]),
+        ] {
+            assert_eq!(port.follow(&link, Moment::default()), wanted, "{}", link.carrier_changes);
+        }
+    }
 
     #[test]
     fn too_many_neighbors_are_so_until_the_last_would_be_gone() {

@@ -29,8 +29,6 @@ pub struct Ports {
     pub first: usize,
     /// The processor time that is left for received frames.
     pub share: Share,
-    /// Until when no port is read, since the log has to be written first.
-    pub paused_until: Moment,
     pub digests: Digests,
     /// Interfaces that match a pattern but are not ports, since 64 ports are in use.
     refused: Vec<String>,
@@ -57,7 +55,6 @@ impl Ports {
             frames: VecDeque::new(),
             first: 0,
             share: Share::new(processor_time()),
-            paused_until: Moment::default(),
             digests: Digests::default(),
             refused: Vec::new(),
             unusable: arguments.refused.len(),

@@ -135,7 +135,7 @@ impl Ports {
 
     /// Returns until when no port is read.
     pub fn all_rest_until(&self, now: Moment, is_question: bool) -> Moment {
-        self.share.rests_until(now, is_question).max(self.paused_until)
+        self.share.rests_until(now, is_question)
     }
 
     /// True if frames from before this moment may wait at a port that is not read now. Until it is

@@ -19,7 +19,8 @@ impl Live {
     pub fn receive(&mut self, frame: &Frame) {
         self.give_seconds(frame.moment);
         let port = &self.ports.all[frame.port];
-        self.log.write_frame(frame.moment, &port.name, &frame.octets);
+        let moment = frame.moment.max(self.clock.end_of(0)); // a second may not have waited for it
+        self.log.write_frame(moment, &port.name, &frame.octets);
         let lldpdu = self.ports.digests.of_lldpdu(&frame.octets);
         let is_repeated = port.neighbors.iter().any(|one| one.lldpdu == lldpdu);
         // The agent alone examines a repeated frame.

@@ -15,7 +15,7 @@ use crate::agent::Running;
 use crate::lines::Line;
 use crate::live::Live;
 use crate::state::{Arrival, State};
-use lldpa::{Statistics, Status};
+use lldpa::Status;
 use std::net::Ipv4Addr;
 
 /// Octets of memory that replacing an agent takes, beside those of the agent itself: for each
@@ -63,25 +63,21 @@ impl Live {
 
     /// Lets the counters go on when another agent, which was just rebuilt, replaces this one.
     fn go_on_counting(&mut self, next: &Running) {
-        let agent = self.running.as_ref().map(|running| &running.agent);
-        for (number, port) in self.ports.all.iter_mut().enumerate() {
-            let last = agent.and_then(|agent| agent.statistics(number as u8).ok());
-            let first = next.number(&port.name).and_then(|number| next.agent.statistics(number).ok());
-            if let (Some(last), Some(first)) = (last, first) {
-                port.counters.go_on(&last, &first);
+        let (first, last) = (next.counted(), self.running.as_ref().map_or(Vec::new(), Running::counted));
+        for (port, last) in self.ports.all.iter_mut().zip(&last) {
+            if let Some(first) = next.number(&port.name).and_then(|number| first.get(usize::from(number))) {
+                port.counters.go_on(last, first);
             }
         }
     }
 
     /// Lets the counters of new ports begin at 0: the agent has counted what rebuilt its tables.
     pub fn count_from_here(&mut self, names: &[String]) {
-        let agent = self.running.as_ref().map(|running| &running.agent);
-        let ports = self.ports.all.iter_mut().enumerate();
-        for (number, port) in ports.filter(|one| names.contains(&one.1.name)) {
-            if let Some(first) = agent.and_then(|agent| agent.statistics(number as u8).ok()) {
-                port.counters.go_on(&Statistics::default(), &first);
-            }
-        }
+        let first = self.running.as_ref().map_or(Vec::new(), Running::counted);
+        let ports = self.ports.all.iter_mut().zip(&first);
+        ports
+            .filter(|(port, _)| names.contains(&port.name))
+            .for_each(|(port, first)| port.counters.go_on(&[], first));
     }
 
     /// Returns the lines that bring a new agent of these ports to the state of the present one.

@@ -1,14 +1,19 @@
 //! Writes reports for people to standard error. Each is one line, and begins with a level if the
-//! journal reads it. A line that cannot be written at once is lost.
+//! journal reads it. Once lldpa-live runs, a thread writes them: standard error may be a terminal
+//! that somebody has stopped, a file on a disk that hangs, or a pipe that nobody reads. Some lines
+//! wait for this thread, and further ones are lost.
 
 use crate::time::Moment;
 use crate::waiting::{epoll, ready, Awaited, OUT};
 use lldpa_people::texts::printable;
 use std::collections::BTreeMap;
 use std::fs::File;
-use std::io::Write;
+use std::io::{Result, Write};
 use std::os::unix::fs::MetadataExt;
 use std::os::unix::io::AsFd;
+use std::sync::mpsc::{channel, sync_channel, Receiver, SyncSender};
+use std::sync::Mutex;
+use std::thread;
 use std::time::Duration;
 
 const MOST_AT_ONCE: usize = 4095; // octets that a pipe accepts whole, with a line feed
@@ -20,9 +25,57 @@ const MOST_A_MINUTE: usize = 100; // lines of a port about its neighbors
 const MINUTE: Duration = Duration::from_secs(60);
 const LONGEST: usize = 1000; // characters of such a line
 
+/// The thread that writes lines, once it is started.
+static WRITER: Mutex<Option<Writer>> = Mutex::new(None);
+const MOST_WAITING: usize = 2048; // lines
+const LONGEST_END: Duration = Duration::from_millis(200);
+
+struct Writer {
+    lines: SyncSender<Vec<u8>>,
+    /// Becomes disconnected when the thread has ended.
+    end: Receiver<()>,
+}
+
+impl Writer {
+    /// Starts a thread that writes lines. All rights must have been given up: a thread keeps those
+    /// that it has.
+    fn start(mut out: impl Write + Send + 'static) -> Result<Writer> {
+        let ((lines, theirs), (ours, end)) = (sync_channel::<Vec<u8>>(MOST_WAITING), channel());
+        let work = move || {
+            let _ours = ours; // dropped at the end
+            theirs.iter().for_each(|line| drop(out.write_all(&line)));
+        };
+        thread::Builder::new().name("reports".into()).stack_size(1 << 17).spawn(work)?;
+        Ok(Writer { lines, end })
+    }
+
+    /// Waits until the lines are written, but not for long.
+    fn end(self) {
+        drop(self.lines);
+        let _ = self.end.recv_timeout(LONGEST_END);
+    }
+}
+
+/// Lets a thread write the reports from now on.
+pub fn start() -> Result<()> {
+    let writer = Writer::start(std::io::stderr())?;
+    if let Ok(mut place) = WRITER.lock() {
+        *place = Some(writer);
+    }
+    Ok(())
+}
+
+/// Waits until the reports are written, but not for long. Further ones are written at once or lost.
+pub fn end() {
+    let writer = WRITER.lock().ok().and_then(|mut place| place.take());
+    writer.into_iter().for_each(Writer::end);
+}
+
 pub fn report(level: u8, text: &str) {
     let line = line_of(level, text, is_journal());
-    if can_take() {
+    if let Ok(Some(writer)) = WRITER.lock().as_deref() {
+        let _ = writer.lines.try_send(line);
+    } else if can_take() {
         let _ = std::io::stderr().write(&line);
     }
 }
@@ -119,6 +172,9 @@ impl Events {
 #[cfg(test)]
 mod tests {
     use super::*;
+    use std::io::Read;
+    use std::os::unix::net::UnixStream;
+    use std::time::Instant;
 
     #[test]
     fn a_report_is_one_line_with_a_level_for_the_journal() {
@@ -133,5 +189,33 @@ mod tests {
             }
         }
         assert_eq!(line_of(ERROR, &"x".repeat(5000), true).len(), 4096);
+    }
+
+    #[test]
+    fn a_reader_that_stands_still_loses_lines_and_holds_nothing_up() {
+        let (ours, mut theirs) = UnixStream::pair().expect("two sockets");
+        let writer = Writer::start(ours).expect("a thread");
+        let began = Instant::now();
+        let count = 4 * MOST_WAITING;
+        let taken = (0..count).filter(|_| writer.lines.try_send(vec![b'x'; 4096]).is_ok()).count();
+        assert!((MOST_WAITING..count).contains(&taken), "{taken}");
+        writer.end();
+        assert!(began.elapsed() < Duration::from_secs(5));
+        let read = thread::spawn(move || {
+            let mut read = Vec::new();
+            theirs.read_to_end(&mut read).map(|_| read.len())
+        });
+        assert_eq!(read.join().expect("a thread").expect("lines"), 4096 * taken, "those that waited");
+    }
+
+    #[test]
+    fn at_the_end_all_lines_are_written() {
+        let (ours, mut theirs) = UnixStream::pair().expect("two sockets");
+        let writer = Writer::start(ours).expect("a thread");
+        (0..9).for_each(|_| writer.lines.try_send(b"line\n".to_vec()).expect("room"));
+        writer.end();
+        let mut read = String::new();
+        theirs.read_to_string(&mut read).expect("lines");
+        assert_eq!(read, "line\n".repeat(9));
     }
 }

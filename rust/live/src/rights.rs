@@ -1,9 +1,11 @@
 //! Gives up the rights that opened the sockets: reading strangers' frames needs none of them.
 
 use crate::arguments::ArgumentFault;
+use crate::sys::landlock;
 use crate::sys::rights as sys;
 pub use crate::sys::rights::own_user;
 use std::io::{Error, Result};
+use std::path::Path;
 
 #[derive(Clone, Copy)]
 pub struct User {
@@ -32,9 +34,14 @@ fn user_of(name: &str) -> std::result::Result<User, ArgumentFault> {
     found.or_else(of_number).ok_or_else(|| ArgumentFault::UnknownUser(name.into()))
 }
 
-/// Returns the group with this name, or else with this number.
+/// Returns the group with this name, or else with this number. May wait for the name service.
 pub fn group_of(name: &str) -> Option<u32> {
     group_named(name).or_else(|| number_of(name))
+}
+
+/// Returns the group with this name in /etc/group, or else with this number.
+pub fn group_in_file(name: &str) -> Option<u32> {
+    entry("/etc/group", name).and_then(|fields| fields.get(2)?.parse().ok()).or_else(|| number_of(name))
 }
 
 /// A program that is linked statically cannot ask the name service.
@@ -48,25 +55,62 @@ fn group_named(name: &str) -> Option<u32> {
     crate::sys::groups::number_of(name)
 }
 
-/// Says where `group_of` has looked for a group.
+/// Says where lldpa-live has looked for a group, and that it goes on.
 pub const KNOWN_GROUPS: &str = if cfg!(target_feature = "crt-static") {
-    "this program is linked statically, so it knows only numbers and the groups in /etc/group"
+    "this program is linked statically, so it knows only numbers and the groups in /etc/group, where it \
+     looks again"
 } else {
-    "neither /etc/group nor the name service has it"
+    "neither /etc/group nor the name service has it yet; lldpa-live asks again"
 };
 
-/// Returns the user that root becomes, by default `nobody`. None if this process is not root.
+const OWN_USER: &str = "_lldpa";
+
+/// Returns the user that root becomes, by default one of lldpa's own or `nobody`. None if this process
+/// is not root.
 pub fn user_to_be(name: Option<&str>) -> std::result::Result<Option<User>, ArgumentFault> {
     if own_user() != 0 {
         return name.map_or(Ok(None), |_| Err(ArgumentFault::OnlyForRoot));
     }
-    let nobody = User { user: 65534, group: 65534 };
-    name.map_or(Ok(user_of("nobody").unwrap_or(nobody)), user_of).map(Some)
+    let by_default = || user_of(OWN_USER).unwrap_or_else(|_| nobody());
+    name.map_or_else(|| Ok(by_default()), user_of).map(Some)
+}
+
+/// Returns the user without files and rights.
+fn nobody() -> User {
+    user_of("nobody").unwrap_or(User { user: 65534, group: 65534 })
+}
+
+/// Returns the user that a client of root becomes, or root's process that asks a name service: not
+/// that of lldpa-live, whose answers a client reads.
+pub fn user_of_client() -> Option<User> {
+    (own_user() == 0).then(nobody)
 }
 
 /// Gives up all rights for good, and becomes this user if one is given.
 pub fn give_up(user: Option<User>) -> Result<()> {
     sys::keep_no_right(user.map(|user| (user.user, user.group)))
+}
+
+/// Lets the kernel refuse changes of files, for good, except where these paths are: in the folders that
+/// contain the folders of these files, so that a folder which was removed can be made again. Older
+/// kernels refuse nothing more. Needs no right, and must come before other threads.
+pub fn keep_to(files: &[&str]) -> Result<()> {
+    let folders: Vec<String> = files.iter().filter_map(|path| place_of(Path::new(path))).collect();
+    match landlock::restrict(&folders) {
+        Err(fault) if WITHOUT_LANDLOCK.contains(&fault.raw_os_error().unwrap_or(0)) => Ok(()),
+        restricted => restricted,
+    }
+}
+
+/// The kernel has no Landlock, or a filter of system calls, such as that of the unit, refuses it.
+const WITHOUT_LANDLOCK: [i32; 3] = [libc::ENOSYS, libc::EOPNOTSUPP, libc::EPERM];
+
+/// Returns the folder that contains a file's folder, or its nearest ancestor that there is. It is never
+/// the root folder: then rather the file's folder.
+fn place_of(file: &Path) -> Option<String> {
+    let is_able = |folder: &&Path| folder.parent().is_some() && folder.is_dir();
+    let above = file.ancestors().skip(2).find(is_able).or_else(|| file.parent().filter(|one| is_able(one)));
+    above.map(|folder| folder.to_string_lossy().into_owned())
 }
 
 /// Puts a path before the text of an error.
@@ -94,6 +138,19 @@ mod tests {
         assert_eq!(at("/a")(missing).to_string(), "/a: No such file or directory");
         let own = Error::new(ErrorKind::Other, "what (os error 2)");
         assert_eq!(text_of(&own), "what (os error 2)");
+    }
+
+    #[test]
+    fn files_may_be_changed_beside_their_folder() {
+        for (file, wanted) in [
+            ("/usr/lib/lldpa/state", Some("/usr/lib")),
+            ("/usr/share/no-such/further/state", Some("/usr/share")),
+            ("/usr/state", Some("/usr")),
+            ("/no-such/further/state", None),
+            ("/state", None),
+        ] {
+            assert_eq!(place_of(Path::new(file)).as_deref(), wanted, "{file}");
+        }
     }
 
     #[test]

@@ -6,15 +6,16 @@ use crate::files;
 use crate::lines::set_status;
 use crate::links::Links;
 use crate::live::Live;
+use crate::lookup::Group;
 use crate::patterns;
 use crate::ports::{Ports, MOST_PORTS};
-use crate::reports::{report, warn, ERROR};
-use crate::rights::{self, give_up, group_of, text_of, user_to_be};
+use crate::reports::{self, report, warn, ERROR};
+use crate::rights::{self, give_up, text_of, user_to_be};
 use crate::state::{self, Saved, StateFault};
 use crate::sys::seccomp;
 use crate::sys::signals::{self, Signal};
 use crate::time::Moment;
-use crate::{ask, ctl, wrong_arguments};
+use crate::wrong_arguments;
 use lldpa::{OpenFault, Show, Status};
 use std::fmt;
 use std::fs::File;
@@ -66,12 +67,7 @@ impl From<OpenFault> for StartFault {
 
 /// Does what the command line says. Returns the exit status.
 pub fn run(arguments: Arguments) -> i32 {
-    if let Some(line) = &arguments.ask {
-        if let Some(words) = ctl::arguments_for(&arguments.control, line) {
-            return ctl::run(&words);
-        }
-        return ask::ask(&arguments.control, line).unwrap_or_else(|fault| fail(&text_of(&fault)));
-    }
+    std::panic::set_hook(Box::new(|panic| report(ERROR, &panic.to_string())));
     match user_to_be(arguments.user.as_deref()) {
         Err(fault) => wrong_arguments(&fault),
         Ok(user) => match begin(arguments, user) {
@@ -83,6 +79,7 @@ pub fn run(arguments: Arguments) -> i32 {
 
 fn fail(why: &str) -> i32 {
     report(ERROR, why);
+    reports::end();
     1
 }
 
@@ -95,19 +92,24 @@ fn begin(mut arguments: Arguments, user: Option<rights::User>) -> Result<Live, S
     let names = first_ports(&arguments, &links, may_grow && !arguments.only_existing)?;
     let ports = Ports::open(&names, &arguments, may_grow).map_err(StartFault::NoSocket)?;
     let state = arguments.state.as_deref().map_or(Ok(None), |path| state::open(path, user));
-    let group = control_group(&arguments);
+    let name = arguments.control_group.clone().filter(|_| arguments.once.is_none());
+    let group = name.as_deref().map_or_else(Group::default, Group::named);
     let control = match arguments.once {
-        None => Some(Control::open(&arguments.control, group)?),
+        None => Some(Control::open(&arguments.control, group.number)?),
         Some(_) => None,
     };
     arguments.log.as_deref().map_or(Ok(()), |path| files::enter(path, user))?;
     give_up(user)?;
     arguments.log.as_deref().map_or(Ok(()), files::check)?;
     let mut live = Live::new(arguments, links, ports, control)?;
+    name.filter(|_| group.number.is_none()).iter().for_each(|name| report_unknown(name));
+    live.lookup = group.lookup;
+    keep_to_folders(&live.arguments);
     if live.arguments.log.is_some() || live.arguments.state.is_some() {
         live.log.start()?;
     }
     live.metrics.start()?;
+    reports::start()?;
     seccomp::install().unwrap_or_else(|fault| {
         warn(&format!("system calls are not filtered: {}", text_of(&fault)));
     });
@@ -127,16 +129,20 @@ fn make_absolute(arguments: &mut Arguments) {
     arguments.config = arguments.config.iter().map(|path| absolute(path)).collect();
 }
 
-/// Returns the number of the group that may use the control socket. Reports an unknown group, and
-/// goes on without it.
-fn control_group(arguments: &Arguments) -> Option<u32> {
-    let name = arguments.control_group.as_deref()?;
-    let group = group_of(name);
-    if group.is_none() {
-        let what = "is not known, so only root and the owner may use the control socket";
-        warn(&format!("group {name} {what}: {}", rights::KNOWN_GROUPS));
-    }
-    group
+/// Lets files be changed only where the log, the state, the metrics and the control socket are.
+fn keep_to_folders(arguments: &Arguments) {
+    let log = arguments.log.as_ref().map(|folder| format!("{folder}/log"));
+    let files = [&log, &arguments.state, &arguments.metrics, &Some(arguments.control.clone())];
+    let files: Vec<&str> = files.into_iter().filter_map(Option::as_deref).collect();
+    rights::keep_to(&files).unwrap_or_else(|fault| {
+        warn(&format!("files are not protected by Landlock: {}", text_of(&fault)));
+    });
+}
+
+/// Reports that the group which may use the control socket is not known.
+fn report_unknown(name: &str) {
+    let what = "is not known, so only root and the owner may use the control socket";
+    warn(&format!("group {name} {what}: {}", rights::KNOWN_GROUPS));
 }
 
 /// Reads an earlier state. Reports it if it cannot be used.
@@ -181,10 +187,12 @@ fn work(mut live: Live) -> i32 {
     signals::let_them_end(); // a second signal ends lldpa-live at once
     live.end();
     drop(live); // closes all files, even if the disk and the log's thread hang
-    worked.unwrap_or_else(|_| {
+    let status = worked.unwrap_or_else(|_| {
         report(ERROR, "an internal fault ended lldpa-live");
         1
-    })
+    });
+    reports::end();
+    status
 }
 
 /// Waits for input, at most until a deadline or `last`, and handles it. True at a signal to end.

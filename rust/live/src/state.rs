@@ -1,6 +1,6 @@
 //! The state: a file with the neighbor tables, which one lldpa-live leaves to the next. It is a
-//! trace that rebuilds the tables. Its comments say when it was written, when each neighbor came,
-//! and where it ends. lldpa-live writes it each minute and at the end, to a new file that then
+//! trace that rebuilds the tables. Its comments say when and in which boot it was written, when each
+//! neighbor came, and where it ends. lldpa-live writes it each minute and at the end, to a new file that then
 //! replaces the old one.
 
 use crate::files::{replace, Progress};
@@ -22,8 +22,12 @@ use std::time::Duration;
 const FRONT: &str = "# lldpa-live state 1 ";
 const END: &str = "# end\n";
 const MOST_SHOWN: usize = 100; // characters of a malformed line
-/// By how much the clocks may differ within one boot.
+/// By how much the clocks may differ within one boot, if nothing else tells one boot from another.
 const MOST_APART: Duration = Duration::from_secs(5);
+const BOOT_ID: &str = "/proc/sys/kernel/random/boot_id";
+/// Names the boot if the unit hides that file.
+const BOOT_VARIABLE: &str = "LLDPA_BOOT_ID";
+const DIGITS_OF_BOOT: usize = 32;
 const MOST_LINES: usize = 64 * 128 * 4; // for each neighbor two frames, one `since`, one `tick`
 const MOST_OCTETS: u64 = 64 * 128 * 2 * 4096;
 /// The seconds of all lines together: the longest time to live.
@@ -100,18 +104,19 @@ pub fn open(path: &str, user: Option<User>) -> Result<Option<File>, StateFault> 
 pub fn read(file: File) -> Result<Saved, StateFault> {
     let mut octets = Vec::new();
     file.take(MOST_OCTETS + 1).read_to_end(&mut octets)?;
-    saved_in(&octets, WallTime::now(), Moment::now())
+    saved_in(&octets, &Times::now())
 }
 
-/// Reads the octets of a state. `wall` and `now` are the present time of two clocks.
-pub fn saved_in(octets: &[u8], wall: WallTime, now: Moment) -> Result<Saved, StateFault> {
+/// Reads the octets of a state, at these times.
+pub fn saved_in(octets: &[u8], now: &Times) -> Result<Saved, StateFault> {
     if octets.is_empty() {
         return Ok(Saved::default());
     }
     let (times, lines) = parts_of(octets).ok_or(StateFault::Incomplete)?;
-    let (then_wall, then) = times_of(times).ok_or(StateFault::Incomplete)?;
-    let age = now.since(then);
-    if now < then || wall.apart(then_wall + age) > MOST_APART {
+    let then = Times::read(times).ok_or(StateFault::Incomplete)?;
+    let age = now.moment.since(then.moment);
+    let was_set = now.wall.apart(then.wall + age) > MOST_APART;
+    if now.moment < then.moment || !then.is_same_boot(now).unwrap_or(!was_set) {
         return Err(StateFault::OfAnotherBoot);
     }
     if lines.lines().count() > MOST_LINES {
@@ -132,6 +137,9 @@ pub fn saved_in(octets: &[u8], wall: WallTime, now: Moment) -> Result<Saved, Sta
     if saved.age > ttls.values().copied().max().unwrap_or(0) {
         return Err(StateFault::TooOld);
     }
+    if was_set {
+        saved.arrivals.values_mut().for_each(|came| *came = came.after_setting(then.wall + age, now.wall));
+    }
     Ok(saved)
 }
 
@@ -143,10 +151,44 @@ fn parts_of(octets: &[u8]) -> Option<(&str, &str)> {
     Some((first.strip_prefix(FRONT).filter(|_| is_whole)?, lines))
 }
 
-/// Reads when a state was saved.
-fn times_of(text: &str) -> Option<(WallTime, Moment)> {
-    let (wall, moment) = text.split_once(' ')?;
-    Some((WallTime::after_1970(seconds_of(wall)?), Moment::after_boot(seconds_of(moment)?)))
+/// The time of two clocks, and the boot, if it is known. The clock that counts from the boot cannot
+/// be set.
+pub struct Times {
+    wall: WallTime,
+    moment: Moment,
+    boot: Option<String>,
+}
+
+impl Times {
+    fn now() -> Times {
+        let text = std::fs::read_to_string(BOOT_ID).or_else(|_| std::env::var(BOOT_VARIABLE));
+        let boot = text.ok().and_then(|text| boot_of(&text));
+        Times { wall: WallTime::now(), moment: Moment::now(), boot }
+    }
+
+    /// Reads the times of a state.
+    pub fn read(text: &str) -> Option<Times> {
+        let words: Vec<&str> = text.split(' ').collect();
+        let (wall, moment, boot) = match words[..] {
+            [wall, moment] => (wall, moment, None),
+            [wall, moment, boot] => (wall, moment, Some(boot_of(boot)?)),
+            _ => return None,
+        };
+        let (wall, moment) = (seconds_of(wall)?, seconds_of(moment)?);
+        Some(Times { wall: WallTime::after_1970(wall), moment: Moment::after_boot(moment), boot })
+    }
+
+    /// True if both times are of the same boot. None if that is not known.
+    fn is_same_boot(&self, other: &Times) -> Option<bool> {
+        Some(self.boot.as_ref()? == other.boot.as_ref()?)
+    }
+}
+
+/// Returns the 32 hexadecimal digits that name a boot, between which there may be hyphens.
+fn boot_of(text: &str) -> Option<String> {
+    let digits = text.trim_end().replace('-', "");
+    let is_one = digits.len() == DIGITS_OF_BOOT && digits.bytes().all(|one| one.is_ascii_hexdigit());
+    is_one.then_some(digits)
 }
 
 /// The name of a neighbor: its port and its MSAP identifier.
@@ -226,8 +268,7 @@ pub struct Arrival {
 
 /// What a state says: when each neighbor came, and the lines that rebuild the tables.
 pub struct State {
-    wall: WallTime,
-    now: Moment,
+    times: Times,
     arrivals: Vec<Arrival>,
     lines: Vec<Line>,
 }
@@ -256,7 +297,7 @@ fn seconds(duration: Duration) -> String {
 
 impl State {
     pub fn new(arrivals: Vec<Arrival>, lines: Vec<Line>) -> State {
-        State { wall: WallTime::now(), now: Moment::now(), arrivals, lines }
+        State { times: Times::now(), arrivals, lines }
     }
 
     /// Replaces the file of the state.
@@ -267,7 +308,10 @@ impl State {
     }
 
     fn put(&self, out: &mut impl Write) -> std::io::Result<()> {
-        writeln!(out, "{FRONT}{} {}", seconds(self.wall.since_1970()), seconds(self.now.since_boot()))?;
+        let times = &self.times;
+        write!(out, "{FRONT}{} {}", seconds(times.wall.since_1970()), seconds(times.moment.since_boot()))?;
+        times.boot.iter().try_for_each(|boot| write!(out, " {boot}"))?;
+        writeln!(out)?;
         for one in &self.arrivals {
             let id = identifiers::id(&Msap { chassis: &one.chassis, port: &one.port_id });
             writeln!(out, "# since {} {} {id}", one.port, seconds(one.came.since_1970()))?;
@@ -329,7 +373,9 @@ mod tests {
         let mut octets = Vec::new();
         state.put(&mut octets).expect("room");
         let later = Duration::from_secs(3);
-        let saved = saved_in(&octets, state.wall + later, state.now + later).expect("a state");
+        let Times { wall, moment, boot } = state.times;
+        let now = Times { wall: wall + later, moment: moment + later, boot };
+        let saved = saved_in(&octets, &now).expect("a state");
         assert_eq!((saved.lines, saved.age, saved.passed), (lines, 3, 3));
         let name = ("eth0".to_string(), "mac=02:00:00:00:00:01 ifname=p\\x20".to_string());
         assert_eq!(saved.arrivals.get(&name), Some(&came));
@@ -337,9 +383,36 @@ mod tests {
 
     /// Reads a state that was saved 110 s after 1970 and 50 s after the boot, 10 s before.
     fn read(text: &str) -> Result<Saved, String> {
-        let (wall, now) = (Duration::from_secs(120), Duration::from_secs(60));
-        let saved = saved_in(text.as_bytes(), WallTime::after_1970(wall), Moment::after_boot(now));
-        saved.map_err(|fault| fault.to_string())
+        let now = Times::read(&format!("120.000 60.000 {BOOT}")).expect("times");
+        saved_in(text.as_bytes(), &now).map_err(|fault| fault.to_string())
+    }
+
+    const BOOT: &str = "00112233-4455-6677-8899-aabbccddeeff";
+
+    #[test]
+    fn within_one_boot_the_wall_clock_may_be_set() {
+        let digits: String = frame().iter().map(|octet| format!("{octet:02x}")).collect();
+        let rest = format!("# since eth0 99.000 mac=02:00:00:00:00:01 ifname=p\\x20\nrx eth0 {digits}\n");
+        let other = BOOT.replace("00", "01");
+        // the times of the state, and, if it is used, when its neighbor came by the present clock
+        for (times, came) in [
+            (format!("110.000 50.000 {BOOT}"), Some(99)),
+            (format!("5000.000 50.000 {BOOT}"), Some(99 - 4890)),
+            (format!("11.000 50.000 {BOOT}"), Some(99 + 99)),
+            (format!("110.000 60.001 {BOOT}"), None),
+            (format!("110.000 50.000 {other}"), None),
+            ("110.000 50.000".into(), Some(99)),
+            ("11.000 50.000".into(), None),
+        ] {
+            let found = read(&format!("{FRONT}{times}\n{rest}# end\n"));
+            let begin = WallTime::after_1970(Duration::ZERO);
+            let second = |one: &WallTime| match one.apart(begin).as_secs() as i64 {
+                seconds if *one < begin => -seconds,
+                seconds => seconds,
+            };
+            let found = found.ok().and_then(|saved| saved.arrivals.values().next().map(second));
+            assert_eq!(found, came, "{times}");
+        }
     }
 
     #[test]
@@ -359,6 +432,10 @@ mod tests {
             ("# lldpa-live state 1 110.000", Some(incomplete)),
             ("# lldpa-live state 1 +10.000 50.000", Some(incomplete)),
             ("# lldpa-live state 1 0000000000110.000 50.000", Some(incomplete)),
+            ("# lldpa-live state 1 110.000 50.000 0011", Some(incomplete)),
+            ("# lldpa-live state 1 110.000 50.000 00112233445566778899aabbccddeefx", Some(incomplete)),
+            ("# lldpa-live state 1 110.000 50.000 00112233445566778899aabbccddeeff", None),
+            ("# lldpa-live state 1 110.000 50.000 00112233445566778899aabbccddeeff 1", Some(incomplete)),
             ("", Some(incomplete)),
         ] {
             let digits: String = frame().iter().map(|octet| format!("{octet:02x}")).collect();

@@ -5,12 +5,18 @@
 use crate::identifiers;
 use crate::neighbors;
 use crate::time::WallTime;
+use crate::told::with_neighbor;
 use lldpa::{examine, tlv_text, Agent, Examined, Info};
+use lldpa_people::metrics::Metrics;
+use lldpa_people::show::Neighbor as Told;
 use std::mem::size_of;
 use std::sync::Arc;
 
 const SHOWN_IDENTIFIERS: usize = 4; // lines of a neighbor before its kept TLVs: two IDs, ttl, expires
 const LINES_OF_PORT: usize = 3;
+/// The kinds of TLVs that metrics tell: Port Description, System Name, Management Address, and those of
+/// organizations.
+const OF_METRICS: [u8; 4] = [4, 5, 8, 127];
 const OF_ALLOCATION: usize = 16; // octets that the allocator adds to a piece of memory
 
 /// A neighbor of a port: the octets of its LLDPDU, and the seconds until it ages out.
@@ -69,16 +75,18 @@ impl Tables {
         self.ports.push(Table { port: port.into(), has_too_many, neighbors });
     }
 
-    /// Returns for each port the lines of `show neighbors` about it.
-    pub fn lines_by_port(&self) -> impl Iterator<Item = String> + '_ {
-        self.ports.iter().map(|table| {
-            let mut lines = Vec::new();
-            put_port(&mut lines, table);
-            for (place, one) in table.neighbors.iter().enumerate() {
-                put_neighbor(&mut lines, &table.port, place + 1, one);
+    /// Adds each port and its neighbors to metrics.
+    pub fn add_to(&self, metrics: &mut Metrics) {
+        for table in &self.ports {
+            metrics.add_port(&table.port, table.neighbors.len() as u128, table.has_too_many);
+            for one in &table.neighbors {
+                let mut add = |told: Told<'_>| {
+                    let (port, expires) = (&table.port[..], one.left.into());
+                    metrics.add_neighbor(&Told { port, expires, ..told });
+                };
+                one.info().iter().for_each(|info| with_neighbor(info, &OF_METRICS, &mut add));
             }
-            String::from_utf8_lossy(&lines).into_owned()
-        })
+        }
     }
 
     /// Returns how many octets of memory the tables take.
@@ -305,7 +313,6 @@ mod tests {
             let text = String::from_utf8(text).expect("ASCII");
             assert_eq!(text, agent.show(Show::Neighbors), "second {second}");
             assert_eq!(count, text.lines().count());
-            assert_eq!(writer.tables().lines_by_port().collect::<String>(), text);
             assert_eq!(since(Writer::new(writer.tables().clone(), Lines::Since)), held(&agent));
             most = most.max(count);
         }

@@ -86,6 +86,11 @@ impl WallTime {
         Duration::from_nanos(self.0.abs_diff(other.0))
     }
 
+    /// Returns this time as the clock shows it after it was set from one time to another.
+    pub fn after_setting(self, from: WallTime, to: WallTime) -> WallTime {
+        WallTime(self.0.saturating_add(to.0.saturating_sub(from.0)))
+    }
+
     /// Returns the whole seconds since 1970.
     pub fn second(self) -> WallTime {
         WallTime(self.0 - self.0.rem_euclid(nanoseconds(SECOND)))
@@ -227,6 +232,7 @@ mod tests {
         assert_eq!((other.since(one), one.since(other)), (2 * SECOND, Duration::ZERO));
         assert_eq!(WallTime(7).apart(WallTime(4)), WallTime(4).apart(WallTime(7)));
         assert_eq!((one - 4 * SECOND).since_boot(), Duration::ZERO);
+        assert_eq!(WallTime(7).after_setting(WallTime(4), WallTime(2)), WallTime(5));
         assert!(one - 4 * SECOND < Moment::default());
         assert_eq!((other + SECOND).begin_of(4 * SECOND), Moment::after_boot(4 * SECOND));
     }

@@ -2,7 +2,7 @@
 //!
 //!     agent NAME HERE THERE    NAME names the port; HERE and THERE are addresses, such as 127.0.0.1:7001
 //!
-//! It prints each neighbor that comes or leaves, and sleeps until something is due or a frame comes.
+//! It prints each neighbor that comes, leaves or ages out, and sleeps until something is due or a frame comes.
 //! At the end of standard input it says goodbye.
 
 use lldpa::{tlv_text, Agent, Msap, News, Options, Sent};
@@ -26,6 +26,16 @@ fn send(agent: &Agent, socket: &UdpSocket, there: &str, frames: &[Sent]) -> Resu
 fn print(what: &str, name: Msap<'_>) {
     let text = |kind, body| tlv_text(kind, body).unwrap_or_default();
     println!("{what} {} {}", text(1, name.chassis), text(2, name.port));
+}
+
+/// Prints the neighbors that aged out at the last second that was reported.
+fn print_aged(agent: &Agent) -> Result<(), Box<dyn Error>> {
+    for neighbor in agent.aged(0)? {
+        if let Some(info) = neighbor.info() {
+            print("aged out", info.msap());
+        }
+    }
+    Ok(())
 }
 
 /// Returns a flag that is set at the end of standard input. An empty datagram then wakes the socket.
@@ -57,6 +67,7 @@ fn main() -> Result<(), Box<dyn Error>> {
             let ticks = agent.ticks(left as u32);
             left -= u64::from(ticks.taken);
             send(&agent, &socket, &there, &ticks.sent)?;
+            print_aged(&agent)?;
         }
         let length = match came {
             Ok((length, _)) => length,

@@ -33,9 +33,12 @@ fn every_neighbor_is_shown() {
     }
     let text = agent.show(Show::Neighbors);
     assert_eq!(text.lines().count(), 49_344);
-    assert!(text.len() <= agent.room_of_show(), "one call does not write all");
+    assert!(text.len() <= agent.room_of_show(Show::Neighbors), "one call does not write all");
     let held: usize = (0..PORTS).map(|port| agent.neighbors(port).expect("a port").count()).sum();
     assert_eq!(text.matches(".chassis.mac=").count(), held);
+    let counters = agent.show(Show::Statistics);
+    assert_eq!(counters.lines().filter(|line| line.contains(".sent=")).count(), usize::from(PORTS));
+    assert!(agent.room_of_show(Show::Statistics) < 1 << 17, "a show without neighbors needs little memory");
     assert_eq!(agent.show_line(Show::Neighbors, 49_343).as_deref(), text.lines().last());
     assert_eq!(agent.show_line(Show::Neighbors, 49_344), None);
 }

@@ -20,6 +20,11 @@
 #![no_std]
 #![warn(missing_docs, missing_debug_implementations)]
 
+#[cfg(not(doc))]
+const _: () = if let Some(why) = option_env!("LLDPA_HAS_NO_ARCHIVE") {
+    panic!("{}", why)
+};
+
 extern crate alloc;
 #[cfg(feature = "std")]
 extern crate std;

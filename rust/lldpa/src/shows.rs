@@ -7,28 +7,28 @@ use crate::told::Show;
 use alloc::string::String;
 use alloc::vec;
 
-/// How many octets suffice for most shows without neighbors, and how many more for a neighbor.
+/// How many octets suffice for each show but that of neighbors, and how many more for most neighbors.
 const SHOW_ROOM: usize = 1 << 16;
 const SHOW_ROOM_OF_NEIGHBOR: usize = 1 << 10;
 
 impl Agent {
-    /// Returns the size of a buffer that is large enough for most shows.
-    pub(crate) fn room_of_show(&self) -> usize {
-        let held: usize = (0..self.ports).map(|port| self.neighbors(port).map_or(0, |all| all.len())).sum();
-        SHOW_ROOM + SHOW_ROOM_OF_NEIGHBOR * held
+    /// Returns the size of a buffer that is large enough for most shows of this kind.
+    pub(crate) fn room_of_show(&self, show: Show) -> usize {
+        let held = |port| self.neighbors(port).map_or(0, |all| all.len());
+        let ports = if show == Show::Neighbors { self.ports } else { 0 };
+        SHOW_ROOM + SHOW_ROOM_OF_NEIGHBOR * (0..ports).map(held).sum::<usize>()
     }
 
     /// Returns all lines of a show, with a line feed after each.
     #[must_use]
     pub fn show(&self, show: Show) -> String {
-        let mut text = String::new();
-        let mut room = vec![0u8; self.room_of_show()];
-        let mut lines = sys::lldpa_lines::default();
+        let mut room = vec![0u8; self.room_of_show(show)];
+        let mut lines = self.show_lines(show, 0, &mut room);
+        let mut text = String::from_utf8_lossy(&room[..lines.length]).into_owned();
         while !lines.done {
+            room.resize(2 * room.len(), 0); // a larger buffer needs fewer calls
             lines = self.show_lines(show, lines.next, &mut room);
             text.push_str(&String::from_utf8_lossy(&room[..lines.length]));
-            // Each call goes through all earlier lines again. A larger buffer needs fewer calls.
-            room.resize(2 * room.len(), 0);
         }
         text
     }

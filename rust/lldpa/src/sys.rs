@@ -683,8 +683,9 @@ extern "C" {
     #[doc = "   told  written on success"]
     #[doc = " Returns the first of these that applies: LLDPA_OUT_OF_RANGE for the show, LLDPA_NOT_OPEN, LLDPA_NO_ROOM if not"]
     #[doc = " even the first line fits; otherwise 0. It writes only on success. To get all lines, call it again with `next` as"]
-    #[doc = " `from`, and make no other call on the agent in between. A call also goes through the lines before `from`, so one"]
-    #[doc = " call with a buffer for the whole show is fastest."]
+    #[doc = " `from`, and make no other call on the agent in between. A call that writes neighbors goes on where the last one"]
+    #[doc = " stopped, if nothing changed in between and `from` does not come before; otherwise it also goes through the neighbors"]
+    #[doc = " before `from`."]
     pub fn lldpa_show_lines(
         agent: *const lldpa_agent,
         show: u32,

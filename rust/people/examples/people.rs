@@ -1,13 +1,17 @@
-//! Answers questions about this crate's functions, for the tests in Python: a line with a function and
+//! Answers questions about this crate's functions, for tests in Python and in Rust: a line with a function and
 //! its arguments, then answers of lldpa-live, each a line `=N` and N lines, and a line `end`. Prints
 //! the result as a line `=N` and N lines, or a line `fault: WHY`.
 
-use lldpa_people::changes::Watch;
+use lldpa_people::changes::{News, Watch};
+use lldpa_people::json::{Json, Object};
+use lldpa_people::node::Node;
+use lldpa_people::organizational::{nodes_in, Said};
 use lldpa_people::show::{Read, Show};
-use lldpa_people::texts::{cut, plain, readable, width_of, wrapped};
+use lldpa_people::texts::{cut, hex_of, plain, readable, width_of, wrapped};
+use std::collections::BTreeMap;
 use std::io::{BufRead, Error, ErrorKind, Result};
 
-type Answers = Vec<Vec<String>>;
+pub type Answers = Vec<Vec<String>>;
 
 fn lines(answer: &[String]) -> Vec<&str> {
     answer.iter().map(|line| &line[..]).collect()
@@ -22,17 +26,58 @@ fn texts(shown: &[String], width: usize) -> Vec<String> {
     shown.iter().map(told).collect()
 }
 
-fn answer(words: &[&str], answers: &Answers) -> Read<Vec<String>> {
+/// Returns a node as an object.
+fn object_of(node: &Node) -> Json {
+    let mut object = Object::default();
+    object.set("key", &*node.key);
+    object.set("label", &*node.label);
+    let attribute = |(key, label, value): &(&str, &str, String)| {
+        Json::List(vec![Json::from(*key), Json::from(*label), Json::from(&value[..])])
+    };
+    object.set("attributes", Json::List(node.attributes.iter().map(attribute).collect()));
+    object.set("text", node.text.as_deref().map(|text| hex_of(text, "")).as_deref());
+    object.set("nodes", Json::List(node.nodes.iter().map(object_of).collect()));
+    Json::Object(object)
+}
+
+/// Returns what the neighbors of an answer said: the rows for people, JSON, and lldpcli's nodes.
+fn said(shown: &[String]) -> Read<Vec<String>> {
+    let show = Show::read(lines(shown))?;
+    let mut told = Vec::new();
+    for neighbor in show.neighbors() {
+        let (said, mut object) = (Said::by(neighbor), Object::default());
+        told.extend(
+            said.rows().iter().map(|row| format!("{}|{}|{}|{}", row.key, row.heading, row.group, row.text)),
+        );
+        said.add_to(&mut object);
+        told.push(Json::Object(object).line());
+        let known = Said::known_to_lldpd(neighbor);
+        for parent in ["port", "interface"] {
+            told.extend(nodes_in(parent, &known).iter().map(|node| object_of(node).line()));
+        }
+        told.extend(known.rest.iter().map(|(kind, digits)| format!("{kind} {digits}")));
+    }
+    Ok(told)
+}
+
+pub fn answer(words: &[&str], answers: &Answers) -> Read<Vec<String>> {
     let width = words.get(1).and_then(|word| word.parse().ok()).unwrap_or(0);
     match (words[0], &answers[..]) {
         ("texts", [shown]) => Ok(texts(shown, width)),
+        ("said", [shown]) => said(shown),
         ("read", [shown]) => {
             let names = Show::read(lines(shown))?.names();
             Ok(names.into_iter().map(String::from).collect())
         }
         ("changes", [before, after]) => {
-            let mut watch = Watch::of(&Show::read(lines(before))?);
-            Ok(watch.news(&Show::read(lines(after))?))
+            let (before, after) = (Show::read(lines(before))?, Show::read(lines(after))?);
+            let known = before.ports.iter().map(|port| (port.name, Watch::of(port)));
+            let (mut watches, mut news) = (BTreeMap::from_iter(known), Vec::new());
+            for port in &after.ports {
+                let changed = watches.entry(port.name).or_default().news(port);
+                news.extend(changed.iter().map(News::line));
+            }
+            Ok(news)
         }
         _ => Err(format!("no such question: {}", words.join(" "))),
     }

@@ -1,36 +1,36 @@
 //! The program lldpa-ctl: asks a running lldpa-live, and prints its answers.
 
+use crate::answers::since_of;
 use crate::arguments::{all_commands, completed, Given, DEFAULT_PATH};
-use crate::changes::Watch;
+use crate::changes::News;
 use crate::columns::NOT_CUT;
 use crate::connection::{replace, Answer, Connection};
-use crate::interfaces::{counter_lines, interfaces, summed};
-use crate::live_lines::LiveLines;
+use crate::counters::{counter_lines, Counters};
+use crate::interfaces::{interfaces, Held};
+use crate::live_lines::{is_read, LiveLines, Since};
 use crate::lldpd::{instead, same};
-use crate::metrics::{metrics, up};
+use crate::metrics::{service_of, up, Metrics, MOST_METRICS};
+use crate::neighbors::{each_port, lines_of};
+use crate::objects::news_object;
 use crate::refused::{explained, in_full};
 use crate::show::{check_ports, Show};
-use crate::table::{reasons, table};
+use crate::table::Table;
 use crate::texts::printable;
-use std::io::{Error, ErrorKind, Write};
+use crate::watching::Watching;
+use std::io::{BufWriter, Error, ErrorKind, Write};
 use std::os::unix::net::UnixStream;
-use std::os::unix::process::CommandExt;
-use std::time::Duration;
+use std::time::{Duration, SystemTime, UNIX_EPOCH};
 
-const NAME: &str = "lldpa-ctl";
+pub const NAME: &str = "lldpa-ctl";
 const USAGE: &str = "usage: lldpa-ctl [OPTION...] [COMMAND...]";
 const HELP: &str = include_str!("help.txt");
-/// The program that decodes TLVs of organizations, of the package lldpa-tools.
-const DETAILS: &str = "lldpa-details";
-/// Where it is installed, from the folder of this program. Elsewhere it is found by PATH.
-const DETAILS_BESIDE: &str = "../lib/lldpa/bin/lldpa-details";
 const VERSION: &str = env!("CARGO_PKG_VERSION");
 const SHOWS: [&str; 5] = ["neighbors", "statistics", "chassis", "configuration", "interfaces"];
-/// The questions whose answers make the table of neighbors.
-const OF_TABLE: [&str; 3] = ["show neighbors", "live", "show configuration"];
-const PATIENCE: Duration = Duration::from_secs(30);
+pub const CONFIGURATION: &str = "show configuration";
+const LIMIT: &str = "limit";
+const MOST_CHANGES: u32 = 999_999_999; // of a limit, as in lldpcli
+pub const PATIENCE: Duration = Duration::from_secs(30);
 const PATIENCE_FOR_METRICS: Duration = Duration::from_secs(10); // a timer asks again soon
-const MANY: usize = 1000; // neighbors: more of them are asked for port by port
 const LONGEST_MESSAGE: usize = 4095; // so that it is written at once
 /// The reasons for refusing a word. All others are about a whole line.
 const OF_A_WORD: [&str; 6] =
@@ -44,10 +44,17 @@ pub trait Host {
     fn give_up_root(&self);
     /// Returns the width of the terminal. None if standard output is none.
     fn terminal_width(&self) -> Option<usize>;
-    /// Returns the local time in a form like `2026-11-27T10:15:00+0100`.
-    fn local_time(&self) -> String;
+    /// Returns the local time so many seconds after 1970, in a form like `2026-11-27T10:15:00+0100`.
+    fn local_time(&self, seconds: i64) -> String;
     /// Returns whether standard output was closed when the program began.
     fn output_was_closed(&self) -> bool;
+    /// Returns whether standard output is a terminal.
+    fn is_terminal(&self) -> bool;
+    /// Returns whether standard input is a terminal.
+    fn input_is_terminal(&self) -> bool;
+    /// Waits until a stream can be read or has ended. Returns false as soon as nobody reads standard
+    /// output any more.
+    fn wait(&self, stream: &UnixStream) -> Result<bool, Error>;
 }
 
 /// Why a command fails.
@@ -57,6 +64,7 @@ pub enum Failure {
     Refused(String),
     /// lldpa-live did not send a complete and correct answer.
     Gone(String),
+    /// More would have to be kept than these programs keep.
     TooLarge,
     Late(Duration),
     System(Error),
@@ -72,7 +80,7 @@ impl From<Error> for Failure {
     }
 }
 
-type Done<T> = Result<T, Failure>;
+pub type Done<T> = Result<T, Failure>;
 
 impl Failure {
     fn status(&self) -> i32 {
@@ -84,7 +92,7 @@ impl Failure {
     }
 
     /// Returns the message about it. Empty if there is nothing to say.
-    fn message(&self, path: &str) -> String {
+    pub fn message(&self, path: &str) -> String {
         match self {
             Failure::Refused(text) | Failure::Gone(text) | Failure::Words(text) => text.clone(),
             Failure::TooLarge => "lldpa-live answers with more than 25 MB".into(),
@@ -106,12 +114,28 @@ impl Failure {
     }
 }
 
+/// Returns how many seconds passed since 1970.
+pub fn now() -> i64 {
+    let passed = SystemTime::now().duration_since(UNIX_EPOCH).unwrap_or_default();
+    i64::try_from(passed.as_secs()).unwrap_or(i64::MAX)
+}
+
 /// Returns whether the terminal shows UTF-8: whether the locale names no other set of characters.
 fn is_utf8() -> bool {
     let value = |name: &str| std::env::var(name).ok().filter(|value| !value.is_empty());
     let locale = ["LC_ALL", "LC_CTYPE", "LANG"].into_iter().find_map(value).unwrap_or_default();
     let set = locale.split('.').nth(1).and_then(|rest| rest.split('@').next()).unwrap_or("UTF-8");
     ["utf-8", "utf8"].contains(&&set.to_lowercase()[..])
+}
+
+/// Returns a character, escaped if it is not ASCII, as Python does it.
+fn ascii_of(letter: char) -> String {
+    match u32::from(letter) {
+        0..=0x7f => letter.into(),
+        number @ 0x80..=0xff => format!("\\x{number:02x}"),
+        number @ 0x100..=0xffff => format!("\\u{number:04x}"),
+        number => format!("\\U{number:08x}"),
+    }
 }
 
 /// Returns the text of an error without its number.
@@ -132,32 +156,54 @@ pub fn run(arguments: &[String], host: &dyn Host) -> i32 {
         }
     };
     let path = given.control.clone().unwrap_or_else(|| DEFAULT_PATH.into());
-    match (Client { host, given: &given, path: &path }).answer() {
+    match (Client { host, given, path: &path, print: Print::Shown('?') }).answer() {
         Ok(()) => 0,
         Err(failure) => {
-            complain(&failure.message(&path));
+            complain(NAME, &failure.message(&path));
             failure.status()
         }
     }
 }
 
 /// Writes a message to standard error, without control characters.
-fn complain(text: &str) {
+pub fn complain(name: &str, text: &str) {
     if !text.is_empty() {
-        let mut line = format!("{NAME}: {}", printable(text.as_bytes())).into_bytes();
+        let mut line = format!("{name}: {}", printable(text.as_bytes())).into_bytes();
         line.truncate(LONGEST_MESSAGE);
         line.push(b'\n');
         let _ = std::io::stderr().write_all(&line);
     }
 }
 
-struct Client<'a> {
-    host: &'a dyn Host,
-    given: &'a Given,
+pub struct Client<'a> {
+    pub host: &'a dyn Host,
+    given: Given,
     path: &'a str,
+    print: Print,
 }
 
-impl Client<'_> {
+/// What becomes of what is printed.
+enum Print {
+    /// It is shown, with this in place of characters that the terminal lacks.
+    Shown(char),
+    /// It is shown, with such characters escaped.
+    Escaped,
+    Dropped,
+}
+
+impl<'a> Client<'a> {
+    /// The client of lldpcli, which prints what it makes itself.
+    pub fn lldpcli(host: &'a dyn Host, path: &'a str) -> Client<'a> {
+        Client { host, given: Given::default(), path, print: Print::Escaped }
+    }
+
+    /// Runs a command of lldpa-ctl without its output.
+    pub fn pass_on(&self, words: &[String]) -> Done<()> {
+        let words: Vec<String> = std::iter::once("--".into()).chain(words.iter().cloned()).collect();
+        let given = Given::read(&words).map_err(|why| Failure::Refused(format!("error: {why}")))?;
+        Client { host: self.host, given, path: self.path, print: Print::Dropped }.answer()
+    }
+
     fn answer(&self) -> Done<()> {
         let words = self.words();
         refuse_lldpd(&words)?;
@@ -166,18 +212,30 @@ impl Client<'_> {
             ["help", ..] => self.print(HELP),
             ["version"] => self.print(&format!("{NAME} {VERSION}\n")),
             ["metrics"] => self.publish(),
-            ["details", ..] => self.decode(&words),
-            _ if self.given.json && has_object(&words) => self.decode(&words),
-            ["watch", ref ports @ ..] => self.watch(&listed(ports)),
+            ["watch", ref words @ ..] => self.watch(words),
             _ => {
                 let mut connection = self.connect(PATIENCE)?;
-                let lines = self.lines(&mut connection, &words)?;
-                if self.given.json {
-                    self.print("{}\n")
-                } else {
-                    self.print_lines(&lines)
-                }
+                self.show(&mut connection, &words)
             }
+        }
+    }
+
+    /// Asks lldpa-live, and prints the answer.
+    fn show(&self, connection: &mut Connection, words: &[&str]) -> Done<()> {
+        match words {
+            _ if self.given.json && has_object(words) => self.json(connection, words),
+            _ if self.given.json => self.lines(connection, words).and_then(|_| self.print("{}\n")),
+            ["details", ports @ ..] => self.details(connection, &listed(ports)),
+            ["neighbors", ports @ ..] => {
+                let [live, configuration] =
+                    [connection.ask_for("live", is_read)?, connection.ask(CONFIGURATION)?];
+                self.print_table(&mut self.table(connection, ports)?, &live, &configuration)
+            }
+            ["show", what @ ("neighbors" | "statistics"), ports @ ..] => {
+                lines_of(connection, &format!("show {what}"), &listed(ports), |text| self.print(text))
+            }
+            ["live"] => lines_of(connection, "live", &[], |text| self.print(text)),
+            words => self.lines(connection, words).and_then(|lines| self.print_lines(lines)),
         }
     }
 
@@ -193,7 +251,7 @@ impl Client<'_> {
         same(&words)
     }
 
-    fn connect(&self, patience: Duration) -> Done<Connection> {
+    pub fn connect(&self, patience: Duration) -> Done<Connection> {
         let stream = self.host.connect(self.path, patience)?;
         if self.given.output.is_none() {
             self.host.give_up_root(); // a file of metrics may need its rights
@@ -201,63 +259,54 @@ impl Client<'_> {
         Ok(Connection::new(stream, patience))
     }
 
-    fn print(&self, text: &str) -> Done<()> {
+    pub fn print(&self, text: &str) -> Done<()> {
+        self.print_all(std::iter::once(text))
+    }
+
+    fn print_lines(&self, lines: impl IntoIterator<Item = String>) -> Done<()> {
+        self.print_all(lines.into_iter().flat_map(|line| [line, "\n".into()]))
+    }
+
+    /// Prints texts one after another.
+    fn print_all<Text: AsRef<str>>(&self, texts: impl IntoIterator<Item = Text>) -> Done<()> {
         if self.host.output_was_closed() {
             return Err(Failure::Output(Some("it is closed".into())));
         }
-        let text =
-            if is_utf8() { text.to_string() } else { text.replace(|letter: char| !letter.is_ascii(), "?") };
-        let mut out = std::io::stdout().lock();
-        out.write_all(text.as_bytes()).and_then(|_| out.flush()).map_err(|fault| match fault.kind() {
+        let (mut out, is_utf8) = (BufWriter::new(std::io::stdout().lock()), is_utf8());
+        let mut write = |text: &str| match self.print {
+            Print::Dropped => Ok(()),
+            _ if text.is_ascii() || is_utf8 => out.write_all(text.as_bytes()),
+            Print::Shown(mark) => {
+                out.write_all(text.replace(|letter: char| !letter.is_ascii(), &mark.to_string()).as_bytes())
+            }
+            Print::Escaped => out.write_all(text.chars().map(ascii_of).collect::<String>().as_bytes()),
+        };
+        let written = texts.into_iter().try_for_each(|text| write(text.as_ref()));
+        written.and_then(|_| out.flush()).map_err(|fault| match fault.kind() {
             ErrorKind::BrokenPipe => Failure::Output(None),
             _ => Failure::Output(Some(text_of(&fault))),
         })
     }
 
-    /// Becomes the program that decodes TLVs of organizations.
-    fn decode(&self, words: &[&str]) -> Done<()> {
-        self.print("")?; // fails if standard output was closed, which that program would not notice
-        let beside =
-            std::env::current_exe().ok().and_then(|program| Some(program.parent()?.join(DETAILS_BESIDE)));
-        let program = beside.filter(|path| path.exists()).unwrap_or_else(|| DETAILS.into());
-        let mut command = std::process::Command::new(program);
-        command.args(["--control", self.path]).args(self.given.json.then_some("--json"));
-        let fault = command.arg("--").args(words).exec();
-        let what = if self.given.json { "--json" } else { "details" };
-        Err(Failure::Refused(match fault.kind() {
-            ErrorKind::NotFound => format!("{what} needs the program {DETAILS} of the package lldpa-tools"),
-            _ => format!("{DETAILS}: {}", text_of(&fault)),
-        }))
-    }
-
-    fn width(&self) -> usize {
+    pub fn width(&self) -> usize {
         self.host.terminal_width().unwrap_or(NOT_CUT)
     }
 
     /// Asks lldpa-live, and returns the lines to print.
     fn lines(&self, connection: &mut Connection, words: &[&str]) -> Done<Vec<String>> {
         match words {
-            ["neighbors", ports @ ..] => self.table(&asked(connection, OF_TABLE)?, &listed(ports)),
             ["interfaces", ports @ ..] => {
-                let [neighbors, configuration, live] =
-                    asked(connection, ["show neighbors", "show configuration", "live"])?;
-                let (show, ports) = (show_of(&[&neighbors, &configuration])?, listed(ports));
-                let lines = interfaces(&show, &LiveLines::read(&live.lines()), &ports, self.width());
+                let live = connection.ask_for("live", is_read)?;
+                let (configuration, mut held) = (connection.ask(CONFIGURATION)?, Held::new());
+                each_port(connection, &[], |port| {
+                    held.insert(port.name.into(), port.held);
+                    Ok(())
+                })?;
+                let (show, ports) = (show_of(&[&configuration])?, listed(ports));
+                let lines = interfaces(&held, &show, &LiveLines::read(&live.lines()), &ports, self.width());
                 lines.map_err(Failure::Refused)
             }
-            ["statistics", "summary"] => {
-                let [statistics] = asked(connection, ["show statistics"])?;
-                let sums = summed(&show_of(&[&statistics])?.counters);
-                Ok(counter_lines(&[("all", sums)], self.width()))
-            }
-            ["statistics", ports @ ..] => {
-                let [statistics] = asked(connection, ["show statistics"])?;
-                let show = show_of(&[&statistics])?.only(&listed(ports)).map_err(Failure::Refused)?;
-                Ok(counter_lines(&show.counters, self.width()))
-            }
-            ["show", what @ ("neighbors" | "statistics"), ports @ ..] => {
-                lines_of(connection, what, &listed(ports))
-            }
+            ["statistics", words @ ..] => self.counters(connection, words),
             ["live", word, ..] => {
                 Err(Failure::Refused(format!("extra word: {word} (no word is allowed here)")))
             }
@@ -273,50 +322,111 @@ impl Client<'_> {
         }
     }
 
-    /// Returns the table of neighbors of these ports (all if empty), from the answers to `OF_TABLE`.
-    fn table(&self, [neighbors, live, configuration]: &[Answer; 3], ports: &[String]) -> Done<Vec<String>> {
-        let show = show_of(&[neighbors, configuration])?.only(ports).map_err(Failure::Refused)?;
-        let mut lines = table(&show.ports, self.width());
-        lines.extend(reasons(&show, &LiveLines::read(&live.lines()), self.width()));
-        Ok(lines)
+    fn counters(&self, connection: &mut Connection, words: &[&str]) -> Done<Vec<String>> {
+        let statistics = connection.ask("show statistics")?;
+        let show = show_of(&[&statistics])?;
+        if words == ["summary"] {
+            return Ok(counter_lines(&[("all", Counters::summed(&show.counters))], self.width()));
+        }
+        let show = show.only(&listed(words)).map_err(Failure::Refused)?;
+        Ok(counter_lines(&show.counters, self.width()))
     }
 
-    fn print_lines(&self, lines: &[String]) -> Done<()> {
-        self.print(&lines.iter().map(|line| format!("{line}\n")).collect::<String>())
+    /// Returns the table of neighbors of these ports (all if empty).
+    fn table(&self, connection: &mut Connection, ports: &[&str]) -> Done<Table> {
+        let mut table = Table::default();
+        each_port(connection, &listed(ports), |port| {
+            table.add(port);
+            Ok(())
+        })?;
+        Ok(table)
+    }
+
+    /// Prints a table, and why ports have no neighbor, which the answers to `live` and `show
+    /// configuration` say.
+    fn print_table(&self, table: &mut Table, live: &Answer, configuration: &Answer) -> Done<()> {
+        let (width, show) = (self.width(), show_of(&[configuration])?);
+        let reasons = table.reasons(&show, &LiveLines::read(&live.lines()), width);
+        let count = table.count(width);
+        self.print_lines(table.lines(width).chain(count).chain(reasons))
     }
 
     /// Prints the table, and then a line for each neighbor of these ports that comes, changes or leaves,
-    /// without end.
-    fn watch(&self, ports: &[String]) -> Done<()> {
+    /// without end, or up to a limit. As JSON, only an object in a line for each.
+    fn watch(&self, words: &[&str]) -> Done<()> {
+        let (limit, ports) = limited(words)?;
         let mut connection = self.connect(PATIENCE)?;
-        let answers = asked(&mut connection, OF_TABLE)?;
-        self.print_lines(&self.table(&answers, ports)?)?;
-        let [mut last, ..] = answers;
-        let mut watch = Watch::of(&show_of(&[&last])?.only(ports).map_err(Failure::Refused)?);
-        let mut changes = None;
-        loop {
-            changes = connection.next_changes(changes)?;
-            let answer = match connection.ask("show neighbors") {
-                Err(Failure::Refused(_)) => continue, // the agent waits for an interface
-                answered => answered?,
-            };
-            if !is_older(&last, &answer) {
-                let now = self.host.local_time();
-                for line in watch.news(&show_of(&[&answer])?.only(ports).map_err(Failure::Refused)?) {
-                    self.print(&format!("{now} {line}\n"))?;
-                }
-            }
-            last = answer;
+        let mut watching = Watching::default();
+        if self.given.json {
+            each_port(&mut connection, &ports, |port| watching.begin(port))?;
+        } else {
+            let [live, configuration] =
+                [connection.ask_for("live", is_read)?, connection.ask(CONFIGURATION)?];
+            let mut table = Table::default();
+            each_port(&mut connection, &ports, |port| {
+                table.add(port);
+                watching.begin(port)
+            })?;
+            self.print_table(&mut table, &live, &configuration)?;
         }
+        self.tell(&mut connection, watching, limit, &ports)
+    }
+
+    fn tell(
+        &self,
+        connection: &mut Connection,
+        mut watching: Watching,
+        limit: usize,
+        ports: &[String],
+    ) -> Done<()> {
+        self.each_look(connection, limit, |connection| {
+            let news = watching.news(connection, ports)?;
+            let now = self.host.local_time(now());
+            let since = match self.given.json && !news.is_empty() {
+                true => since_of(connection)?,
+                false => Since::default(),
+            };
+            let line = |one: &News| match self.given.json {
+                true => news_object(one, &now, &since),
+                false => format!("{now} {}", one.line()),
+            };
+            Ok(news.iter().map(line).collect())
+        })
+    }
+
+    /// Prints the texts that are made each time that lldpa-live has counted changes, up to a limit.
+    pub fn each_look(
+        &self,
+        connection: &mut Connection,
+        mut left: usize,
+        mut look: impl FnMut(&mut Connection) -> Done<Vec<String>>,
+    ) -> Done<()> {
+        let mut changes = None;
+        while left > 0 {
+            changes = connection.next_changes(changes, |stream| match self.host.wait(stream)? {
+                true => Ok(()),
+                false => Err(Failure::Output(None)),
+            })?;
+            let texts = match look(connection) {
+                Err(Failure::Refused(_)) => continue, // the agent waits for an interface
+                looked => looked?,
+            };
+            let told = texts.len().min(left);
+            self.print_lines(texts.into_iter().take(told))?;
+            left -= told;
+        }
+        Ok(())
     }
 
     /// Prints the metrics, or writes them to a file. If lldpa-live does not answer, `lldpa_up` is 0.
     fn publish(&self) -> Done<()> {
-        let asked = self.connect(PATIENCE_FOR_METRICS).and_then(|mut connection| measured(&mut connection));
+        let service = self.given.output.as_deref().and_then(service_of);
+        let begun = || Metrics::of(service.clone(), MOST_METRICS);
+        let asked = self.connect(PATIENCE_FOR_METRICS).and_then(|mut one| measured(&mut one, begun));
         let (text, failure) = match asked {
             Ok((text, agent)) if agent == "running" => (text, None),
             Ok((text, agent)) => (text, Some(Failure::Refused(format!("the agent is {agent}")))),
-            Err(failure) => (up(false), Some(failure)),
+            Err(failure) => (up(service.as_deref(), false), Some(failure)),
         };
         match &self.given.output {
             Some(file) => replace(file, &text)
@@ -332,86 +442,69 @@ fn has_object(words: &[&str]) -> bool {
     match words {
         ["show", "neighbors" | "statistics", ..] | ["show", "chassis" | "configuration"] => true,
         ["live"] => true,
-        [first, ..] => ["neighbors", "interfaces", "statistics", "watch"].contains(first),
+        [first, ..] => ["neighbors", "details", "interfaces", "statistics", "watch"].contains(first),
         [] => false,
     }
 }
 
-/// Returns whether two answers about neighbors differ at most in the seconds left.
-fn is_older(before: &Answer, after: &Answer) -> bool {
-    let of_seconds = |line: &str| line.split_once('=').map_or(false, |(key, _)| key.ends_with(".expires"));
-    let (before, after) = (before.lines(), after.lines());
-    let mut pairs = before.iter().zip(&after);
-    before.len() == after.len() && pairs.all(|(old, new)| old == new || of_seconds(old) && of_seconds(new))
-}
-
 /// Returns the metrics and the state of the agent. While the agent waits for an interface, there are no
 /// metrics about its ports.
-fn measured(connection: &mut Connection) -> Done<(String, String)> {
-    let mut live = connection.ask("live")?;
-    let mut answers = Vec::new();
+fn measured(connection: &mut Connection, begun: impl Fn() -> Metrics) -> Done<(String, String)> {
+    let mut live = connection.ask_for("live", is_read)?;
+    let (mut all, mut statistics) = (begun(), Answer::default());
     if LiveLines::read(&live.lines()).is_up() {
-        match measures(connection, &live) {
-            Ok(found) => answers = found,
+        let found = each_port(connection, &[], |port| {
+            all.add(port);
+            Ok(())
+        });
+        match found.and_then(|_| connection.ask("show statistics")) {
+            Ok(found) => statistics = found,
             Err(Failure::Refused(why)) => {
-                live = connection.ask("live")?;
+                live = connection.ask_for("live", is_read)?;
                 if LiveLines::read(&live.lines()).is_up() {
                     return Err(Failure::Refused(why)); // the agent does not wait, so something is wrong
                 }
+                all = begun();
             }
             Err(failure) => return Err(failure),
         }
     }
-    let show = show_of(&answers.iter().collect::<Vec<_>>())?;
     let lines = live.lines();
     let told = LiveLines::read(&lines);
-    let text = metrics(&show, &told).map_err(not_an_answer)?;
+    let parts = all.parts(&show_of(&[&statistics])?.counters, &told).map_err(not_an_answer)?;
     let state = told.own.get(&"agent").map_or("running", |agent| agent);
-    Ok((text, state.into()))
+    Ok((parts.concat(), state.into()))
 }
 
-fn measures(connection: &mut Connection, live: &Answer) -> Done<Vec<Answer>> {
-    let is_large = live.lines().iter().filter(|line| line.contains(".since.")).count() > MANY;
-    let line = "show neighbors";
-    let neighbors = if is_large { connection.ask_by_port(line)? } else { connection.ask(line)? };
-    Ok(vec![neighbors, connection.ask("show statistics")?])
-}
-
-fn not_an_answer(why: String) -> Failure {
+pub fn not_an_answer(why: String) -> Failure {
     Failure::Gone(format!("not an answer of lldpa-live: {why}"))
 }
 
-fn show_of<'a>(answers: &[&'a Answer]) -> Done<Show<'a>> {
+pub fn show_of<'a>(answers: &[&'a Answer]) -> Done<Show<'a>> {
     Show::read(answers.iter().flat_map(|answer| answer.lines()).collect()).map_err(not_an_answer)
 }
 
+/// Returns after how many changes a watch ends, and the names of its ports. A limit comes first.
+fn limited(words: &[&str]) -> Done<(usize, Vec<String>)> {
+    let (limit, ports) = match words {
+        [LIMIT] => return Err(Failure::Refused(format!("a word is missing after {LIMIT}"))),
+        [LIMIT, number, ports @ ..] => (number, ports),
+        ports => return Ok((usize::MAX, listed(ports))),
+    };
+    let is_number = limit.len() < 10 && limit.bytes().all(|octet| octet.is_ascii_digit());
+    match limit.parse() {
+        Ok(number) if is_number && number > 0 => Ok((number, listed(ports))),
+        _ => Err(Failure::Refused(format!("not a number from 1 to {MOST_CHANGES}: {limit}"))),
+    }
+}
+
 /// Returns the names of ports in words, split at commas. The word `ports` may come first.
-fn listed(words: &[&str]) -> Vec<String> {
+pub fn listed(words: &[&str]) -> Vec<String> {
     let names = match words {
         ["ports", names @ ..] if !names.is_empty() => names,
         names => names,
     };
     names.iter().flat_map(|word| word.split(',')).map(String::from).collect()
-}
-
-fn asked<const COUNT: usize>(connection: &mut Connection, lines: [&str; COUNT]) -> Done<[Answer; COUNT]> {
-    let mut answers: [Answer; COUNT] = std::array::from_fn(|_| Answer::default());
-    for (answer, line) in answers.iter_mut().zip(lines) {
-        *answer = connection.ask(line)?;
-    }
-    Ok(answers)
-}
-
-/// Returns the lines of `show WHAT`, or those of some ports.
-fn lines_of(connection: &mut Connection, what: &str, ports: &[String]) -> Done<Vec<String>> {
-    let answer = connection.ask(&format!("show {what}"))?;
-    let mut lines = answer.lines();
-    if !ports.is_empty() {
-        check_ports(ports, &show_of(&[&answer])?.names()).map_err(Failure::Refused)?;
-        let fronts: Vec<String> = ports.iter().map(|port| format!("lldp.{port}.")).collect();
-        lines.retain(|line| fronts.iter().any(|front| line.starts_with(front)));
-    }
-    Ok(lines.into_iter().map(String::from).collect())
 }
 
 /// Returns the answer to a command of the agent. If the agent refuses it, completes its words or says

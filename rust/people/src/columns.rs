@@ -26,13 +26,14 @@ pub fn needed(rows: &[Row]) -> usize {
 }
 
 /// Formats rows in columns. The last `numbers` columns are numbers. If the lines are too wide, the
-/// widest columns are cut to the same width.
-pub fn columns(rows: &[Row], width: usize, numbers: usize) -> Vec<String> {
+/// widest columns are cut to the same width. A line is made when it is printed, since all of them may
+/// take much memory.
+pub fn columns(rows: &[Row], width: usize, numbers: usize) -> impl Iterator<Item = String> + '_ {
     let natural = natural(rows);
     let room = width.saturating_sub(between(&natural));
     let most = fitted(&natural, room);
     let widths: Vec<usize> = natural.iter().map(|width| *width.min(&most)).collect();
-    rows.iter().map(|row| cut(&line_of(row, &widths, numbers), width)).collect()
+    rows.iter().map(move |row| cut(&line_of(row, &widths, numbers), width))
 }
 
 /// Returns the greatest width, at least 1, to which all columns can be cut so that they fit.

@@ -1,54 +1,63 @@
 //! Asks lldpa-live at its control socket. A question is one line of at most 4,096 octets. Its answer is
-//! a line `=N` and then N lines. Answers are limited in size and in time, so that even a service that was
-//! taken over can neither block a client nor fill its memory.
+//! a line `=N` and then N lines. One deadline holds for all that a command asks, and only a part of an
+//! answer is kept at once, so that even a service that was taken over can neither block a client nor
+//! fill its memory.
 
 use crate::client::Failure;
 use crate::texts::{plain, quoted};
-use std::collections::BTreeSet;
 use std::io::{Error, ErrorKind, Read, Result as IoResult, Write};
 use std::os::unix::net::UnixStream;
 use std::time::{Duration, Instant};
 
 const LONGEST_QUESTION: usize = 4096;
-const LONGEST_LINE: usize = 64 << 10; // of a line in an answer, in octets
-const MOST_OCTETS: usize = 25 << 20; // of an answer
-const MOST_OCTETS_OF_PORTS: usize = 64 << 20; // of the answers for one port after another
-const MOST_SKIPPED: usize = 512 << 20; // of the rest of a larger answer
+const LONGEST_LINE: usize = 8 << 10; // of a line in an answer, in octets
+/// What is kept of an answer at once. What 128 neighbors of one port can say is far less.
+const MOST_OCTETS: usize = 25 << 20;
+const MOST_LINES: usize = 200_000;
 const BETWEEN_LOOKS: Duration = Duration::from_millis(500);
-const WITHOUT_END: Duration = Duration::from_secs(1 << 30);
 const MOST_DIGITS: usize = 11; // of the number of lines
 const PIECE: usize = 64 << 10; // octets that are read at once
 /// Why a client may not wait for changes.
 pub const NO_PLACE: &str = "16 clients watch already";
 const REFUSAL: &str = "error: ";
-const MOST_PORTS: usize = 64;
-/// Questions that can be asked for one port after another.
-const BY_PORT: [&str; 2] = ["show neighbors", "live"];
 
-/// The lines of an answer, which are printable ASCII.
+/// The lines of an answer or of a part of it, which are printable ASCII.
 #[derive(Debug, Default)]
 pub struct Answer {
     text: String,
+    count: usize,
 }
 
 impl Answer {
     pub fn lines(&self) -> Vec<&str> {
-        self.text.lines().collect()
+        let mut lines = Vec::with_capacity(self.count);
+        lines.extend(self.text.lines());
+        lines
+    }
+
+    /// Returns all lines, each with a line feed.
+    pub fn text(&self) -> &str {
+        &self.text
+    }
+
+    fn push(&mut self, line: &str) -> Result<(), Failure> {
+        self.count += 1;
+        if self.count > MOST_LINES || self.text.len() + line.len() >= MOST_OCTETS {
+            return Err(Failure::TooLarge);
+        }
+        self.text.extend([line, "\n"]);
+        Ok(())
     }
 }
 
 pub struct Connection {
     stream: UnixStream,
     patience: Duration,
-    /// When the answer must be complete.
+    /// When the last answer must be complete.
     last: Instant,
-    /// How many octets may still be received.
-    room: usize,
     /// Received octets; those before `begin` were read.
     octets: Vec<u8>,
     begin: usize,
-    /// How many lines of the answer were not read yet.
-    left: u64,
 }
 
 fn gone<T>(why: &str) -> Result<T, Failure> {
@@ -56,53 +65,69 @@ fn gone<T>(why: &str) -> Result<T, Failure> {
 }
 
 impl Connection {
+    /// Makes a connection whose answers must all be complete after this time.
     pub fn new(stream: UnixStream, patience: Duration) -> Connection {
-        Connection { stream, patience, last: Instant::now(), room: 0, octets: Vec::new(), begin: 0, left: 0 }
+        Connection { stream, patience, last: Instant::now() + patience, octets: Vec::new(), begin: 0 }
     }
 
-    /// Sends a line and returns its answer. If the answer is too large, asks for one port after another.
+    /// Begins the time anew in which all answers must be complete.
+    pub fn renew(&mut self) {
+        self.last = Instant::now() + self.patience;
+    }
+
+    /// Sends a line and returns its answer.
     pub fn ask(&mut self, line: &str) -> Result<Answer, Failure> {
-        match self.ask_once(line, MOST_OCTETS) {
-            Err(Failure::TooLarge) if BY_PORT.contains(&line) => {
-                let found = self.skip().and_then(|_| self.ask_by_port(line));
-                found.map_err(|fault| match fault {
-                    Failure::Gone(_) | Failure::Late(_) => Failure::TooLarge,
-                    other => other,
-                })
-            }
-            answered => answered,
-        }
+        self.ask_for(line, |_| true)
     }
 
-    /// Asks for one port after another. Returns all lines, each key once.
-    pub fn ask_by_port(&mut self, line: &str) -> Result<Answer, Failure> {
-        let configuration = self.ask_once("show configuration", MOST_OCTETS)?;
-        let (mut all, mut keys) = (Answer::default(), BTreeSet::new());
-        let ends = |line: &str| line.split('=').next().map_or(false, |key| key.ends_with(".status"));
-        for line_of_port in configuration.lines().into_iter().filter(|line| ends(line)).take(MOST_PORTS) {
-            let name = line_of_port.split('.').nth(1).unwrap_or("");
-            let room = (MOST_OCTETS_OF_PORTS - all.text.len()).min(MOST_OCTETS);
-            for one in self.ask_once(&format!("{line} {name}"), room)?.lines() {
-                if keys.insert(one.split('=').next().unwrap_or("").to_string()) {
-                    all.text.extend([one, "\n"]);
-                }
+    /// Sends a line and returns the lines of its answer that are wanted.
+    pub fn ask_for(&mut self, line: &str, is_wanted: impl Fn(&str) -> bool) -> Result<Answer, Failure> {
+        let mut answer = Answer::default();
+        self.each(line, |one| if is_wanted(one) { answer.push(one) } else { Ok(()) })?;
+        Ok(answer)
+    }
+
+    /// Sends a line, and gives its answer in parts. Each line that `begins` one is the first of a part.
+    pub fn ask_in_parts(
+        &mut self,
+        line: &str,
+        begins: impl Fn(&str) -> bool,
+        mut take: impl FnMut(&Answer) -> Result<(), Failure>,
+    ) -> Result<(), Failure> {
+        let mut part = Answer::default();
+        self.each(line, |one| {
+            if begins(one) && part.count > 0 {
+                take(&part)?;
+                part.text.clear();
+                part.count = 0;
             }
+            part.push(one)
+        })?;
+        if part.count > 0 {
+            take(&part)?;
         }
-        Ok(all)
+        Ok(())
     }
 
     /// Waits until lldpa-live has counted other changes of neighbors than these, and returns how many
-    /// it has counted. Looks again soon if lldpa-live does not count them. Fails if too many watch.
-    pub fn next_changes(&mut self, known: Option<String>) -> Result<Option<String>, Failure> {
+    /// it has counted. Looks again soon if lldpa-live does not count them. Fails if too many watch, or
+    /// when `wait` fails, which waits for the answer.
+    pub fn next_changes(
+        &mut self,
+        known: Option<String>,
+        wait: impl FnOnce(&UnixStream) -> Result<(), Failure>,
+    ) -> Result<Option<String>, Failure> {
         if known.is_some() {
             std::thread::sleep(BETWEEN_LOOKS); // so that many changes are told together
         }
         let line = format!("changes {}", known.unwrap_or_default());
-        let patience = std::mem::replace(&mut self.patience, WITHOUT_END);
-        let answer = self.ask(line.trim_end());
-        self.patience = patience;
-        match answer {
-            Ok(answer) => Ok(answer.text.trim_end().strip_prefix("live.changes=").map(String::from)),
+        self.renew();
+        self.send(&octets_of(line.trim_end())?)?;
+        wait(&self.stream)?;
+        self.renew();
+        let mut answer = Answer::default();
+        match self.receive_each(|one| answer.push(one)) {
+            Ok(()) => Ok(answer.text.trim_end().strip_prefix("live.changes=").map(String::from)),
             Err(Failure::Refused(text)) if text != NO_PLACE => {
                 std::thread::sleep(BETWEEN_LOOKS);
                 Ok(None)
@@ -111,29 +136,29 @@ impl Connection {
         }
     }
 
-    fn ask_once(&mut self, line: &str, room: usize) -> Result<Answer, Failure> {
-        let octets = octets_of(line)?;
-        self.last = Instant::now() + self.patience;
-        self.room = room;
-        self.send(&octets)?;
+    /// Sends a line, and gives each line of the answer to `take`.
+    pub fn each(&mut self, line: &str, take: impl FnMut(&str) -> Result<(), Failure>) -> Result<(), Failure> {
+        self.send(&octets_of(line)?)?;
+        self.receive_each(take)
+    }
+
+    /// Gives each line of the next answer to `take`.
+    fn receive_each(&mut self, mut take: impl FnMut(&str) -> Result<(), Failure>) -> Result<(), Failure> {
         let head = self.line()?;
         let count = head.strip_prefix('=').filter(|digits| (1..=MOST_DIGITS).contains(&digits.len()));
         let is_number = |digits: &&str| digits.bytes().all(|octet| octet.is_ascii_digit());
-        self.left = match count.filter(is_number).and_then(|digits| digits.parse().ok()) {
+        let count: u64 = match count.filter(is_number).and_then(|digits| digits.parse().ok()) {
             Some(count) => count,
             None => return gone(&format!("not an answer of lldpa-live: {}", quoted(&head))),
         };
-        let is_one = self.left == 1;
-        let mut answer = Answer::default();
-        while self.left > 0 {
-            answer.text += &self.line()?;
-            answer.text.push('\n');
-            self.left -= 1;
+        for _ in 0..count {
+            let line = self.line()?;
+            match line.strip_prefix(REFUSAL) {
+                Some(text) if count == 1 => return Err(Failure::Refused(text.into())),
+                _ => take(&line)?,
+            }
         }
-        match answer.text.strip_prefix(REFUSAL) {
-            Some(text) if is_one => Err(Failure::Refused(text.trim_end_matches('\n').into())),
-            _ => Ok(answer),
-        }
+        Ok(())
     }
 
     /// Sends octets. If the other end is closed, its answer may say why.
@@ -158,31 +183,12 @@ impl Connection {
             let rest = &self.octets[self.begin..];
             let end = rest.iter().position(|octet| *octet == b'\n');
             if end.unwrap_or(rest.len()) > LONGEST_LINE {
-                return gone("lldpa-live answers with a line of more than 64 kB");
+                return gone("lldpa-live answers with a line of more than 8 kB");
             }
             if let Some(length) = end {
                 self.begin += length + 1;
                 return Ok(plain(&rest[..length]));
             }
-            self.receive()?;
-        }
-    }
-
-    /// Receives the rest of an answer, and keeps none of it.
-    fn skip(&mut self) -> Result<(), Failure> {
-        self.room = MOST_SKIPPED;
-        loop {
-            let rest = &self.octets[self.begin..];
-            let mut ends =
-                rest.iter().enumerate().filter(|(_, octet)| **octet == b'\n').map(|(place, _)| place);
-            let found = ends.clone().count() as u64;
-            if found >= self.left {
-                let last = ends.take(self.left as usize).last().map_or(0, |place| place + 1);
-                self.begin += last;
-                return Ok(());
-            }
-            self.begin += ends.next_back().map_or(0, |place| place + 1);
-            self.left -= found;
             self.receive()?;
         }
     }
@@ -201,14 +207,10 @@ impl Connection {
             return gone("lldpa-live has ended the connection");
         }
         self.octets.extend_from_slice(&piece[..length]);
-        match self.room.checked_sub(length) {
-            Some(room) => self.room = room,
-            None => return Err(Failure::TooLarge),
-        }
         Ok(())
     }
 
-    /// Returns how long to wait for the rest of the answer.
+    /// Returns how long to wait for the rest of the answers.
     fn time_left(&self) -> Result<Duration, Failure> {
         let left = self.last.saturating_duration_since(Instant::now());
         if left.is_zero() {

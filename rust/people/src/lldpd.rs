@@ -5,7 +5,7 @@ type Sentence = (&'static str, &'static str);
 
 const NOT_SENT: &str = "such TLVs are received and shown, but not sent";
 const IN_DEFAULT: &str = "take the option away in /etc/default/lldpa, and restart lldpa";
-const SENTENCES: [Sentence; 37] = [
+const SENTENCES: [Sentence; 36] = [
     ("configure system chassisid", "the chassis ID is --mac in AGENT_OPTIONS of /etc/default/lldpa"),
     ("configure system max-neighbors", "write: configure lldp max-neighbors N"),
     (
@@ -64,20 +64,44 @@ const SENTENCES: [Sentence; 37] = [
     ("pause", "write: configure ports PORT,.. lldp status disabled"),
     ("resume", "write: configure ports PORT,.. lldp status rx-and-tx"),
     ("exit", "each lldpa-ctl runs one command, so there is nothing to leave"),
-    ("watch limit", "end watch with Ctrl-C, or write: lldpa-ctl watch | head -n N"),
     ("watch protocol", "the only protocol is LLDP: write watch"),
     ("show neighbors protocol", "the only protocol is LLDP: write show neighbors"),
 ];
 
 /// Words of lldpd that say how much is shown.
 const AMOUNTS: [&str; 3] = ["details", "summary", "hidden"];
+/// Words of lldpd before the names of ports, or before a number.
+const BEFORE_A_WORD: [&str; 3] = ["ports", LIMIT, "protocol"];
+const LIMIT: &str = "limit";
 const LEAST_SHORTENED: usize = 3; // letters of a word that stands for a longer one
 
+fn stands_for(word: &str, full: &str) -> bool {
+    word == full || word.len() >= LEAST_SHORTENED && full.starts_with(word)
+}
+
 fn begins(words: &[String], front: &str) -> bool {
-    let stands_for = |(word, front): (&String, &str)| {
-        word == front || word.len() >= LEAST_SHORTENED && front.starts_with(&word[..])
-    };
-    words.len() >= front.split(' ').count() && words.iter().zip(front.split(' ')).all(stands_for)
+    let pairs = words.iter().zip(front.split(' '));
+    words.len() >= front.split(' ').count() && pairs.into_iter().all(|(word, front)| stands_for(word, front))
+}
+
+/// Completes the words of lldpd that may follow a show or `watch`.
+fn in_full<'a>(rest: &[&'a str]) -> Vec<&'a str> {
+    let mut full: Vec<&str> = Vec::with_capacity(rest.len());
+    for word in rest {
+        let is_value = full.last().map_or(false, |before| BEFORE_A_WORD.contains(before));
+        let known = AMOUNTS.iter().chain(&BEFORE_A_WORD).find(|known| !is_value && stands_for(word, known));
+        full.push(known.unwrap_or(word));
+    }
+    full
+}
+
+/// Moves a limit to the front.
+fn limit_first(rest: &mut [&str]) {
+    let is_limit = |place: &usize| rest[*place] == LIMIT && (*place == 0 || rest[*place - 1] != "ports");
+    if let Some(place) = (0..rest.len()).find(is_limit) {
+        let end = rest.len().min(place + 2);
+        rest[..end].rotate_right(end - place);
+    }
 }
 
 /// Returns the words of the command that means the same here.
@@ -88,22 +112,26 @@ pub fn same(words: &[String]) -> Vec<String> {
         ["show", what, ref rest @ ..] => (what, rest),
         _ => ("", &words[..]),
     };
-    let is_amount = |word: &&&str| AMOUNTS.contains(*word);
+    let mut rest = in_full(rest);
     let has = |amount: &str| rest.contains(&amount);
     let ours: &[&str] = match front {
         "watch" => &["watch"],
         "interfaces" => &["interfaces"],
         "neighbors" if has("details") => &["details"],
         "neighbors" if has("summary") => &["neighbors"],
-        "neighbors" if has("hidden") => &["show", "neighbors"],
-        "statistics" if rest == ["summary"] => return ["statistics", "summary"].map(String::from).to_vec(),
+        "neighbors" => &["show", "neighbors"],
+        "statistics" if rest == ["summary"] => &["statistics", "summary"],
         "statistics" if has("summary") => &["statistics"],
+        "statistics" => &["show", "statistics"],
         "chassis" if has("details") || has("summary") => &["show", "chassis"],
         "running-configuration" => &["show", "configuration"],
         _ => return words.into_iter().map(String::from).collect(),
     };
-    let rest = rest.iter().filter(|word| !is_amount(word));
-    ours.iter().chain(rest).map(|word| word.to_string()).collect()
+    rest.retain(|word| !AMOUNTS.contains(word));
+    if front == "watch" {
+        limit_first(&mut rest);
+    }
+    ours.iter().chain(&rest).map(|word| word.to_string()).collect()
 }
 
 /// Returns what to do instead of a command of lldpd, if it has no counterpart here.

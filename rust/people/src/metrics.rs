@@ -1,181 +1,80 @@
 //! Writes the state, ports and neighbors of lldpa-live in Prometheus' text format.
 
+use crate::counters::{help_of, keys_of, OfPorts};
 use crate::live_lines::LiveLines;
+use crate::live_metrics::{Metric, Value, NUMBERS, OF_PORTS, STATES};
 use crate::organizational::{max_frame_size, port_vlan};
-use crate::show::{Fault, Neighbor, Read, Show, COUNTERS};
-use crate::texts::quoted;
+use crate::show::{Neighbor, Port, Read};
 use crate::times::seconds_of;
 use std::fmt::{Display, Write};
+use std::path::Path;
+
+/// Octets of the metrics of ports and their neighbors. A file is in memory until it is written, and, on
+/// a tmpfs, beside the one that it replaces.
+pub const MOST_METRICS: usize = 16 << 20;
+/// The name of the file of the first service, whose metrics have no further label.
+const OF_FIRST: &str = "lldpa";
+
+const UP: Metric<'_> = Metric::gauge("lldpa_up", "1 if lldpa-live answers and its agent runs, else 0.");
+const BEGAN: Metric<'_> =
+    Metric::gauge("lldpa_start_time_seconds", "When lldpa-live started, in seconds since 1970.");
+const HELD: Metric<'_> = Metric::gauge("lldpa_neighbors", "Neighbors that the port holds.");
+const TOO_MANY: Metric<'_> = Metric::gauge(
+    "lldpa_too_many",
+    "1 while a neighbor that was dropped for lack of room would still be present, else 0.",
+);
+const INFO: Metric<'_> = Metric::gauge("lldpa_neighbor_info", "Always 1; the labels describe a neighbor.");
+const EXPIRES: Metric<'_> = Metric::gauge("lldpa_expires_seconds", "Seconds until the neighbor ages out.");
+const LEFT_OUT: Metric<'_> = Metric::gauge(
+    "lldpa_neighbors_left_out",
+    "Neighbors without metrics of their own, which would make the file too large.",
+);
 
 type Labels<'a> = Vec<(&'static str, &'a str)>;
-type Sample<'a, V> = (Labels<'a>, V);
 
-struct State {
-    key: &'static str,
-    name: &'static str,
-    text: &'static str,
-    /// The sample of the current state is 1.
-    states: &'static [&'static str],
+/// Returns what names the service in each metric of this file, since node_exporter takes no metric
+/// twice with the same labels, also from two files: the name of the file, unless it is that of the
+/// first service.
+pub fn service_of(path: &str) -> Option<String> {
+    let name = Path::new(path).file_stem().map_or(String::new(), |name| name.to_string_lossy().into_owned());
+    let is_plain = |letter: char| letter.is_ascii_alphanumeric() || "-_.:@".contains(letter);
+    let plain = || name.chars().map(|letter| if is_plain(letter) { letter } else { '_' }).collect();
+    (name != OF_FIRST).then(plain)
 }
 
-const STATES: [State; 2] = [
-    State {
-        key: "agent",
-        name: "lldpa_agent_state",
-        text: "1 for the current state of the agent, 0 for the others.",
-        states: &["running", "waiting"],
-    },
-    State {
-        key: "log",
-        name: "lldpa_log_state",
-        text: "1 for the current state of the log, 0 for the others.",
-        states: &["full", "off", "on", "stalled"],
-    },
-];
-
-/// A value in the answer to `live`, and its metric.
-struct Value {
-    key: &'static str,
-    name: &'static str,
-    kind: &'static str,
-    text: &'static str,
-    /// The word that is shown as 1, and all others as 0. Numbers have none.
-    word: Option<&'static str>,
+/// The metrics of ports, to which one port after another is added.
+#[derive(Default)]
+pub struct Metrics {
+    service: Option<String>,
+    most: usize,
+    held: String,
+    too_many: String,
+    neighbors: String,
+    expires: String,
+    /// How many neighbors have no metrics of their own.
+    left_out: usize,
 }
 
-const fn value(key: &'static str, name: &'static str, kind: &'static str, text: &'static str) -> Value {
-    Value { key, name, kind, text, word: None }
-}
-
-const fn state(key: &'static str, name: &'static str, word: &'static str, text: &'static str) -> Value {
-    Value { key, name, kind: "gauge", text, word: Some(word) }
-}
-
-const NUMBERS: [Value; 3] = [
-    value(
-        "settings-refused",
-        "lldpa_settings_refused",
-        "gauge",
-        "Settings that were refused when they were last read.",
-    ),
-    value(
-        "ports-refused",
-        "lldpa_ports_refused",
-        "gauge",
-        "Interfaces that match a pattern but are not used, because 64 ports are in use.",
-    ),
-    value(
-        "log-lines-lost",
-        "lldpa_log_lines_lost_total",
-        "counter",
-        "Lines of the agent that were not written to the log.",
-    ),
-];
-
-const OF_PORTS: [Value; 7] = [
-    state(
-        "interface",
-        "lldpa_interface_present",
-        "present",
-        "1 if the interface of the port exists, else 0.",
-    ),
-    state("link", "lldpa_link_up", "up", "1 if the port has a carrier, else 0."),
-    value(
-        "kernel-drops",
-        "lldpa_kernel_drops_total",
-        "counter",
-        "Frames that the kernel dropped because lldpa-live did not read them in time.",
-    ),
-    value(
-        "limit-drops",
-        "lldpa_limit_drops_total",
-        "counter",
-        "Frames over the limit of 64 a second, which the agent did not receive.",
-    ),
-    value(
-        "unsent",
-        "lldpa_unsent_total",
-        "counter",
-        "Frames of the agent that the interface did not accept.",
-    ),
-    value(
-        "left-out",
-        "lldpa_left_out_total",
-        "counter",
-        "Frames left out after a pause of lldpa-live: only the last of each port was sent.",
-    ),
-    value(
-        "other-frames",
-        "lldpa_other_frames_total",
-        "counter",
-        "LLDP frames that are not read: tagged, to another address or too long.",
-    ),
-];
-
-impl Value {
-    fn number(&self, text: &str) -> Read<u128> {
-        match self.word {
-            Some(word) => Ok(u128::from(text == word)),
-            None => text.parse().map_err(|_| format!("not a number: {}", quoted(text))),
-        }
+impl Metrics {
+    /// Begins metrics of this service. If those of its ports would have more octets, neighbors are only
+    /// counted.
+    pub fn of(service: Option<String>, most: usize) -> Metrics {
+        Metrics { service, most, ..Metrics::default() }
     }
-}
 
-/// Returns metrics from the answers to `show neighbors`, `show statistics` and `live`.
-pub fn metrics(show: &Show<'_>, live: &LiveLines<'_>) -> Result<String, Fault> {
-    let mut text = String::new();
-    put_live(&mut text, live)?;
-    let ports = show.ports.iter().map(|port| (vec![("port", port.name)], port.held));
-    put(&mut text, "lldpa_neighbors", "gauge", "Neighbors that the port holds.", ports);
-    let ports = show.ports.iter().map(|port| (vec![("port", port.name)], u8::from(port.too_many)));
-    let help = "1 while a neighbor that was dropped for lack of room would still be present, else 0.";
-    put(&mut text, "lldpa_too_many", "gauge", help, ports);
-    put_neighbors(&mut text, show);
-    for (place, (key, help)) in COUNTERS.iter().enumerate() {
-        let name = format!("lldpa_{}_total", key.replace('-', "_"));
-        let samples = show.counters.iter().map(|(port, of)| (vec![("port", *port)], of[place]));
-        put(&mut text, &name, "counter", help, samples);
+    pub fn add(&mut self, port: &Port<'_>) {
+        self.add_port(port.name, port.held, port.too_many);
+        port.neighbors.iter().for_each(|neighbor| self.add_neighbor(neighbor));
     }
-    Ok(text)
-}
 
-/// Returns the metric `lldpa_up`. If lldpa-live does not answer, there is no other.
-pub fn up(is_up: bool) -> String {
-    let mut text = String::new();
-    let help = "1 if lldpa-live answers and its agent runs, else 0.";
-    put(&mut text, "lldpa_up", "gauge", help, [(Vec::new(), u8::from(is_up))]);
-    text
-}
+    /// Adds a port without its neighbors.
+    pub fn add_port(&mut self, name: &str, held: u128, too_many: bool) {
+        let (service, labels) = (self.service.as_deref(), || vec![("port", name)]);
+        put(&mut self.held, service, HELD, [(labels(), held)]);
+        put(&mut self.too_many, service, TOO_MANY, [(labels(), u8::from(too_many))]);
+    }
 
-fn put_live(text: &mut String, live: &LiveLines<'_>) -> Read<()> {
-    text.push_str(&up(live.is_up()));
-    if let Some(began) = live.own.get(&"began") {
-        let help = "When lldpa-live started, in seconds since 1970.";
-        put(text, "lldpa_start_time_seconds", "gauge", help, [(Vec::new(), seconds_of(began)?)]);
-    }
-    for state in &STATES {
-        if let Some(now) = live.own.get(&state.key) {
-            let samples = state.states.iter().map(|one| (vec![("state", *one)], u8::from(one == now)));
-            put(text, state.name, "gauge", state.text, samples);
-        }
-    }
-    for value in &NUMBERS {
-        if let Some(told) = live.own.get(&value.key) {
-            put(text, value.name, value.kind, value.text, [(Vec::new(), value.number(told)?)]);
-        }
-    }
-    for value in &OF_PORTS {
-        let told = live.ports.entries.iter().filter_map(|(port, of)| Some((*port, of.get(&value.key)?)));
-        let numbers = told.map(|(port, text)| Ok((vec![("port", port)], value.number(text)?)));
-        put(text, value.name, value.kind, value.text, numbers.collect::<Read<Vec<_>>>()?);
-    }
-    Ok(())
-}
-
-fn put_neighbors(text: &mut String, show: &Show<'_>) {
-    let help = "Always 1; the labels describe a neighbor.";
-    let begin = text.len();
-    for neighbor in show.neighbors() {
+    pub fn add_neighbor(&mut self, neighbor: &Neighbor<'_>) {
         let number = |value: Option<u64>| value.map_or(String::new(), |value| value.to_string());
         let (vlan, size) = (number(port_vlan(neighbor)), number(max_frame_size(neighbor)));
         let mut labels = identified(neighbor);
@@ -186,11 +85,74 @@ fn put_neighbors(text: &mut String, show: &Show<'_>) {
             ("pvid", &vlan),
             ("max_frame_size", &size),
         ]);
-        put_more(text, begin, "lldpa_neighbor_info", "gauge", help, (labels, 1));
+        let before = [self.neighbors.len(), self.expires.len()];
+        let service = self.service.as_deref();
+        put(&mut self.neighbors, service, INFO, [(labels, 1)]);
+        put(&mut self.expires, service, EXPIRES, [(identified(neighbor), neighbor.expires)]);
+        let size = self.held.len() + self.too_many.len() + self.neighbors.len() + self.expires.len();
+        if size > self.most {
+            self.neighbors.truncate(before[0]);
+            self.expires.truncate(before[1]);
+            self.left_out += 1;
+        }
     }
-    let samples = show.neighbors().map(|neighbor| (identified(neighbor), neighbor.expires));
-    let help = "Seconds until the neighbor ages out.";
-    put(text, "lldpa_expires_seconds", "gauge", help, samples);
+
+    /// Returns the text in parts, with the metrics of these counters and of `live`.
+    pub fn parts(self, counters: &OfPorts<'_>, live: &LiveLines<'_>) -> Read<Vec<String>> {
+        let service = self.service.as_deref();
+        let live = of_live(service, live)?;
+        let (mut of_counters, mut left_out) = (String::new(), String::new());
+        for key in keys_of(counters) {
+            let (name, help) = (format!("lldpa_{}_total", key.replace('-', "_")), help_of(key));
+            let is_taken = NUMBERS.iter().chain(&OF_PORTS).any(|value| value.metric.name == name);
+            let told = counters.iter().filter_map(|(port, of)| Some((vec![("port", *port)], of.of(key)?)));
+            if !is_taken {
+                put_all(
+                    &mut of_counters,
+                    service,
+                    Metric { name: &name, kind: "counter", help: &help },
+                    told,
+                );
+            }
+        }
+        let count = Some((Vec::new(), self.left_out)).filter(|(_, count)| *count > 0);
+        put_all(&mut left_out, service, LEFT_OUT, count);
+        Ok(vec![live, self.held, self.too_many, self.neighbors, self.expires, of_counters, left_out])
+    }
+}
+
+/// Returns the metric `lldpa_up` of this service. If lldpa-live does not answer, there is no other.
+pub fn up(service: Option<&str>, is_up: bool) -> String {
+    let mut text = String::new();
+    put(&mut text, service, UP, [(Vec::new(), u8::from(is_up))]);
+    text
+}
+
+fn of_live(service: Option<&str>, live: &LiveLines<'_>) -> Read<String> {
+    let mut text = up(service, live.is_up());
+    if let Some(began) = live.own.get(&"began") {
+        put_all(&mut text, service, BEGAN, [(Vec::new(), seconds_of(began)?)]);
+    }
+    for state in &STATES {
+        if let Some(now) = live.own.get(&state.key) {
+            let samples = state.states.iter().map(|one| (vec![("state", *one)], u8::from(one == now)));
+            put_all(&mut text, service, state.metric, samples);
+        }
+    }
+    for value in &NUMBERS {
+        if let Some(told) = live.own.get(&value.key) {
+            put_all(&mut text, service, value.metric, [(Vec::new(), value.number(told)?)]);
+        }
+    }
+    for value in &OF_PORTS {
+        put_all(&mut text, service, value.metric, told_of_ports(value, live)?);
+    }
+    Ok(text)
+}
+
+fn told_of_ports<'a>(value: &Value, live: &LiveLines<'a>) -> Read<Vec<(Labels<'a>, u128)>> {
+    let told = live.ports.entries.iter().filter_map(|(port, of)| Some((*port, of.get(&value.key)?)));
+    told.map(|(port, text)| Ok((vec![("port", port)], value.number(text)?))).collect()
 }
 
 /// Returns the labels that identify a neighbor.
@@ -204,45 +166,76 @@ fn identified<'a>(neighbor: &Neighbor<'a>) -> Labels<'a> {
     ]
 }
 
-/// Adds a metric, unless it has no sample.
-fn put<'a, V: Display>(
+/// Adds a metric to a text, unless it has no sample.
+fn put_all<'a, V: Display>(
     text: &mut String,
-    name: &str,
-    kind: &str,
-    help: &str,
-    samples: impl IntoIterator<Item = Sample<'a, V>>,
+    service: Option<&str>,
+    metric: Metric<'_>,
+    samples: impl IntoIterator<Item = (Labels<'a>, V)>,
 ) {
-    let begin = text.len();
-    for sample in samples {
-        put_more(text, begin, name, kind, help, sample);
-    }
+    let mut part = String::new();
+    put(&mut part, service, metric, samples);
+    text.push_str(&part);
 }
 
-/// Adds a sample of the metric that begins in the text at `begin`. Its first sample adds the heading.
-fn put_more<V: Display>(
+/// Adds samples to the text of a metric. The first one adds the heading.
+fn put<'a, V: Display>(
     text: &mut String,
-    begin: usize,
-    name: &str,
-    kind: &str,
-    help: &str,
-    (labels, value): Sample<'_, V>,
+    service: Option<&str>,
+    metric: Metric<'_>,
+    samples: impl IntoIterator<Item = (Labels<'a>, V)>,
 ) {
-    let heading = format!("# HELP {name} {help}\n# TYPE {name} {kind}\n");
-    if text.len() == begin {
-        text.push_str(&heading);
+    let Metric { name, kind, help } = metric;
+    for (labels, value) in samples {
+        if text.is_empty() {
+            let _ = write!(text, "# HELP {name} {help}\n# TYPE {name} {kind}\n");
+            // a String takes all
+        }
+        text.push_str(name);
+        let service = service.map(|service| ("service", service));
+        let mut front = '{';
+        for (label, value) in service.into_iter().chain(labels) {
+            let _ = write!(text, "{front}{label}=\"{}\"", escaped(value));
+            front = ',';
+        }
+        text.push_str(if front == ',' { "}" } else { "" });
+        let _ = writeln!(text, " {value}");
     }
-    text.push_str(name);
-    for (place, (label, value)) in labels.iter().enumerate() {
-        let front = if place == 0 { '{' } else { ',' };
-        let _ = write!(text, "{front}{label}=\"{}\"", escaped(value)); // a String takes all
-    }
-    if !labels.is_empty() {
-        text.push('}');
-    }
-    let _ = writeln!(text, " {value}");
 }
 
 /// Escapes a label's value as the format requires between double quotes.
 fn escaped(value: &str) -> String {
     value.replace('\\', "\\\\").replace('"', "\\\"").replace('\n', "\\n")
+}
+
+#[cfg(test)]
+mod tests {
+    use super::*;
+
+    #[test]
+    fn files_of_other_names_name_their_service() {
+        for (path, wanted) in [
+            ("/run/lldpa-metrics/lldpa.prom", None),
+            ("/run/lldpa2-metrics/lldpa2.prom", Some("lldpa2")),
+            ("lldpa@a:1.prom", Some("lldpa@a:1")),
+            ("/a/\"\\\n\u{e9}{}.prom", Some("______")),
+            ("/a/.prom", Some(".prom")),
+        ] {
+            assert_eq!(service_of(path).as_deref(), wanted, "{path:?}");
+        }
+    }
+
+    #[test]
+    fn each_sample_names_its_service() {
+        assert_eq!(up(None, true).lines().last(), Some("lldpa_up 1"));
+        assert_eq!(up(Some("b"), true).lines().last(), Some("lldpa_up{service=\"b\"} 1"));
+        let mut all = Metrics::of(Some("b".into()), MOST_METRICS);
+        all.add_port("eth0", 0, false);
+        let live = LiveLines::read(&["live.eth0.link=up", "live.log=on", "live.ports-refused=0"]);
+        let text = all.parts(&[], &live).expect("numbers").concat();
+        let samples: Vec<&str> = text.lines().filter(|line| !line.starts_with('#')).collect();
+        assert_eq!(samples.len(), 1 + 4 + 1 + 1 + 2);
+        assert!(samples.iter().all(|line| line.contains("{service=\"b\"")), "{samples:?}");
+        assert!(samples.contains(&"lldpa_neighbors{service=\"b\",port=\"eth0\"} 0"), "{samples:?}");
+    }
 }

@@ -2,7 +2,7 @@
 
 use std::collections::BTreeMap;
 
-#[derive(Debug)]
+#[derive(Clone, Debug)]
 pub struct Ordered<K, V> {
     places: BTreeMap<K, usize>,
     pub entries: Vec<(K, V)>,

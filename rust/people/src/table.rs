@@ -10,7 +10,9 @@ use std::net::Ipv6Addr;
 
 const HEADINGS: [&str; 6] = ["PORT", "NEIGHBOR", "ITS PORT", "VLAN", "MANAGEMENT", "LEFT"];
 const VLAN: usize = 3; // the place of this column
-const MANAGEMENT: usize = 4;
+const FROM_MANAGEMENT: usize = 2; // columns from that of the management addresses on
+/// Octets of a cell. No neighbor can say more: an escaped text of 255 octets has 1,020.
+const LONGEST_CELL: usize = 1024;
 
 /// Why a port may have no neighbor.
 #[derive(Clone, Copy, Eq, Ord, PartialEq, PartialOrd)]
@@ -44,49 +46,107 @@ impl Reason {
     }
 }
 
-/// Returns a table of the ports' neighbors, at most `width` wide, and how many there are. The VLAN
-/// column is shown only if a neighbor sent a VLAN. If the table is too wide, the column of management
-/// addresses is left out first.
-pub fn table(ports: &[Port<'_>], width: usize) -> Vec<String> {
-    let found = ports.iter().flat_map(|port| &port.neighbors).map(row_of);
-    let mut rows: Vec<Row> = found.collect();
-    let mut lines = Vec::new();
-    if !rows.is_empty() {
-        let has_vlan = rows.iter().any(|row| !row[VLAN].is_empty());
-        rows.insert(0, HEADINGS.map(String::from).to_vec());
-        if needed(&without(&rows, has_vlan, true)) > width {
-            rows = without(&rows, has_vlan, false);
-        } else {
-            rows = without(&rows, has_vlan, true);
-        }
-        lines = columns(&rows, width, 1);
-    }
-    lines.extend(count_of(ports, width));
-    lines
+/// A port of the table: its name, how many neighbors it holds, and whether one had no room.
+struct Held {
+    name: String,
+    held: u128,
+    too_many: bool,
 }
 
-/// Returns the rows with or without the columns of VLANs and of management addresses.
-fn without(rows: &[Row], has_vlan: bool, has_management: bool) -> Vec<Row> {
-    let is_shown = |place: usize| (place != VLAN || has_vlan) && (place != MANAGEMENT || has_management);
-    let cells =
-        |row: &Row| (0..row.len()).filter(|place| is_shown(*place)).map(|place| row[place].clone()).collect();
-    rows.iter().map(cells).collect()
+/// A table of the ports' neighbors.
+#[derive(Default)]
+pub struct Table {
+    rows: Vec<Row>,
+    ports: Vec<Held>,
+}
+
+impl Table {
+    pub fn add(&mut self, port: &Port<'_>) {
+        self.count_port(port);
+        self.rows.extend(port.neighbors.iter().map(row_of));
+    }
+
+    /// Adds a port without a row for each of its neighbors.
+    pub fn count_port(&mut self, port: &Port<'_>) {
+        let (name, held, too_many) = (port.name.into(), port.held, port.too_many);
+        self.ports.push(Held { name, held, too_many });
+    }
+
+    /// Fits the table to this width, and returns its lines. The VLAN column is shown only if a neighbor
+    /// sent a VLAN. If the table is too wide, the column of management addresses is left out first.
+    pub fn lines(&mut self, width: usize) -> impl Iterator<Item = String> + '_ {
+        if !self.rows.is_empty() {
+            let has_vlan = self.rows.iter().any(|row| !row[VLAN].is_empty());
+            self.rows.insert(0, HEADINGS.map(String::from).to_vec());
+            if !has_vlan {
+                self.leave_out(VLAN);
+            }
+            if needed(&self.rows) > width {
+                self.leave_out(self.rows[0].len() - FROM_MANAGEMENT);
+            }
+        }
+        columns(&self.rows, width, 1)
+    }
+
+    fn leave_out(&mut self, place: usize) {
+        self.rows.iter_mut().for_each(|row| drop(row.remove(place)));
+    }
+
+    /// Returns the number of neighbors, and a remedy for each port that had too little room.
+    pub fn count(&self, width: usize) -> Vec<String> {
+        let held: u128 = self.ports.iter().map(|port| port.held).sum();
+        let ports = counted(self.ports.len() as u128, "port");
+        let mut said = format!("{} on {ports}.", counted(held, "neighbor"));
+        for port in self.ports.iter().filter(|port| port.too_many) {
+            let remedy = if port.held >= MOST_NEIGHBORS { "" } else { "raise --max-neighbors; " };
+            let most = format!("{remedy}a port holds at most {MOST_NEIGHBORS}");
+            said = format!("{said} {} had no room for a neighbor: {most}.", port.name);
+        }
+        lines_of(&said, width)
+    }
+
+    /// Returns lines that say which ports have no link, and why other ports have no neighbor. The show
+    /// has the status of each port.
+    pub fn reasons(&self, show: &Show<'_>, live: &LiveLines<'_>, width: usize) -> Vec<String> {
+        let mut found = Ordered::<Reason, Vec<String>>::default();
+        for port in &self.ports {
+            let why = Reason::of(&port.name, show, live);
+            if let Some(why) = why.filter(|why| *why == Reason::NoLink || port.held == 0) {
+                found.value(why).push(readable(&port.name));
+            }
+        }
+        let said = |(why, names): &(Reason, Vec<String>)| {
+            let words = why.words()[usize::from(names.len() > 1)];
+            lines_of(&format!("{}{words}", names.join(", ")), width)
+        };
+        found.entries.iter().flat_map(said).collect()
+    }
 }
 
 fn row_of(neighbor: &Neighbor<'_>) -> Row {
     let vlan = port_vlan(neighbor).filter(|vlan| *vlan != 0);
-    vec![
+    let cells = [
         readable(neighbor.port),
         name_of(neighbor),
         port_of(neighbor),
         vlan.map_or(String::new(), |vlan| vlan.to_string()),
         management_of(neighbor),
         format!("{} s", neighbor.expires),
-    ]
+    ];
+    cells.into_iter().map(bounded).collect()
+}
+
+/// Returns a cell, or its beginning if a service that was taken over made it too long.
+fn bounded(mut cell: String) -> String {
+    let is_end = |end: &usize| cell.is_char_boundary(*end);
+    let end = (0..=LONGEST_CELL.min(cell.len())).rev().find(is_end).unwrap_or(0);
+    cell.truncate(end);
+    cell.shrink_to_fit();
+    cell
 }
 
 /// Returns the System Name, or the chassis ID if the neighbor has no name.
-fn name_of(neighbor: &Neighbor<'_>) -> String {
+pub fn name_of(neighbor: &Neighbor<'_>) -> String {
     match neighbor.first("chassis.name") {
         None | Some("") => identifier_text(&neighbor.chassis),
         Some(name) => readable(name),
@@ -94,7 +154,7 @@ fn name_of(neighbor: &Neighbor<'_>) -> String {
 }
 
 /// Returns the Port ID. If it is a MAC address or binary, prefers the Port Description.
-fn port_of(neighbor: &Neighbor<'_>) -> String {
+pub fn port_of(neighbor: &Neighbor<'_>) -> String {
     let description = neighbor.first("port.descr").filter(|text| !text.is_empty());
     match (neighbor.port_id.kind, description) {
         ("mac" | "unhandled", Some(text)) => readable(text),
@@ -107,7 +167,7 @@ fn management_of(neighbor: &Neighbor<'_>) -> String {
     neighbor.management().map_or(String::new(), address_text)
 }
 
-fn identifier_text(identifier: &Identifier<'_>) -> String {
+pub fn identifier_text(identifier: &Identifier<'_>) -> String {
     if identifier.kind == "ip" {
         address_text(identifier.text)
     } else {
@@ -142,34 +202,6 @@ pub fn summary(neighbor: &Neighbor<'_>) -> String {
     parts.join(" ").trim_end_matches(' ').into()
 }
 
-/// Returns the number of neighbors, and a remedy for each port that had too little room.
-pub fn count_of(ports: &[Port<'_>], width: usize) -> Vec<String> {
-    let held: u128 = ports.iter().map(|port| port.held).sum();
-    let mut said = format!("{} on {}.", counted(held, "neighbor"), counted(ports.len() as u128, "port"));
-    for port in ports.iter().filter(|port| port.too_many) {
-        let remedy = if port.held >= MOST_NEIGHBORS { "" } else { "raise --max-neighbors; " };
-        let most = format!("{remedy}a port holds at most {MOST_NEIGHBORS}");
-        said = format!("{said} {} had no room for a neighbor: {most}.", port.name);
-    }
-    lines_of(&said, width)
-}
-
 fn lines_of(text: &str, width: usize) -> Vec<String> {
     wrapped(text, width.max(LEAST_WIDTH_OF_TEXT)).into_iter().map(String::from).collect()
-}
-
-/// Returns lines that say which ports have no link, and why other ports have no neighbor.
-pub fn reasons(show: &Show<'_>, live: &LiveLines<'_>, width: usize) -> Vec<String> {
-    let mut found = Ordered::<Reason, Vec<String>>::default();
-    for port in &show.ports {
-        let why = Reason::of(port.name, show, live);
-        if let Some(why) = why.filter(|why| *why == Reason::NoLink || port.held == 0) {
-            found.value(why).push(readable(port.name));
-        }
-    }
-    let said = |(why, names): &(Reason, Vec<String>)| {
-        let words = why.words()[usize::from(names.len() > 1)];
-        lines_of(&format!("{}{words}", names.join(", ")), width)
-    };
-    found.entries.iter().flat_map(said).collect()
 }

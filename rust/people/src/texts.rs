@@ -55,11 +55,7 @@ fn digit(octet: u8) -> Option<u8> {
 /// Unescapes a text of the agent for people, except what is unsafe on a terminal. A text that is not
 /// ASCII is not escaped.
 pub fn readable(shown: &str) -> String {
-    if shown.is_ascii() {
-        printable(&unescaped(shown))
-    } else {
-        printable(shown.as_bytes())
-    }
+    printable(&octets_shown(shown))
 }
 
 /// Returns octets as a text of visible characters and spaces. Escapes all others.
@@ -92,6 +88,60 @@ fn push_escaped(text: &mut String, octets: &[u8]) {
     for octet in octets {
         let _ = write!(text, "\\x{octet:02x}"); // a String takes all
     }
+}
+
+/// Returns octets as the agent shows them: printable ASCII as it is, a backslash as two, and any other
+/// octet as `\\x` and two digits.
+pub fn shown_text(octets: &[u8]) -> String {
+    let mut text = String::with_capacity(octets.len());
+    for octet in octets {
+        match octet {
+            b'\\' => text.push_str("\\\\"),
+            b' '..=b'~' => text.push(char::from(*octet)),
+            _ => push_escaped(&mut text, &[*octet]),
+        }
+    }
+    text
+}
+
+/// Returns octets in hexadecimal, with a text between them.
+pub fn hex_of(octets: &[u8], between: &str) -> String {
+    octets.iter().map(|octet| format!("{octet:02x}")).collect::<Vec<_>>().join(between)
+}
+
+/// Returns the octets of a shown text. One that is not ASCII is not escaped.
+pub fn octets_shown(shown: &str) -> Vec<u8> {
+    if shown.is_ascii() {
+        unescaped(shown)
+    } else {
+        shown.as_bytes().to_vec()
+    }
+}
+
+/// Returns each character of a text, or an octet that is not UTF-8.
+pub fn letters_of(octets: &[u8]) -> impl Iterator<Item = Result<char, u8>> + '_ {
+    let mut rest = octets;
+    std::iter::from_fn(move || {
+        let letter = first_letter(rest).ok_or_else(|| rest.first().copied().unwrap_or_default());
+        let (first, after) = rest.split_at(rest.len().min(letter.map_or(1, char::len_utf8)));
+        rest = after;
+        (!first.is_empty()).then_some(letter)
+    })
+}
+
+/// Returns whether a character is visible on a terminal and has no other effect.
+pub fn is_shown(letter: char) -> bool {
+    !is_among(letter, &HIDDEN)
+}
+
+/// Returns the octets of a character, escaped as the agent shows them.
+pub fn escaped(letter: Result<char, u8>) -> String {
+    let mut text = String::new();
+    match letter {
+        Ok(letter) => push_escaped(&mut text, letter.encode_utf8(&mut [0; 4]).as_bytes()),
+        Err(octet) => push_escaped(&mut text, &[octet]),
+    }
+    text
 }
 
 /// Returns a line of an answer, in which only printable ASCII stays as it is.

@@ -1,12 +1,14 @@
 //! Tests what is made of answers of lldpa-live: tables, changes and metrics.
 
-use lldpa_people::changes::Watch;
-use lldpa_people::interfaces::{counter_lines, interfaces};
+use lldpa_people::changes::{News, Watch};
+use lldpa_people::counters::{counter_lines, Counters, COUNTERS};
+use lldpa_people::interfaces::interfaces;
 use lldpa_people::live_lines::LiveLines;
-use lldpa_people::metrics::{metrics, up};
-use lldpa_people::show::{Port, Show, COUNTERS};
-use lldpa_people::table::{reasons, table};
+use lldpa_people::metrics::{up, Metrics, MOST_METRICS};
+use lldpa_people::show::{Port, Read, Show};
+use lldpa_people::table::Table;
 use lldpa_people::texts::width_of;
+use std::collections::BTreeMap;
 
 /// Returns the lines of a port with neighbors. A neighbor is a chassis ID, a port ID, and further lines.
 fn port(name: &str, too_many: bool, neighbors: &[&[&str]]) -> String {
@@ -36,6 +38,23 @@ fn named<'a>(name: &'a str, port: &'a str, more: &[&'a str]) -> Vec<&'a str> {
 
 fn table_of(answer: &str, width: usize) -> Vec<String> {
     table(&Show::read(answer.lines().collect()).expect(answer).ports, width)
+}
+
+fn table(ports: &[Port<'_>], width: usize) -> Vec<String> {
+    let mut table = Table::default();
+    ports.iter().for_each(|port| table.add(port));
+    let count = table.count(width);
+    table.lines(width).chain(count).collect()
+}
+
+fn lines_of(news: &[News]) -> Vec<String> {
+    news.iter().map(News::line).collect()
+}
+
+fn reasons(show: &Show<'_>, live: &LiveLines<'_>, width: usize) -> Vec<String> {
+    let mut table = Table::default();
+    show.ports.iter().for_each(|port| table.add(port));
+    table.reasons(show, live, width)
 }
 
 #[test]
@@ -158,8 +177,8 @@ fn nothing_that_controls_a_terminal_is_shown() {
     let answer = port("eth0", true, &[&said, &said[..2]]);
     let show = Show::read(answer.lines().collect()).expect("a port");
     let nobody = port("eth0", false, &[]);
-    let mut watch = Watch::of(&Show::read(nobody.lines().collect()).expect("nobody"));
-    let lines = [table(&show.ports, 200), watch.news(&show)].concat();
+    let mut watch = Watch::of(&Show::read(nobody.lines().collect()).expect("nobody").ports[0]);
+    let lines = [table(&show.ports, 200), lines_of(&watch.news(&show.ports[0]))].concat();
     assert!(lines.concat().bytes().all(|octet| (b' '..=b'~').contains(&octet)), "{lines:?}");
     assert_eq!(lines[1].matches(hostile).count(), 3, "{}", lines[1]);
 }
@@ -177,7 +196,7 @@ fn full_ports_and_silent_ones_are_told() {
         a port holds at most 128.";
     assert_eq!(table(&show.ports, 1000), [full]);
     assert!(table(&show.ports, 40).iter().all(|line| line.len() <= 40));
-    let largest = [Port { name: "p2", held: 128, too_many: true, neighbors: vec![] }];
+    let largest = [Port { name: "p2", held: 128, octets: 7, too_many: true, neighbors: vec![] }];
     let full = "128 neighbors on 1 port. p2 had no room for a neighbor: a port holds at most 128.";
     assert_eq!(table(&largest, 1000), [full]);
     let live = LiveLines::read(&["live.eth0.link=down"]);
@@ -227,23 +246,39 @@ fn ports_have_a_table_of_their_states() {
     let text = format!("{nobody}{SETTINGS}{statuses}");
     let show = Show::read(text.lines().collect()).expect("two answers");
     let live = LiveLines::read(&["live.eth10.interface=present", "live.eth10.link=up", "live.p2.link=\\x1b"]);
+    let held = BTreeMap::from([("eth10".into(), 0)]);
     let lines = [
         "PORT   INTERFACE  LINK  STATUS     NEIGHBORS",
         "eth10  present    up    rx-and-tx          0",
         "eth1   ?          ?     disabled           ?",
         "p2     ?          \\x1b  tx-only            ?",
     ];
-    assert_eq!(interfaces(&show, &live, &[], 80).expect("ports"), lines);
-    let only = interfaces(&show, &live, &["eth1".into()], 80).expect("a port");
+    assert_eq!(interfaces(&held, &show, &live, &[], 80).expect("ports"), lines);
+    let only = interfaces(&held, &show, &live, &["eth1".into()], 80).expect("a port");
     assert_eq!(only[1..], ["eth1  ?          ?     disabled          ?"]);
-    let why = interfaces(&show, &live, &["eth9".into()], 80).expect_err("no port");
+    let why = interfaces(&held, &show, &live, &["eth9".into()], 80).expect_err("no port");
     assert_eq!(why, "no such port: eth9 (eth10, eth1, p2)");
+}
+
+/// Returns counters with these numbers.
+fn counters(numbers: &[u128]) -> Counters<'static> {
+    let mut counters = Counters::default();
+    COUNTERS.iter().zip(numbers).for_each(|(counter, number)| *counters.0.value(counter.key) = *number);
+    counters
+}
+
+fn metrics(show: &Show<'_>, live: &LiveLines<'_>) -> Read<String> {
+    let mut all = Metrics::of(None, MOST_METRICS);
+    show.ports.iter().for_each(|port| all.add(port));
+    all.parts(&show.counters, live).map(|parts| parts.concat())
 }
 
 #[test]
 fn counters_have_a_table_and_a_sum_of_several_ports() {
-    let counters: Vec<(&str, [u128; 9])> =
-        vec![("eth0", [1, 2, 3, 4, 5, 6, 7, 8, 9]), ("eth10", [10, 0, 0, 0, 0, 0, 0, 0, 4_294_967_295])];
+    let counters = [
+        ("eth0", counters(&[1, 2, 3, 4, 5, 6, 7, 8, 9])),
+        ("eth10", counters(&[10, 0, 0, 0, 0, 0, 0, 0, 4_294_967_295])),
+    ];
     let lines = [
         "PORT   SENT  SHUTDOWNS  RECEIVED  DISCARDED  ERRORS  TLVS-DISCARDED  UNRECOGNIZED  AGEOUTS       DROPS",
         "eth0      1          2         3          4       5               6             7        8           9",
@@ -271,10 +306,11 @@ fn changes_are_told_once() {
         (vec![], &["eth0 gone: c p2"]),
     ];
     let nobody = state(&[]);
-    let mut watch = Watch::of(&Show::read(nobody.lines().collect()).expect("nobody"));
+    let mut watch = Watch::of(&Show::read(nobody.lines().collect()).expect("nobody").ports[0]);
     for (neighbors, lines) in steps {
         let answer = state(&neighbors);
-        assert_eq!(watch.news(&Show::read(answer.lines().collect()).expect("a port")), lines);
+        let news = watch.news(&Show::read(answer.lines().collect()).expect("a port").ports[0]);
+        assert_eq!(lines_of(&news), lines);
     }
 }
 
@@ -299,7 +335,7 @@ fn metrics_have_labels_and_headings() {
     ] {
         assert!(told.lines().any(|one| one == line), "{line}\n{told}");
     }
-    assert_eq!(up(false).lines().last(), Some("lldpa_up 0"));
+    assert_eq!(up(None, false).lines().last(), Some("lldpa_up 0"));
     for line in ["live.began=now", "live.settings-refused=x", "live.eth0.unsent=-1"] {
         assert!(metrics(&show, &LiveLines::read(&[line])).is_err(), "{line}");
     }
@@ -309,8 +345,9 @@ fn metrics_have_labels_and_headings() {
 fn each_metric_has_one_heading_with_its_type() {
     let neighbors = [&named("chassis.name=a", "port.ifname=p1", &[])[..], &[MAC, "port.ifname=p2"]];
     let answers = port("eth0", false, &neighbors) + &port("eth1", false, &[]);
-    let counters = ["eth0", "eth1"].map(|port| COUNTERS.map(|(key, _)| format!("lldp.{port}.{key}=1\n")));
-    let text = answers + &counters.concat().concat();
+    let line = |port: &str, key: &str| format!("lldp.{port}.{key}=1\n");
+    let of_port = |port| COUNTERS.iter().map(move |counter| line(port, counter.key));
+    let text = answers + &of_port("eth0").chain(of_port("eth1")).collect::<String>();
     let show = Show::read(text.lines().collect()).expect("two answers");
     let live = LiveLines::read(&["live.log-lines-lost=1", "live.settings-refused=0", "live.eth0.unsent=1"]);
     let told = metrics(&show, &live).expect("numbers");
@@ -345,23 +382,65 @@ fn what_is_no_answer_is_refused_with_its_line() {
 }
 
 #[test]
-fn counters_of_a_newer_agent_are_skipped() {
-    let known: Vec<String> = COUNTERS.iter().map(|(key, _)| format!("lldp.eth0.{key}=7")).collect();
-    for (further, is_read) in [
-        ("lldp.eth0.frames-too-long=3", true),
-        ("lldp.eth0.frames-too-long=03", false),
-        ("lldp.eth0.Frames=3", false),
-        ("lldp.eth0.drops=3", false),
-        ("lldp.eth1.more=3", false),
+fn counters_of_a_newer_agent_are_read() {
+    let known: Vec<String> = COUNTERS.iter().map(|counter| format!("lldp.eth0.{}=7", counter.key)).collect();
+    for (further, wanted) in [
+        ("lldp.eth0.frames-too-long=3", Some(("frames-too-long", 3))),
+        ("lldp.eth0.frames-too-long=03", None),
+        ("lldp.eth0.Frames=3", None),
+        ("lldp.eth0.drops=3", None),
+        ("lldp.eth1.more=3", None),
     ] {
         let lines = known.iter().map(String::as_str).chain([further]).collect();
-        let read = Show::read(lines).map(|show| show.counters);
-        assert_eq!(read.ok(), is_read.then_some(vec![("eth0", [7; 9])]), "{further}");
+        let read = Show::read(lines).ok().map(|mut show| show.counters.remove(0).1 .0.entries);
+        let wanted = wanted.map(|further| {
+            COUNTERS.iter().map(|counter| (counter.key, 7)).chain([further]).collect::<Vec<_>>()
+        });
+        assert_eq!(read, wanted, "{further}");
     }
 }
 
 #[test]
-fn settings_of_a_newer_agent_are_skipped() {
+fn more_than_an_agent_could_have_are_refused() {
+    let names: Vec<String> = (0..65).map(|number| format!("p{number}")).collect();
+    let counters: String = names
+        .iter()
+        .flat_map(|port| COUNTERS.iter().map(move |counter| format!("lldp.{port}.{}=1\n", counter.key)))
+        .collect();
+    let settings = SETTINGS.replace("ports=3", "ports=65");
+    let statuses: String =
+        names.iter().map(|port| format!("configuration.{port}.status=disabled\n")).collect();
+    let keys = ('a'..='z').flat_map(|one| ('a'..='z').map(move |other| format!("{one}{other}"))).take(101);
+    let further: String = keys.map(|key| format!("lldp.p0.{key}=1\n")).collect();
+    let known: String = COUNTERS.iter().map(|counter| format!("lldp.p0.{}=1\n", counter.key)).collect();
+    let long = |key: usize, value: usize| {
+        let line = format!("configuration.{}={}\n", "k".repeat(key), "v".repeat(value));
+        SETTINGS.replacen("configuration.ttl", &(line + "configuration.ttl"), 1)
+    };
+    let statuses_of_three = "configuration.p0.status=disabled\nconfiguration.p1.status=disabled\n\
+        configuration.p2.status=disabled\n";
+    assert!(Show::read((long(64, 1024) + statuses_of_three).lines().collect()).is_ok());
+    for (text, why) in [
+        (long(65, 1), "line 3: expected configuration.ttl=, but found 'configuration.kkk"),
+        (long(1, 1025), "line 3: expected configuration.ttl=, but found 'configuration.k=vvv"),
+        (counters, "line 577: expected a port that is not listed above, but found 'lldp.p64.sent=1'"),
+        (
+            known.clone() + &known,
+            "line 10: expected a port that is not listed above, but found 'lldp.p0.sent=1'",
+        ),
+        (
+            settings + &statuses,
+            "line 73: expected at most 64 ports, but found 'configuration.p64.status=disabled'",
+        ),
+        (known + &further, "line 110: expected at most 100 further keys, but found 'lldp.p0.dw=1'"),
+    ] {
+        let fault = Show::read(text.lines().collect()).expect_err(why);
+        assert!(fault.starts_with(why), "{fault}");
+    }
+}
+
+#[test]
+fn settings_of_a_newer_agent_are_read() {
     let text = format!(
         "{SETTINGS}configuration.eth0.status=rx-only\nconfiguration.ports.status=disabled\n\
         configuration.p2.status=tx-only\n"
@@ -389,9 +468,18 @@ fn settings_of_a_newer_agent_are_skipped() {
     ] {
         for place in 0..=known.len() {
             let lines = [&known[..place], &[further], &known[place..]].concat();
-            let read = Show::read(lines).ok().map(|show| show.statuses.expect("settings").entries);
+            let read = Show::read(lines).ok();
+            let found = read.as_ref().map(|show| show.statuses.as_ref().expect("settings").entries.clone());
             let wanted = (place > 0 && places.contains(&place)).then(|| statuses.to_vec());
-            assert_eq!(read, wanted, "{further} after {place} lines");
+            assert_eq!(found, wanted, "{further} after {place} lines");
+            let (front, value) = further.split_once('=').unwrap_or((further, ""));
+            let of = |show: &Show<'_>| match front.split('.').collect::<Vec<_>>()[..] {
+                [_, key] => show.settings.get(&key).copied().map(String::from),
+                [_, port, key] => show.of_ports.get(&port)?.get(&key).copied().map(String::from),
+                _ => None,
+            };
+            let found = read.as_ref().map(of);
+            assert_eq!(found, wanted.map(|_| Some(value.into())), "{further} after {place} lines");
         }
     }
 }

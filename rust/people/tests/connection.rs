@@ -48,8 +48,8 @@ fn answers_are_read_line_by_line() {
         (b"=\n", Err("Gone(\"not an answer of lldpa-live: '='\")")),
         (b"=+1\n", Err("Gone(\"not an answer of lldpa-live: '=+1'\")")),
         (b"=999999999999\n", Err("Gone(\"not an answer of lldpa-live: '=999999999999'\")")),
-        (&long, Err("Gone(\"lldpa-live answers with a line of more than 64 kB\")")),
-        (&ended, Err("Gone(\"lldpa-live answers with a line of more than 64 kB\")")),
+        (&long, Err("Gone(\"lldpa-live answers with a line of more than 8 kB\")")),
+        (&ended, Err("Gone(\"lldpa-live answers with a line of more than 8 kB\")")),
     ] {
         let octets = octets.to_vec();
         let mut connection = served(move |_| octets.clone(), PATIENCE);
@@ -74,20 +74,59 @@ fn a_service_that_ends_or_is_silent_holds_up_nobody() {
 }
 
 #[test]
-fn a_large_answer_is_asked_for_port_by_port() {
-    let answer = |line: &str| match line {
-        "show neighbors" => lines_of(&format!("{}\n", "a".repeat(999)).repeat(27_000)),
-        "show configuration" => {
-            lines_of("configuration.ports=2\nconfiguration.eth0.status=a\nconfiguration.eth1.status=b\n")
-        }
-        port => lines_of(&format!("both=1\n{}=2\n", port.replace(' ', "."))),
+fn one_deadline_holds_for_all_answers() {
+    let slow = |_: &str| {
+        thread::sleep(Duration::from_millis(30));
+        b"=1\na\n".to_vec()
     };
-    let mut connection = served(answer, PATIENCE);
-    let lines = ["both=1", "show.neighbors.eth0=2", "show.neighbors.eth1=2"];
-    assert_eq!(told(&mut connection, "show neighbors"), Ok(lines.map(String::from).to_vec()));
-    assert!(served(answer, PATIENCE).ask("show neighbors ").is_ok());
-    let other = |_: &str| lines_of(&format!("{}\n", "a".repeat(999)).repeat(27_000));
-    assert!(matches!(served(other, PATIENCE).ask("show chassis"), Err(Failure::TooLarge)));
+    let mut connection = served(slow, Duration::from_millis(100));
+    let answered = (0..10).take_while(|_| connection.ask("live").is_ok()).count();
+    assert!((1..4).contains(&answered), "{answered}");
+    connection.renew();
+    assert!(connection.ask("live").is_ok());
+}
+
+#[test]
+fn no_more_is_kept_than_one_port_can_say() {
+    let long = |count: usize| lines_of(&format!("{}\n", "a".repeat(999)).repeat(count));
+    for (octets, is_kept) in [
+        (long(26_000), true),
+        (long(27_000), false),
+        (lines_of(&"\n".repeat(200_000)), true),
+        (lines_of(&"\n".repeat(200_001)), false),
+        (lines_of(&format!("{}\n", "\u{e9}".repeat(450)).repeat(15_000)), false), // escaped, 27 MB
+    ] {
+        let mut connection = served(move |_| octets.clone(), PATIENCE);
+        match connection.ask("live") {
+            Ok(_) => assert!(is_kept),
+            Err(Failure::TooLarge) => assert!(!is_kept),
+            Err(other) => panic!("{other:?}"),
+        }
+    }
+}
+
+#[test]
+fn an_answer_comes_in_parts() {
+    let ports = (0..30).map(|number| format!("head={number}\n{}", "line=x\n".repeat(100_000)));
+    let octets = lines_of(&ports.collect::<String>());
+    let mut connection = served(move |_| octets.clone(), PATIENCE);
+    let (mut heads, begins) = (Vec::new(), |line: &str| line.starts_with("head="));
+    let asked = connection.ask_in_parts("show neighbors", begins, |part| {
+        assert_eq!(part.lines().len(), 100_001);
+        heads.push(part.lines()[0].to_string());
+        Ok(())
+    });
+    assert!(asked.is_ok());
+    assert_eq!(heads, (0..30).map(|number| format!("head={number}")).collect::<Vec<_>>());
+    let first = connection.ask_in_parts("show neighbors", begins, |_| Err(Failure::Output(None)));
+    assert!(matches!(first, Err(Failure::Output(None))));
+}
+
+#[test]
+fn a_watch_ends_when_nobody_reads_it() {
+    let mut connection = served(|_| Vec::new(), PATIENCE);
+    let waited = connection.next_changes(None, |_| Err(Failure::Output(None)));
+    assert!(matches!(waited, Err(Failure::Output(None))));
 }
 
 #[test]

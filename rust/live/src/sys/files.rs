@@ -48,6 +48,38 @@ pub fn give(path: &str, user: Option<u32>, group: Option<u32>) -> Result<()> {
         .map(drop)
 }
 
+const OF_ACCESS: &[u8] = b"system.posix_acl_access\0";
+/// The kinds of entries of a list of access rights, in the order of the list. (linux/posix_acl.h)
+const OWNER: u16 = 0x01;
+const OF_GROUP_OF_FILE: u16 = 0x04;
+const GROUP: u16 = 0x08;
+const MASK: u16 = 0x10;
+const OTHERS: u16 = 0x20;
+const READ_AND_WRITE: u16 = 6;
+const NOBODY: u32 = u32::MAX; // in entries without a user or a group
+
+/// Lets the owner of a file and a group read and write it, and nobody else, by a list of access
+/// rights. The owner needs no right for that, and need not belong to the group.
+pub fn let_group_use(path: &str, group: u32) -> Result<()> {
+    let path = CString::new(path)?;
+    let entries = [
+        (OWNER, READ_AND_WRITE, NOBODY),
+        (OF_GROUP_OF_FILE, 0, NOBODY),
+        (GROUP, READ_AND_WRITE, group),
+        (MASK, READ_AND_WRITE, NOBODY),
+        (OTHERS, 0, NOBODY),
+    ];
+    let mut list = 2u32.to_le_bytes().to_vec(); // the version
+    for (kind, rights, who) in entries {
+        list.extend_from_slice(&[kind, rights].map(u16::to_le_bytes).concat());
+        list.extend_from_slice(&who.to_le_bytes());
+    }
+    let (name, start) = (OF_ACCESS.as_ptr().cast(), list.as_ptr().cast());
+    // SAFETY: both texts end with a zero. The kernel only reads the list, whose length is stated. All
+    // of them outlive the call.
+    checked(unsafe { libc::setxattr(path.as_ptr(), name, start, list.len(), 0) }).map(drop)
+}
+
 /// Returns an error if this process may not create files in a folder.
 pub fn may_write(path: &str) -> Result<()> {
     let path = CString::new(path)?;

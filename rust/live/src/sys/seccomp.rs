@@ -42,7 +42,6 @@ const ALLOWED: &[c_long] = &[
     libc::SYS_fchmod,
     libc::SYS_fchmodat,
     libc::SYS_fchownat,
-    libc::SYS_fcntl,
     libc::SYS_flock,
     libc::SYS_fstat,
     libc::SYS_ftruncate,
@@ -55,6 +54,7 @@ const ALLOWED: &[c_long] = &[
     libc::SYS_readlinkat,
     libc::SYS_renameat,
     libc::SYS_renameat2,
+    libc::SYS_setxattr,
     libc::SYS_statx,
     libc::SYS_umask,
     libc::SYS_unlinkat,
@@ -114,6 +114,7 @@ const OLDER: &[c_long] = &[];
 /// What an argument must be.
 enum Argument {
     Is(c_int),
+    OneOf(&'static [c_int]),
     /// None of these bits is set.
     Lacks(c_int),
 }
@@ -129,6 +130,11 @@ const LIMITED: &[(c_long, &[(usize, Argument)])] = &[
         &[(1, Argument::Is(libc::SOL_PACKET)), (2, Argument::Is(libc::PACKET_ADD_MEMBERSHIP))],
     ),
     (libc::SYS_ioctl, &[(1, Argument::Is(libc::FIONBIO as c_int))]),
+    // no signal for another process, and no lease
+    (
+        libc::SYS_fcntl,
+        &[(1, Argument::OneOf(&[libc::F_DUPFD_CLOEXEC, libc::F_GETFD, libc::F_SETFD, libc::F_GETFL]))],
+    ),
     (libc::SYS_mmap, &[(2, Argument::Lacks(libc::PROT_EXEC))]),
     (libc::SYS_mprotect, &[(2, Argument::Lacks(libc::PROT_EXEC))]),
     (libc::SYS_prctl, &[(0, Argument::Is(libc::PR_SET_NAME))]),
@@ -174,18 +180,25 @@ fn steps() -> Option<Vec<sock_filter>> {
 
 /// Adds the steps that allow a call with these arguments, and refuse it with others.
 fn limit(steps: &mut Vec<sock_filter>, number: c_long, arguments: &[(usize, Argument)]) {
-    let length = 3 * arguments.len() as u8 + 1;
-    steps.push(jump(libc::BPF_JEQ, number as u32, 0, length));
+    let mut further = Vec::new();
     for (place, wanted) in arguments {
         // All limited arguments fit in 32 bits, which are the lower half of the place.
-        steps.push(load(ARGUMENTS + 8 * *place as u32));
-        steps.push(match wanted {
-            Argument::Is(value) => jump(libc::BPF_JEQ, *value as u32, 1, 0),
-            Argument::Lacks(bits) => jump(libc::BPF_JSET, *bits as u32, 0, 1),
-        });
-        steps.push(answer(REFUSE));
+        further.push(load(ARGUMENTS + 8 * *place as u32));
+        match wanted {
+            Argument::Is(value) => further.push(jump(libc::BPF_JEQ, *value as u32, 1, 0)),
+            Argument::OneOf(values) => further.extend(
+                (1..=values.len() as u8)
+                    .rev()
+                    .zip(*values)
+                    .map(|(left, value)| jump(libc::BPF_JEQ, *value as u32, left, 0)),
+            ),
+            Argument::Lacks(bits) => further.push(jump(libc::BPF_JSET, *bits as u32, 0, 1)),
+        }
+        further.push(answer(REFUSE));
     }
-    steps.push(answer(ALLOW));
+    further.push(answer(ALLOW));
+    steps.push(jump(libc::BPF_JEQ, number as u32, 0, further.len() as u8));
+    steps.append(&mut further);
 }
 
 /// Installs the filter for all threads of this process, for good. The process must have set
@@ -211,6 +224,169 @@ mod tests {
     use std::os::unix::process::ExitStatusExt;
     use std::process::{Command, Output, Stdio};
     use std::ptr::null_mut;
+
+    /// What the filter allows with any arguments, as numbers of x86-64 (asm/unistd_64.h).
+    #[cfg(target_arch = "x86_64")]
+    const TABLE: &[(u32, &str)] = &[
+        (0, "read"),
+        (1, "write"),
+        (2, "open"),
+        (3, "close"),
+        (4, "stat"),
+        (5, "fstat"),
+        (6, "lstat"),
+        (7, "poll"),
+        (8, "lseek"),
+        (11, "munmap"),
+        (12, "brk"),
+        (13, "rt_sigaction"),
+        (14, "rt_sigprocmask"),
+        (15, "rt_sigreturn"),
+        (20, "writev"),
+        (21, "access"),
+        (24, "sched_yield"),
+        (25, "mremap"),
+        (28, "madvise"),
+        (35, "nanosleep"),
+        (39, "getpid"),
+        (42, "connect"),
+        (44, "sendto"),
+        (45, "recvfrom"),
+        (46, "sendmsg"),
+        (47, "recvmsg"),
+        (48, "shutdown"),
+        (49, "bind"),
+        (50, "listen"),
+        (55, "getsockopt"),
+        (60, "exit"),
+        (63, "uname"),
+        (73, "flock"),
+        (77, "ftruncate"),
+        (79, "getcwd"),
+        (80, "chdir"),
+        (81, "fchdir"),
+        (82, "rename"),
+        (83, "mkdir"),
+        (87, "unlink"),
+        (89, "readlink"),
+        (90, "chmod"),
+        (91, "fchmod"),
+        (92, "chown"),
+        (95, "umask"),
+        (96, "gettimeofday"),
+        (107, "geteuid"),
+        (131, "sigaltstack"),
+        (186, "gettid"),
+        (188, "setxattr"),
+        (201, "time"),
+        (202, "futex"),
+        (204, "sched_getaffinity"),
+        (217, "getdents64"),
+        (219, "restart_syscall"),
+        (228, "clock_gettime"),
+        (230, "clock_nanosleep"),
+        (231, "exit_group"),
+        (232, "epoll_wait"),
+        (233, "epoll_ctl"),
+        (254, "inotify_add_watch"),
+        (257, "openat"),
+        (258, "mkdirat"),
+        (260, "fchownat"),
+        (262, "newfstatat"),
+        (263, "unlinkat"),
+        (264, "renameat"),
+        (267, "readlinkat"),
+        (268, "fchmodat"),
+        (269, "faccessat"),
+        (271, "ppoll"),
+        (273, "set_robust_list"),
+        (281, "epoll_pwait"),
+        (288, "accept4"),
+        (291, "epoll_create1"),
+        (294, "inotify_init1"),
+        (299, "recvmmsg"),
+        (316, "renameat2"),
+        (318, "getrandom"),
+        (332, "statx"),
+        (334, "rseq"),
+        (439, "faccessat2"),
+    ];
+
+    /// Answers a call as the kernel does.
+    fn decided(steps: &[sock_filter], architecture: u32, number: u32, arguments: [u32; 6]) -> u32 {
+        let (mut next, mut loaded) = (0, 0);
+        loop {
+            let step = steps[next];
+            next += 1;
+            let is_so = match u32::from(step.code) & 0xf0 {
+                libc::BPF_JEQ => loaded == step.k,
+                _ => loaded & step.k != 0, // BPF_JSET
+            };
+            match (u32::from(step.code) & 7, step.k) {
+                (libc::BPF_RET, answer) => return answer,
+                (libc::BPF_JMP, _) => next += usize::from(if is_so { step.jt } else { step.jf }),
+                (_, NUMBER) => loaded = number,
+                (_, ARCHITECTURE_AT) => loaded = architecture,
+                (_, place) => loaded = arguments[(place - ARGUMENTS) as usize / 8],
+            }
+        }
+    }
+
+    /// A number that no limited argument allows.
+    #[cfg(target_arch = "x86_64")]
+    const WRONG: u32 = 0x7fff_fff7;
+
+    #[test]
+    #[cfg(target_arch = "x86_64")]
+    fn the_filter_allows_what_the_table_has_and_nothing_else() {
+        let steps = steps().expect("a known architecture");
+        let own = ARCHITECTURE.expect("a known architecture");
+        for number in 0..2000 {
+            let is_allowed = decided(&steps, own, number, [WRONG; 6]) == ALLOW;
+            let found = TABLE.iter().find(|one| one.0 == number);
+            assert_eq!(is_allowed, found.is_some(), "{number} {found:?}");
+            let other_kind = 0x4000_0000 | number; // the numbers of x32
+            assert_eq!(decided(&steps, own, other_kind, [0; 6]), REFUSE, "{number}");
+            for other in [0x4000_0003, 0xc000_00b7, 0] {
+                assert_eq!(decided(&steps, other, number, [0; 6]), REFUSE, "{number} of {other:x}");
+            }
+        }
+    }
+
+    #[test]
+    #[cfg(target_arch = "x86_64")]
+    fn limited_calls_are_allowed_with_these_arguments_alone() {
+        let steps = steps().expect("a known architecture");
+        let own = std::process::id();
+        // the number and the name of a call, the place of an argument, the values that are allowed,
+        // and some others; all further arguments are allowed ones
+        type Row<'a> = (u32, &'a str, [u32; 6], usize, &'a [u32], &'a [u32]);
+        let rows: &[Row<'_>] = &[
+            (41, "socket", [1, 1, 0, 0, 0, 0], 0, &[1], &[0, 2, 10, 16, 17, 38, 40]),
+            (54, "setsockopt", [0, 263, 1, 0, 0, 0], 1, &[263], &[0, 1, 6, 17, 262, 264]),
+            (54, "setsockopt", [0, 263, 1, 0, 0, 0], 2, &[1], &[0, 2, 3, 5, 13, 18]),
+            (16, "ioctl", [0, 0x5421, 0, 0, 0, 0], 1, &[0x5421], &[0, 0x5401, 0x5412, 0x8914, 0x5420]),
+            (72, "fcntl", [0, 1, 0, 0, 0, 0], 1, &[1, 2, 3, 1030], &[0, 4, 5, 6, 8, 10, 15, 1024, 1026]),
+            (9, "mmap", [0, 0, 3, 0, 0, 0], 2, &[0, 1, 2, 3], &[4, 5, 6, 7]),
+            (10, "mprotect", [0, 0, 3, 0, 0, 0], 2, &[0, 1, 2, 3], &[4, 5, 6, 7]),
+            (157, "prctl", [15, 0, 0, 0, 0, 0], 0, &[15], &[0, 4, 8, 22, 23, 24, 36, 38, 47, 53]),
+            (234, "tgkill", [own, 0, 6, 0, 0, 0], 0, &[own], &[0, 1, own + 1]),
+            (234, "tgkill", [own, 0, 6, 0, 0, 0], 2, &[6], &[0, 9, 15, 19]),
+        ];
+        for (number, name, arguments, place, allowed, others) in rows {
+            for (values, wanted) in [(allowed, ALLOW), (others, REFUSE)] {
+                for value in *values {
+                    let mut given = *arguments;
+                    given[*place] = *value;
+                    let found = decided(&steps, ARCHITECTURE.expect("a known one"), *number, given);
+                    assert_eq!(found, wanted, "{name} {given:?}");
+                }
+            }
+        }
+        let limited: std::collections::BTreeSet<u32> = rows.iter().map(|row| row.0).collect();
+        let ours: std::collections::BTreeSet<u32> = LIMITED.iter().map(|one| one.0 as u32).collect();
+        assert_eq!(limited.len(), ours.len() + 1, "each limited call, and tgkill, has a row");
+    }
 
     /// Runs in a process of its own: sets the filter, and says of each call how it ended.
     #[test]

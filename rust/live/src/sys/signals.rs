@@ -49,6 +49,20 @@ pub fn open() -> Result<File> {
     unsafe { opened(libc::signalfd(-1, &set, libc::SFD_CLOEXEC | libc::SFD_NONBLOCK)) }
 }
 
+/// Lets the kernel forget each child process that has ended.
+pub fn forget_children() {
+    // SAFETY: the call sets no handler.
+    unsafe { libc::signal(libc::SIGCHLD, libc::SIG_IGN) };
+}
+
+/// Lets this process go on at each of these signals.
+pub fn ignore_all() {
+    for number in READ {
+        // SAFETY: the call sets no handler.
+        unsafe { libc::signal(number, libc::SIG_IGN) };
+    }
+}
+
 /// Reads the next signal. None if none waits.
 pub fn next(file: &mut File) -> Option<Signal> {
     let mut room = [0; size_of::<libc::signalfd_siginfo>()];

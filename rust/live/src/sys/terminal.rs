@@ -1,6 +1,8 @@
 //! The terminal, the local time, and signals of a program that people run.
 
+use std::io::{ErrorKind, Result};
 use std::mem::MaybeUninit;
+use std::os::unix::io::{AsRawFd, BorrowedFd};
 use std::sync::atomic::{AtomicBool, Ordering};
 
 const INTERRUPTED: libc::c_int = 130; // the exit status that a shell gives to SIGINT
@@ -34,14 +36,41 @@ pub fn width() -> Option<usize> {
     Some(size.ws_col.into()).filter(|columns| answer == 0 && *columns > 0)
 }
 
-/// Returns the local time in a form like `2026-11-27T10:15:00+0100`.
-pub fn local_time() -> String {
+/// Returns whether standard output is a terminal.
+pub fn is_output() -> bool {
+    is_terminal(libc::STDOUT_FILENO)
+}
+
+/// Returns whether standard input is a terminal.
+pub fn is_input() -> bool {
+    is_terminal(libc::STDIN_FILENO)
+}
+
+fn is_terminal(file: libc::c_int) -> bool {
+    // SAFETY: the call takes only a number.
+    unsafe { libc::isatty(file) == 1 }
+}
+
+/// Waits until a file can be read or has ended, and then returns true. Returns false as soon as nobody
+/// reads standard output any more.
+pub fn wait_for(file: BorrowedFd<'_>) -> Result<bool> {
+    let awaited = |fd, events| libc::pollfd { fd, events, revents: 0 };
+    let mut files = [awaited(file.as_raw_fd(), libc::POLLIN), awaited(libc::STDOUT_FILENO, 0)];
+    loop {
+        // SAFETY: the kernel reads and writes the two local values.
+        match super::checked(unsafe { libc::poll(files.as_mut_ptr(), 2, -1) }) {
+            Err(fault) if fault.kind() == ErrorKind::Interrupted => (),
+            answer => return answer.map(|_| files[1].revents == 0),
+        }
+    }
+}
+
+/// Returns the local time so many seconds after 1970, in a form like `2026-11-27T10:15:00+0100`.
+pub fn local_time(seconds: i64) -> String {
     let mut time = MaybeUninit::<libc::tm>::zeroed();
-    // SAFETY: the first call takes no address. The second reads the seconds and writes one `tm`, for
-    // which all zeros are a valid value. It also reads the time zone in the environment, which
-    // nothing in this program changes.
+    // SAFETY: the call reads the seconds and writes one `tm`, for which all zeros are a valid value. It
+    // also reads the time zone in the environment, which nothing in this program changes.
     let time = unsafe {
-        let seconds = libc::time(std::ptr::null_mut());
         libc::localtime_r(&seconds, time.as_mut_ptr());
         time.assume_init()
     };

@@ -1,85 +1,116 @@
 //! TLVs of IEEE 802.1 about data center bridging.
 
-use super::octets::{masked, meaning, number, Meaning};
+use super::kind::{once, own_tlv, row_in, Kind};
+use super::layout::{each, flag, joined, made, name_in, number, numbers, reserved, Field, Names, Values};
+use crate::json::Json;
 
-const CLASSES: usize = 8; // of priorities, and of traffic classes
+const GROUP: &str = "Bridging";
+const CLASSES: i64 = 8; // of priorities, and of traffic classes
+const ALGORITHMS: Names = &[
+    (0, "strict priority"),
+    (1, "credit-based shaper"),
+    (2, "enhanced transmission selection"),
+    (255, "vendor specific"),
+];
+const SHORT: Names = &[(0, "strict"), (1, "CBS"), (2, "ETS"), (255, "vendor")];
+const SELECTORS: Names =
+    &[(1, "EtherType"), (2, "TCP or SCTP port"), (3, "UDP or DCCP port"), (4, "TCP, SCTP, UDP or DCCP port")];
 
-fn willing(flags: u8) -> &'static str {
-    if flags & 0x80 != 0 {
+/// The traffic class of each priority, and the percentage and the algorithm of each class.
+const CLASSES_BY_PRIORITY: Field = numbers("classes", 8, 4);
+const BANDWIDTHS: Field = numbers("bandwidths", 8, 8);
+const ALGORITHMS_BY_CLASS: Field = numbers("algorithms", 8, 8).names(ALGORITHMS);
+/// ETS Configuration. A number of classes of 0 means 8.
+static ETS: [Field; 7] = [
+    flag("willing"),
+    flag("credit_based_shaper"),
+    reserved(3),
+    number("most_classes", 3).by(|ets| Json::Number(most_classes(ets).unsigned_abs().into())),
+    CLASSES_BY_PRIORITY,
+    BANDWIDTHS,
+    ALGORITHMS_BY_CLASS,
+];
+static RECOMMENDATION: [Field; 4] = [reserved(8), CLASSES_BY_PRIORITY, BANDWIDTHS, ALGORITHMS_BY_CLASS];
+/// Priority-based Flow Control: a bit for each priority, and how many may be enabled.
+static FLOW_CONTROL: [Field; 5] = [
+    flag("willing"),
+    flag("macsec_bypass"),
+    reserved(2),
+    number("most_classes", 4),
+    number("enabled", 8).by(|flow| {
+        Json::List(enabled(flow).map(|priority| Json::Number(priority.unsigned_abs().into())).collect())
+    }),
+];
+static APPLICATIONS: [Field; 2] = [reserved(8), each("entries", &APPLICATION)];
+static APPLICATION: [Field; 5] = [
+    number("priority", 3),
+    reserved(2),
+    number("selector", 3),
+    made("selector_name", |one| name_in(SELECTORS, one.number("selector")).into()),
+    number("protocol", 16),
+];
+
+pub static KINDS: [Kind; 4] = [
+    once(
+        &[own_tlv("0080c2.9", &ETS)],
+        &[row_in(GROUP, "ets", "ETS", |ets| {
+            format!("{}, class limit {}, {}", willing(ets), most_classes(ets), tables(ets))
+        })],
+        &[("dcb.ets", "")],
+    ),
+    once(
+        &[own_tlv("0080c2.10", &RECOMMENDATION)],
+        &[row_in(GROUP, "ets-recommendation", "ETS wanted", tables)],
+        &[("dcb.ets_recommendation", "")],
+    ),
+    once(
+        &[own_tlv("0080c2.11", &FLOW_CONTROL)],
+        &[row_in(GROUP, "pfc", "PFC", |flow| {
+            let enabled = joined(enabled(flow), ", ");
+            let enabled = if enabled.is_empty() { "none" } else { &enabled };
+            format!("{}, priorities {enabled}, class limit {}", willing(flow), flow.number("most_classes"))
+        })],
+        &[("dcb.pfc", "")],
+    ),
+    once(
+        &[own_tlv("0080c2.12", &APPLICATIONS)],
+        &[row_in(GROUP, "application-priorities", "Applications", |all| match all.parts("entries") {
+            [] => "none".into(),
+            all => joined(all.iter().map(application), ", "),
+        })],
+        &[("dcb.application_priorities", "entries")],
+    ),
+];
+
+fn willing(flags: &Values) -> &'static str {
+    if flags.flag("willing") {
         "willing"
     } else {
         "not willing"
     }
 }
 
-fn joined<T: ToString>(values: impl Iterator<Item = T>, between: &str) -> String {
-    values.map(|value| value.to_string()).collect::<Vec<_>>().join(between)
-}
-
-/// Returns the traffic class of each priority, and the percentage and the algorithm of each class.
-fn tables(octets: &[u8]) -> Option<String> {
-    if octets.len() != CLASSES / 2 + 2 * CLASSES {
-        return None;
-    }
-    let classes = joined(octets[..4].iter().flat_map(|octet| [octet >> 4, octet & 15]), " ");
-    let shares = joined(octets[4..12].iter(), " ");
-    let algorithm = |octet: &u8| match octet {
-        0 => "strict".into(),
-        1 => "CBS".into(),
-        2 => "ETS".into(),
-        255 => "vendor".into(),
-        _ => octet.to_string(),
-    };
-    let algorithms = joined(octets[12..].iter().map(algorithm), " ");
-    Some(format!("classes by priority {classes}, percent by class {shares}, algorithms {algorithms}"))
-}
-
-/// ETS Configuration: flags with the number of classes (0 means 8), and the tables.
-pub fn ets(octets: &[u8]) -> Option<Meaning> {
-    let (flags, rest) = octets.split_first()?;
-    let most = match usize::from(flags & 7) {
+fn most_classes(ets: &Values) -> i64 {
+    match ets.number("most_classes") {
         0 => CLASSES,
         most => most,
-    };
-    let text = format!("{}, class limit {most}, {}", willing(*flags), tables(rest)?);
-    meaning(text, masked(octets, &[0xc7]))
-}
-
-/// ETS Recommendation: a reserved octet, and the tables.
-pub fn recommendation(octets: &[u8]) -> Option<Meaning> {
-    meaning(tables(octets.get(1..)?)?, masked(octets, &[0]))
-}
-
-/// Priority-based Flow Control: flags with the number of classes, and a bit for each priority.
-pub fn flow_control(octets: &[u8]) -> Option<Meaning> {
-    let (flags, bits) = match octets {
-        [flags, bits] => (*flags, *bits),
-        _ => return None,
-    };
-    let enabled = joined((0..CLASSES).filter(|priority| bits >> priority & 1 == 1), ", ");
-    let enabled = if enabled.is_empty() { "none" } else { &enabled };
-    let text = format!("{}, priorities {enabled}, class limit {}", willing(flags), flags & 15);
-    meaning(text, masked(octets, &[0xcf]))
-}
-
-/// Application Priority: a reserved octet, and three octets for each application.
-pub fn applications(octets: &[u8]) -> Option<Meaning> {
-    if octets.len() % 3 != 1 {
-        return None;
     }
-    let (texts, mut same) = (joined(octets[1..].chunks(3).map(application), ", "), masked(octets, &[0]));
-    same[1..].iter_mut().step_by(3).for_each(|octet| *octet &= 0xe7);
-    meaning(if texts.is_empty() { "none".into() } else { texts }, same)
 }
 
-fn application(octets: &[u8]) -> String {
-    let (priority, selector, protocol) = (octets[0] >> 5, octets[0] & 7, number(&octets[1..]));
-    let application = match selector {
-        1 => format!("EtherType {protocol:#06x}"),
-        2 => format!("TCP or SCTP port {protocol}"),
-        3 => format!("UDP or DCCP port {protocol}"),
-        4 => format!("TCP, SCTP, UDP or DCCP port {protocol}"),
-        _ => format!("selector {selector} {protocol}"),
-    };
-    format!("{application} priority {priority}")
+fn tables(ets: &Values) -> String {
+    let short = |number: &i64| name_in(SHORT, *number).map_or_else(|| number.to_string(), String::from);
+    let algorithms = joined(ets.all("algorithms").iter().map(short), " ");
+    ets.fill("classes by priority {classes}, percent by class {bandwidths}, algorithms ") + &algorithms
+}
+
+fn enabled(flow: &Values) -> impl Iterator<Item = i64> {
+    let bits = flow.number("enabled");
+    (0..CLASSES).filter(move |priority| bits >> priority & 1 == 1)
+}
+
+fn application(one: &Values) -> String {
+    let (selector, protocol) = (one.number("selector"), one.number("protocol"));
+    let name = name_in(SELECTORS, selector).map_or_else(|| format!("selector {selector}"), String::from);
+    let protocol = if selector == 1 { format!("{protocol:#06x}") } else { protocol.to_string() };
+    format!("{name} {protocol} priority {}", one.number("priority"))
 }

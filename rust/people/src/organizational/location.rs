@@ -1,14 +1,22 @@
 //! Locations of LLDP-MED, in three forms.
 
-use super::octets::{general, meaning, named, number, Meaning};
-use crate::texts::printable;
+use super::kind::{often, row, tlv, Kind};
+use super::layout::{
+    counted, digits, each, form, length, made, most, name_in, named, number, scaled, text, Field, Names,
+    Values,
+};
+use super::med::PARENT;
+use super::Said;
+use crate::node::{capital, lldpcli_text, Node};
 
+const PATH: &str = "med.locations";
+const FORMS: Names = &[(1, "coordinates"), (2, "civic address"), (3, "elin")];
 const LONGEST_ELIN: usize = 25;
-const COORDINATES: usize = 16; // octets
-const DATUMS: [(u64, &str); 3] = [(1, "WGS84"), (2, "NAD83 (NAVD88)"), (3, "NAD83 (MLLW)")];
-const UNITS: [(u64, &str); 2] = [(1, "meters"), (2, "floors")];
+const WHATS: Names = &[(0, "DHCP server"), (1, "switch"), (2, "client")];
+const DATUMS: Names = &[(1, "WGS84"), (2, "NAD83 (NAVD88)"), (3, "NAD83 (MLLW)")];
+const UNITS: Names = &[(1, "meters"), (2, "floors")];
 /// The names of civic address types (RFC 4776).
-const ELEMENTS: [(u64, &str); 22] = [
+const ELEMENTS: Names = &[
     (0, "language"),
     (1, "country subdivision"),
     (2, "county"),
@@ -32,68 +40,179 @@ const ELEMENTS: [(u64, &str); 22] = [
     (29, "place type"),
     (128, "script"),
 ];
+/// lldpcli's names.
+const LLDPCLI_DATUMS: Names = &[(1, "WGS84"), (2, "NAD83"), (3, "NAD83/MLLW")];
+const LLDPCLI_UNITS: Names = &[(1, "m"), (2, "floor")];
+/// The numbers of bits before and after the binary point.
+const DEGREES: (i64, u32) = (9, 25);
+const ALTITUDE: (i64, u32) = (22, 8);
+const ALL: i64 = i64::MAX;
 
-/// Reads the number of a form, 1 to 3, and a location in this form.
-pub fn location(octets: &[u8]) -> Option<Meaning> {
-    let (form, rest) = octets.split_first()?;
-    let text = match form {
-        1 => coordinates(rest)?,
-        2 => civic_address(rest)?,
-        3 => elin(rest)?,
-        _ => return None,
+/// Coordinates of RFC 6225. A resolution is the number of valid bits.
+static COORDINATES: [Field; 9] = [
+    form(FORMS, 1),
+    most("latitude_resolution", 6, 34),
+    scaled("latitude", 34, DEGREES.1, 90 << DEGREES.1),
+    most("longitude_resolution", 6, 34),
+    scaled("longitude", 34, DEGREES.1, 180 << DEGREES.1),
+    named("altitude_unit", 4, UNITS, "of type"),
+    most("altitude_resolution", 6, 30),
+    scaled("altitude", 30, ALTITUDE.1, ALL),
+    named("datum", 8, DATUMS, "datum"),
+];
+const IN_JSON: &str = "form latitude latitude_resolution longitude longitude_resolution altitude \
+    altitude_unit altitude_resolution datum";
+/// A civic address of RFC 4776.
+static CIVIC_ADDRESS: [Field; 5] =
+    [form(FORMS, 2), length(), named("what", 8, WHATS, ""), text("country", 2), each("elements", &ELEMENT)];
+static ELEMENT: [Field; 3] =
+    [number("type", 8), made("name", |one| name_in(ELEMENTS, one.number("type")).into()), counted("text")];
+/// An emergency location identification number.
+static ELIN: [Field; 2] = [form(FORMS, 3), digits("digits", LONGEST_ELIN)];
+
+pub static KINDS: [Kind; 1] = [often(
+    "; ",
+    &[
+        tlv("0012bb.3", &COORDINATES).ordered(IN_JSON),
+        tlv("0012bb.3", &CIVIC_ADDRESS),
+        tlv("0012bb.3", &ELIN),
+    ],
+    &[row("med-locations", "Location", |place| match place.number("form") {
+        1 => coordinates(place),
+        2 => civic_address(place),
+        _ => place.fill("ELIN {digits}"),
+    })],
+    &[(PATH, "")],
+)
+.nodes(PARENT, nodes)];
+
+fn coordinates(place: &Values) -> String {
+    let degrees = |name: &str, [minus, plus]: [char; 2]| {
+        let angle = place.number(name);
+        let letter = if angle < 0 { minus } else { plus };
+        let rounded = rounded(100_000 * u128::from(angle.unsigned_abs()), 1 << DEGREES.1);
+        format!("{}.{:05} {letter}", rounded / 100_000, rounded % 100_000)
     };
-    meaning(text, octets)
+    let (latitude, longitude) = (degrees("latitude", ['S', 'N']), degrees("longitude", ['W', 'E']));
+    let altitude = general(place.number("altitude"));
+    place.fill(&format!("{latitude}, {longitude}, {altitude} {{altitude_unit}}, {{datum}}"))
 }
 
-/// Returns the last `bits` of a number as a signed number.
-fn signed(number: u64, bits: u32) -> i64 {
-    let shift = 64 - bits;
-    (number << shift) as i64 >> shift
-}
-
-/// Reads coordinates of RFC 6225. Latitude and longitude are in 2^-25 degrees, altitude in 2^-8 of its
-/// unit. A resolution is the number of valid bits.
-fn coordinates(octets: &[u8]) -> Option<String> {
-    if octets.len() != COORDINATES {
-        return None;
-    }
-    let angle = |place: usize, most: i64| {
-        let bits = number(&octets[place..place + 5]);
-        let angle = signed(bits, 34);
-        (bits >> 34 <= 34 && angle.abs() <= most << 25).then_some(angle as f64 / (1u64 << 25) as f64)
+fn civic_address(place: &Values) -> String {
+    let element = |one: &Values| {
+        let kind = one.number("type");
+        let name = name_in(ELEMENTS, kind).map_or_else(|| format!("type {kind}"), String::from);
+        format!("{name} {}", one.word("text"))
     };
-    let (latitude, longitude) = (angle(0, 90)?, angle(5, 180)?);
-    let bits = number(&octets[10..15]);
-    if bits >> 30 & 63 > 30 {
-        return None;
-    }
-    let altitude = general(signed(bits, 30) as f64 / 256.0);
-    let (unit, datum) = (named(&UNITS, bits >> 36, "of type"), named(&DATUMS, octets[15].into(), "datum"));
-    let (south, west) = (if latitude < 0.0 { 'S' } else { 'N' }, if longitude < 0.0 { 'W' } else { 'E' });
-    Some(format!("{:.5} {south}, {:.5} {west}, {altitude} {unit}, {datum}", latitude.abs(), longitude.abs()))
+    let elements = place.parts("elements").iter().map(element);
+    std::iter::once(place.word("country")).chain(elements).collect::<Vec<_>>().join(", ")
 }
 
-/// Reads a civic address of RFC 4776: a length, what is there, the country, and elements.
-fn civic_address(octets: &[u8]) -> Option<String> {
-    let (country, mut rest) = match octets {
-        [length, _, country @ ..] if country.len() >= 2 && usize::from(*length) == octets.len() - 1 => {
-            country.split_at(2)
+/// Divides, and rounds to the nearest number. Of two as near, the even one.
+fn rounded(number: u128, by: u128) -> u128 {
+    let (whole, twice) = (number / by, 2 * (number % by));
+    whole + u128::from(twice > by || twice == by && whole % 2 == 1)
+}
+
+/// Returns a number of 256ths with at most six digits, as `%g` of the C library does.
+fn general(number: i64) -> String {
+    let sign = if number < 0 { "-" } else { "" };
+    let exact = 390_625 * u128::from(number.unsigned_abs()); // with eight digits after the point
+    let exponent = exact.max(1).to_string().len() as i32 - 1 - 8;
+    let most = 10u128.pow(exact.max(1).to_string().len().saturating_sub(6) as u32);
+    let exact = rounded(exact, most) * most;
+    let digits = if exact == 0 { "0".repeat(9) } else { format!("{exact:09}") };
+    let (whole, part) = digits.split_at(digits.len() - 8);
+    if whole.len() < 7 {
+        let part = part.trim_end_matches('0');
+        return format!("{sign}{whole}{}{part}", if part.is_empty() { "" } else { "." });
+    }
+    let (first, rest) = whole.split_at(1);
+    let rest = rest.trim_end_matches('0');
+    format!("{sign}{first}{}{rest}e+{:02}", if rest.is_empty() { "" } else { "." }, exponent.max(6))
+}
+
+/// Returns the nodes of the last location of each form.
+fn nodes(said: &Said) -> Vec<Node> {
+    let last = |form: i64| said.all(PATH).filter(|place| place.number("form") == form).last();
+    let (coordinates, civic, elin) = (last(1), last(2), last(3));
+    let nodes = [coordinates.map(coordinates_node), civic.map(civic_node), elin.map(elin_node)];
+    nodes.into_iter().flatten().collect()
+}
+
+fn location_node(kind: &str) -> Node {
+    Node::new("location", "LLDP-MED Location Identification").with("type", "Type", kind)
+}
+
+fn coordinates_node(place: &Values) -> Node {
+    let datum = name_in(LLDPCLI_DATUMS, place.number("datum")).unwrap_or("unknown");
+    let mut node = location_node("Coordinates").with("geoid", "Geoid", datum);
+    let said = |name: &str, (whole, after): (i64, u32)| {
+        fixed(place.number(name), after, place.number(&format!("{name}_resolution")), whole)
+    };
+    let letter = |name: &str, minus, plus| if place.number(name) < 0 { minus } else { plus };
+    let latitude = said("latitude", DEGREES) + letter("latitude", "S", "N");
+    node.add("lat", "Latitude", Some(latitude));
+    node.add("lon", "Longitude", Some(said("longitude", DEGREES) + letter("longitude", "W", "E")));
+    let kind = place.number("altitude_unit");
+    let unit = name_in(LLDPCLI_UNITS, kind).map_or_else(|| kind.to_string(), String::from);
+    let altitude = letter("altitude", "-", "").to_string() + &said("altitude", ALTITUDE);
+    node.nodes.push(Node::leaf("altitude", "Altitude", altitude).with("unit", "", unit));
+    node
+}
+
+/// Returns the absolute value of a fixed-point number in lldpd's form. The last `after` bits of the
+/// value are those after the point. The number of valid bits and the number of bits before the point
+/// determine how many digits lldpd writes after the point. Further digits are cut off.
+fn fixed(value: i64, after: u32, resolution: i64, whole: i64) -> String {
+    let size = u128::from(value.unsigned_abs());
+    let part = size & ((1 << after) - 1);
+    if part == 0 {
+        return (size >> after).to_string();
+    }
+    let bits = if resolution > whole { resolution - whole } else { whole };
+    let digits = (bits as f64 * std::f64::consts::LOG10_2) as u32;
+    format!("{}.{:0width$}", size >> after, (part * 10u128.pow(digits)) >> after, width = digits as usize)
+}
+
+fn civic_node(place: &Values) -> Node {
+    let mut node = location_node("Civic address");
+    node.add("country", "Country", Some(lldpcli_text(place.octets("country"))));
+    for element in place.parts("elements") {
+        let (key, label) = match name_in(ELEMENTS, element.number("type")) {
+            Some(name) => (name.to_lowercase().replace(' ', "-"), capital(name)),
+            None => ("unknown".into(), "unknown".into()),
+        };
+        let text = Some(lldpcli_text(element.octets("text")));
+        node.nodes.push(Node { key: key.into(), label: label.into(), text, ..Node::default() });
+    }
+    node
+}
+
+fn elin_node(place: &Values) -> Node {
+    let mut node = location_node("ELIN");
+    node.add("ecs", "ECS ELIN", Some(place.octets("digits")));
+    node
+}
+
+#[cfg(test)]
+mod tests {
+    use super::*;
+
+    #[test]
+    fn altitudes_have_six_digits() {
+        for (number, text) in [
+            (0, "0"),
+            (1, "0.00390625"),
+            (-128, "-0.5"),
+            (256 * 1000 + 32, "1000.12"),
+            (256 * 1000 + 96, "1000.38"),
+            (256 * 999_999 + 128, "1e+06"),
+            (256 * 123_456, "123456"),
+            (-(1 << 29), "-2.09715e+06"),
+        ] {
+            assert_eq!(general(number), text);
         }
-        _ => return None,
-    };
-    let mut parts = vec![printable(country)];
-    while let Some((kind, after)) = rest.split_first() {
-        let (length, after) = after.split_first()?;
-        let length = usize::from(*length);
-        let text = after.get(..length)?;
-        parts.push(format!("{} {}", named(&ELEMENTS, (*kind).into(), "type"), printable(text)));
-        rest = &after[length..];
+        assert_eq!([rounded(5, 2), rounded(7, 2), rounded(9, 4), rounded(11, 4)], [2, 4, 2, 3]);
     }
-    Some(parts.join(", "))
-}
-
-/// Reads an emergency location identification number of 1 to 25 digits.
-fn elin(octets: &[u8]) -> Option<String> {
-    let is_able = (1..=LONGEST_ELIN).contains(&octets.len()) && octets.iter().all(u8::is_ascii_digit);
-    is_able.then(|| format!("ELIN {}", String::from_utf8_lossy(octets)))
 }

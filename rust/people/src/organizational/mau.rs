@@ -1,149 +1,125 @@
-//! The names of MAU types, from 1 on, with a slash and the duplex mode if the type fixes the mode.
-//! tools/write/mau.py writes this file.
+//! Names MAU types, in our spelling and in lldpcli's. The numbers are those of IANA-MAU-MIB (dot3MauType).
 
-pub static NAMES: [&str; 144] = [
-    "AUI",
-    "10BASE5",
-    "FOIRL",
-    "10BASE2",
-    "10BASE-T",
-    "10BASE-FP",
-    "10BASE-FB",
-    "10BASE-FL",
-    "10BROAD36",
-    "10BASE-T/half",
-    "10BASE-T/full",
-    "10BASE-FL/half",
-    "10BASE-FL/full",
-    "100BASE-T4",
-    "100BASE-TX/half",
-    "100BASE-TX/full",
-    "100BASE-FX/half",
-    "100BASE-FX/full",
-    "100BASE-T2/half",
-    "100BASE-T2/full",
-    "1000BASE-X/half",
-    "1000BASE-X/full",
-    "1000BASE-LX/half",
-    "1000BASE-LX/full",
-    "1000BASE-SX/half",
-    "1000BASE-SX/full",
-    "1000BASE-CX/half",
-    "1000BASE-CX/full",
-    "1000BASE-T/half",
-    "1000BASE-T/full",
-    "10GBASE-X",
-    "10GBASE-LX4",
-    "10GBASE-R",
-    "10GBASE-ER",
-    "10GBASE-LR",
-    "10GBASE-SR",
-    "10GBASE-W",
-    "10GBASE-EW",
-    "10GBASE-LW",
-    "10GBASE-SW",
-    "10GBASE-CX4",
-    "2BASE-TL",
-    "10PASS-TS",
-    "100BASE-BX10D",
-    "100BASE-BX10U",
-    "100BASE-LX10",
-    "1000BASE-BX10D",
-    "1000BASE-BX10U",
-    "1000BASE-LX10",
-    "1000BASE-PX10D",
-    "1000BASE-PX10U",
-    "1000BASE-PX20D",
-    "1000BASE-PX20U",
-    "10GBASE-T",
-    "10GBASE-LRM",
-    "1000BASE-KX",
-    "10GBASE-KX4",
-    "10GBASE-KR",
-    "10/1GBASE-PRX-D1",
-    "10/1GBASE-PRX-D2",
-    "10/1GBASE-PRX-D3",
-    "10/1GBASE-PRX-U1",
-    "10/1GBASE-PRX-U2",
-    "10/1GBASE-PRX-U3",
-    "10GBASE-PR-D1",
-    "10GBASE-PR-D2",
-    "10GBASE-PR-D3",
-    "10GBASE-PR-U1",
-    "10GBASE-PR-U3",
-    "40GBASE-KR4",
-    "40GBASE-CR4",
-    "40GBASE-SR4",
-    "40GBASE-FR",
-    "40GBASE-LR4",
-    "100GBASE-CR10",
-    "100GBASE-SR10",
-    "100GBASE-LR4",
-    "100GBASE-ER4",
-    "1000BASE-T1",
-    "1000BASE-PX30D",
-    "1000BASE-PX30U",
-    "1000BASE-PX40D",
-    "1000BASE-PX40U",
-    "10/1GBASE-PRX-D4",
-    "10/1GBASE-PRX-U4",
-    "10GBASE-PR-D4",
-    "10GBASE-PR-U4",
-    "25GBASE-CR",
-    "25GBASE-CR-S",
-    "25GBASE-KR",
-    "25GBASE-KR-S",
-    "25GBASE-R",
-    "25GBASE-SR",
-    "25GBASE-T",
-    "40GBASE-ER4",
-    "40GBASE-R",
-    "40GBASE-T",
-    "100GBASE-CR4",
-    "100GBASE-KR4",
-    "100GBASE-KP4",
-    "100GBASE-R",
-    "100GBASE-SR4",
-    "2.5GBASE-T",
-    "5GBASE-T",
-    "100BASE-T1",
-    "1000BASE-RHA",
-    "1000BASE-RHB",
-    "1000BASE-RHC",
-    "2.5GBASE-KX",
-    "2.5GBASE-X",
-    "5GBASE-KR",
-    "5GBASE-R",
-    "10GPASS-XR",
-    "25GBASE-LR",
-    "25GBASE-ER",
-    "50GBASE-R",
-    "50GBASE-CR",
-    "50GBASE-KR",
-    "50GBASE-SR",
-    "50GBASE-FR",
-    "50GBASE-LR",
-    "50GBASE-ER",
-    "100GBASE-CR2",
-    "100GBASE-KR2",
-    "100GBASE-SR2",
-    "100GBASE-DR",
-    "200GBASE-R",
-    "200GBASE-DR4",
-    "200GBASE-FR4",
-    "200GBASE-LR4",
-    "200GBASE-CR4",
-    "200GBASE-KR4",
-    "200GBASE-SR4",
-    "200GBASE-ER4",
-    "400GBASE-R",
-    "400GBASE-SR16",
-    "400GBASE-DR4",
-    "400GBASE-FR8",
-    "400GBASE-LR8",
-    "400GBASE-ER8",
-    "10BASE-T1L",
-    "10BASE-T1S/half",
-    "10BASE-T1S-multidrop",
-    "10BASE-T1S/full",
+/// The types from 1 on: the name, with a slash and the duplex mode if the type fixes the mode, and
+/// lldpcli's description. A row with {first|second} is for several types, in this order.
+const ROWS: &str = include_str!("mau.rows");
+
+/// How lldpcli spells parts of the names, and the names that do not follow these rules.
+const LLDPCLI_PARTS: [(&str, &str); 8] = [
+    ("/half", "HD"),
+    ("/full", "FD"),
+    ("-multidrop", "MD"),
+    ("10/1G", "10G1G"),
+    ("2.5", "2p5"),
+    ("-", ""),
+    ("GBASE", "GigBASE"),
+    ("BASE", "Base"),
 ];
+const LLDPCLI_NAMES: [(i64, &str); 7] = [
+    (3, "Foirl"),
+    (9, "10Broad36"),
+    (13, "10BaseFLDF"),
+    (43, "10PassTS"),
+    (103, "2p5GigT"),
+    (104, "5GigT"),
+    (113, "10GpassXR"),
+];
+const FIRST_IN_SMALL_LETTERS: i64 = 54;
+const DUPLEX: [&str; 2] = ["half", "full"];
+
+/// A MAU type: name, speed in Mb/s, and `half` or `full` duplex. None means undefined.
+pub struct Mau {
+    pub name: String,
+    pub speed: Option<u128>,
+    pub duplex: Option<&'static str>,
+}
+
+thread_local! {
+    /// The name and the description of each type.
+    static TYPES: &'static [(String, String)] = Box::leak(ROWS.lines().flat_map(types_of).collect());
+}
+
+/// Returns the name and the description of each type in a row.
+fn types_of(row: &str) -> Vec<(String, String)> {
+    let count = row
+        .split_once('{')
+        .and_then(|(_, rest)| rest.split('}').next())
+        .map_or(1, |one| one.split('|').count());
+    let chosen = (0..count).map(|place| choice(row, place));
+    chosen.filter_map(|row| row.split_once(' ').map(|(name, text)| (name.into(), text.into()))).collect()
+}
+
+/// Returns a row with the choice at a place of each list in it.
+fn choice(row: &str, place: usize) -> String {
+    let mut parts = row.split('{');
+    let mut text = String::from(parts.next().unwrap_or(""));
+    for (list, after) in parts.filter_map(|part| part.split_once('}')) {
+        text += list.split('|').nth(place).unwrap_or("");
+        text += after;
+    }
+    text
+}
+
+fn type_of(number: i64) -> Option<&'static (String, String)> {
+    let types = TYPES.with(|types| *types);
+    usize::try_from(number - 1).ok().and_then(|place| types.get(place))
+}
+
+/// Returns the MAU type with this number. None if it is not known (0: other or unknown).
+pub fn mau_of(number: i64) -> Option<Mau> {
+    let (name, _) = type_of(number)?;
+    let (front, mode) = name.rsplit_once('/').unwrap_or((name, ""));
+    let duplex = DUPLEX.into_iter().find(|one| *one == mode);
+    Some(Mau {
+        name: if duplex.is_some() { front.into() } else { name.into() },
+        speed: speed_of(name),
+        duplex,
+    })
+}
+
+/// Returns the speed in a name. Types such as 10/1GBASE-PRX, whose two directions differ, have none.
+fn speed_of(name: &str) -> Option<u128> {
+    let end = name.find(|letter: char| !letter.is_ascii_digit() && letter != '.')?;
+    let (digits, rest) = name.split_at(end);
+    let (rest, factor) = rest.strip_prefix('G').map_or((rest, 1.0), |rest| (rest, 1000.0));
+    let is_speed = ["BASE", "PASS", "BROAD"].iter().any(|word| rest.starts_with(word));
+    digits.parse::<f64>().ok().filter(|_| is_speed).map(|speed| (speed * factor).round() as u128)
+}
+
+/// Returns what lldpcli writes for the number of a MAU type.
+pub fn mau_text(number: i64) -> String {
+    let (name, description) = match type_of(number) {
+        Some(found) => found,
+        None => return "unknown".into(),
+    };
+    let is_small = number >= FIRST_IN_SMALL_LETTERS;
+    let mut text = if is_small { name.replace("BASE", "base") } else { name.clone() };
+    for (part, theirs) in LLDPCLI_PARTS {
+        text = text.replace(part, theirs);
+    }
+    let own = LLDPCLI_NAMES.iter().find(|(one, _)| *one == number).map(|(_, name)| *name);
+    format!("{} - {description}", own.unwrap_or(&text))
+}
+
+#[cfg(test)]
+mod tests {
+    use super::*;
+
+    #[test]
+    fn types_have_a_name_a_speed_and_a_mode() {
+        for (number, name, speed, duplex) in [
+            (1, "AUI", None, None),
+            (9, "10BROAD36", Some(10), None),
+            (16, "100BASE-TX", Some(100), Some("full")),
+            (30, "1000BASE-T", Some(1000), Some("full")),
+            (103, "2.5GBASE-T", Some(2500), None),
+            (113, "10GPASS-XR", Some(10_000), None),
+        ] {
+            let mau = mau_of(number).expect(name);
+            assert_eq!((&mau.name[..], mau.speed, mau.duplex), (name, speed, duplex));
+        }
+        assert!(mau_of(0).is_none() && mau_of(145).is_none() && mau_of(144).is_some());
+        assert_eq!(mau_text(30), "1000BaseTFD - Four-pair Category 5 UTP, full duplex mode");
+        assert_eq!(mau_text(0), "unknown");
+    }
+}

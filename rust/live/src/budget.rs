@@ -1,0 +1,12 @@
+//! How much memory each part of lldpa-live may take. What is not here is small, or allocated once:
+//! the tables of the agent. With all of them at their limits, beside hostile neighbors on each port,
+//! the service stays below 200 MB; the unit allows 256.
+
+/// Octets of lines that wait for the log's thread. Heads of files do not count.
+pub const MOST_WAITING: usize = 4_000_000;
+/// Heads of log files that wait, each with a copy of all tables.
+pub const MOST_HEADS: usize = 2;
+/// Octets of all unread answers together.
+pub const MOST_UNREAD: usize = 32 << 20;
+/// Octets of the metrics of ports and neighbors.
+pub use lldpa_people::metrics::MOST_METRICS;
