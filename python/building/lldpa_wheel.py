@@ -18,9 +18,8 @@ WITHOUT = "everything except the program lldpa itself"
 PYTHON = ">=3.9"
 # each package and the folder that contains it (in a source archive, the top folder does)
 PACKAGES = {"lldpa": "python", "lldpa_audit": "audit"}
-# lldpctl is left out: it would hide lldpd's program of the same name; lldpa-ctl is not in Python
-PROGRAMS = {"lldpa-details": "lldpa.commands.details", "lldpa-capture": "lldpa.commands.capture",
-            "lldpa-audit": "lldpa_audit.command"}
+# lldpa-ctl and lldpctl are not in Python
+PROGRAMS = {"lldpa-capture": "lldpa.commands.capture", "lldpa-audit": "lldpa_audit.command"}
 # the platform of a program, by the machine number in its ELF header
 PLATFORMS = {62: "linux_x86_64", 183: "linux_aarch64"}
 MOMENT = (2026, 1, 1, 0, 0, 0)  # each file's time, so that equal sources give equal wheels

@@ -1,4 +1,5 @@
-"""Runs an LLDP agent or connects to one, reads its `show` output, and reads captures.
+"""Runs an LLDP agent or connects to one, reads its `show` output, reads captures, and asks a
+running lldpa-live through lldpa-ctl.
 
     >>> from lldpa import Agent
     >>> frame = "0180c200000e00112233445588cc02070400112233445504050565746830060200780000"
@@ -25,9 +26,10 @@ if TYPE_CHECKING:
     from .agent.synchronous import Agent
     from .capture.packets import BadCapture, Packet, packets_of
     from .capture.trace import Source, Told, ports_of, trace_of
+    from .ctl import Ctl, CtlFault
 
-__all__ = ["Agent", "BadCapture", "Closed", "Counters", "Ended", "LldpaFault", "Neighbor",
-           "Packet", "Port", "Refused", "Show", "ShowFault", "Source", "Told",
+__all__ = ["Agent", "BadCapture", "Closed", "Counters", "Ctl", "CtlFault", "Ended", "LldpaFault",
+           "Neighbor", "Packet", "Port", "Refused", "Show", "ShowFault", "Source", "Told",
            "__version__", "lines_of", "packets_of", "ports_of", "read_show", "trace_of",
            "unescaped"]
 
@@ -36,7 +38,8 @@ __all__ = ["Agent", "BadCapture", "Closed", "Counters", "Ended", "LldpaFault", "
 LATER = {".agent.framing": ("Closed", "Ended", "Refused"),
          ".agent.synchronous": ("Agent",),
          ".capture.packets": ("BadCapture", "Packet", "packets_of"),
-         ".capture.trace": ("Source", "Told", "ports_of", "trace_of")}
+         ".capture.trace": ("Source", "Told", "ports_of", "trace_of"),
+         ".ctl": ("Ctl", "CtlFault")}
 
 
 def __getattr__(name: str) -> object:

@@ -5,13 +5,11 @@ from . import __version__
 TEXT = f"""\
 lldpa {__version__}, the Python package of an LLDP agent
 
-  python3 -m lldpa.commands.details  lldpa-details, prints details and JSON for lldpa-ctl
   python3 -m lldpa.commands.capture  lldpa-capture, converts captures to a trace
   python3 -m lldpa_audit             lldpa-audit, checks cabling against a plan
-  python3 -m lldpa.commands.lldpctl  lldpctl, prints answers as lldpd's lldpctl does
 
 Each prints help with --help. In Python, use `from lldpa import Agent` to run an agent, and
-`from lldpa.client import Client` to ask a running lldpa-live.
+`from lldpa import Ctl` to ask a running lldpa-live.
 """
 
 if __name__ == "__main__":

@@ -10,7 +10,6 @@ SHORTEST_FRAME, LONGEST_FRAME = 14, 1514
 NEAREST_BRIDGE = bytes.fromhex("0180c200000e")
 
 REFUSAL = "error: "  # the beginning of the answer to a refused line
-GREATEST_VID = 4094  # of a VLAN
 # the characters that a port's name may have
 NAME_LETTERS = frozenset("ABCDEFGHIJKLMNOPQRSTUVWXYZabcdefghijklmnopqrstuvwxyz0123456789_/:-")
 

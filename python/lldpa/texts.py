@@ -1,12 +1,8 @@
-"""Converts texts of neighbors to Unicode for programs, and to printable text for people.
+"""Makes texts safe to print, and breaks them into lines."""
 
-A neighbor's text is octets, usually UTF-8. The agent escapes them; `shown_octets` unescapes them.
-"""
 import unicodedata
 from functools import lru_cache
-from typing import Any, Dict, Iterator, Optional, Tuple
-
-from .agent.show import unescaped
+from typing import Iterator
 
 CUT = "…"
 MOST_MARKS = 2  # above, below or around one character
@@ -15,52 +11,6 @@ MOST_LETTERS = 4096  # whose properties are remembered
 # joiners, variation selectors, and the empty Braille pattern
 HIDDEN = ((0x034F, 0x034F), (0x115F, 0x1160), (0x17B4, 0x17B5), (0x180B, 0x180F), (0x2800, 0x2800),
           (0x3164, 0x3164), (0xFE00, 0xFE0F), (0xFFA0, 0xFFA0), (0xE0100, 0xE01EF))
-
-
-def shown_text(octets: bytes) -> str:
-    """Returns octets as the agent shows them: printable ASCII as it is, a backslash as two, and any
-    other octet as `\\x` and two digits."""
-    return "".join(map(shown_octet, octets))
-
-
-def shown_octet(octet: int) -> str:
-    """Returns an octet as the agent shows it."""
-    if octet == 0x5C:
-        return "\\\\"
-    return chr(octet) if 0x20 <= octet <= 0x7E else f"\\x{octet:02x}"
-
-
-def text_of(octets: bytes) -> Tuple[str, Optional[str]]:
-    """Returns the text of UTF-8 octets, and None. If the octets are not UTF-8, returns them as the
-    agent shows them, and in hexadecimal."""
-    try:
-        return octets.decode("utf-8"), None
-    except UnicodeDecodeError:
-        return shown_text(octets), octets.hex()
-
-
-def with_text(key: str, octets: bytes, told: Dict[str, Any]) -> Dict[str, Any]:
-    """Adds a text to an object, and its octets if they are not UTF-8. Returns the object."""
-    text, digits = text_of(octets)
-    told[key] = text
-    if digits is not None:
-        told.setdefault("octets", {})[key] = digits
-    return told
-
-
-def shown_octets(shown: str) -> bytes:
-    """Returns the octets of a shown text: unescapes it if it is ASCII, else encodes it as UTF-8."""
-    return unescaped(shown) if shown.isascii() else shown.encode("utf-8", "surrogateescape")
-
-
-def readable(shown: str) -> str:
-    """Unescapes a shown text for people, except characters that are unsafe on a terminal."""
-    return printable(shown_octets(shown).decode("utf-8", "surrogateescape"))
-
-
-def readable_octets(octets: bytes) -> str:
-    """Returns octets as a text for people."""
-    return printable(octets.decode("utf-8", "surrogateescape"))
 
 
 def printable(text: str) -> str:
@@ -94,13 +44,6 @@ def escaped(letter: str) -> str:
     return "".join(f"\\x{octet:02x}" for octet in letter.encode("utf-8", "surrogateescape"))
 
 
-def width_of(text: str) -> int:
-    """Returns how many columns a printable text occupies on a terminal."""
-    if text.isascii():
-        return len(text)
-    return sum(columns_of(letter) for letter in text)
-
-
 def columns_of(letter: str) -> int:
     """Returns the width of a character: 0 for a mark, 2 for a wide East Asian one, else 1."""
     if is_mark(letter):
@@ -116,18 +59,6 @@ def end_of(text: str, begin: int, width: int) -> int:
     while end < len(text) and (width := width - columns_of(text[end])) >= 0:
         end += 1
     return end
-
-
-def cut(text: str, width: int) -> str:
-    """Returns the text, or its beginning and an ellipsis if the text is wider than `width`."""
-    if width_of(text) <= width:
-        return text
-    return text[:end_of(text, 0, max(width - 1, 0))] + CUT
-
-
-def padded(text: str, width: int) -> str:
-    """Returns the text, padded with spaces to this width."""
-    return text + " " * (width - width_of(text))
 
 
 def wrapped(text: str, width: int) -> Iterator[str]:

@@ -5,7 +5,7 @@ import unittest
 from pathlib import Path
 from typing import Sequence
 
-needs_strace = unittest.skipUnless(shutil.which("strace"), "it needs strace")
+needs_strace = unittest.skipUnless(shutil.which("strace"), "strace: it is not installed")
 
 
 def watched(path: Path, calls: str, *further: str) -> "list[str]":

@@ -1,17 +1,14 @@
 """For tests: makes random answers of lldpa-live. A seed makes the same ones again."""
 
 import random
-from itertools import zip_longest
 from typing import List, Sequence, Tuple
 
 from lldpa import Neighbor, Port
 from lldpa.agent.show import (CHASSIS_KINDS, PORT_KINDS, STATUSES, Configuration, Counters,
                               Identifier, Show, lines_of)
-from lldpa.texts import shown_text
-from tlvs import SAMPLES
-from served import LIVE_LINES
+from samples import SAMPLES
+from texts_shown import shown_text
 
-LIVE = [line.decode() for line in LIVE_LINES]
 VALUES = ("0078", "0079", "0000", "05f2", "ffff", "00", "", "zz00")  # of TLVs of organizations
 WORDS = ("", "x", "lldp.eth0.neighbors=2", "lldp.eth0.1.ttl=07", "a.b='\"\\",  # lines out of place
          "configuration.further=3", "configuration.eth0.further=x", "lldp.eth0.early-frames=3")
@@ -56,26 +53,16 @@ class Made:
 
     def organizational(self) -> Tuple[str, str]:
         """Returns a TLV of a sample, or of one with other octets, or more or less of them."""
-        sample = self.random.choice(SAMPLES)
-        octets = bytearray(bytes.fromhex(sample.octets))
-        ignored = bytes.fromhex(sample.ignored)
+        kind, sent = self.random.choice(SAMPLES)
+        octets = bytearray(sent)
         way = self.random.randrange(5)
         if way == 0:
-            pairs = zip_longest(octets, ignored, fillvalue=0)
-            octets = bytearray(one ^ other for one, other in pairs)
-        elif way == 1:
             octets[self.random.randrange(len(octets))] = self.random.randrange(256)
-        elif way == 2:
+        elif way == 1:
             del octets[self.random.randrange(len(octets)):]
-        elif way == 3 and self.random.random() < 0.3:
+        elif way == 2:
             octets += self.random.randbytes(self.random.randrange(1, 4))
-        return "org.{}.{}".format(*sample.kind), octets.hex()
-
-    def described(self, port: str, place: int) -> Neighbor:
-        """Returns a neighbor that has sent TLVs of organizations."""
-        tlvs = tuple(self.organizational() for _ in range(self.random.randrange(12)))
-        chassis, port_id = Identifier("local", "a"), Identifier("local", f"{place}")
-        return Neighbor(port, place, chassis, port_id, 9, 8, tlvs)
+        return f"org.{kind}", octets.hex()
 
     def neighbor(self, port: str, place: int) -> Neighbor:
         tlvs = tuple(self.tlv() for _ in range(self.random.randrange(7)))
@@ -91,34 +78,18 @@ class Made:
             ports.append(Port(name, len(neighbors), 7, self.random.random() < 0.3, neighbors))
         return tuple(ports)
 
-    def later(self, ports: Sequence[Port]) -> Tuple[Port, ...]:
-        """Returns ports whose neighbors have partly left, changed or come."""
-        found = []
-        for port in ports:
-            kept = [self.changed(one) for one in port.neighbors if self.random.random() < 0.7]
-            kept += [self.neighbor(port.name, 1)] if self.random.random() < 0.5 else []
-            kept = [one._replace(place=place) for place, one in enumerate(kept, 1)]
-            found.append(port._replace(neighbors_held=len(kept), neighbors=tuple(kept)))
-        return tuple(found)
-
-    def changed(self, one: Neighbor) -> Neighbor:
-        if self.random.random() < 0.5:
-            return one._replace(expires=one.expires + 1)
-        tlvs = [tlv for tlv in one.said if self.random.random() < 0.7] + [self.tlv()]
-        return one._replace(ttl=self.random.choice((one.ttl, 9)), said=tuple(tlvs))
-
     def counters(self) -> Counters:
         return Counters(*(self.random.choice((0, 1, 4294967295)) for _ in Counters._fields))
 
-    def shows(self) -> Tuple[Tuple[Port, ...], List[str], List[str], List[str]]:
-        """Returns ports, and the answers about neighbors, counters and settings."""
+    def shows(self) -> List[List[str]]:
+        """Returns the answers about neighbors, counters and settings."""
         ports = self.ports()
         names = [port.name for port in ports]
         statuses = {name: self.random.choice(STATUSES) for name in names}
         settings = Configuration(30, 4, 121, 2, 4, 5, 32, statuses)
-        return (ports, lines_of(Show(ports=ports)),
+        return [lines_of(Show(ports=ports)),
                 lines_of(Show(counters={name: self.counters() for name in names})),
-                lines_of(Show(configuration=settings)))
+                lines_of(Show(configuration=settings))]
 
     def spoiled(self, lines: Sequence[str]) -> List[str]:
         """Returns the lines with one that is lost, doubled, cut or replaced."""

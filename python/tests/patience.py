@@ -63,9 +63,15 @@ class Standstill:
         self.thread.join()
 
 
+def is_overloaded() -> bool:
+    """Returns whether more programs want to run than there are processors, on average over the
+    last minute. Each of them is slow then, though the machine does not stand still."""
+    return os.getloadavg()[0] > len(os.sched_getaffinity(0))
+
+
 def by_the_clock(test: Callable[[Any], None]) -> Callable[[Any], None]:
-    """Repeats a test if it fails and the machine stood still meanwhile, up to TRIES runs in all. A
-    fault of the program occurs in each run, so the test still fails."""
+    """Repeats a test if it fails and the machine stood still or was overloaded meanwhile, up to
+    TRIES runs in all. A fault of the program occurs in each run, so the test still fails."""
     @functools.wraps(test)
     def tried(case: Any) -> None:
         for left in reversed(range(TRIES)):
@@ -73,10 +79,12 @@ def by_the_clock(test: Callable[[Any], None]) -> Callable[[Any], None]:
                 try:
                     return test(case)
                 except Exception as fault:  # pylint: disable=broad-except
-                    if not left or standstill.seconds() < NOTICEABLE:
+                    stood = standstill.seconds()
+                    if not left or stood < NOTICEABLE and not is_overloaded():
                         raise
-                    print(f"run again, since the machine stood still for {standstill.seconds():.2f}"
-                          f" s meanwhile: {case.id()}: {fault!r:.200}", flush=True)
+                    print(f"run again, since the machine stood still for {stood:.2f} s meanwhile"
+                          f" (load {os.getloadavg()[0]:.1f}): {case.id()}: {fault!r:.200}",
+                          flush=True)
             case.doCleanups()
             case.setUp()
     return tried

@@ -11,7 +11,7 @@ from typing import Any
 
 from patience import eventually
 
-beside_lldpd = unittest.skipUnless(shutil.which("lldpd"), "it needs Debian's package lldpd")
+beside_lldpd = unittest.skipUnless(shutil.which("lldpd"), "lldpd: it is not installed")
 
 
 class Lldpd:

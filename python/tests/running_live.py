@@ -5,21 +5,21 @@ import os
 import shutil
 import signal
 import subprocess
+import tempfile
 import time
 import unittest
 from pathlib import Path
 from typing import Any, Iterator, Optional, Sequence
 
+from asking import Client
 from lldpa import Refused
-from lldpa.client import Client
-
 from patience import SECONDS, eventually
 from served import REPOSITORY, ctl, numbered
 from wires import Peer, Wires, inside
 
 LIVE = os.environ.get("LLDPA_LIVE") or str(REPOSITORY / "rust" / "live" / "out" / "lldpa-live")
 is_built = unittest.skipUnless(os.access(LIVE, os.X_OK),
-                               "there is no lldpa-live: tools/release/live.sh builds it")
+                               "cargo: tools/release/live.sh builds lldpa-live with it")
 
 NO_ADDRESS = "there is no IPv4 address to announce\n"
 
@@ -103,7 +103,18 @@ class Live:
 
     def errors(self) -> str:
         """Returns lldpa-live's standard error, without lines about a missing address."""
+        eventually(self.has_reported)
         return "".join(line for line in self.said().splitlines(True) if NO_ADDRESS not in line)
+
+    def has_reported(self) -> bool:
+        """Returns whether the thread that writes reports, if there is one, waits for the next."""
+        try:
+            for task in Path(f"/proc/{self.process.pid}/task").iterdir():
+                if (task / "comm").read_text() == "reports\n":
+                    return (task / "stat").read_text().rpartition(")")[2].split()[0] != "R"
+        except FileNotFoundError:
+            pass  # it has ended
+        return True
 
     def said(self) -> str:
         return self.errors_path.read_text()
@@ -149,8 +160,9 @@ class Live:
             raise AssertionError(self.errors())
 
 
-@unittest.skipUnless(os.geteuid() == 0 and shutil.which("ip") and os.access(LIVE, os.X_OK),
-                     "links need root, ip, and lldpa-live, which tools/release/live.sh builds")
+@unittest.skipUnless(os.geteuid() == 0, "root: only root makes links")
+@unittest.skipUnless(shutil.which("ip"), "ip: it is not installed")
+@is_built
 class OnLinks(unittest.TestCase):
     """A test with links. After the test, the links are removed and the programs are ended."""
 
@@ -161,6 +173,13 @@ class OnLinks(unittest.TestCase):
         self.addCleanup(self.wires.close)
         self.folder = self.wires.folder
         self.log = self.folder / "log"
+
+    def keep_log_in_memory(self) -> None:
+        """Moves the log to a folder in memory, where no slow disk makes lldpa-live lose lines."""
+        folder = tempfile.TemporaryDirectory(dir="/dev/shm")
+        self.addCleanup(folder.cleanup)
+        os.chmod(folder.name, 0o755)
+        self.log = Path(folder.name, "log")
 
     def live(self, *words: str, **options: Any) -> Live:
         """Starts an lldpa-live that ends after the test."""

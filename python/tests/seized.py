@@ -15,7 +15,7 @@ WALL = 0x40000000
 ROOM = 8192  # octets below the stack, for what arguments point to
 NAMES = ("r15 r14 r13 r12 rbp rbx r11 r10 r9 r8 rax rcx rdx rsi rdi orig_rax rip cs eflags rsp ss "
          "fs_base gs_base ds es fs gs").split()
-can_seize = unittest.skipUnless(platform.machine() == "x86_64", "it needs the registers of x86-64")
+can_seize = unittest.skipUnless(platform.machine() == "x86_64", "x86-64: it writes registers")
 
 
 class Registers(ctypes.Structure):

@@ -11,15 +11,15 @@ import threading
 import unittest
 from contextlib import suppress
 from pathlib import Path
-from typing import Any, Sequence
+from typing import Any, ContextManager, Sequence
+from unittest import mock
 
+from asking import Client
 from lldpa import Agent, Ended, Refused
-from lldpa.client import Client
 
 REPOSITORY = Path(__file__).resolve().parents[2]
 PROGRAM = os.environ.get("LLDPA") or str(REPOSITORY / "crates" / "lldpa" / "out" / "lldpa")
 BIN = REPOSITORY / "bin"
-# lldpctl runs lldpa-ctl, which finds lldpa-details by PATH
 os.environ["PATH"] = os.pathsep.join(  # lldpd's lldpcli comes before ours
     [os.path.dirname(PROGRAM), os.environ.get("PATH", os.defpath), str(BIN)])
 CTL = str(BIN / "lldpa-ctl")
@@ -163,6 +163,14 @@ class Served:
 
     def __exit__(self, *_: object) -> None:
         self.close()
+
+
+def told_by(served: Served, lines: Sequence[str],
+            line: bytes = b"show neighbors") -> ContextManager[object]:
+    """Lets an agent answer a line with these lines."""
+    ask = served.ask
+    return mock.patch.object(served, "ask",
+                             lambda asked: list(lines) if asked == line else ask(asked))
 
 
 class Program(unittest.TestCase):

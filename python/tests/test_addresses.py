@@ -9,7 +9,7 @@ import unittest
 from pathlib import Path
 from typing import Optional
 
-from lldpa.client import since_of
+from asking import since_of
 from patience import by_the_clock, eventually
 from real_lldpd import Lldpd, beside_lldpd
 from replaced import Replaced
@@ -24,7 +24,7 @@ STEPS = ((["add 192.0.2.7/24"], "192.0.2.7"),
 
 
 @beside_lldpd
-@unittest.skipUnless(shutil.which("tshark"), "it needs Debian's package tshark")
+@unittest.skipUnless(shutil.which("tshark"), "tshark: it is not installed")
 class AtPeers(Replaced):
     """Tests what real peers receive: lldpd on both links, tshark on the second."""
 
@@ -90,7 +90,7 @@ class AtPeers(Replaced):
     def is_followed_above(self, kind: str) -> None:
         """Makes an interface of this kind above the first port, and tests the addresses there."""
         if not self.can_make("above0", "type", kind):
-            self.skipTest(f"it needs a kernel with {kind}s")
+            self.skipTest(f"link-{kind}: this kernel has none")
         for words in ("eth0 down", "eth0 master above0", "eth0 up", "above0 up"):
             ip("-n", self.wires.here, "link", "set", *words.split())
         eventually(self.wires.all_up)
@@ -131,7 +131,9 @@ class Addresses(Replaced):
             ("bridge0", ["type", "bridge"]), ("vlan5", ["link", "eth1", "type", "vlan", "id", "5"]),
             ("mac0", ["link", "eth1", "type", "macvlan"]))
             if self.can_make(name, *words)]
-        others = [*reversed(made), "lo"]  # each has a lower number than those before it
+        on_a_port = [name for name in reversed(made) if name != "bridge0"]
+        # each has a lower number than those before it, and what is on a port comes first
+        others = [*(name for name in made if name == "bridge0"), "lo", *on_a_port]
         for place, name in enumerate(others, 1):
             ip("-n", here, "link", "set", name, "up")
             self.add(f"192.0.2.{place}", name)
@@ -145,13 +147,18 @@ class Addresses(Replaced):
         self.assertTrue(self.hears_address(None))
         self.assertTrue(eventually(lambda: live.said().count(NO_ADDRESS) == 2))
 
+    def test_a_port_that_only_receives_misses_no_address(self) -> None:
+        live, _ = self.receiving()
+        live.ask("live")
+        self.assertNotIn(NO_ADDRESS, live.said())
+
     def vlan_and_docker(self) -> None:
         """Makes docker0 with an address, and then a VLAN of a port with another."""
         here = self.wires.here
         ip("-n", here, "link", "add", "docker0", "up", "type", "bridge")
         self.add("172.17.0.1", "docker0")
         if not self.can_make("eth1.10", "link", "eth1", "type", "vlan", "id", "10"):
-            self.skipTest("it needs a kernel with VLANs")
+            self.skipTest("link-vlan: this kernel has none")
         ip("-n", here, "link", "set", "eth1.10", "up")
         self.add("192.0.2.10", "eth1.10")
 
@@ -175,7 +182,8 @@ class Addresses(Replaced):
         self.add("203.0.113.9", "lo")
         for patterns, address in (("172.17.*", "172.17.0.1"), ("!198.51.*", "192.0.2.10"),
                                   ("192.0.2.*,!172.17.*", "192.0.2.10"), ("203.*", "203.0.113.9"),
-                                  ("*,!198.51.100.?,!192.*", "172.17.0.1"), ("10.*", None),
+                                  ("*,!198.51.100.?,!192.*", "203.0.113.9"), ("10.*", None),
+                                  ("*,!198.51.100.?,!192.*,!203.*", "172.17.0.1"),
                                   ("!*,!!203.*", "203.0.113.9"), ("*", "198.51.100.7")):
             live = self.live("--management-pattern", patterns, "eth0", "eth1")
             found = [line for line in live.ask("show chassis") if ".mgmt=" in line]

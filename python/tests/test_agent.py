@@ -13,7 +13,7 @@ from unittest import mock
 
 import lldpa
 from lldpa.agent.framing import Closed, Ended, Refused, command, ticks
-from lldpa.agent.synchronous import NO_ANSWER, Agent
+from lldpa.agent.synchronous import Agent
 from lldpa.agent.shown import Counters
 from lldpa.limits import LONGEST_LINE
 from made_captures import LLDP, OTHER
@@ -21,6 +21,7 @@ from patience import eventually
 from served import PROGRAM
 from support import FilesCase
 
+NO_ANSWER = "the agent does not answer; over TCP, it may already have another client"
 # the frame that port eth0 sends without options
 DEFAULT_FRAME = bytes.fromhex(
     "0180c200000e02000000000188cc02070402000000000104050565746830060200790804657468300a096c6f63"
@@ -33,6 +34,12 @@ def started(*ports: str, **options: lldpa.agent.synchronous.Option) -> Agent:
 
 
 class Asked(unittest.TestCase):
+    def test_the_names_of_the_package(self) -> None:
+        """Checks that each public name is there, and that the names loaded later are public."""
+        self.assertEqual([name for name in lldpa.__all__ if not hasattr(lldpa, name)], [])
+        later = {name for names in lldpa.LATER.values() for name in names}
+        self.assertEqual(later - {*lldpa.__all__}, set())
+
     def test_the_example_of_the_package(self) -> None:
         path = f"{Path(PROGRAM).parent}{os.pathsep}{os.environ['PATH']}"
         with mock.patch.dict(os.environ, PATH=path):

@@ -16,7 +16,8 @@ class AnyInterface(OnLinks):
         """Makes an interface here, or skips the test if this kernel does not have its kind."""
         made = subprocess.run(["ip", "-n", self.wires.here, *words], capture_output=True, text=True)
         if made.returncode:
-            self.skipTest(f"ip {' '.join(words)}: {made.stderr.strip()}")
+            kind = "vlan" if "vlan" in words else "tun"
+            self.skipTest(f"link-{kind}: ip {' '.join(words)}: {made.stderr.strip()}")
 
     def runs_with(self, *words: str, said: str) -> None:
         """Checks that lldpa-live runs on eth0 and eth1 beside these words, and says this once."""
@@ -71,7 +72,8 @@ class AnyInterface(OnLinks):
     def test_none_that_can_be_used_is_waited_for(self) -> None:
         live = self.live("lo", awaits=False)
         live.comes_to("live.agent=waiting")
-        self.assertIn("lo: ", live.errors())
+        self.assertTrue(live.says("lo: no such Ethernet interface yet, and lldpa-live runs on no "
+                                  "others; waiting for one, and until then"), live.errors())
         self.assertEqual(live.ended(), 0)
 
     def test_one_that_comes_later_under_the_name_of_a_port(self) -> None:

@@ -39,7 +39,7 @@ class TestArtefacts(unittest.TestCase):
                 ("`lldpa` of `rt run`", r"none", "1", "C: '1', counted 'none'"),
                 ("the crate `rust/lldpa`", r"\| \d+ \| [\d,]+ of Rust", "| 9 | 1 of Rust",
                  "unsafe: '9'"),
-                ("`lldpa-live`, `lldpa-ctl`", r"[\d,]+ of Rust", "9 of Rust",
+                ("`lldpa-live`, `lldpa-ctl`, `lldpctl`", r"[\d,]+ of Rust", "9 of Rust",
                  "tested: '9 of Rust'"),
                 ("`lldpa-audit`", r" of Python", " of Rust", "of Rust', counted")):
             with self.subTest(row, new=new):
@@ -47,7 +47,8 @@ class TestArtefacts(unittest.TestCase):
 
     def test_a_row_that_is_missing_is_reported(self) -> None:
         lines = PAGE.splitlines(keepends=True)
-        line = next(line for line in lines if line.startswith("| `lldpa-live`, `lldpa-ctl` |"))
+        row = "| `lldpa-live`, `lldpa-ctl`, `lldpctl` |"
+        line = next(line for line in lines if line.startswith(row))
         said = checked(PAGE.replace(line, ""))
         self.assertIn("the rows are those that are counted", said)
 

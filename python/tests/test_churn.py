@@ -10,7 +10,7 @@ from patience import eventually
 from running_live import OnLinks
 from served import numbered, tlv
 
-GUESTS, SECONDS = 40, 32  # tools/by-hand/try-load.py has 150 in 120
+GUESTS, SECONDS = 40, 32
 MOST_HELD = 128  # neighbors that a port can hold
 A_FILE = 2  # seconds whose changes are one file
 
@@ -30,6 +30,7 @@ class Guests(OnLinks):
         return time.monotonic() - began
 
     def test_they_begin_few_files_and_no_line_goes(self) -> None:
+        self.keep_log_in_memory()
         live = self.live("--log", str(self.log), "--log-most", "1", "--log-keep", "20", "eth0",
                          "vnet*", "--", "--receive-only", "--max-neighbors", str(MOST_HELD))
         span = self.churn(GUESTS, SECONDS)
@@ -82,6 +83,7 @@ class OldFiles(OnLinks):
         self.assertEqual(len(calls_of(calls, "getdents64")), listed)
 
     def test_they_go_when_their_octets_are_needed_and_not_before(self) -> None:
+        self.keep_log_in_memory()
         self.old(20, 100_000)  # 2 MB
         live = self.live("--log", str(self.log), "--log-most", "1", "--log-keep", "3", "eth0", "--",
                          "--receive-only")

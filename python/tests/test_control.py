@@ -5,8 +5,8 @@ import time
 from concurrent.futures import ThreadPoolExecutor
 from contextlib import ExitStack, suppress
 
+from asking import Client
 from lldpa import Refused, read_show
-from lldpa.client import Client
 from running_live import OnLinks
 from patience import SECONDS, eventually
 from served import numbered, tlv

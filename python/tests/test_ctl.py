@@ -9,12 +9,9 @@ import socket
 import struct
 import subprocess
 import termios
-import threading
-from contextlib import ExitStack
+import time
 from unittest import mock
 
-from lldpa.client import Client
-from lldpa.organizational import organizational_object, said_by
 from served import CTL, HOSTILE, LIVE_LINES, Program, frame, numbered, tlv
 
 
@@ -42,7 +39,6 @@ class Answers(Program):
         newer = [*known[:place], "configuration.further=7", known[place],
                  "configuration.eth0.place=roof", *known[place + 1:]]
         questions = ([], ["interfaces"], ["--json", "interfaces"],
-                     ["--json", "show", "configuration"],
                      ["configure", "ports", "eth0", "lldp", "status", "rx-only"])
         told = [self.run_ctl(*words) for words in questions]
         answers = lambda line: newer if line == b"show configuration" else ask(line)
@@ -88,7 +84,10 @@ class Answers(Program):
             "capabilities": {"Bridge": True, "Router": False}, "management": ["192.0.2.1"],
             "org": [{"kind": "00120f.1", "octets": "616263"}],
             "unknown": [{"type": 126, "octets": "ff"}],
-            **organizational_object(said_by([])),
+            "vlan": {"pvid": None, "names": [], "protocol_vlans": [], "protocols": [],
+                     "usage_digest": None, "management": None},
+            "max_frame_size": None, "link_aggregation": None, "mac_phy": None, "power": None,
+            "eee": None, "dcb": None, "med": None, "mud_url": None,
             "organizational": [{"oui": "00120f", "subtype": 1, "octets": "616263"}]}])
         eth1 = json.loads(self.run_ctl("show", "neighbors", "eth1", "--json"))
         self.assertEqual(eth1, {"ports": told["ports"][1:]})
@@ -151,16 +150,21 @@ class Answers(Program):
 class Faults(Program):
     def test_a_client_for_whom_there_is_no_room_waits_for_it(self) -> None:
         path = self.served.path + "-full"
-        with socket.socket(socket.AF_UNIX, socket.SOCK_STREAM) as full, ExitStack() as stack:
+        with socket.socket(socket.AF_UNIX) as full, socket.socket(socket.AF_UNIX) as first:
             full.bind(path)
             full.listen(0)
-            stack.enter_context(Client(path))
-            with self.assertRaises(TimeoutError):
-                Client(path, seconds=0.2)
-            accepting = threading.Timer(0.2, lambda: stack.enter_context(full.accept()[0]))
-            accepting.start()
-            stack.enter_context(Client(path))
-            accepting.join()
+            first.connect(path)
+            child = subprocess.Popen([CTL, "--control", path, "live"], stdout=subprocess.PIPE,
+                                     stderr=subprocess.PIPE)
+            self.addCleanup(child.communicate)
+            self.addCleanup(child.kill)
+            time.sleep(0.2)  # meanwhile it finds no room
+            self.assertIsNone(child.poll())
+            full.accept()[0].close()
+            with full.accept()[0] as client:
+                client.recv(100)
+                client.sendall(b"=1\nlive.a=b\n")
+                self.assertEqual(child.communicate(), (b"live.a=b\n", b""))
 
     def test_bad_words(self) -> None:
         for word in ('a"b', "中"):

@@ -3,16 +3,11 @@
 import json
 import unittest
 from pathlib import Path
-from typing import Any, Set
+from typing import Any
 
-try:
-    import jsonschema
-except ImportError:  # Debian: python3-jsonschema
-    jsonschema = None
-
-from lldpa import Agent
-from lldpa.client import neighbor_object
-from served import PROGRAM, REPOSITORY, Program, frame, numbered, tlv
+from judges import AT_ONCE, with_chassis
+from schemas import LACKS_IT, jsonschema
+from served import REPOSITORY, Program, Served, ctl, frame, numbered, tlv
 
 SCHEMA = json.loads((REPOSITORY / "docs" / "lldpa-ctl.schema.json").read_text())
 JUDGED = json.loads((Path(__file__).parent / "judged.json").read_text())
@@ -20,7 +15,7 @@ COMMANDS = (["show", "neighbors"], ["details"], ["show", "statistics"], ["statis
             ["show", "chassis"], ["show", "configuration"], ["interfaces"], [])
 
 
-@unittest.skipIf(jsonschema is None, "there is no jsonschema")
+@unittest.skipIf(jsonschema is None, LACKS_IT)
 class Schema(Program):
     """Tests each answer, with frames of real senders and with frames made for tests."""
 
@@ -46,12 +41,14 @@ class Schema(Program):
     def test_neighbors_of_real_senders(self) -> None:
         whole = {**SCHEMA["definitions"]["neighbor"], "definitions": SCHEMA["definitions"]}
         self.assertGreater(len(JUDGED), 20)
-        judge, seen = jsonschema.Draft7Validator(whole), set()  # type: Any, Set[str]
-        with Agent.start(["eth0"], PROGRAM, receive_only=True, max_neighbors=4) as agent:
-            for one in JUDGED:
-                agent.frame("eth0", bytes.fromhex(one["frame"]))
-                for told in map(neighbor_object, agent.neighbors()):
-                    text = json.dumps({**told, "place": 1, "expires": 0})
-                    if text not in seen:
-                        judge.validate(told)
-                    seen.add(text)
+        judge: Any = jsonschema.Draft7Validator(whole)
+        frames = [bytes.fromhex(one["frame"]) for one in JUDGED]
+        for begin in range(0, len(frames), AT_ONCE):
+            some = frames[begin:begin + AT_ONCE]
+            with Served(max_neighbors=128) as served:
+                for number, octets in enumerate(some):
+                    served.frame("eth0", with_chassis(octets, number))
+                told = json.loads(ctl(served.path, "--json", "neighbors").stdout)
+            self.assertEqual(len(told["ports"][0]["neighbors"]), len(some))
+            for one in told["ports"][0]["neighbors"]:
+                judge.validate(one)

@@ -9,8 +9,10 @@ import time
 from typing import Sequence
 
 from patience import SECONDS, by_the_clock, eventually, mostly
-from served import CTL, HOSTILE, Program, numbered, tlv
+from served import BIN, CTL, HOSTILE, Program, numbered, tlv
 
+PORTS = ("eth0", "eth1")
+LLDPCTL = str(BIN / "lldpctl")
 TIME = r"[0-9]{4}-[0-9]{2}-[0-9]{2}T[0-9]{2}:[0-9]{2}:[0-9]{2}[+-][0-9]{4}"
 
 
@@ -24,7 +26,8 @@ class Watching(Program):
 
         That is when it has printed the table or, with --json, when it waits for changes.
         """
-        table = "" if words else self.run_ctl("neighbors", *ports)
+        named = [port for port in ports if port in PORTS]
+        table = "" if words else self.run_ctl("neighbors", *named)
         words = (CTL, "--control", self.served.path, *words, "watch", *ports)
         environment = {key: value for key, value in os.environ.items() if key != "PYTHONUNBUFFERED"}
         child = subprocess.Popen(words, stdout=subprocess.PIPE, stderr=subprocess.PIPE, text=True,
@@ -87,6 +90,39 @@ class Watching(Program):
         self.served.waits = False
         self.served.frame("eth0", numbered(2))
         self.assertRegex(self.line(child), r" eth0 came: [ -~]* p2\n$")
+
+    def test_a_limit(self) -> None:
+        for front, ports in (([], ["limit", "2"]), ([], ["ports", "eth0", "lim", "2"]),
+                             (["--json"], ["limit", "2", "eth0"])):
+            child = self.watch(*front, ports=ports)
+            lines = []
+            for number in (1, 2):
+                self.served.frame("eth0", numbered(number))
+                lines.append(self.line(child))
+                self.assertRegex(lines[-1], f" eth0 came: [ -~]* p{number}$"
+                                            f'|"came".* ifname=p{number}"')
+            self.assertEqual((child.wait(SECONDS), child.communicate()), (0, ("", "")))
+            self.served.asked.clear()
+            self.served.tick(120)
+        for words, said in ((["limit"], "a word is missing after limit"),
+                            (["limit", "0"], "not a number from 1 to 999999999: 0"),
+                            (["eth0", "limit", "x"], "not a number from 1 to 999999999: x")):
+            for front in ([], ["--json"]):
+                self.run_ctl(*front, "watch", *words, status=1, said=said)
+
+    def test_it_ends_with_its_reader(self) -> None:
+        self.served.counts = True
+        for words in ([CTL, "--control", self.served.path, "watch"],
+                      [CTL, "--control", self.served.path, "--json", "watch"],
+                      [LLDPCTL, "-u", self.served.path, "watch"]):
+            self.served.asked.clear()
+            child = subprocess.Popen(words, stdout=subprocess.PIPE, stderr=subprocess.PIPE)
+            self.addCleanup(child.communicate)
+            self.addCleanup(child.kill)
+            self.assertTrue(eventually(lambda: b"changes" in self.served.asked))
+            assert child.stdout is not None
+            child.stdout.close()
+            self.assertEqual((child.wait(SECONDS), child.stderr and child.stderr.read()), (1, b""))
 
     def test_its_end(self) -> None:
         child = self.watch()

@@ -1,16 +1,14 @@
-"""Tests the texts about neighbors: `details`, `watch`, and a neighbor as JSON."""
+"""Tests what lldpa-ctl says of a neighbor, as `details` and as JSON."""
 
 import json
-import unittest
+from typing import Any, Sequence, Tuple
 
 from lldpa import Neighbor, Port
-from lldpa.client.as_json import neighbor_object
-from lldpa.client.details import details
-from lldpa.agent.shown import Identifier
-from tlvs import SAMPLES
+from lldpa.agent.show import Identifier, Show, lines_of
+from samples import SAMPLES
+from served import LIVE_LINES, Program, told_by
 
-ORG = tuple((f"org.{oui}.{sample.kind[1]}", bytes.fromhex(sample.octets).hex())
-            for sample in SAMPLES for oui in (sample.kind[0],))
+ORG = tuple((f"org.{kind}", octets.hex()) for kind, octets in SAMPLES)
 # all samples except Link Aggregation of IEEE 802.3 and the shorter ones of Power via MDI
 EACH = tuple((key, octets) for key, octets in ORG if key != "org.00120f.3"
              and (key != "org.00120f.2" or len(octets) == 2 * 25))
@@ -21,17 +19,26 @@ SWITCH = Neighbor(
          ("chassis.mgmt", "fe80:0000:0000:0000:0000:0000:0000:0001,2,7,"),
          ("org.0080c2.1", "0078"), ("org.0080c2.3", "0078066f6666696365"),
          ("org.00120f.4", "05f2"), ("org.001122.5", "68656c"), ("unknown.9", "00"), ("age", "7")))
-SINCE = {("eth0", SWITCH.id): "2026-11-23T19:45:02Z"}
+CAME = "2026-11-23T19:45:02Z"
 
 
-def port(*neighbors: Neighbor) -> Port:
-    return Port("eth0", len(neighbors), 20, False, neighbors)
+class ForPeople(Program):
+    def told_of(self, neighbor: Neighbor, *words: str) -> str:
+        """Returns what lldpa-ctl prints if this is the only neighbor, at the port eth0."""
+        port = Port("eth0", 1, 20, False, (neighbor,))
+        with told_by(self.served, lines_of(Show(ports=(port,)))):
+            return self.run_ctl(*words)
 
+    def object_of(self, said: Sequence[Tuple[str, str]]) -> Any:
+        """Returns a neighbor that said this as an object from JSON."""
+        text = self.told_of(SWITCH._replace(said=tuple(said)), "--json", "neighbors")
+        self.assertTrue(text.isascii())
+        self.assertEqual(json.dumps(json.loads(text), indent=2) + "\n", text)
+        one, = json.loads(text)["ports"][0]["neighbors"]
+        return one
 
-class ForPeople(unittest.TestCase):
     def test_a_neighbor(self) -> None:
-        lines = details([port(SWITCH)], {}, 80)
-        self.assertEqual(lines, [
+        self.assertEqual(self.told_of(SWITCH, "details").splitlines(), [
             "eth0: café-1 swp1",
             "  Heard         98 s of 120 s left",
             "  Chassis ID    mac 02:00:00:00:00:01",
@@ -46,18 +53,14 @@ class ForPeople(unittest.TestCase):
             "  Other TLVs    001122.5 68656c, unknown.9 00, age 7"])
 
     def setUp(self) -> None:
-        self.told = neighbor_object(SWITCH._replace(said=EACH), SINCE)
+        super().setUp()
+        self.served.live_lines = [*LIVE_LINES, f"live.eth0.since.1={CAME} {SWITCH.id}".encode()]
+        self.told = self.object_of(EACH)
+        self.served.live_lines = LIVE_LINES
 
-    def test_it_is_plain_and_whole(self) -> None:
-        self.assertEqual(json.loads(json.dumps(self.told)), self.told)
-        self.assertEqual(self.told["since"], "2026-11-23T19:45:02Z")
-        self.assertEqual(self.told["mud_url"], {"text": "https://x"})
-        self.assertEqual(self.told["organizational"], [])
-        self.assertEqual(self.told["org"],
-                         [{"kind": key[4:], "octets": octets} for key, octets in EACH])
-
-    def test_nothing_is_said(self) -> None:
-        told = neighbor_object(SWITCH._replace(said=()))
+    def test_it_is_whole(self) -> None:
+        self.assertEqual(self.told["since"], CAME)
+        told = self.object_of(())
         self.assertEqual({key: told[key] for key in [*told][[*told].index("vlan"):]}, {
             "vlan": {"pvid": None, "names": [], "protocol_vlans": [], "protocols": [],
                      "usage_digest": None, "management": None},
@@ -105,7 +108,7 @@ class ForPeople(unittest.TestCase):
                  "protocol": 3260}]})
 
     def test_med(self) -> None:
-        med = neighbor_object(SWITCH._replace(said=ORG))["med"]
+        med = self.object_of(ORG)["med"]
         self.assertEqual(med["capabilities"], ["capabilities", "policy", "location", "MDI/PSE",
                                                "MDI/PD", "inventory"])
         self.assertEqual(med["class"], 3)
@@ -128,8 +131,8 @@ class ForPeople(unittest.TestCase):
         one = SWITCH._replace(chassis=Identifier("local", "\\xff"), said=(
             ("chassis.name", "caf\\xc3\\xa9 \\\\"), ("chassis.descr", "caf\\xe9"),
             ("org.0080c2.3", "007801e9"), ("org.0012bb.5", "e9"), ("org.00005e.1", "e9"),
-            ("org.0012bb.3", "0206 02e941 0601e9".replace(" ", ""))))
-        told = neighbor_object(one)
+            ("org.0012bb.3", "020602e9410601e9")))
+        told, = json.loads(self.told_of(one, "--json", "neighbors"))["ports"][0]["neighbors"]
         self.assertEqual((told["name"], told["descr"]), ("café \\", "caf\\xe9"))
         self.assertEqual(told["octets"], {"descr": "636166e9"})
         self.assertEqual(told["chassis"], {"kind": "local", "text": "\\xff",
@@ -143,4 +146,3 @@ class ForPeople(unittest.TestCase):
             "form": "civic address", "what": "client", "country": "\\xe9A",
             "octets": {"country": "e941"}, "elements": [
                 {"type": 6, "name": "street", "text": "\\xe9", "octets": {"text": "e9"}}]}])
-        self.assertEqual(json.dumps(told).encode("ascii").decode("utf-8"), json.dumps(told))

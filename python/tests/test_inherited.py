@@ -74,10 +74,10 @@ class OfRoot(OnLinks):
         ran = subprocess.run([sys.executable, "-c", NAMESPACE], check=False, text=True,
                              stdout=subprocess.PIPE)
         if ran.returncode == 77:
-            self.skipTest("the kernel lets nobody make a user namespace here")
+            self.skipTest("user-namespaces: the kernel lets nobody make one here")
         self.assertNotEqual(int(ran.stdout, 16), 0)
 
-    @unittest.skipUnless(shutil.which("strace"), "it needs strace")
+    @unittest.skipUnless(shutil.which("strace"), "strace: it is not installed")
     def test_the_session_keyring_is_a_new_one(self) -> None:
         calls = self.folder / "calls"
         self.live("eth0", before=["strace", "-D", "-f", "-o", str(calls), "-e", "keyctl"])

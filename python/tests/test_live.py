@@ -1,9 +1,12 @@
 """Tests the command line of lldpa-live, and what lldpa-live needs to start."""
 
 import os
+import shutil
+import subprocess
+import tempfile
 import unittest
 
-from running_live import OnLinks, is_built, run_live
+from running_live import LIVE, OnLinks, is_built, run_live
 
 
 @is_built
@@ -40,9 +43,15 @@ class TestWords(unittest.TestCase):
         for option in ("--only-existing", "--forget-on-down", "--log-most", "--control-group"):
             self.assertIn(option, ended.stdout)
 
-    @unittest.skipIf(os.geteuid() == 0, "root may become another user")
     def test_only_root_becomes_another(self) -> None:
-        self.assertEqual(run_live("--user", "nobody", "eth0").returncode, 2)
+        nobody = {"user": 65534, "group": 65534} if os.geteuid() == 0 else {}
+        with tempfile.TemporaryDirectory() as folder:
+            os.chmod(folder, 0o755)
+            ended = subprocess.run([shutil.copy(LIVE, folder), "--user", "daemon", "eth0"],
+                                   stdin=subprocess.DEVNULL, capture_output=True, text=True,
+                                   check=False, **nobody)
+        self.assertEqual(ended.returncode, 2, ended.stderr)
+        self.assertIn("--user", ended.stderr)
 
 
 class TestStart(OnLinks):

@@ -6,10 +6,9 @@ import subprocess
 import sys
 import time
 
-from lldpa.client import Client
-
-from running_live import Live, OnLinks
+from asking import Client
 from patience import by_the_clock, eventually, mostly
+from running_live import Live, OnLinks
 from served import numbered
 from wires import flood, inside
 

@@ -81,6 +81,11 @@ class TestLog(OnLinks):
         self.assertTrue(began - 1.1 < first.timestamp() < time.time() + 0.1)
         self.assertRegex(lines[1], CLOCK)
 
+    def test_an_option_turns_the_log_off_that_the_unit_turns_on(self) -> None:
+        live = self.live("--log", str(self.log), "--no-log", "eth0")
+        self.assertIn("live.log=off", live.ask("live"))
+        self.assertEqual((live.ended(), self.log.exists()), (0, False))
+
     @by_the_clock
     def test_full_device_stops_the_log_and_not_lldpa_live(self) -> None:
         self.log.mkdir()

@@ -91,14 +91,14 @@ class TestFiles(OnLinks):
         self.assertTrue(eventually(lambda: list(self.log.iterdir())))
         writer = StoppedWriter(live)
         peer.send(numbered(1))
-        self.assertTrue(live.says("has made no progress for 5 seconds"))
+        self.assertTrue(live.says("is more than 2 seconds behind and loses lines"))
         self.assertIn("live.log=stalled", live.ask("live"))
         peer.send(numbered(2))
         self.assertTrue(eventually(lambda: live.neighbors() == 2, 1))
         writer.release()
         self.assertTrue(live.says("the log continues in"))
         self.assertTrue(eventually(lambda: len(list(self.log.iterdir())) == 2))
-        self.assertIn("live.log-lines-lost=0", live.ask("live"))
+        self.assertGreater(live.number("log-lines-lost"), 0)
         StoppedWriter(live).bury()
         while peer.hears(0.1):
             pass
@@ -114,7 +114,7 @@ class TestFiles(OnLinks):
         flood(self.wires, "peer0", LONG, 3_000).wait()
         flood(self.wires, "peer1", LONG, 3_000).wait()  # over 4 MB together, as text
         self.assertTrue(eventually(lambda: live.number("log-lines-lost") > 100))
-        self.assertTrue(live.says("cannot keep up and loses lines; lldpa-live continues"))
+        self.assertTrue(live.says("loses lines; lldpa-live continues"))
         writer.release()
         self.assertTrue(live.says("the log continues in"))
         moments = Moments(live)
@@ -135,7 +135,7 @@ class TestFrozenDisk(OnLinks):
         made = subprocess.run(["mkfs.ext4", "-q", disk], capture_output=True)
         mounted = subprocess.run(["mount", "-o", "loop", disk, self.log], capture_output=True)
         if made.returncode or mounted.returncode:
-            self.skipTest("no loop-mounted file system is allowed here")
+            self.skipTest("loop-mounts: a file system in a file cannot be mounted here")
         self.addCleanup(subprocess.run, ["umount", "-l", self.log], check=False)
         self.addCleanup(subprocess.run, ["fsfreeze", "-u", self.log], capture_output=True)
 
@@ -147,7 +147,7 @@ class TestFrozenDisk(OnLinks):
         peer, live = self.peer(), self.live("--log", str(self.log), "eth0")
         self.assertTrue(eventually(lambda: list(self.log.glob("*.trace"))))
         self.freeze()
-        self.assertTrue(live.says("has made no progress for 5 seconds"))
+        self.assertTrue(live.says("is more than 2 seconds behind and loses lines"))
         live.ask("configure lldp tx-interval 1")
         self.assertIsNotNone(peer.hears())
         began = time.monotonic()

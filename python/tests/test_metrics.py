@@ -6,13 +6,13 @@ import subprocess
 import unittest
 
 from lldpa.agent.show import Counters
-from lldpa.texts import shown_text
 from served import LIVE_LINES, CTL, REPOSITORY, Served, ctl, frame, numbered, tlv
+from texts_shown import shown_text
 
 FOLDER = REPOSITORY / "share" / "prometheus"
 RULES, TESTS = FOLDER / "lldpa.rules.yml", FOLDER / "lldpa.rules.test.yml"
 has_promtool = unittest.skipUnless(shutil.which("promtool"),
-                                   "there is no promtool (Debian: prometheus)")
+                                   "promtool: it is not installed")
 SAMPLE = re.compile(r'([a-z_]+)(?:\{((?:[a-z_]+="(?:[^"\\\n]|\\["\\n])*",?)+)\})? ([0-9]+)')
 LABEL = re.compile(r'([a-z_]+)="((?:[^"\\\n]|\\["\\n])*)"')
 Series = dict[tuple[str, tuple[tuple[str, str], ...]], int]

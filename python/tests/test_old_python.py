@@ -20,8 +20,7 @@ runpy.run_path({path!r}, run_name="__main__")
 class TestOldPython(unittest.TestCase):
     def test_programs_are_there(self) -> None:
         names = [path.name for path in PROGRAMS]
-        self.assertEqual(
-            names, ["lldpa-audit", "lldpa-capture", "lldpa-details", "lldpcli", "lldpctl"])
+        self.assertEqual(names, ["lldpa-audit", "lldpa-capture", "lldpa-model"])
 
     def test_one_line_says_which_python_is_needed(self) -> None:
         for path in PROGRAMS:
@@ -34,7 +33,7 @@ class TestOldPython(unittest.TestCase):
     def test_old_pythons_can_read_the_programs(self) -> None:
         for path in PROGRAMS:
             with self.subTest(path.name):
-                ast.parse(path.read_text(), feature_version=(3, 4))
+                self.assertTrue(ast.parse(path.read_text(), feature_version=(3, 4)).body)
 
     def test_the_package_cannot_be_imported(self) -> None:
         code = "import sys; sys.version_info = (3, 8, 20); import lldpa"

@@ -17,24 +17,21 @@ SECTIONS = {"lldpa-audit": 1, "lldpa-capture": 1, "lldpa-ctl": 8, "lldpctl": 1}
 if os.access(LIVE, os.X_OK):
     SECTIONS["lldpa-live"] = 8
 WHEEL = str(REPOSITORY / "tools" / "release" / "wheel.sh")
-PROGRAMS = ("lldpa-audit", "lldpa-capture", "lldpa-details")
+PROGRAMS = ("lldpa-audit", "lldpa-capture")
 TYPED = """\
 from typing import List, Optional
 
-from lldpa import Agent, Neighbor
-from lldpa.client import Client
-from lldpa.organizational import said_by
+from lldpa import Agent, Ctl, Neighbor
 
 
 def names(ports: list[str]) -> list[Optional[str]]:
     with Agent.start(ports, receive_only=True) as agent:
         neighbors: list[Neighbor] = agent.neighbors()
-        return [one.name for one in neighbors if said_by(one.org).pvid == 120]
+        return [one.name for one in neighbors]
 
 
 def lines() -> list[str]:
-    with Client() as client:
-        return client.ask("show neighbors")
+    return Ctl().lines("show", "neighbors")
 """
 FALSE = "from lldpa import Agent\nnumber: int = Agent.start(['eth0']).neighbors()\n"
 
@@ -52,7 +49,7 @@ class Installed(unittest.TestCase):
         made = subprocess.run([sys.executable, "-m", "venv", str(cls.folder / "venv")],
                               capture_output=True, text=True, check=False)
         if made.returncode:
-            raise unittest.SkipTest(f"no environment with pip: {made.stdout.splitlines()[:1]}")
+            raise unittest.SkipTest(f"python3-venv: {made.stdout.splitlines()[:1]}")
         for name in ("python", "audit"):
             shutil.copytree(REPOSITORY / name, cls.folder / name,
                             ignore=shutil.ignore_patterns("tests", "worked", "__pycache__"))
@@ -118,7 +115,7 @@ class Installed(unittest.TestCase):
                                   env={"PATH": "/nonexistent"})
             self.assertEqual(done.returncode, 0, done.stderr)
 
-    @unittest.skipUnless(shutil.which("mypy"), "there is no mypy")
+    @unittest.skipUnless(shutil.which("mypy"), "mypy: it is not installed")
     def test_its_types_are_seen(self) -> None:
         for text, status in ((TYPED, 0), (FALSE, 1)):
             (self.folder / "typed.py").write_text(text)
@@ -138,7 +135,7 @@ class Modules(unittest.TestCase):
                               check=True, env={**os.environ, "PYTHONPATH": path}).stdout
 
     def test_each_program_prints_help(self) -> None:
-        for name in (*PROGRAMS, "lldpctl"):
+        for name in PROGRAMS:
             module = name.rpartition("-")[2]
             told = self.run_module(
                 "lldpa_audit" if module == "audit" else f"lldpa.commands.{module}", "--help")

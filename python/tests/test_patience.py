@@ -12,8 +12,10 @@ from patience import TRIES, Standstill, by_the_clock, eventually, mostly, stolen
 class Tried(unittest.TestCase):
     """Tests `by_the_clock` with given standstills, on a test that fails a given number of times."""
 
-    def ran(self, standstills: Sequence[float], failures: int) -> "tuple[bool, list[str], str]":
-        """Returns whether the test passes in the end, its steps in order, and what is printed."""
+    def ran(self, standstills: Sequence[float], failures: int,
+            load: float = 2.0) -> "tuple[bool, list[str], str]":
+        """Returns whether the test passes in the end on two processors with this load, its steps in
+        order, and what is printed."""
         done: list[str] = []
 
         class Case(unittest.TestCase):
@@ -26,6 +28,8 @@ class Tried(unittest.TestCase):
                 self.assertGreater(done.count("begin"), failures)
 
         with mock.patch.object(Standstill, "seconds", side_effect=list(standstills)), \
+                mock.patch("os.getloadavg", return_value=(load, 9.0, 9.0)), \
+                mock.patch("os.sched_getaffinity", return_value={0, 1}), \
                 contextlib.redirect_stdout(io.StringIO()) as said:
             result = Case("test").run()
         assert result is not None
@@ -38,13 +42,19 @@ class Tried(unittest.TestCase):
         self.assertEqual(self.ran([0.04], 1), (False, ["begin", "end"], ""))
 
     def test_a_failure_in_a_standstill_is_run_again_and_told(self) -> None:
-        is_passed, done, said = self.ran([0.05, 1.97], 1)
+        is_passed, done, said = self.ran([1.97], 1)
         self.assertEqual((is_passed, done), (True, ["begin", "end"] * 2))
-        self.assertRegex(said, r"^run again, since the machine stood still for 1\.97 s meanwhile: "
-                               r".*\.Case\.test: AssertionError\(")
+        self.assertRegex(said, r"^run again, since the machine stood still for 1\.97 s meanwhile "
+                               r"\(load 2\.0\): .*\.Case\.test: AssertionError\(")
+        self.assertTrue(self.ran([0.05], 1)[0])
+
+    def test_a_failure_on_an_overloaded_machine_is_run_again(self) -> None:
+        is_passed, done, said = self.ran([0.0], 1, 2.1)
+        self.assertEqual((is_passed, done), (True, ["begin", "end"] * 2))
+        self.assertIn("(load 2.1)", said)
 
     def test_what_always_fails_fails(self) -> None:
-        is_passed, done, said = self.ran([9.0] * 2 * TRIES, TRIES)
+        is_passed, done, said = self.ran([9.0] * TRIES, TRIES)
         self.assertEqual((is_passed, done), (False, ["begin", "end"] * TRIES))
         self.assertEqual(said.count("run again"), TRIES - 1)
 

@@ -1,6 +1,6 @@
 """Tests ports that patterns select, even if their interfaces are added later."""
 
-from lldpa.client import since_of
+from asking import since_of
 from patience import eventually
 from running_live import OnLinks
 from served import numbered

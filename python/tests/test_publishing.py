@@ -17,6 +17,15 @@ lldpa_up 0
 """
 
 
+def of_second(line: str) -> str:
+    """Returns a line of metrics as the file lldpa2.prom has it."""
+    if line.startswith("#"):
+        return line
+    if "{" in line:
+        return line.replace("{", '{service="lldpa2",', 1)
+    return line.replace(" ", '{service="lldpa2"} ', 1)
+
+
 class Publishing(Program):
     def setUp(self) -> None:
         super().setUp()
@@ -40,6 +49,16 @@ class Publishing(Program):
             self.assertEqual(stat.S_IMODE(self.file.stat().st_mode), 0o644)
         self.assertEqual(self.ctl("--output", "lldpa.prom", cwd=self.folder), "")
         self.assertEqual((self.names(), self.file.read_text()), (["lldpa.prom"], printed))
+
+    def test_a_file_of_another_name_names_its_service(self) -> None:
+        self.served.frame("eth0", numbered(1))
+        printed, other = self.ctl(), self.folder / "lldpa2.prom"
+        self.ctl("--output", str(other))
+        self.assertEqual(other.read_text(), "".join(map(of_second, printed.splitlines(True))))
+        self.served.path += "-none"
+        said = f"nobody answers at {self.served.path}: is lldpa-live running?"
+        self.ctl("--output", str(other), said=said, status=1)
+        self.assertEqual(other.read_text().splitlines()[-1], 'lldpa_up{service="lldpa2"} 0')
 
     def test_where_nobody_answers_it_says_so_and_nothing_else(self) -> None:
         self.ctl("--output", str(self.file))

@@ -4,7 +4,6 @@ import json
 import subprocess
 from typing import Any
 
-from lldpa.client.answers import listed
 from lldpa.agent.shown import Counters
 from served import CTL, REPOSITORY, Program, numbered, tlv
 
@@ -85,7 +84,7 @@ class Words(Program):
         asked = [line for line in self.served.asked if line.startswith(b"configure")]
         self.assertEqual(asked[:2], [b"configure ports eth0 lldp status tx-only",
                                      b"configure ports eth1 lldp status tx-only"])
-        self.assertEqual(listed(["ports", "a,b", "c"]), ["a", "b", "c"])
+        self.assertEqual(self.told("neighbors ports eth0,eth1"), self.told("neighbors"))
 
     def test_json_has_since_when(self) -> None:
         for line in ("", "details", "neighbors", "show neighbors", "show neighbors eth0"):

@@ -8,8 +8,10 @@ import socket
 import struct
 import subprocess
 import sys
+import unittest
 from pathlib import Path
 
+from patience import eventually
 from running_live import Live, OnLinks
 from served import numbered
 from wires import inside
@@ -130,6 +132,17 @@ class TestSets(OnLinks):
 
     def test_another_user_can_be_named(self) -> None:
         self.keeps_nothing(self.live("--user", "daemon", "eth0").process.pid, "1")
+
+    def test_a_user_of_its_own_is_taken_if_there_is_one(self) -> None:
+        users = self.folder / "passwd"
+        own = "_lldpa:x:23457:23458::/nonexistent:/usr/sbin/nologin\n"
+        users.write_text(Path("/etc/passwd").read_text() + own)
+        live = self.live("eth0", before=[
+            "unshare", "--mount", "sh", "-c",
+            'mount --bind "$1" /etc/passwd && shift && exec "$@"', "sh", str(users)])
+        status = status_of(live.process.pid)
+        self.assertEqual(set(status["Uid"].split()), {"23457"})
+        self.assertEqual(set(status["Gid"].split()), {"23458"})
 
     def test_a_capability_left_in_the_bounding_set_cannot_be_regained(self) -> None:
         self.folder.chmod(0o777)

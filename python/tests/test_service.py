@@ -4,6 +4,7 @@ import os
 import re
 import signal
 import socket
+import time
 from typing import Any
 
 from running_live import Live, OnLinks
@@ -52,6 +53,21 @@ class Systemd(Service):
         peer.send(numbered(1, 0))
         self.assertTrue(self.heard.hears("STATUS=no neighbors on 2 ports"))
         self.assertNotIn("eth0", live.errors())  # without --events
+
+    @by_the_clock
+    def test_its_status_changes_at_most_once_a_second(self) -> None:
+        live, peer = self.service("eth0", "--", "--receive-only", seconds=60), self.peer()
+        self.assertTrue(self.heard.hears("STATUS=no neighbors on 1 port"))
+        began = time.monotonic()
+        for number in range(150):
+            peer.send(numbered(number, 600))
+            peer.send(numbered(number, 600 if number > 147 else 0))
+            time.sleep(0.02)
+        span = time.monotonic() - began
+        self.assertTrue(self.heard.hears("STATUS=2 neighbors on 1 port", 2))
+        told = [lines for lines in self.heard.datagrams if lines[0].startswith("STATUS=")]
+        self.assertLessEqual(len(told), span + 3)
+        self.assertEqual(live.number("seconds") > 0, True)
 
     def test_it_tells_that_it_reloads_and_that_it_ends(self) -> None:
         live = self.service("eth0")

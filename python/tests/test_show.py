@@ -7,6 +7,7 @@ from typing import Iterator, List
 
 from lldpa.agent.framing import MARK, MARK_ANSWER
 from lldpa.agent.show import Identifier, Neighbor, Show, lines_of, read_show, unescaped
+from lldpa.agent.shown import capabilities_in
 from served import PROGRAM, REPOSITORY
 from shown_lines import (ALL, CHASSIS, CONFIGURATION, COUNTS, NEIGHBORS, NUMBERS, STATISTICS,
                          STATUSES)
@@ -88,6 +89,7 @@ class WhatIsRead(unittest.TestCase):
         self.assertEqual(neighbor.descr, "x.y=z")
         self.assertEqual(neighbor.port_descr, "")
         self.assertEqual(neighbor.capabilities, {"Bridge": True, "Router": False})
+        self.assertEqual(capabilities_in(""), {})
         self.assertEqual(neighbor.management,
                          ("192.0.2.1", "fe80:0000:0000:0000:0000:0000:0000:0001"))
         self.assertEqual(neighbor.org, (("00120f.1", "0080000036"),))

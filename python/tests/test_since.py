@@ -1,19 +1,24 @@
 """Tests the times since which lldpa-live has heard neighbors, and the numbers of chassis."""
 
 import time
+from datetime import datetime
 from typing import Dict
 
+from asking import numbers_of, since_of
 from lldpa import read_show
-from running_live import OnLinks
-from lldpa.client.live_lines import LiveLines, since_of
-from lldpa.client.times import seconds_of
 from patience import eventually
+from running_live import OnLinks
 from served import frame, numbered
 
 
 def id_of(number: int) -> str:
     """Returns the MSAP identifier of the neighbor with this number."""
     return f"mac=02:00:00:00:00:{number:02x} ifname=p{number}"
+
+
+def seconds_of(text: str) -> int:
+    """Converts a time like 2026-11-23T19:40:00Z to seconds since 1970."""
+    return int(datetime.strptime(f"{text[:-1]}+0000", "%Y-%m-%dT%H:%M:%S%z").timestamp())
 
 
 class OnARealLink(OnLinks):
@@ -41,7 +46,7 @@ class OnARealLink(OnLinks):
         self.assertEqual(told()[id_of(1)], came[id_of(1)])
         live.ask("configure ports eth0 lldp status disabled")
         self.assertEqual(told(), {})
-        self.assertEqual(LiveLines(live.ask("live")).numbers, {})
+        self.assertEqual(numbers_of(live.ask("live")), {})
 
     def test_a_neighbor_is_named_as_the_agent_shows_it(self) -> None:
         live = self.live("eth0", "--", "--receive-only", "--max-neighbors", "128")
@@ -59,7 +64,7 @@ class OnARealLink(OnLinks):
         live, peers = self.live("eth0", "eth1"), [self.peer("peer0"), self.peer("peer1")]
 
         def has(wanted: Dict[str, int]) -> bool:
-            return bool(eventually(lambda: LiveLines(live.ask("live")).numbers == wanted))
+            return bool(eventually(lambda: numbers_of(live.ask("live")) == wanted))
         one, two = "mac=02:00:00:00:00:01", "mac=02:00:00:00:00:02"
         for peer, number in ((0, 1), (0, 2), (1, 1)):
             peers[peer].send(numbered(number))

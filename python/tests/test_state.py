@@ -3,10 +3,11 @@
 import os
 import signal
 import time
+from datetime import datetime
 from typing import Iterator
 
+from asking import since_of
 from lldpa import Neighbor
-from lldpa.client import since_of
 from patience import eventually
 from replaced import LONG, Replaced
 from replays import Moments, differing
@@ -56,10 +57,10 @@ class Restarts(Replaced):
         self.ended()
         whole = self.state.read_bytes()
         first, rest = whole.split(b"\n", 1)
-        *words, wall, moment = first.split(b" ")
+        *words, wall, moment, boot = first.split(b" ")
         head, (wall_clock, boot_clock) = b" ".join(words), (float(wall), float(moment))
-        old = b"%s %.3f %.3f\n" % (head, wall_clock - LONG - 10, boot_clock - LONG - 10)
-        booted = b"%s %.3f %.3f\n" % (head, wall_clock, boot_clock + 1000)
+        old = b"%s %.3f %.3f %s\n" % (head, wall_clock - LONG - 10, boot_clock - LONG - 10, boot)
+        booted = b"%s %.3f %.3f %s\n" % (head, wall_clock, boot_clock, boot[::-1])
         was_set = b"%s %.3f %.3f\n" % (head, wall_clock - 60, boot_clock)
         for octets, why in ((whole[:-3], "or damaged"), (b"x" * 99, "or damaged"),
                             (old + rest, "can still be present"),
@@ -73,6 +74,25 @@ class Restarts(Replaced):
             self.assertTrue(live.says("the state is not used: "), why)
             self.assertIn(why, live.errors())
             self.assertEqual(live.neighbors(), 0)
+            live.process.kill()
+            live.process.wait()
+
+    def test_within_one_boot_the_clock_may_be_set_meanwhile(self) -> None:
+        before, began, since = self.ended()
+        first, rest = self.state.read_bytes().split(b"\n", 1)
+        *words, wall, moment, boot = first.split(b" ")
+        for step in (-3600, 3600, 10 ** 8):  # the clock now shows so much more than then
+            head = [*words, b"%.3f" % (float(wall) - step), moment, boot]
+            self.state.write_bytes(b" ".join(head) + b"\n" + rest)
+            live = self.live("--state", str(self.state), "eth0", "eth1")
+            self.assertEqual(live.errors(), "")
+            self.stays(before, began, live)
+            came = [datetime.fromisoformat(one.replace("Z", "+00:00")).timestamp()
+                    for one in since_of(live.ask("live")).values()]
+            then = [datetime.fromisoformat(one.replace("Z", "+00:00")).timestamp()
+                    for one in since.values()]
+            for now, one in zip(sorted(came), sorted(then)):
+                self.assertAlmostEqual(now - one, step, delta=1.1)
             live.process.kill()
             live.process.wait()
 

@@ -12,8 +12,8 @@ SOURCE = "KEPT = 32\nMOST = 128  # neighbors\n"
 STATEMENTS = """\
 == {page}
 It keeps 32 neighbors, or up to 128.
-    in {source}: KEPT = 32
-    in {source}: /^MOST = 128\\b/
+    run cat {source} => 0 KEPT = 32
+    run cat {source} => 0 /^MOST = 128\\b/
 It asks.
     run echo asked; false => 1 asked
 """
@@ -50,7 +50,7 @@ class TestStatements(unittest.TestCase):
         for old, new in (("KEPT = 32", "KEPT = 33"), ("128", "127")):
             with self.subTest(old):
                 said = self.checked(source=SOURCE.replace(old, new))
-                self.assertIn("it is not there", said)
+                self.assertIn("it wrote ", said)
                 self.assertIn("4 passed, 1 failed", said)
 
     def test_a_command_that_ends_otherwise_is_reported(self) -> None:
@@ -60,13 +60,30 @@ class TestStatements(unittest.TestCase):
                 self.assertIn(told, self.checked(statements=STATEMENTS.replace(old, new)))
 
     def test_a_statement_without_its_check_is_reported(self) -> None:
-        for old, new, told in ((": KEPT = 32", ": KEPT =", "no check has its number 32"),
+        for old, new, told in (("0 KEPT = 32", "0 KEPT =", "no check has its number 32"),
                                ("    run echo asked; false => 1 asked\n", "", "it has no check"),
                                ("    run echo", "    tun echo", "this is no form of a check"),
+                               ("run echo asked; false => 1 asked", "in README.md: lldpa",
+                                "this is no form of a check"),
                                ("run echo asked; false => 1 asked", "test test_x.test_y",
-                                "there is no such test")):
+                                "there is no such test"),
+                               ("run echo asked; false => 1 asked", "part of nothing",
+                                "the gate has no such part")):
             with self.subTest(new):
                 self.assertIn(told, self.checked(statements=STATEMENTS.replace(old, new)))
+
+    def test_a_row_is_one_that_the_gate_tries(self) -> None:
+        here = f"test_statements.{self.id().split('.')[-1]}"
+        for row, told in (("row README.md: lldpa", "the gate does not try what this file has"),
+                          ("row rust/live/src/control.rs: pub fn", "it is not there"),
+                          ("row examples/expiry.expect: no such line", "it is not there"),
+                          (f"test {here}: " + "no such" + " text", "the test does not have this")):
+            with self.subTest(row):
+                said = self.checked(statements=STATEMENTS + f"    {row}\n")
+                self.assertIn(told, said)
+        said = self.checked(statements=f"{STATEMENTS}    row tools/gate/words.sh: lldpa eth0\n"
+                            f"    test {here}: the gate tries\n    part refused memory\n")
+        self.assertIn(" 0 failed", said)
 
 
 if __name__ == "__main__":

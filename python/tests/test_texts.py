@@ -3,11 +3,14 @@
 import json
 import unicodedata
 import unittest
+from typing import Any, Dict, List
 from unittest import mock
 
-from lldpa.agent.show import unescaped
-from lldpa.texts import (columns_of, is_shown, printable, readable, shown_octets, shown_text,
-                         text_of, width_of, wrapped)
+from judges import AT_ONCE, number_in, with_chassis
+from lldpa import unescaped
+from lldpa.texts import columns_of, is_shown, printable, wrapped
+from served import Served, ctl, frame, tlv
+from texts_shown import readable, shown_text, width_of
 
 SHOWN = ("a", "é", "ß", "Ω", "ж", "א", "ع", "京", "한", "€", "→", "😀", "½", "\\", "~", "¡")
 # characters that are never shown: controls, breaks, spaces, marks that change the writing
@@ -73,24 +76,39 @@ class ForPeople(unittest.TestCase):
             self.assertLess(looked.call_count, 3 * len(text))
 
 
-class ForPrograms(unittest.TestCase):
-    def test_unicode_where_the_octets_are_utf8(self) -> None:
-        for octets in (b"", b"abc", "café 京 😀".encode(), b"\x00\x1b", b"a\\b"):
-            self.assertEqual(text_of(octets), (octets.decode(), None))
+def odd_octets() -> List[bytes]:
+    """Returns octets with each first octet, alone and before some that may continue it."""
+    return [octets for first in range(256) for octets in (
+        bytes([first]), bytes([first, 0x80]), bytes([0x41, first, 0xbf, 0xbf]))]
 
-    def test_escaped_where_they_are_not(self) -> None:
-        self.assertEqual(text_of(b"caf\xe9\\"), ("caf\\xe9\\\\", "636166e95c"))
-        for octets in (b"\xed\xa0\x80", b"\xed\xb2\x80", b"\xf4\x90\x80\x80", b"\xc0\x80", b"\x80"):
-            text, digits = text_of(octets)
-            self.assertTrue(text.isascii())
-            self.assertEqual(digits, octets.hex())
+
+class ForPrograms(unittest.TestCase):
+    def test_what_the_agent_shows_is_unescaped(self) -> None:
+        for octets in (b"", b"abc", "café 京 😀".encode(), b"\x00\x1b", b"a\\b", *odd_octets()):
+            self.assertEqual(unescaped(shown_text(octets)), octets)
 
     def test_all_octets_are_valid_json(self) -> None:
-        for first in range(256):
-            for octets in (bytes([first]), bytes([first, 0x80]), bytes([0x41, first, 0xbf, 0xbf])):
-                text, digits = text_of(octets)
-                line = json.dumps(text)
-                self.assertEqual(json.loads(line), text)
-                self.assertEqual(text.encode("utf-8"), octets if digits is None else text.encode())
-                self.assertEqual(unescaped(shown_text(octets)), octets)
-                self.assertEqual(shown_octets(shown_text(octets)), octets)
+        names = odd_octets()
+        told: Dict[int, Any] = {}
+        for begin in range(0, len(names), AT_ONCE):
+            with Served(max_neighbors=128) as served:
+                for number, octets in enumerate(names[begin:begin + AT_ONCE], begin):
+                    one = frame(b"\x07x", b"\x05p1", 120, tlv(5, octets), tlv(4, octets))
+                    served.frame("eth0", with_chassis(one, number))
+                text = ctl(served.path, "--json", "neighbors").stdout
+            self.assertTrue(text.isascii())
+            for found in json.loads(text)["ports"][0]["neighbors"]:
+                told[number_in(found["chassis"]["text"])] = found
+        self.assertEqual(len(told), len(names))
+        for number, octets in enumerate(names):
+            self.need(told[number], octets)
+
+    def need(self, told: Any, octets: bytes) -> None:
+        """Checks the texts of a neighbor, which are these octets."""
+        try:
+            text, digits = octets.decode("utf-8"), None
+        except UnicodeDecodeError:
+            text, digits = shown_text(octets), octets.hex()
+        wanted = None if digits is None else {"name": digits, "port_descr": digits}
+        self.assertEqual((told["name"], told["port_descr"]), (text, text))
+        self.assertEqual(told.get("octets"), wanted)

@@ -18,7 +18,7 @@ RX = f"rx eth0 {LLDP.hex()}\n"
 
 
 def slow_trace(frames: Sequence[Frame]) -> List[str]:
-    """Computes the trace of a capture packet by packet, by the rules of docs/CAPTURES.md: LLDP
+    """Computes the trace of a capture packet by packet, by the rules of lldpa-capture(1): LLDP
     frames, the seconds before each of them, and the seconds at the end."""
     lines, passed, set_back, start, latest = [], 0, 0, frames[0][0], frames[0][0]
     for time, octets, length in [*frames, (frames[-1][0], b"", 0)]:
@@ -97,6 +97,14 @@ class Traces(FilesCase):
         self.assertIn("'eth0.10' cannot be a port", name)
         self.assertIn("--port 'eth0.10=NAME'", name)
         self.assertIn("interface 'any' is LINUX_SLL (113)", link_type)
+
+    def test_interfaces_of_other_link_types(self) -> None:
+        """Checks that an interface that is not Ethernet is no port, and that its type is named."""
+        file = section() + interface(name="eth0") + interface(name="lo0", link_type=0)
+        path = self.file(file + packet(whole(LLDP)) + packet(whole(LLDP), place=1))
+        self.assertEqual(ports_of([Source(path)]), ["eth0"])
+        self.assertEqual(self.trace(Source(path)), [RX.strip()])
+        self.assertIn("interface 'lo0' is NULL (0)", self.faults[0])
 
     def test_a_link_type_that_comes_up_among_others_is_told(self) -> None:
         file = section() + interface(name="eth0") + interface(name="any", link_type=113)

@@ -60,9 +60,9 @@ def filter_of_unit() -> bytes:
     return b"".join([*steps, struct.pack("HBBI", ANSWER, 0, 0, REFUSE)])
 
 
-@unittest.skipUnless(shutil.which("systemd-analyze") and NUMBERS.exists()
-                     and platform.machine() == "x86_64",
-                     "it needs systemd-analyze, and the headers of Linux for x86-64")
+@unittest.skipUnless(platform.machine() == "x86_64", "x86-64: it has the numbers of its calls")
+@unittest.skipUnless(shutil.which("systemd-analyze"), "systemd-analyze: it is not installed")
+@unittest.skipUnless(NUMBERS.exists(), "linux-libc-dev: it is not installed")
 class UnitFilter(OnLinks):
     def test_it_runs_and_sets_its_own_filter(self) -> None:
         settings = self.folder / "settings"

@@ -15,6 +15,12 @@ NO_PLACE = "16 clients watch already"
 LLDPCTL = str(BIN / "lldpctl")
 
 
+def awaits_a_file(number: int) -> bool:
+    """Returns whether a process waits in `poll`."""
+    with open(f"/proc/{number}/wchan", encoding="ascii") as place:
+        return "poll" in place.read()
+
+
 class Waiting(OnLinks):
     """Each client waits until the count of changes is another one than the one that it knows."""
 
@@ -89,6 +95,33 @@ class Waiting(OnLinks):
         self.assertTrue(eventually(lambda: self.sleeps(watch.pid)))
         self.assertTrue(self.is_refused(live.control, 0))
 
+    def test_watches_whose_readers_have_gone_leave_their_places(self) -> None:
+        live = self.live("eth0")
+        asks = [CTL, "--control", live.control]
+        for words in ([*asks, "watch"], [*asks, "--json", "watch"],
+                      [LLDPCTL, "-u", live.control, "watch"]):
+            watching = [subprocess.Popen(words, stdout=subprocess.PIPE)
+                        for _ in range(MOST_WATCHING)]
+            for one in watching:
+                self.addCleanup(one.wait)
+                self.addCleanup(one.kill)
+            numbers = [one.pid for one in watching]
+            self.assertTrue(eventually(lambda: all(map(awaits_a_file, numbers))
+                                       and self.sleeps(*numbers)))
+            self.assertTrue(self.finds_no_place(live.control))
+            for one in watching:
+                assert one.stdout is not None
+                one.stdout.close()
+            self.assertEqual({one.wait(SECONDS) for one in watching}, {1})
+            self.assertTrue(eventually(lambda: not self.finds_no_place(live.control)))
+
+    def finds_no_place(self, control: str) -> bool:
+        """Returns whether a client that waits for a change is refused. Ends its wait."""
+        connection = self.asking(control, "changes 0")
+        is_refused = bool(select.select([connection], [], [], 0.2)[0])
+        connection.close()
+        return is_refused
+
     def test_a_quiet_watch_costs_nothing(self) -> None:
         live, peer = self.live("eth0"), self.peer("peer0")
         peer.send(numbered(1, 600))
@@ -111,10 +144,10 @@ class Waiting(OnLinks):
         watch.send_signal(signal.SIGINT)
         self.assertEqual(watch.wait(SECONDS), 130)
 
-    def sleeps(self, number: int) -> bool:
-        before = self.woken(number)
+    def sleeps(self, *numbers: int) -> bool:
+        before = [self.woken(number) for number in numbers]
         time.sleep(1)
-        return self.woken(number) == before
+        return [self.woken(number) for number in numbers] == before
 
     def woken(self, number: int) -> int:
         """Returns how often a process has begun to wait."""

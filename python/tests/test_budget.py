@@ -1,0 +1,116 @@
+"""Tests the memory of lldpa-live at its worst, in a control group with the limit of the unit: 64
+ports of 128 hostile neighbors that change all the time, a log, a state, metrics on a tmpfs, and 60
+readers that never read. LLDPA_SECONDS=600 tests ten minutes; in the gate it is one."""
+
+import os
+import socket
+import subprocess
+import time
+
+from limited import memory_group
+from loads import Sender, figure
+from patience import eventually
+from running_live import Live, OnLinks
+from served import frame, tlv
+
+PORTS, NEIGHBORS = 64, 128
+SECONDS = float(os.environ.get("LLDPA_SECONDS", "60"))
+LIMIT = 256 << 20
+MOST = 200 * 10 ** 6
+MOST_OF_METRICS = 17 * 10 ** 6
+READERS = 60
+A_SECOND = 20  # frames on each port, after the first ones of all neighbors
+FILL = 400  # frames a second on each port until all neighbors are there
+CONTROL = b"\x1b"
+
+
+def hostile(number: int, version: int) -> bytes:
+    """Returns a frame of this neighbor whose texts are control characters, as long as it can be."""
+    own = b"%03d" % number
+    texts = (tlv(kind, b"%d" % version + CONTROL * 250) for kind in (4, 5, 6))
+    return frame(b"\x07" + own + CONTROL * 250, b"\x07" + own + CONTROL * 250, 60_000, *texts,
+                 tlv(127, b"\0\1\2\3" + bytes(190)))
+
+
+FRAMES = [hostile(number, version) for version in range(4) for number in range(NEIGHBORS)]
+
+
+class Budget(OnLinks):
+    links = PORTS
+
+    def setUp(self) -> None:
+        super().setUp()
+        group = memory_group(LIMIT)
+        if group is None:
+            self.skipTest("memory-cgroups: nobody may limit one here")
+        assert group is not None
+        self.group = group
+        self.addCleanup(group.close)
+        self.collected = self.folder / "collected"
+        self.collected.mkdir()
+        subprocess.run(["mount", "-t", "tmpfs", "-o", "mode=1777", "none", str(self.collected)],
+                       check=True)
+        self.addCleanup(subprocess.run, ["umount", "-l", str(self.collected)], check=True)
+        self.folder.chmod(0o777)
+        self.ends = [f"peer{number}" for number in range(PORTS)]
+
+    def begun(self) -> Live:
+        live = self.live("--log", str(self.log), "--log-most", "64", "--log-keep", "1024",
+                         "--state", str(self.folder / "state"), "--metrics",
+                         str(self.collected / "lldpa.prom"), "--events", "--forget-on-down",
+                         *(f"eth{number}" for number in range(PORTS)), "--", "--max-neighbors",
+                         str(NEIGHBORS), before=self.group.enter())
+        sender = Sender(self, self.wires, self.ends, FRAMES, FILL)
+        self.assertTrue(eventually(lambda: self.held(live) == PORTS * NEIGHBORS, 60), live.errors())
+        sender.stop()
+        return live
+
+    def held(self, live: Live) -> int:
+        time.sleep(0.5)
+        return sum(".since." in line for line in live.ask("live"))
+
+    def reader(self, live: Live) -> socket.socket:
+        """Opens a client that asks for everything and reads nothing."""
+        client = socket.socket(socket.AF_UNIX)
+        client.connect(live.control)
+        client.sendall(b"show neighbors\n" if id(client) % 3 else b"live\n")
+        return client
+
+    def watched(self, live: Live) -> "tuple[int, int]":
+        """Returns how many octets are used at most while 60 clients read nothing, and how large the
+        file of metrics is at most."""
+        most, metrics = 0, 0
+        readers = [self.reader(live) for _ in range(READERS)]
+        for _ in range(110):  # lldpa-live ends a client that has read nothing for 10 seconds
+            self.assertIsNone(live.process.poll(), live.errors()[-500:])
+            most = max(most, self.group.used())
+            files = self.collected.glob("lldpa.prom")
+            metrics = max([metrics, *(path.stat().st_size for path in files)])
+            time.sleep(0.1)
+        for reader in readers:
+            reader.close()
+        return most, metrics
+
+    def test_it_stays_below_its_limit(self) -> None:
+        live = self.begun()
+        Sender(self, self.wires, self.ends, FRAMES, A_SECOND)
+        seen, last = [], time.monotonic() + SECONDS
+        while time.monotonic() < last:
+            seen.append(self.watched(live))
+        most, metrics = (max(column) for column in zip(*seen))
+        told = dict(line.split("=", 1) for line in live.ask("live") if ".since." not in line)
+        resident = live.resident("VmHWM") / 1024
+        figure(self, f"at most {most / 1e6:.0f} MB in {SECONDS:.0f} s, {resident:.0f} MB of them "
+                     f"of the process; metrics of {metrics / 1e6:.1f} MB; "
+                     f"{told['live.log-lines-lost']} lines of the log lost")
+        self.assertEqual(self.group.killed(), 0)
+        self.assertLess(most, MOST)
+        self.assertLess(metrics, MOST_OF_METRICS)
+        text = (self.collected / "lldpa.prom").read_text()
+        left_out = [line for line in text.splitlines() if "lldpa_neighbors_left_out " in line]
+        self.assertGreater(int(left_out[-1].split()[-1]), PORTS * NEIGHBORS // 2)
+        self.assertIn(f'lldpa_neighbors{{port="eth{PORTS - 1}"}} {NEIGHBORS}\n', text)
+        self.assertIn("\nlldpa_up 1\n", text)
+        # a file may take long on a busy machine, but each is written
+        self.assertEqual(int(told["live.metrics-unwritten"]),
+                         live.errors().count("the disk makes no progress"))
