@@ -1,7 +1,8 @@
 """Computes the ages of an audit's sources, and converts spans of time to and from text."""
 import re
+import time
 from argparse import ArgumentTypeError
-from typing import NamedTuple, Sequence
+from typing import NamedTuple, Optional, Sequence
 
 UNITS = (("d", 86400, "day"), ("h", 3600, "hour"), ("m", 60, "minute"), ("s", 1, "second"))
 SPAN = re.compile(r"([0-9]{1,9}(?:\.[0-9]{1,9})?)([dhms]?)")
@@ -18,9 +19,11 @@ class Ages(NamedTuple):
         return f"{oldest} old" if newest == oldest else f"{newest} to {oldest} old"
 
 
-def ages_of(times: Sequence[float], now: float) -> Ages:
-    """Returns the ages of the newest and the oldest source. A time in the future counts as now."""
-    return Ages(max(now - max(times), 0.0), max(now - min(times), 0.0))
+def ages_of(times: Sequence[float]) -> Optional[Ages]:
+    """Returns the ages of the newest and the oldest source, None if there is none. A time in the
+    future counts as now."""
+    now = time.time()
+    return Ages(max(now - max(times), 0.0), max(now - min(times), 0.0)) if times else None
 
 
 def worded(seconds: float) -> str:

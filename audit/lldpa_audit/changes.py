@@ -1,25 +1,26 @@
 """Compares the links that were seen earlier with those that are seen now."""
 from collections import defaultdict
-from typing import Iterable, Iterator, Mapping, NamedTuple, Optional, Sequence
+from typing import Callable, Iterable, Iterator, Mapping, NamedTuple, Optional, Sequence
 
 from .ages import Ages
 from .heard import Link, links_of
-from .names import End
+from .names import End, Seen, shown
 from .order import Key, in_turn, natural
 from .seen.tables import Tables
-from .spelling import plain
+from .spelling import plain_chassis
 
-CAME, WENT, MOVED, RENAMED = "came", "went", "moved", "renamed"
+CAME, WENT, MOVED, RENAMED, REPLACED = "came", "went", "moved", "renamed", "replaced"
 # a device with another chassis ID is only taken for a renamed one if it has so many of its links
 FEWEST = 2
 Ends = tuple[End, End]
 
 
 class Change(NamedTuple):
-    """What has changed: a link came, went or was moved at one end, or a host has another name.
-    `before` and `now` have the links in question. The first end of a moved link is the one that
-    stayed. `hosts` has a renamed host's names before and now, and `is_other` is true if its chassis
-    ID is not the same."""
+    """What has changed: a link came, went or was moved at one end, a host has another name, or a
+    device with the same names announces other IDs. `before` and `now` have the links in question.
+    The first end of a moved link is the one that stayed. `hosts` has a renamed host's names before
+    and now, or the IDs of a replaced device; `is_other` is true if a renamed host's chassis ID is
+    not the same."""
 
     kind: str
     before: Sequence[Ends]
@@ -30,8 +31,8 @@ class Change(NamedTuple):
 
 class Changes(NamedTuple):
     """The changes, how many links there were before and are now, and how many of both cannot be
-    compared, since the hosts in `hosts` have data at one of the two times only. `ages` has the
-    ages of the sources then and now."""
+    compared. `hosts` has the hosts with data at one of the two times only, even if all their links
+    can be compared. `ages` has the ages of the sources then and now."""
 
     changes: Sequence[Change]
     before: int
@@ -47,15 +48,31 @@ class Side(NamedTuple):
     tables: Tables
     links: Mapping[frozenset[End], Link]
 
-    def has(self, link: Link) -> bool:
-        """Returns whether a link of the other time is seen: an end of it hears the other."""
-        one, other = link.keys
-        return self.hears(one, other) or self.hears(other, one)
+    def has(self, link: Link, other: "Side") -> bool:
+        """Returns whether a link that the other side has is seen: an end of it hears the other."""
+        one, far = link.keys
+        return self.hears(one, far, link.seen) or self.hears(
+            far, one, other.heard(far, one) if link.is_mutual else None)
 
-    def hears(self, end: End, far: End) -> bool:
-        told = self.tables.ends.get(end)
-        return told is not None and any(self.tables.names.answers(seen, far)
-                                        for seen in told.neighbors)
+    def hears(self, end: End, far: End, announced: Optional[Seen]) -> bool:
+        """Returns whether an end hears another one. If it is known what this one announced at the
+        other time, its IDs are compared, else its names."""
+        known = self.tables.ends.get(end)
+        return known is not None and any(self.is_it(one, far, announced) for one in known.neighbors)
+
+    def is_it(self, seen: Seen, far: End, announced: Optional[Seen]) -> bool:
+        names = self.tables.names
+        ids = [(plain_chassis(one.chassis), names.plain_port(one.port_id))
+               for one in (seen, announced) if one is not None]
+        same = [one == other for one, other in zip(*ids) if one and other] if announced else []
+        return all(same) and (names.answers(seen, far) if len(same) < 2 else
+                              far.host in names.hosts_of(seen))
+
+    def heard(self, end: End, far: End) -> Optional[Seen]:
+        """Returns what an end hears of another one, or None."""
+        known = self.tables.ends.get(end)
+        return next((seen for seen in (known.neighbors if known is not None else ())
+                     if self.tables.names.answers(seen, far)), None)
 
     def covers(self, link: Link) -> bool:
         """Returns whether this side has data of an end that sees a link of the other side."""
@@ -72,11 +89,11 @@ def compared(before: Tables, now: Tables) -> Changes:
     went, lost = missing(old, new)
     came, added = missing(new, old)
     renames = list(renamed(went, came, old, new))
-    told = {id(link) for rename in renames for link in (*rename.went, *rename.came)}
-    went, came = ([link for link in some if id(link) not in told] for some in (went, came))
+    reported = {id(link) for rename in renames for link in (*rename.went, *rename.came)}
+    went, came = ([link for link in some if id(link) not in reported] for some in (went, came))
     changes = [rename.change for rename in renames] + list(of_links(went, came))
-    hosts = {side.tables.hosts[key.host] for side, links in ((old, lost), (new, added))
-             for link in links for key in link.keys[:2 if link.is_mutual else 1]}
+    hosts = [side.tables.hosts[host] for side, other in ((old, new), (new, old))
+             for host in side.tables.with_data() - other.tables.with_data()]
     return Changes(sorted(changes, key=place_of), len(old.links), len(new.links),
                    len(lost) + len(added), sorted(hosts, key=natural))
 
@@ -85,7 +102,7 @@ def missing(side: Side, other: Side) -> tuple[list[Link], list[Link]]:
     """Returns the links of a side that the other does not have, and those that it cannot know."""
     found: tuple[list[Link], list[Link]] = [], []
     for link in side.links.values():
-        if not other.has(link):
+        if not other.has(link, side):
             found[0 if other.covers(link) else 1].append(link)
     for links in found:
         links.sort(key=lambda link: [in_turn(end) for end in link.ends])
@@ -119,12 +136,12 @@ def renamed(went: Sequence[Link], came: Sequence[Link], old: Side, new: Side) ->
     has the same chassis ID or at least FEWEST links are as before."""
     gone = hosts_of(old) - hosts_of(new)
     fresh = hosts_of(new) - hosts_of(old)
-    told: set[str] = set()
+    reported: set[str] = set()
     for (host, other), pairs in pairs_of(went, came, old, new).items():
         is_same = any(pair.is_same for pair in pairs)
-        if (host in gone and other in fresh and not told & {host, other}
+        if (host in gone and other in fresh and not reported & {host, other}
                 and (is_same or len(pairs) >= FEWEST)):
-            told.update((host, other))
+            reported.update((host, other))
             names = name_in(pairs[0].went, host), name_in(pairs[0].came, other)
             change = Change(RENAMED, [pair.went.ends for pair in pairs],
                             [pair.came.ends for pair in pairs], names, not is_same)
@@ -150,7 +167,8 @@ def pairs_of(went: Sequence[Link], came: Sequence[Link], old: Side, new: Side
             for other in shared.get(near, ()):
                 its_far = other.keys[1 - other.keys.index(near)]
                 if far.port == its_far.port and far.host != its_far.host:
-                    chassis = chassis_at(old, near, far), chassis_at(new, near, its_far)
+                    chassis = [plain_chassis(seen.chassis) if seen is not None else ""
+                               for seen in (old.heard(near, far), new.heard(near, its_far))]
                     found[far.host, its_far.host].append(
                         Pair(link, other, chassis[0] == chassis[1] != ""))
     return found
@@ -164,22 +182,25 @@ def by_end(links: Iterable[Link]) -> Mapping[End, Sequence[Link]]:
     return found
 
 
-def chassis_at(side: Side, near: End, far: End) -> str:
-    """Returns the chassis ID that an end hears from the other end, or an empty text."""
-    told = side.tables.ends.get(near)
-    return next((plain(seen.chassis) for seen in (told.neighbors if told else ())
-                 if side.tables.names.answers(seen, far)), "")
+# whether a link that came may be one that went; the ends at these places are the same
+Rule = Callable[[Link, Link, int, int], bool]
+RULES: Sequence[Rule] = (
+    lambda now, before, at, its: (now.keys[1 - at].host == before.keys[1 - its].host
+                                  and now.keys[1 - at] != before.keys[1 - its]),
+    lambda now, before, at, its: now.ends == before.ends,
+    lambda now, before, at, its: True)
 
 
 def of_links(went: Sequence[Link], came: Sequence[Link]) -> Iterator[Change]:
     """Yields each link that was moved, came or went. A link was moved if one that went shares an
-    end with it. A port of the same host is looked for first."""
+    end with it. A port of the same host is looked for first, and a device that was replaced by
+    one of the same name before a device that was unplugged."""
     shared = by_end(went)
     left = {id(link): link for link in went}
     moved: set[int] = set()
-    for is_same_host in (True, False):
+    for rule in RULES:
         for link in came:
-            change = None if id(link) in moved else move_of(link, shared, left, is_same_host)
+            change = None if id(link) in moved else move_of(link, shared, left, rule)
             if change is not None:
                 moved.add(id(link))
                 yield change
@@ -187,16 +208,29 @@ def of_links(went: Sequence[Link], came: Sequence[Link]) -> Iterator[Change]:
     yield from (Change(WENT, [link.ends], []) for link in left.values())
 
 
-def move_of(link: Link, shared: Mapping[End, Sequence[Link]], left: dict[int, Link],
-            is_same_host: bool) -> Optional[Change]:
+def move_of(link: Link, shared: Mapping[End, Sequence[Link]], left: dict[int, Link], rule: Rule
+            ) -> Optional[Change]:
     """Returns the move of a link, and removes the link that went from `left`; or None. The end that
     is heard is looked for first: it may be of a device without a list, which has moved."""
     for at, key in ((1, link.keys[1]), (0, link.keys[0])):
         for before in shared.get(key, ()):
             its = before.keys.index(key)
-            hosts = link.keys[1 - at].host, before.keys[1 - its].host
-            if id(before) in left and (not is_same_host or hosts[0] == hosts[1]):
+            if id(before) in left and rule(link, before, at, its) and not (
+                    at and its and are_other_devices(before.seen, link.seen)):
                 del left[id(before)]
+                if before.ends == link.ends:
+                    return Change(REPLACED, [before.ends], [link.ends],
+                                  (ids_shown(before.seen), ids_shown(link.seen)))
                 return Change(MOVED, [(before.ends[its], before.ends[1 - its])],
                               [(link.ends[at], link.ends[1 - at])])
     return None
+
+
+def are_other_devices(one: Seen, other: Seen) -> bool:
+    """Returns whether two neighbors of one name announce two chassis IDs."""
+    chassis = [plain_chassis(seen.chassis) for seen in (one, other)]
+    return all(chassis) and chassis[0] != chassis[1]
+
+
+def ids_shown(seen: Seen) -> str:
+    return f"{shown(seen.chassis)} {shown(seen.port_id)}"

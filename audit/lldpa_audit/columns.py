@@ -23,7 +23,8 @@ PANELS = (("panel", "front", "panel", "rear"), ("device", "name", "device", "rea
 class Columns:
     """Reads the rows of a CSV file by its header, and adds a fault for each error. `others` names
     the further columns, and `can_read` says whether the header names both ends of a link. If
-    `is_untyped`, it is NetBox's, but lacks the types of ends."""
+    `is_untyped`, it lacks the types of ends; if `has_host_first`, rows begin with the name of a
+    host or port; and if `has_headings`, it is of NetBox's tables, which show asset tags."""
 
     def __init__(self, header: Sequence[str], line: int, faults: Faults,
                  given: Optional[Mapping[str, str]] = None) -> None:
@@ -34,7 +35,9 @@ class Columns:
         self._places = [self._names.index(name) for name in self._columns if self.can_read]
         self._sides = [self._place_of(f"side_{side}_type", f"termination_{side}_type")
                        for side in "ab"]
-        self.is_untyped = self._is_of_netbox and self._sides == [None, None]
+        self.is_untyped = self._sides == [None, None]
+        self.has_host_first = 0 in self._places
+        self.has_headings = self._is_of_netbox and tuple(self._columns) in NETBOX[2:]
         self._type, self._status = self._place_of("type"), self._place_of("status")
         self._position = self._place_of("rear_port_position", "position")
         self._others = [at for at, name in enumerate(header) if at not in self._places and name]

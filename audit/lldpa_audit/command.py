@@ -6,17 +6,14 @@ import sys
 from typing import Mapping, NoReturn, Optional, Sequence
 
 from lldpa import output
-from lldpa.capture.source import hold
 from lldpa.faults import LldpaFault
 
 from .breakouts import join_lanes
-from .columns import key_of
 from .comparing import audit
 from .known import NOTHING_KNOWN, Known, read_known
+from .likely_panels import advice_on_panels
 from .limits import NO_MEMORY, expect_exhaustion, limited, warranted_by
-from .mismatches import compared, mismatches
 from .names import Names, shown
-from .passive import leave_out_panels
 from .plan import Plan, PlanFault
 from .planfile import read_plan
 from .planless import Planless
@@ -28,7 +25,7 @@ from .report.report import Report
 from .report.whole_hosts import several_chassis
 from .run import NAME, Run, harmless
 from .seen.files import read_files
-from .seen.folders import read_whats
+from .seen.folders import hold_pipes, read_whats
 from .seen.tables import Tables
 from .what import of_hosts, placed
 from .words import read_words
@@ -41,43 +38,36 @@ class Audit(Run):
         """Audits, prints the report and writes its files. Returns the exit status."""
         expect_exhaustion()
         gc.disable()  # all objects live to the end; looking for garbage costs a third of the time
-        given, names = self.given, self.names()
-        plan, known, tables = self.read(names)
+        given = self.given
+        plan, known, tables = self.read()
         self.progress.show("comparing")
         findings = audit(plan, tables, given.planned_only)
+        self.say_all(advice_on_panels(plan, tables, findings))
         if known.rows:
-            findings = [known.applied(one, names) for one in findings]
-        differing = mismatches(findings, tables, plan) if given.settings else {}
-        if given.settings and not compared(findings, tables, plan):
-            self.say("--settings compared nothing: no link judged right has a setting from both "
-                     "ends, or from one end and the plan")
+            findings = [known.applied(one, tables.names) for one in findings]
         self.say_all((*known.unplanned(plan), *several_chassis(findings, tables.several)))
-        report = Report(plan, tables, findings, differing)
+        report = Report(plan, tables, findings)
         self.show(report)
         self.report = report
         return self.status or (0 if report.count.is_right(given.all) else 1)
 
-    def read(self, names: Names) -> tuple[Plan, Known, Tables]:
+    def read(self) -> tuple[Plan, Known, Tables]:
         """Reads the plan, the known faults and what was seen."""
-        given = self.given
+        given, names = self.given, self.names()
         whats = list(read_whats(given.what, given.host, self.say))
-        for what in whats:
-            hold(what.file)
+        hold_pipes(whats)
         with limited(given.plan, megabytes=warranted_by(given.plan)):
             plan = read_plan(given.plan, names, given.columns, given.panels, self.progress)
         # not while the plan is read, whose memory is limited: what is read takes memory, too
         files = read_files(of_hosts(whats), given.platform)
         today = datetime.date.today()
-        known = read_known(given.known, names, today) if given.known else NOTHING_KNOWN
-        if given.by and key_of(given.by) not in map(key_of, plan.columns):
-            raise ValueError(f"--by: {plan.file} has no column {given.by}")
+        known = read_known(given.known, plan.names, today) if given.known else NOTHING_KNOWN
         self.say_all((*plan.notes, *known.notes))
-        whats = [placed(what, plan, names, given.host) for what in whats]
-        tables = self.gather(whats, files, plan, names)
-        self.say_all(unplanned_hosts(tables, plan, {names.host(what.host): what.file
+        whats = [placed(what, plan, given.host) for what in whats]
+        tables = self.gather(whats, files, plan)
+        self.say_all(unplanned_hosts(tables, plan, {plan.names.host(what.host): what.file
                                                     for what in whats}))
-        join_lanes(plan, tables)
-        self.say_all(leave_out_panels(plan, tables))
+        self.say_all(join_lanes(plan, tables))
         return plan, known, tables
 
     def show(self, report: Report) -> None:
@@ -88,7 +78,7 @@ class Audit(Run):
             if self.given.json:
                 sys.stdout.writelines(json_of(report))
             else:
-                print("\n".join(map(harmless, report.lines(self.given.by))))
+                print("\n".join(map(harmless, report.lines())))
         except output.OutputFault:
             self.write_files(report)
             raise
@@ -111,12 +101,12 @@ def unplanned_hosts(tables: Tables, plan: Plan, files: Mapping[str, str]) -> Seq
     unplanned = {key: host for key, host in tables.hosts.items() if key not in plan.hosts}
     loose = Names(ignore_case=True, short_names=True)
     like = {loose.host(one): one for one in plan.hosts.values()} if unplanned else {}
-    told = [f"{plan.file} has no cable of the host {shown(host)} that can be judged"
+    notes = [f"{plan.file} has no cable of the host {shown(host)} that can be judged"
             f"{advice(like.get(loose.host(host)), files.get(key, ''), plan)}"
             for key, host in unplanned.items()]
     if len(unplanned) == len(tables.hosts):
-        raise ValueError(told[0])
-    return told
+        raise ValueError(notes[0])
+    return notes
 
 
 def advice(like: Optional[str], file: str, plan: Plan) -> str:

@@ -63,6 +63,16 @@ def letters_of(one: str, other: str) -> str:
                    ) if not any("".join(pair).isascii() for pair in pairs) else ""
 
 
+OPTIONS = {"case": "--ignore-case", "domain": "--short-names", "spelling": "--vendor-names"}
+
+
+def with_options(text: str) -> str:
+    """Returns a text that ends with what `words_of` returns, and the options that ignore it."""
+    words = text.rpartition(": ")[2].split()
+    options = [option for word, option in OPTIONS.items() if {word, f"{word},"} & {*words}]
+    return f"{text}: see {', '.join(options)}" if options else text
+
+
 def words_of(differences: tuple[str, ...]) -> str:
     if len(differences) == 1:
         return f"only the {differences[0]} differs"

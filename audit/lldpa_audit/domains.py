@@ -13,8 +13,8 @@ def of_several_domains(findings: Sequence[Finding], names: Names) -> Iterator[Fi
     devices: dict[str, set[str]] = defaultdict(set)
     chassis: dict[tuple[str, str], dict[str, set[str]]] = defaultdict(lambda: defaultdict(set))
     for one in findings:
-        if one.verdict is Verdict.RIGHT and one.wants is not None:
-            host, heard = names.host(one.wants.host), one.has[0]
+        if one.verdict is Verdict.RIGHT and one.expected is not None:
+            host, heard = names.host(one.expected.host), one.has[0]
             devices[host].add(names.domain(heard.hosts[0]))
             if without_domain(host) != host:  # the plan has this name in several domains
                 chassis[device_of(one, names)][host].add(plain_chassis(heard.chassis))
@@ -22,16 +22,16 @@ def of_several_domains(findings: Sequence[Finding], names: Names) -> Iterator[Fi
     one_device = {device: set(hosts_of_one_device(by_host)) for device, by_host in chassis.items()
                   if len(by_host) > 1}
     for one in findings:
-        is_doubled = one.verdict is Verdict.RIGHT and one.wants is not None and (
-            names.host(one.wants.host) in apart
-            or names.host(one.wants.host) in one_device.get(device_of(one, names), ()))
+        is_doubled = one.verdict is Verdict.RIGHT and one.expected is not None and (
+            names.host(one.expected.host) in apart
+            or names.host(one.expected.host) in one_device.get(device_of(one, names), ()))
         yield one._replace(verdict=Verdict.DOUBLED) if is_doubled else one
 
 
 def device_of(one: Finding, names: Names) -> tuple[str, str]:
     """Returns the wanted host without its domain, and the name of the device that is heard."""
-    wanted = names.host(one.wants.host) if one.wants is not None else ""
-    return without_domain(wanted), names.whole_host(one.has[0].hosts[0])
+    expected = names.host(one.expected.host) if one.expected is not None else ""
+    return without_domain(expected), names.whole_host(one.has[0].hosts[0])
 
 
 def hosts_of_one_device(chassis: Mapping[str, set[str]]) -> Iterator[str]:

@@ -2,7 +2,7 @@
 from collections import defaultdict
 from typing import Iterable, NamedTuple, Sequence
 
-from .names import End, Names, Seen
+from .names import End, Seen
 from .seen.tables import KnownPort, Tables
 
 
@@ -18,17 +18,14 @@ class Link(NamedTuple):
 
 def links_of(tables: Tables) -> list[Link]:
     """Returns a link for each two ends that hear each other, and for each other neighbor. A link is
-    repeated if an end hears the other more than once. From here on, the ports in the tables count
-    as planned: a Port ID that is one of them is meant."""
-    names = tables.names
-    names.planned, names.planned_ports = tables.ends, {key.port for key in tables.ends}
+    repeated if an end hears the other more than once."""
     hearers = Hearers(tables)
     links, alone = [], []
-    for key, told in tables.ends.items():
-        mutual = [(seen, hearers.mutual(key, seen)) for seen in told.neighbors]
-        alone += [(key, told, seen) for seen, fars in mutual if not fars]
+    for key, known in tables.ends.items():
+        mutual = [(seen, hearers.mutual(key, seen)) for seen in known.neighbors]
+        alone += [(key, known, seen) for seen, fars in mutual if not fars]
         fars = [far for _, some in mutual for far in some]
-        links += [Link((key, far), (told.end, tables.ends[far].end), seen, True)
+        links += [Link((key, far), (known.end, tables.ends[far].end), seen, True)
                   for seen, some in mutual for far in some if key < far or fars.count(far) > 1]
     shown = Shown(tables, [seen for _, _, seen in alone])
     return links + [shown.link(*one) for one in alone]
@@ -41,11 +38,11 @@ class Hearers:
         self._names = tables.names
         self._of_ends: dict[End, list[End]] = defaultdict(list)
         self._of_hosts: dict[str, list[End]] = defaultdict(list)
-        for key, told in tables.ends.items():
-            for seen in told.neighbors:
+        for key, known in tables.ends.items():
+            for seen in known.neighbors:
                 for end in set(self._names.ends(seen)) & tables.ends.keys():
                     self._of_ends[end].append(key)
-                for host in members_of(self._names, seen):
+                for host in self._names.hosts_of_aggregate(seen):
                     self._of_hosts[host].append(key)
 
     def mutual(self, key: End, seen: Seen) -> Sequence[End]:
@@ -53,11 +50,6 @@ class Hearers:
         hearers = (*self._of_ends.get(key, ()), *self._of_hosts.get(key.host, ()))
         return [far for far in dict.fromkeys(hearers)
                 if far != key and self._names.answers(seen, far)]
-
-
-def members_of(names: Names, seen: Seen) -> Iterable[str]:
-    """Returns the hosts at which a neighbor may be any port, since it names an aggregate."""
-    return {host for host in names.hosts_of(seen) if names.is_any_member(seen, host)}
 
 
 class Shown:
@@ -69,12 +61,12 @@ class Shown:
         self._tables = tables
         self._hosts = dict(tables.hosts)
         ids: dict[str, set[str]] = defaultdict(set)
-        told: dict[str, list[tuple[str, str]]] = defaultdict(list)
+        names: dict[str, list[tuple[str, str]]] = defaultdict(list)
         for seen in some:
             host = self.host_of(seen)
             ids[host].add(id_of(seen))
-            told[host].append((best_of(seen), id_of(seen)))
-        self._by_id = {host for host, pairs in told.items()
+            names[host].append((best_of(seen), id_of(seen)))
+        self._by_id = {host for host, pairs in names.items()
                        if are_unclear(pairs, ids[host])}
 
     def host_of(self, seen: Seen) -> str:
@@ -82,20 +74,20 @@ class Shown:
         hosts = self._tables.names.hosts_of(seen) or ("",)
         return next((host for host in hosts if host in self._tables.hosts), hosts[0])
 
-    def link(self, key: End, told: KnownPort, seen: Seen) -> Link:
+    def link(self, key: End, known: KnownPort, seen: Seen) -> Link:
         """Returns the link of an end that hears a neighbor, which does not hear this end."""
         host = self.host_of(seen)
         names = self._tables.names
-        known = next((end for port in names.heeded(seen) for end in
-                      (End(host, name) for name in names.ports(host, port))
-                      if end in self._tables.ends), None)
-        if known is not None:
-            far, shown = known, self._tables.ends[known].end
+        listed = next((end for port in names.heeded(seen) for end in
+                       (End(host, name) for name in names.ports(host, port))
+                       if end in self._tables.ends), None)
+        if listed is not None:
+            far, shown = listed, self._tables.ends[listed].end
         else:
             port = id_of(seen) if host in self._by_id else best_of(seen)
             far = names.end(End(host, id_of(seen)))
             shown = End(self._hosts.setdefault(host, (seen.hosts or ("",))[0]), port)
-        return Link((key, far), (told.end, shown), seen, False)
+        return Link((key, far), (known.end, shown), seen, False)
 
 
 def id_of(seen: Seen) -> str:

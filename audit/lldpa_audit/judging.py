@@ -4,14 +4,14 @@ from enum import Enum
 from functools import cached_property
 from typing import Iterator, Mapping, NamedTuple, Optional, Sequence, Union
 
-from .bundles import Bundles
 from .names import End, Seen
-from .plan import Plan, Wish
+from .plan import Plan, PlannedEnd
 from .seen.tables import Tables, KnownPort
 
 
-# three candidates for a partner suffice: only the end itself and the end it wants are excluded
-MOST_TRIED = 3
+# two candidates for a partner suffice, since only the wanted end is excluded: an end that hears an
+# aggregate of the host that it wants is right
+MOST_TRIED = 2
 
 
 class Verdict(Enum):
@@ -31,13 +31,13 @@ class Verdict(Enum):
 
 
 class Finding(NamedTuple):
-    """The verdict on `end`. `wants` is the end it should see, None if `end` is unplanned. `has`
+    """The verdict on `end`. `expected` is the end it should see, None if `end` is unplanned. `has`
     lists its neighbors, `partner` is the end it is swapped with, and `reason` excuses its fault.
     If its cable was moved, `moved_to` is the unplanned port where the cable is."""
 
     end: End
     verdict: Verdict
-    wants: Optional[End]
+    expected: Optional[End]
     has: Sequence[Seen] = ()
     partner: Optional[End] = None
     reason: str = ""
@@ -51,97 +51,88 @@ class Judge:
         self.plan = plan
         self.tables = tables
         self.names = tables.names
-        self._bundles = Bundles(plan, tables) if self.names.vendor_names else None
         self._chassis: dict[str, str] = {}  # the first chassis ID of each host
         self._planned_ports = 0  # how many planned ends have data
 
     def planned(self) -> Iterator[Finding]:
         """Yields a finding for each planned end of an audited host or of a link not looked at."""
         hosts, ends, items = self.tables.hosts, self.tables.ends, iter(self.plan.ends.items())
-        for (one, wish), (other, other_wish) in zip(items, items):  # the two ends of a link
-            told = ends.get(one) or self.tables.told(one, wish.end)
-            other_told = ends.get(other) or self.tables.told(other, other_wish.end)
-            self._planned_ports += (told is not None) + (other_told is not None)
-            is_right = ((told is None or self.has_only(told, wish.wanted))
-                        and (other_told is None or self.has_only(other_told, other_wish.wanted)))
+        for (one, planned), (other, far) in zip(items, items):  # the two ends of a link
+            known = ends.get(one) or self.tables.known(one, planned.end)
+            other_known = ends.get(other) or self.tables.known(other, far.end)
+            self._planned_ports += (known is not None) + (other_known is not None)
+            is_right = ((known is None or self.has_only(known, planned.peer))
+                        and (other_known is None or self.has_only(other_known, far.peer)))
             if one.host in hosts:
-                yield self.finding(one, wish, told, is_right)
-            elif other_told is None:
-                yield Finding(wish.end, Verdict.NOT_LOOKED_AT, wish.wants)
+                yield self.finding(one, planned, known, is_right)
+            elif other_known is None:
+                yield Finding(planned.end, Verdict.NOT_LOOKED_AT, planned.expected)
             if other.host in hosts:
-                yield self.finding(other, other_wish, other_told, is_right)
-            elif told is None:
-                yield Finding(other_wish.end, Verdict.NOT_LOOKED_AT, other_wish.wants)
+                yield self.finding(other, far, other_known, is_right)
+            elif known is None:
+                yield Finding(far.end, Verdict.NOT_LOOKED_AT, far.expected)
 
     def unplanned(self) -> Iterator[Finding]:
         """Yields a finding for each unplanned port with a neighbor. `planned` comes before it."""
         if self._planned_ports == len(self.tables.ends):
             return  # a large network need not be searched
         for end in self.tables.beside(self.plan):
-            told = self.tables.ends[end]
-            if told.neighbors and end not in self.plan.unknown:
-                yield Finding(told.end, Verdict.UNPLANNED, None, told.neighbors)
+            known = self.tables.ends[end]
+            if known.neighbors and end not in self.plan.unknown:
+                yield Finding(known.end, Verdict.UNPLANNED, None, known.neighbors)
 
-    def finding(self, end: End, wish: Wish, told: Optional[KnownPort], is_right: bool) -> Finding:
+    def finding(self, end: End, planned: PlannedEnd, known: Optional[KnownPort], is_right: bool
+                ) -> Finding:
         """Judges a planned end. If `is_right`, its link's ends with data hear only each other."""
-        if told is None:
-            return Finding(wish.end, Verdict.NO_DATA, wish.wants)
-        if self._bundles is not None and self.is_of_another_bundle(end, wish.wanted, told):
-            return Finding(wish.end, Verdict.WRONG, wish.wants, told.neighbors)
+        if known is None:
+            return Finding(planned.end, Verdict.NO_DATA, planned.expected)
         verdict, partner = Verdict.RIGHT, None
         if not is_right:
-            verdict = self.verdict(end, wish.wanted, told.neighbors)
+            verdict = self.verdict(end, planned.peer, known.neighbors)
         if verdict is Verdict.RIGHT:
-            host, chassis = wish.wants.host, told.neighbors[0].chassis
+            host, chassis = planned.expected.host, known.neighbors[0].chassis
             if chassis and self._chassis.setdefault(host, chassis) != chassis:
                 self.tables.several.add(host)
         elif verdict is Verdict.WRONG:
-            partner = self.partner(end, wish.wanted, told.neighbors[0])
-        return Finding(wish.end, Verdict.SWAPPED if partner else verdict, wish.wants,
-                       told.neighbors, partner)
+            partner = self.partner(end, planned.peer, known.neighbors[0])
+        return Finding(planned.end, Verdict.SWAPPED if partner else verdict, planned.expected,
+                       known.neighbors, partner)
 
-    def is_of_another_bundle(self, end: End, wanted: End, told: KnownPort) -> bool:
-        """Returns whether an end's only neighbor names an aggregate of another link."""
-        return (self._bundles is not None and len(told.neighbors) == 1
-                and self.names.is_any_member(told.neighbors[0], wanted.host)
-                and wanted not in self.names.ends(told.neighbors[0])
-                and self._bundles.part(end, wanted))
-
-    def has_only(self, told: KnownPort, end: End) -> bool:
+    def has_only(self, known: KnownPort, end: End) -> bool:
         """Returns whether a port has exactly one neighbor, which may be this end."""
-        return len(told.neighbors) == 1 and self.names.answers(told.neighbors[0], end)
+        return len(known.neighbors) == 1 and self.names.answers(known.neighbors[0], end)
 
-    def verdict(self, end: End, wanted: End, neighbors: Sequence[Seen]) -> Verdict:
+    def verdict(self, end: End, expected: End, neighbors: Sequence[Seen]) -> Verdict:
         """Returns the verdict on an end with data. For a swapped end, the verdict is `wrong`."""
         if not neighbors:
-            return Verdict.ONE_SIDED if self.sees(wanted, end) else Verdict.SILENT
+            return Verdict.ONE_SIDED if self.sees(expected, end) else Verdict.SILENT
         if len(neighbors) > 1:
-            right_ones = [one for one in neighbors if self.names.answers(one, wanted)]
+            right_ones = [one for one in neighbors if self.names.answers(one, expected)]
             return Verdict.EXTRA if len(right_ones) == 1 else Verdict.DOUBLED
-        if not self.names.answers(neighbors[0], wanted):
+        if not self.names.answers(neighbors[0], expected):
             return Verdict.WRONG
-        other = self.tables.ends.get(wanted)
-        if other is None or self.sees(wanted, end):
+        other = self.tables.ends.get(expected)
+        if other is None or self.sees(expected, end):
             return Verdict.RIGHT
         return Verdict.DISAGREES if other.neighbors else Verdict.ONE_SIDED
 
     def sees(self, end: End, other: End) -> bool:
         """Returns whether one of an end's neighbors may be the other end."""
-        told = self.tables.ends.get(end)
-        return told is not None and any(self.names.answers(one, other) for one in told.neighbors)
+        known = self.tables.ends.get(end)
+        return known is not None and any(self.names.answers(one, other) for one in known.neighbors)
 
-    def partner(self, end: End, wanted: End, neighbor: Seen) -> Optional[End]:
+    def partner(self, end: End, expected: End, neighbor: Seen) -> Optional[End]:
         """Returns the first end that `end` is swapped with, or None. Two ends are swapped if each
         hears only the end that the other wants. `neighbor` is the only neighbor of `end`."""
         ends = (key for key in self.names.ends(neighbor) if key in self.plan.ends)
-        others = {self.plan.ends[key].wanted for key in ends}
-        for host in self.hosts_of_aggregate(neighbor):
-            others.update(self._with_another.get((host, wanted), ()),
-                          self._with_another.get((host, wanted.host), ()))
+        others = {self.plan.ends[key].peer for key in ends}
+        for host in self.names.hosts_of_aggregate(neighbor):
+            others.update(self._with_another.get((host, expected), ()),
+                          self._with_another.get((host, expected.host), ()))
         seen = self.tables.ends
-        found = [other for other in others - {end, wanted}
-                 if other in seen and self.has_only(seen[other], wanted)
-                 and not self.sees(other, self.plan.ends[other].wanted)]
+        found = [other for other in others - {end, expected}
+                 if other in seen and self.has_only(seen[other], expected)
+                 and not self.sees(other, self.plan.ends[other].peer)]
         if len(found) > 1:
             found.sort(key=self._ranks.__getitem__)
         return self.plan.ends[found[0]].end if found else None
@@ -150,25 +141,20 @@ class Judge:
     def _ranks(self) -> Mapping[End, int]:
         return {end: rank for rank, end in enumerate(self.plan.ends)}
 
-    def hosts_of_aggregate(self, neighbor: Seen) -> set[str]:
-        """Returns the hosts at which a neighbor may be any port, because it names an aggregate."""
-        return {host for host in self.names.hosts_of(neighbor)
-                if self.names.is_any_member(neighbor, host)}
-
     @cached_property
     def _with_another(self) -> Mapping[tuple[str, Union[End, str]], Sequence[End]]:
         """Returns the first planned ends with one neighbor, a wrong one, by the host that they want
         and by what they hear: an end, or a host if the neighbor may be any of its ports."""
         found: dict[tuple[str, Union[End, str]], list[End]] = defaultdict(list)
-        for end, wish in self.plan.ends.items():
-            told = self.tables.ends.get(end)
-            if told is None or len(told.neighbors) != 1 or self.has_only(told, wish.wanted):
+        for end, planned in self.plan.ends.items():
+            known, expected = self.tables.ends.get(end), planned.peer
+            if known is None or len(known.neighbors) != 1 or self.has_only(known, expected):
                 continue
-            neighbor = told.neighbors[0]
+            neighbor = known.neighbors[0]
             heard: set[Union[End, str]] = {*self.names.ends(neighbor),
-                                           *self.hosts_of_aggregate(neighbor)}
+                                           *self.names.hosts_of_aggregate(neighbor)}
             for one in heard:
-                some = found[wish.wanted.host, one]
+                some = found[expected.host, one]
                 if len(some) < MOST_TRIED:
                     some.append(end)
         return found

@@ -43,7 +43,7 @@ class Known(NamedTuple):
         If nobody looked at the link, rows must excuse the verdict at both ends."""
         if one.verdict is Verdict.RIGHT:
             return one
-        ours, theirs = (self.reason(names, end, one.verdict) for end in (one.end, one.wants))
+        ours, theirs = (self.reason(names, end, one.verdict) for end in (one.end, one.expected))
         if one.verdict is Verdict.NO_DATA:
             reason = ours
         else:

@@ -1,4 +1,5 @@
-"""Limits the memory and the processor time for each file. An audit as a whole has no limit."""
+"""Limits the memory and the processor time for each file, as `ulimit` does. An audit as a whole has
+no limit."""
 import os
 import resource
 import signal
@@ -6,7 +7,7 @@ import stat
 import sys
 import time
 from contextlib import contextmanager, suppress
-from math import inf
+from resource import RLIM_INFINITY, RLIMIT_AS, RLIMIT_CPU, RLIMIT_DATA
 from typing import Iterator, Optional
 
 from lldpa.faults import LldpaFault
@@ -14,41 +15,15 @@ from lldpa.faults import LldpaFault
 SECONDS = 20
 # the MB of memory that a file with rows may take, such as a plan: for itself, and for each MB of it
 LEAST, TIMES = 128, 24
-BETWEEN = 0.05  # seconds of processor time between two looks at what a file needs
-# what one call of C may take between two looks; if it takes more, memory is refused
-SLACK = 32 << 20
-SPACE, DATA = 0, 5  # fields of proc_pid_statm(5): the address space, and what RLIMIT_DATA limits
 NO_MEMORY = "there is not enough memory for it"
-
-
-class Exceeded(Exception):
-    """A file needs too much."""
 
 
 class LimitFault(LldpaFault, ValueError):
     """Says which limit a file exceeds."""
 
 
-class Watch:
-    """Looks again and again at the processor time and the memory that the work on a file needs. It
-    raises Exceeded once. `most` is None if memory has no limit."""
-
-    def __init__(self, seconds: float, megabytes: Optional[int]) -> None:
-        self.seconds = seconds
-        self.megabytes = megabytes
-        self.end = time.process_time() + seconds
-        self.most = None if megabytes is None else data_in_use() + (megabytes << 20)
-        self.is_over = False
-
-    def look(self, *_: object) -> None:
-        if self.is_over:
-            return
-        if time.process_time() > self.end:
-            self.is_over = True
-            raise Exceeded(f"it needs more than {self.seconds:.0f} seconds of processor time")
-        if self.most is not None and data_in_use() > self.most:
-            self.is_over = True
-            raise Exceeded(f"it needs more than {self.megabytes} MB of memory")
+class TooSlow(Exception):
+    """The processor time is up."""
 
 
 def expect_exhaustion() -> None:
@@ -68,46 +43,36 @@ def warranted_by(file: str) -> Optional[int]:
 def limited(file: str, seconds: float = SECONDS, megabytes: Optional[int] = None
             ) -> Iterator[None]:
     """Stops the work on a file that needs too much processor time or, if `megabytes` is given, more
-    memory than that beside what is in use. Raises LimitFault."""
-    watch = Watch(seconds, megabytes)
-    before = signal.signal(signal.SIGPROF, watch.look)
-    signal.setitimer(signal.ITIMER_PROF, BETWEEN, BETWEEN)
-    limits = resource.getrlimit(resource.RLIMIT_DATA)
-    is_ours = megabytes is not None and (megabytes << 20) + SLACK < octets_left()
+    memory than that beside the most that was in use. Raises LimitFault."""
+    before = {limit: resource.getrlimit(limit) for limit in (RLIMIT_CPU, RLIMIT_DATA, RLIMIT_AS)}
+    in_use = resource.getrusage(resource.RUSAGE_SELF).ru_maxrss << 10
+    most = RLIM_INFINITY if megabytes is None else in_use + (megabytes << 20)
+    handler = signal.signal(signal.SIGXCPU, stop)
     try:
         try:
-            if is_ours and watch.most is not None:
-                resource.setrlimit(resource.RLIMIT_DATA, (watch.most + SLACK, limits[1]))
+            lower(RLIMIT_CPU, int(time.process_time() + seconds) + 1)
+            is_ours = lower(RLIMIT_DATA, most) and before[RLIMIT_AS][0] == RLIM_INFINITY
             yield
             return
         finally:  # before a message is made, which needs memory too
-            watch.is_over = True
-            signal.setitimer(signal.ITIMER_PROF, 0)
-            signal.signal(signal.SIGPROF, before)
-            resource.setrlimit(resource.RLIMIT_DATA, limits)
+            for limit in (RLIMIT_CPU, RLIMIT_DATA):
+                resource.setrlimit(limit, before[limit])
+            signal.signal(signal.SIGXCPU, handler)
     except MemoryError:
         why = f"it needs more than {megabytes} MB of memory" if is_ours else NO_MEMORY
-    except Exceeded as fault:
-        why = str(fault)
+    except TooSlow:
+        why = f"it needs more than {seconds:.0f} seconds of processor time"
     raise LimitFault(f"{file}: {why}")
 
 
-def octets_left() -> float:
-    """Returns how many more octets the limits of this process allow, such as those of `ulimit`."""
-    left = inf
-    for limit, field in ((resource.RLIMIT_AS, SPACE), (resource.RLIMIT_DATA, DATA)):
-        most = resource.getrlimit(limit)[0]
-        if most != resource.RLIM_INFINITY:
-            left = min(left, most - octets_in_use(field))
-    return left
+def lower(limit: int, most: int) -> bool:
+    """Lowers a limit of this process. Returns whether it was higher, or there was none."""
+    soft, hard = resource.getrlimit(limit)
+    is_lower = most != RLIM_INFINITY and (soft == RLIM_INFINITY or most < soft)
+    if is_lower:
+        resource.setrlimit(limit, (most, hard))
+    return is_lower
 
 
-def data_in_use() -> int:
-    """Returns the octets of this process that count for RLIMIT_DATA."""
-    return octets_in_use(DATA)
-
-
-def octets_in_use(field: int) -> int:
-    """Returns a field of proc_pid_statm(5) in octets."""
-    with open("/proc/self/statm", encoding="ascii") as file:
-        return int(file.read().split()[field]) * resource.getpagesize()
+def stop(*_: object) -> None:
+    raise TooSlow

@@ -2,8 +2,9 @@
 from itertools import chain
 from typing import Iterator, Mapping, Sequence
 
-from .breakouts import whole_of, whole_of_new
+from .breakouts import whole_of_new
 from .judging import Finding, Verdict
+from .lanes import canonical, wholes_of
 from .names import End, Names
 
 
@@ -11,13 +12,13 @@ def with_moves(findings: Sequence[Finding], beside: Sequence[Finding], names: Na
                ) -> list[Finding]:
     """Returns the findings on planned ends, then those on unplanned ports. The two ends of a moved
     cable are `moved`, and the unplanned port where the cable is has no finding of its own."""
-    silent = {names.end(one.wants): one.end for one in findings
-              if beside and one.verdict is Verdict.SILENT and one.wants is not None}
+    silent = {names.end(one.expected): one.end for one in findings
+              if beside and one.verdict is Verdict.SILENT and one.expected is not None}
     moves = moves_of(findings, beside, names, silent)
     if not moves:
         return [*findings, *beside]
-    of_silent = {names.end(silent[wanted]): place for wanted, place in moves.items()}
-    told = []
+    of_silent = {names.end(silent[expected]): place for expected, place in moves.items()}
+    judged = []
     for one in findings:
         place = None
         if one.verdict is Verdict.SILENT:
@@ -26,9 +27,9 @@ def with_moves(findings: Sequence[Finding], beside: Sequence[Finding], names: Na
             place = moves.get(names.end(one.end))
             if place is not None and not names.answers(one.has[0], names.end(place)):
                 place = None
-        told.append(one._replace(verdict=Verdict.MOVED, moved_to=place) if place else one)
+        judged.append(one._replace(verdict=Verdict.MOVED, moved_to=place) if place else one)
     places = set(moves.values())
-    return told + [one for one in beside if one.end not in places]
+    return judged + [one for one in beside if one.end not in places]
 
 
 def moves_of(findings: Sequence[Finding], beside: Sequence[Finding], names: Names,
@@ -38,15 +39,15 @@ def moves_of(findings: Sequence[Finding], beside: Sequence[Finding], names: Name
     found: dict[End, set[End]] = {}
     loose = names.looser("case", "domain", "spelling")
     places = chain(heard_at(beside, names), hearing(findings, beside, names)) if silent else ()
-    for wanted, place in places:
-        if wanted in silent and can_move(wanted, silent[wanted], place, names, loose):
-            found.setdefault(wanted, set()).add(place)
-    hosts = {wanted.host for wanted in found}
+    for expected, place in places:
+        if expected in silent and can_move(expected, silent[expected], place, names, loose):
+            found.setdefault(expected, set()).add(place)
+    hosts = {expected.host for expected in found}
     for one in chain(findings, beside) if found else ():
         if any(not hosts.isdisjoint(names.hosts_of(neighbor)) for neighbor in one.has):
-            for wanted in named(one, names) & found.keys():
-                found[wanted].add(one.end)
-    return {wanted: places.pop() for wanted, places in found.items() if len(places) == 1}
+            for expected in named(one, names) & found.keys():
+                found[expected].add(one.end)
+    return {expected: places.pop() for expected, places in found.items() if len(places) == 1}
 
 
 def heard_at(beside: Sequence[Finding], names: Names) -> Iterator[tuple[End, End]]:
@@ -74,9 +75,10 @@ def named(one: Finding, names: Names) -> set[End]:
     return {end for neighbor in one.has for end in names.ends(neighbor)}
 
 
-def can_move(wanted: End, silent: End, place: End, names: Names, loose: Names) -> bool:
+def can_move(expected: End, silent: End, place: End, names: Names, loose: Names) -> bool:
     """Returns whether a cable can be moved to this port: the port is not the silent one in another
     spelling, as a whole or as a lane, and is of another host than the wanted end."""
     here, there = loose.end(place), loose.end(whole_of_new(silent))
-    is_other = here != there and whole_of(here) != there and whole_of(there) != here
-    return is_other and names.host(place.host) != wanted.host
+    is_lane = here.host == there.host and (canonical(here.port) in wholes_of(there.port)
+                                           or canonical(there.port) in wholes_of(here.port))
+    return here != there and not is_lane and names.host(place.host) != expected.host

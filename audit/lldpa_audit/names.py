@@ -3,11 +3,10 @@ from __future__ import annotations
 
 import ipaddress
 from contextlib import suppress
-from typing import Collection, Container, Iterable, Mapping, NamedTuple, Optional, Sequence
+from typing import Collection, Iterable, Mapping, NamedTuple, Optional, Sequence, Set
 
 from lldpa.texts import CUT, printable
 
-from .link_settings import Settings
 from .spelling import MAC, is_aggregate, plain, plain_port
 
 LONGEST = 255  # the longest name that LLDP can send
@@ -25,17 +24,20 @@ class End(NamedTuple):
 
 
 class Seen(NamedTuple):
-    """A neighbor: the names of its host and of its port, the best one first. `aggregated` and
-    `settings` are what it announces for its link. `is_named` is true if its Port ID is the name
-    or alias of an interface; then the Port ID is the first of its port's names."""
+    """A neighbor: the names of its host and of its port, the best one first. `aggregated`
+    is true if it announces that its port is a member of an aggregate. `is_named` is true if its
+    Port ID is the name or alias of an interface, and then the first of its port's names."""
 
     hosts: tuple[str, ...]
     ports: tuple[str, ...]
     chassis: str = ""
     port_id: str = ""
     aggregated: bool = False
-    settings: Optional[Settings] = None
     is_named: bool = False
+
+    def __reduce__(self) -> tuple[type, tuple[object, ...]]:
+        """Returns how another process makes a copy, as tuples do it but in less time."""
+        return Seen, (*self,)
 
     def __str__(self) -> str:
         if self == NAMELESS:
@@ -59,20 +61,22 @@ NO_ALIASES = Aliases({}, {})
 
 
 class Names:
-    """The rules for comparing names. Two names are the same if their normalized forms are equal.
-    `planned` has the normalized ends of the plan, and `planned_ports` their ports. If a Port ID
-    is planned, the Port Description does not count, since people write it by hand."""
+    """The rules for comparing names, which never change. Two names are the same if their normalized
+    forms are equal. `domains` has the domains of planned hosts by short names. If a Port ID is
+    in `planned`, the normalized ends of the plan, the Port Description does not count, since people
+    write it by hand. Looser rules ask the rules `strict` for that."""
 
     def __init__(self, ignore_case: bool = False, short_names: bool = False,
-                 vendor_names: bool = False, aliases: Aliases = NO_ALIASES) -> None:
-        self.ignore_case = ignore_case
-        self.short_names = short_names
-        self.vendor_names = vendor_names
+                 vendor_names: bool = False, aliases: Aliases = NO_ALIASES,
+                 domains: Mapping[str, Set[str]] = {}, planned: Collection[End] = (),
+                 strict: Optional[Names] = None) -> None:
+        self._given = ignore_case, short_names, vendor_names
+        self.ignore_case, self.short_names, self.vendor_names = self._given
         self.aliases = aliases
-        self.planned: Collection[End] = ()
-        self.planned_ports: Container[str] = ()
-        self.domains: dict[str, set[str]] = {}
-        self._rules = self
+        self.domains = domains
+        self.planned = planned
+        self._planned_ports = {end.port for end in planned}
+        self._strict = strict or self
         self._is_strict = not (ignore_case or short_names or vendor_names or any(aliases))
         self._hosts: dict[str, str] = {}
         self._ports: dict[str, str] = {}
@@ -116,12 +120,21 @@ class Names:
         is_only = "" in domains or domains == {name[len(short) + 1:]}
         return short if is_only else name
 
-    def learn_domains(self, hosts: Iterable[str]) -> None:
-        """Remembers the domains of planned hosts, so that hosts in different domains differ."""
-        self._hosts.clear()
+    def with_domains_of(self, hosts: Iterable[str]) -> Names:
+        """Returns the same rules with the domains of planned hosts, so that hosts in different
+        domains differ."""
+        domains: dict[str, set[str]] = {}
         for host in set(hosts):
             short = without_domain(self.whole_host(host))
-            self.domains.setdefault(short, set()).add(self.domain(host))
+            domains.setdefault(short, set()).add(self.domain(host))
+        return Names(*self._given, self.aliases, domains)
+
+    def with_planned(self, ends: Collection[End], shared: Mapping[End, tuple[str, ...]] = {}
+                     ) -> Names:
+        """Returns the same rules for these planned ends. Each of the ports in `shared` gives its
+        name to the ports that share it, as an alias."""
+        aliases = self.aliases._replace(ports={**self.aliases.ports, **shared})
+        return Names(*self._given, aliases, self.domains, ends)
 
     def domain(self, host: str) -> str:
         """Returns the domain of a host's name, or an empty text if it has none."""
@@ -173,12 +186,19 @@ class Names:
         if len(ports) < 2:
             return ports
         port_id = ports[0] if neighbor.is_named else neighbor.port_id
-        return (port_id,) if self._rules.is_planned(neighbor, port_id) else ports
+        return (port_id,) if self._strict.is_planned(neighbor, port_id) else ports
 
     def is_planned(self, neighbor: Seen, port_id: str) -> bool:
         """True if a Port ID is planned at its host or, if it names an interface, at any host."""
+        if self._is_strict:  # quicker
+            if neighbor.is_named and port_id in self._planned_ports:
+                return True
+            for host in neighbor.hosts:
+                if (host, port_id) in self.planned:
+                    return True
+            return False
         return any(End(host, port) in self.planned
-                   or neighbor.is_named and port in self.planned_ports
+                   or neighbor.is_named and port in self._planned_ports
                    for host in self.hosts_of(neighbor) for port in self.ports(host, port_id))
 
     def is_any_member(self, neighbor: Seen, host: str) -> bool:
@@ -188,34 +208,33 @@ class Names:
                 and any(is_aggregate(port) and not self.has_alias(host, port)
                         for port in self.heeded(neighbor)))
 
+    def hosts_of_aggregate(self, neighbor: Seen) -> set[str]:
+        """Returns the hosts at which a neighbor may be any port, because it names an aggregate."""
+        return {host for host in self.hosts_of(neighbor) if self.is_any_member(neighbor, host)}
+
     def has_alias(self, host: str, name: str) -> bool:
         """Returns whether the name of a port is an alias at a normalized host."""
         port, aliases = self.plain_port(name), self.aliases.ports
         return End(host, port) in aliases or End("", port) in aliases
 
     def ends(self, neighbor: Seen) -> Iterable[End]:
-        """Yields each normalized end that a neighbor may be, by the names of its port."""
+        """Returns each normalized end that a neighbor may be, by the names of its port."""
         ports = self.heeded(neighbor)
-        for host in self.hosts_of(neighbor):
-            yield from (End(host, key) for port in ports for key in self.ports(host, port))
-
-    def share(self, shared: Mapping[End, tuple[str, ...]]) -> None:
-        """Gives each of these normalized ports' names to the ports that share it, as an alias."""
-        self.aliases = Aliases(self.aliases.hosts, {**self.aliases.ports, **shared})
-        self._is_strict = False
+        if self._is_strict:  # quicker
+            return [End(host, port) for host in neighbor.hosts for port in ports]
+        return [End(host, key) for host in self.hosts_of(neighbor) for port in ports
+                for key in self.ports(host, port)]
 
     def looser(self, *differences: str) -> Names:
         """Returns rules that also ignore these differences: case, domain or spelling."""
-        looser = Names(self.ignore_case or "case" in differences,
-                       self.short_names or "domain" in differences,
-                       self.vendor_names or "spelling" in differences, self.aliases)
-        looser._rules = self
-        if "domain" not in differences:
-            looser.learn_domains(f"{short}.{domain}".rstrip(".") for short in self.domains
-                                 for domain in self.domains[short])
-        return looser
+        rules = (self.ignore_case or "case" in differences,
+                 self.short_names or "domain" in differences,
+                 self.vendor_names or "spelling" in differences, self.aliases)
+        hosts = [f"{short}.{domain}".rstrip(".") for short in self.domains
+                 for domain in self.domains[short]] if "domain" not in differences else ()
+        return Names(*rules, Names(*rules).with_domains_of(hosts).domains, strict=self)
 
-    def with_domains(self) -> Names:
+    def of_whole_hosts(self) -> Names:
         """Returns the same rules, but with domains compared."""
         return Names(self.ignore_case, False, self.vendor_names, self.aliases)
 
@@ -235,6 +254,12 @@ def shown(name: str) -> str:
     a blank is in quotes, and a name that is too long for LLDP is cut."""
     text = printable(text_of(name[:LONGEST])) + (CUT if len(name) > LONGEST else "")
     return text if text and " " not in text else f'"{text}"'
+
+
+def first_of(names: Sequence[str]) -> list[str]:
+    """Returns the first of some names as a line shows them, and how many more there are."""
+    more = len(names) - MOST_NAMED
+    return [*map(shown, names[:MOST_NAMED]), *([f"{more} more"] if more > 0 else [])]
 
 
 def escaped(letter: str) -> str:

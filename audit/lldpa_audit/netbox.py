@@ -19,7 +19,10 @@ OTHER_PORT = re.compile(r"(?:(?:rj45|(?:mini-?)?usb)[ _-]?)?"
                         r"(?:psu?|pem|pwr|power|outlet|inlet|con|console|serial|tty[a-z]?|aux)"
                         r"(?:[ _-]?(?:supply|feed|port))?[ _:/.-]?[a-z]?[0-9]{0,3}", re.I)
 
-# reasons to leave out a cable of NetBox
+# what NetBox's tables show behind the name of a device that has an asset tag
+TAG = re.compile(r"(.+) \([^()]+\)")
+# reasons to leave out a cable of NetBox, or any cable
+COMMENTED = "in a line that begins with #"
 POWER, ABSENT, FREE = ("for power or consoles", "with the status planned or decommissioning",
                        "with an end that is not a port of a device")
 
@@ -73,6 +76,23 @@ def between(one: Side, other: Side, kind: str, status: str, line: Optional[int],
     rows = [(*near, *far) for near, far in pairs]
     at_panels = one.is_at_panel, other.is_at_panel
     return Cable(rows, line, texts, at_panels, unpaired=() if rows else ends)
+
+
+def without_tags(cables: Sequence[Union[Cable, str]]) -> Iterator[Union[Cable, str]]:
+    """Yields the cables, with devices named without their asset tags. If several devices have the
+    same name without tags, their names stay as they are."""
+    names: dict[str, set[str]] = {}
+    for cable in cables:
+        for row in cable.rows if isinstance(cable, Cable) else ():
+            for name in (row[0], row[2]):
+                found = TAG.fullmatch(name)
+                names.setdefault(found[1] if found else name, set()).add(name)
+    short = {some.pop(): name for name, some in names.items() if len(some) == 1}
+    for cable in cables:
+        if isinstance(cable, Cable):
+            cable = cable._replace(rows=[
+                (short.get(a, a), b, short.get(c, c), d) for a, b, c, d in cable.rows])
+        yield cable
 
 
 def cables_of(text: str, faults: Faults) -> Iterator[Union[Cable, str]]:

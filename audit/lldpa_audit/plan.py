@@ -73,19 +73,19 @@ class Link(NamedTuple):
     position: str = FIRST
 
 
-class Wish(NamedTuple):
-    """A planned end and the end that it wants, as the plan writes them. `wanted` is the wanted end,
-    normalized. `line` and `detail` are those of the planned end's cable."""
+class PlannedEnd(NamedTuple):
+    """A planned end and the end that it should hear, as the plan writes them. `peer` is the
+    latter, normalized. `line` and `detail` are those of the planned end's cable."""
 
     end: End
-    wants: End
-    wanted: End
+    expected: End
+    peer: End
     line: Optional[int] = None
     detail: Detail = NO_DETAIL
 
 
 NO_END = End("", "")
-NOT_PLANNED = Wish(NO_END, NO_END, NO_END)
+NOT_PLANNED = PlannedEnd(NO_END, NO_END, NO_END)
 
 
 class Plan:
@@ -93,12 +93,13 @@ class Plan:
     link adjacent. `breakouts` has a breakout cable's links by the end in `whole` that they
     share. `columns` names the texts of a detail, `notes` says what is left out, `not_judged`
     counts the links that cannot be judged, and `unknown` has their ends. If `is_untyped`, nothing
-    says which hosts are patch panels. Raises PlanFault."""
+    says which hosts are patch panels. `names` compares names with those that are planned. Raises
+    PlanFault."""
 
     def __init__(self, file: str, links: Iterable[Link], names: Names,
                  faults: Optional[Faults] = None, whole: Optional[Set[End]] = None) -> None:
         self.file = file
-        self.ends: dict[End, Wish] = {}
+        self.ends: dict[End, PlannedEnd] = {}
         self.breakouts: dict[End, list[Link]] = {}
         self.columns: Sequence[str] = ()
         self.notes: Sequence[str] = ()
@@ -108,21 +109,20 @@ class Plan:
         faults = faults or Faults(file)
         if names.short_names:
             links = list(links)
-            names.learn_domains(end.host for link in links for end in link[:2])
+            names = names.with_domains_of(end.host for link in links for end in link[:2])
         for link in links:
             if whole and not whole.isdisjoint(link[:2]):
                 self._add_breakout(link, whole, names, faults)
             else:
                 self._add(link, names, faults)
         self._need_breakouts_apart(names, faults)
-        self.hosts = {key.host: wish.end.host for key, wish in self.ends.items()}
+        self.hosts = {key.host: planned.end.host for key, planned in self.ends.items()}
         for key, some in self.breakouts.items():
             self.hosts.update((names.host(end.host), end.host) for link in some for end in link[:2])
         if names.short_names:
-            self._need_hosts_apart(names.with_domains(), faults)
+            self._need_hosts_apart(names.of_whole_hosts(), faults)
         faults.end()
-        names.planned = self.planned(names) if self.breakouts else self.ends
-        names.planned_ports = {key.port for key in names.planned}
+        self.names = names.with_planned(self.planned(names) if self.breakouts else self.ends)
 
     def planned(self, names: Names) -> Set[End]:
         """Returns the planned ends, and all ends of breakout cables, normalized."""
@@ -132,11 +132,11 @@ class Plan:
     def _need_hosts_apart(self, whole: Names, faults: Faults) -> None:
         """Refuses two planned hosts that --short-names would make one."""
         firsts: dict[str, str] = {}
-        for key, wish in self.ends.items():
-            first = firsts.setdefault(key.host, wish.end.host)
-            if whole.host(wish.end.host) != whole.host(first):
-                faults.add(wish.line, f"{shown(wish.end.host)} and {shown(first)} are planned, and "
-                                      "would be one host with --short-names")
+        for key, planned in self.ends.items():
+            first = firsts.setdefault(key.host, planned.end.host)
+            if whole.host(planned.end.host) != whole.host(first):
+                faults.add(planned.line, f"{shown(planned.end.host)} and {shown(first)} are "
+                                         "planned, and would be one host with --short-names")
 
     def _add(self, link: Link, names: Names, faults: Faults) -> None:
         """Plans a link, unless it is already planned."""
@@ -144,10 +144,10 @@ class Plan:
         one_key, other_key = names.end(one), names.end(other)
         before, other_before = self.ends.get(one_key), self.ends.get(other_key)
         if before is None and other_before is None and one_key != other_key:
-            self.ends[one_key] = Wish(one, other, other_key, line, detail)
-            self.ends[other_key] = Wish(other, one, one_key, other_line or line,
+            self.ends[one_key] = PlannedEnd(one, other, other_key, line, detail)
+            self.ends[other_key] = PlannedEnd(other, one, one_key, other_line or line,
                                         other_detail or detail)
-        elif before is None or before.wanted != other_key:
+        elif before is None or before.peer != other_key:
             first = (before or other_before or NOT_PLANNED).line
             faults.add(line, planned_twice(one if before else other, first, line))
 
@@ -187,9 +187,9 @@ class Plan:
             ends[key.host].append(key)
         return ends
 
-    def details(self, wish: Wish) -> Sequence[tuple[str, str]]:
+    def details(self, planned: PlannedEnd) -> Sequence[tuple[str, str]]:
         """Returns the name and the text of each further column that is not empty for an end."""
-        return [(name, text) for name, text in zip(self.columns, wish.detail.texts) if text]
+        return [(name, text) for name, text in zip(self.columns, planned.detail.texts) if text]
 
 
 def planned_twice(end: End, before: Optional[int], line: Optional[int]) -> str:

@@ -1,12 +1,11 @@
 """Reads plans: links in DOT, CSV or NetBox's JSON, followed through patch panels."""
 from collections import Counter
-from itertools import starmap
-from typing import Iterable, Iterator, Mapping, Optional, Sequence, Union
+from typing import Container, Iterable, Iterator, Mapping, Optional, Sequence, Union
 
 from .columns import Columns
 from .dot import edges_of, is_dot
 from .names import LONGEST, MOST_NAMED, End, Names
-from .netbox import DETAILS, Cable, cables_of
+from .netbox import COMMENTED, DETAILS, Cable, cables_of, without_tags
 from .panels import Panels, fewest_links
 from .plan import NO_DETAIL, Detail, Faults, Link, Plan
 from .progress import Progress
@@ -49,17 +48,20 @@ class PlanFile:
             self.others = DETAILS
             return cables_of(self.text, self.faults)
         if is_dot(self.text):
+            self.is_untyped = True
             return edges_of(self.text, self.faults)
         return self._cables_of_rows()
 
     def _cables_of_rows(self) -> Iterator[Union[Cable, str]]:
         """Yields each cable of a CSV file, or why it is left out."""
-        rows = rows_of(self.text, self.faults)
+        marked: set[int] = set()
+        rows = rows_of(self.text, self.faults, marked)
         line, header = next(rows, (1, []))
         columns = Columns(header, line, self.faults, self._given)
         self.others, self.is_untyped = columns.others, columns.is_untyped
         if columns.can_read:
-            yield from (cable for cable in starmap(columns.cable, rows) if cable)
+            found = cables_in(rows, columns, marked if columns.has_host_first else ())
+            yield from without_tags(list(found)) if columns.has_headings else found
 
     def _links_of(self, cable: Cable) -> Sequence[Link]:
         """Returns the links of a cable. Remembers ends at panels and ends with several links."""
@@ -93,6 +95,15 @@ class PlanFile:
         return name
 
 
+def cables_in(rows: Iterable[tuple[int, Sequence[str]]], columns: Columns,
+              comments: Container[int]) -> Iterator[Union[Cable, str]]:
+    """Yields the cable in each row, or why it is left out. Some lines are comments."""
+    for line, row in rows:
+        cable = COMMENTED if line in comments else columns.cable(line, row)
+        if cable:
+            yield cable
+
+
 def read_plan(file: str, names: Names, columns: Optional[Mapping[str, str]] = None,
               panels: Optional[str] = None, progress: Optional[Progress] = None) -> Plan:
     """Reads a plan, and follows its links through listed panels. Raises PlanFault and OSError."""
@@ -112,9 +123,9 @@ def read_plan(file: str, names: Names, columns: Optional[Mapping[str, str]] = No
         read.faults.end()
     begins = ([begin for begin, _ in followed.dead_ends] if followed else
               [end for end in read.at_panels.values() if end not in read.at_panels])
-    plan.not_judged = fewest_links([names.end(end) for end in begins]) + len(read.unpaired)
+    plan.not_judged = fewest_links([plan.names.end(end) for end in begins]) + len(read.unpaired)
     unknown = (begins, () if followed else read.at_panels, *read.unpaired)
-    plan.unknown = {names.end(end) for some in unknown for end in some}
+    plan.unknown = {plan.names.end(end) for some in unknown for end in some}
     plan.columns, plan.is_untyped = read.others, read.is_untyped and followed is None
     plan.notes = [*notes_of(file, read), *notes_of_unpaired(file, read),
                   *notes_of_panels(file, read, followed)]

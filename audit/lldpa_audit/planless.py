@@ -1,12 +1,9 @@
 """Runs without a plan: writes a plan of the links that are seen, or reports which have changed."""
 import gc
 import sys
-import time
-from typing import Optional, Sequence
+from typing import Sequence
 
-from lldpa.capture.source import hold
-
-from .ages import Ages, ages_of
+from .ages import ages_of
 from .changes import compared
 from .heard import links_of
 from .names import Names
@@ -14,7 +11,7 @@ from .plan import Plan
 from .report.changed import json_of, lines_of
 from .run import Run, harmless
 from .seen.files import read_files
-from .seen.folders import read_whats
+from .seen.folders import hold_pipes, read_whats
 from .seen.tables import Tables
 from .what import of_hosts, placed
 from .writing import need_new, rows_of, summary_of, write_new
@@ -36,34 +33,31 @@ class Planless(Run):
         if not rows:
             raise ValueError("no link was seen, so no plan is written")
         write_new(file, rows)
-        print(harmless(summary_of(file, rows, ages_now(tables))))
+        print(harmless(summary_of(file, rows, ages_of(tables.times))))
         return self.status
 
     def compare(self) -> int:
         """Reports the links that have changed since the earlier lists."""
         before = self.read([self.given.since], self.names(), is_now=False)
         now = self.read(self.given.what, self.names())
-        found = compared(before, now)._replace(ages=(ages_now(before), ages_now(now)))
+        found = compared(before, now)._replace(ages=(ages_of(before.times), ages_of(now.times)))
         self.progress.clear()
         if self.given.json:
             sys.stdout.writelines(json_of(found))
         else:
             print("\n".join(map(harmless, lines_of(found))))
-        return self.status or (1 if found.changes else 0)
+        is_complete = not (self.given.all and found.hosts)
+        return self.status or (0 if is_complete and not found.changes else 1)
 
     def read(self, words: Sequence[str], names: Names, is_now: bool = True) -> Tables:
         """Reads what is seen. Raises ValueError if it is of no host."""
         plan = Plan("", (), names)
-        whats = [placed(what, plan, names, self.given.host)
+        whats = [placed(what, plan, self.given.host)
                  for what in read_whats(words, self.given.host, self.say)]
-        for what in whats:
-            hold(what.file)
+        hold_pipes(whats)
         files = read_files(of_hosts(whats), self.given.platform)
-        tables = self.gather(whats, files, plan, names, is_now)
+        tables = self.gather(whats, files, plan, is_now)
         if not tables.hosts:
             raise ValueError(f"no file has neighbors of a host: {' '.join(words)}")
+        tables.names = names.with_planned(tables.ends)  # a Port ID that is a listed port is meant
         return tables
-
-
-def ages_now(tables: Tables) -> Optional[Ages]:
-    return ages_of(tables.times, time.time()) if tables.times else None

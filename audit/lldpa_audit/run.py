@@ -39,10 +39,10 @@ class Run:
         return Names(*rules, aliases)
 
     def gather(self, whats: Sequence[What], files: Iterator[Optional[Listing]], plan: Plan,
-               names: Names, is_now: bool = True) -> Tables:
+               is_now: bool = True) -> Tables:
         """Returns the tables of the audited hosts, from files and from lldpa-live. If not `is_now`,
         the files may be old, and lldpa-live is not asked."""
-        given, tables = self.given, Tables(names)
+        given, names, tables = self.given, plan.names, Tables(plan.names)
         gathering = Gathering(tables, PROGRAM, self.say, given.stale_after if is_now else inf,
                               plan.hosts)
         gathering.add_files(whats, self.progress.over(files, len(whats), "files"))

@@ -11,7 +11,7 @@ IP_ADDRESS = re.compile(r"[0-9a-f.:]+", re.I)
 LONGEST_ADDRESS = 45
 
 # a port's name: perhaps a speed (Huawei), letters, a number in parts, some with RP or CPU (IOS-XR)
-PORT = re.compile(r"((?:25|40|50|100|200|400)?[A-Za-z-]*[A-Za-z]) ?"
+PORT = re.compile(r"((?:10|25|40|50|100|200|400)?[A-Za-z-]*[A-Za-z]) ?"
                   r"([0-9]+(?:[/:.](?:RP|RSP|CPU)?[0-9]+)*)", re.I)
 
 # the short form of a port of SR Linux
@@ -29,7 +29,7 @@ KINDS = {
     "twogigabitethernet": "tw two",
     "fivegigabitethernet": "fi five",
     "tengigabitethernet": "te ten tengig tengige tengigethernet ten-gigabitethernet "
-                          "xgigabitethernet xge",
+                          "xgigabitethernet xge 10ge",
     "twentyfivegige": "twe twentyfivegigabitethernet twenty-fivegige 25ge wge",
     "fortygigabitethernet": "fo forty fortygig fortygige 40ge fge",
     "fiftygige": "fif fiftygigabitethernet 50ge",

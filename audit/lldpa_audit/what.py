@@ -1,13 +1,16 @@
 """Reads the arguments WHAT of the command line: files of hosts and of ports."""
 import os
-from typing import Iterable, Iterator, NamedTuple
+import re
+from typing import Iterable, Iterator, NamedTuple, Sequence
 
-from .names import End, Names
+from .names import End
 from .plan import Plan
 
 # endings of files' names that are not part of the name of a host or port
 ENDINGS = (".gz", ".json", ".json0", ".xml", ".walk", ".txt", ".show", ".out", ".pcap", ".pcapng",
            ".cap")
+# ntc-templates' name of a platform at the end of a file's name; no host's name has such an end
+PLATFORM = re.compile(r"(.+)[.]([a-z0-9]+(?:_[a-z0-9]+)+)")
 
 
 class What(NamedTuple):
@@ -29,33 +32,50 @@ def read_what(word: str, ours: str) -> What:
     return next(there, forms[min(1, len(forms) - 1)])
 
 
-def placed(what: What, plan: Plan, names: Names, ours: str) -> What:
+def placed(what: What, plan: Plan, ours: str) -> What:
     """Finds the host of a file without a host, and splits HOST:PORT. A colon belongs to the port if
     the plan has such a port, or if a number follows it and no planned host precedes it."""
     if not what.host:
-        return what._replace(host=host_of_file(what.file, plan, names, ours))
-    if ":" not in what.port or names.end(End(what.host, what.port)) in plan.ends:
+        return what._replace(host=host_of_file(what.file, plan, ours))
+    if ":" not in what.port or plan.names.end(End(what.host, what.port)) in plan.ends:
         return what
     forms = [What(host, port, what.file) for host, port in splits_at(what.port, ":")]
-    planned = [form for form in forms if names.host(form.host) in plan.hosts]
+    planned = [form for form in forms if plan.names.host(form.host) in plan.hosts]
     if planned:
         return planned[0]
     is_port = not forms or what.port.rpartition(":")[2].isdecimal()
     return what if is_port else forms[0]
 
 
-def host_of_file(file: str, plan: Plan, names: Names, ours: str) -> str:
+def host_of_file(file: str, plan: Plan, ours: str) -> str:
     """Returns the host that a file is named after, or `ours` if the plan has `ours` but not that
     host."""
     named = without_ending(os.path.basename(file))
-    is_named = names.host(named) in plan.hosts
-    return named if is_named or names.host(ours) not in plan.hosts else ours
+    is_named = plan.names.host(named) in plan.hosts
+    return named if is_named or plan.names.host(ours) not in plan.hosts else ours
 
 
 def without_ending(name: str) -> str:
     """Returns a file's name without endings that say its form, such as `.json.gz`."""
+    return split_off_platform(name)[0]
+
+
+def split_off_platform(name: str) -> tuple[str, str]:
+    """Returns a file's name without such endings, and the platform that it names, or none."""
     front, ending = os.path.splitext(name)
-    return without_ending(front) if front and ending.lower() in ENDINGS else name
+    if front and ending.lower() in ENDINGS:
+        return split_off_platform(front)
+    found = PLATFORM.fullmatch(name)
+    return (found[1], found[2]) if found else (name, "")
+
+
+def platform_of(file: str, given: Sequence[str]) -> str:
+    """Returns the platform, perhaps with `=COMMAND`, of the switch whose text is in a file: the one
+    at the end of the file's name, or else the first of the given ones."""
+    name = os.path.basename(file)
+    named = split_off_platform(name)[1] if "_" in name else ""  # quicker, for many files
+    fitting = [one for one in given if named in ("", one.partition("=")[0])]
+    return fitting[0] if fitting else named
 
 
 def of_hosts(whats: Iterable[What]) -> list[What]:

@@ -5,32 +5,32 @@ import sys
 from math import inf
 from typing import NoReturn, Optional, Sequence
 
-from lldpa.client.connection import DEFAULT_PATH
 from lldpa.texts import printable
 from lldpa.version import add_version
 
 from .ages import seconds_of
 from .columns import COLUMNS
 from .names import text_of
+from .seen.asking import DEFAULT_PATH
 
 # options for an audit by a plan
-OF_PLANS = ("columns", "panels", "wait", "settings", "all", "known", "planned_only", "by", "junit",
-            "metrics", "html")
+OF_PLANS = ("columns", "panels", "wait", "known", "planned_only", "junit", "metrics", "html")
 LIVE = "--live"
 WORDS = """\
 PLAN is CSV, the cables that NetBox exports or its API returns, or a topology in DOT. Each WHAT is:
   FOLDER          files of many hosts, each named after its host: leaf1.json, or files in leaf1/
   HOST:FILE       a host's list of neighbors: the JSON of a switch (EOS, NX-OS, Junos, Cumulus),
-                  NAPALM, lldpcli, networkctl, OpenConfig, Prometheus or lldpa; rows of
-                  ntc-templates; the output of snmpwalk; or a capture that names its interfaces
+                  NAPALM, lldpcli, OpenConfig, Prometheus or lldpa; rows of ntc-templates; the
+                  output of snmpwalk; or a capture that names its interfaces
   HOST:FOLDER     several files of a host
   FILE            a list or capture of the host that the file is named after or, if the plan has
                   no such host, of this host
   PORT=FILE       a capture taken at a port of this host; HOST:PORT=FILE for another host
 
-The exit status is 0 if everything that was looked at is right or known, 1 for a fault, a mismatch,
-a change, a damaged file or, with --all, a cable that was not looked at or cannot be judged, and 2
-for a wrong argument or plan, two lists of one host, or a file that cannot be read or written.
+The exit status is 0 if everything that was looked at is right or known, 1 for a fault, a
+change, a damaged file or, with --all, a cable that was not looked at or cannot be judged or
+compared, and 2 for a wrong argument or plan, two lists of one host, or a file that cannot be read
+or written.
 
 examples:
   lldpa-audit --all --vendor-names cables.csv lists/
@@ -54,8 +54,8 @@ def read_words(words: Optional[Sequence[str]]) -> argparse.Namespace:
     parser = Parser(
         prog="lldpa-audit", allow_abbrev=False, epilog=WORDS,
         usage="lldpa-audit [OPTION ..] PLAN [WHAT ..]\n"
-              "       lldpa-audit --write-plan FILE [OPTION ..] WHAT ..\n"
-              "       lldpa-audit --since OLD [OPTION ..] WHAT ..",
+              "       lldpa-audit --write-plan FILE [OPTION ..] [WHAT ..]\n"
+              "       lldpa-audit --since OLD [OPTION ..] [WHAT ..]",
         description="Compares a plan of the cabling with the neighbors seen at each port, and "
                     "prints one line for each repair.",
         formatter_class=argparse.RawDescriptionHelpFormatter)
@@ -82,7 +82,7 @@ def need_no_plan(parser: argparse.ArgumentParser, given: argparse.Namespace) -> 
     option = "--write-plan" if given.write_plan else "--since"
     given.what = [word for word in (given.plan, *given.what) if word is not None]
     given.plan = None
-    others = [*OF_PLANS, "json", "since"] if given.write_plan else OF_PLANS
+    others = [*OF_PLANS, "all", "json", "since"] if given.write_plan else OF_PLANS
     for name in others:
         if getattr(given, name) != parser.get_default(name):
             parser.error(f"{option} cannot be given with --{name.replace('_', '-')}")
@@ -96,9 +96,10 @@ def add_words_of_input(parser: argparse.ArgumentParser) -> None:
              "host=device,port=interface,peer=to,peer_port=to_port")
     add("--panels", metavar="FILE",
         help="the pairs of ports that panels join, such as NetBox's export of front ports")
-    add("--platform", metavar="NAME", default="",
+    add("--platform", metavar="NAME", action="append", default=[],
         help="read the text of switches by ntc-templates' template for NAME, such as cisco_ios "
-             "or \"cisco_ios=show lldp neighbors detail\"")
+             "or \"cisco_ios=show lldp neighbors detail\"; a file named leaf1.cisco_ios.txt says "
+             "its own")
     add(LIVE, metavar="[=PATH]", type=not_empty,
         help="read this host's neighbors from lldpa-live, perhaps at another control socket than "
              f"{DEFAULT_PATH}")
@@ -108,8 +109,6 @@ def add_words_of_input(parser: argparse.ArgumentParser) -> None:
         help="ignore sources older than TIME: 90 (seconds), 15m, 12h, 1d")
     add("--host", metavar="NAME", default=socket.gethostname(),
         help="this host's name in the plan (default: the system's name)")
-    add("--settings", action="store_true",
-        help="at links with the verdict right, compare MTU, PVID, speed, duplex and aggregation")
     add("--ignore-case", action="store_true", help="ignore case when comparing names")
     add("--short-names", action="store_true",
         help="compare hosts' domains only if both names have one")
@@ -127,14 +126,12 @@ def add_words_of_report(parser: argparse.ArgumentParser) -> None:
         help="report the links that changed since OLD, such as a FOLDER with earlier lists, "
              "instead of an audit by a PLAN")
     add("--all", action="store_true",
-        help="count cables that were not looked at, or cannot be judged, as faults")
+        help="count cables that were not looked at, or cannot be judged or compared, as faults")
     add("--known", metavar="FILE",
         help="faults to excuse, in CSV with the columns host,port,reason,until[,verdict]")
     add("--planned-only", action="store_true", help="do not report ports that are not planned")
-    add("--by", metavar="COLUMN", default="",
-        help="group the lines by a column of the plan, such as rack")
     add("--json", action="store_true", help="print repairs and verdicts as JSON")
-    add("--junit", metavar="FILE", 
+    add("--junit", metavar="FILE",
         help="write a JUnit report with a test case for each port that has a verdict")
     add("--metrics", metavar="FILE", help="write metrics for node_exporter's textfile collector")
     add("--html", metavar="FILE", help="write a page with the repairs and pictures of faulty hosts")

@@ -104,7 +104,7 @@ def names_alike(links: Sequence[Link], tables: Tables) -> Iterator[str]:
     alike = [link for link in links if not link.is_mutual and link.keys[1] not in tables.ends
              and loose.end(link.ends[1]) in here]
     for link in alike[:1]:
-        like = next(told.end for key, told in tables.ends.items()
+        like = next(known.end for key, known in tables.ends.items()
                     if loose.end(key) == loose.end(link.ends[1]))
         count = len(alike) - 1
         more = (f", and {count} more neighbor{'s may be ports' if count > 1 else ' may be a port'} "

@@ -5,12 +5,16 @@ import re
 import subprocess
 import sys
 import tempfile
+import traceback
 import unittest
 from pathlib import Path
-from typing import Any, List, Mapping, NamedTuple, Optional, Sequence, Tuple
+from typing import Any, List, Mapping, NamedTuple, NoReturn, Optional, Sequence, Tuple
 
 import rack
 from served import PROGRAM, REPOSITORY
+
+sys.path.append(str(REPOSITORY / "audit"))
+from lldpa_audit.command import main  # noqa: E402
 
 HEAD = "host,port,peer,peer_port\n"
 AUDIT = os.environ.get("LLDPA_AUDIT") or str(REPOSITORY / "bin" / "lldpa-audit")
@@ -63,8 +67,36 @@ def without_ages(text: str) -> str:
 
 
 def run_whole(*words: str, folder: Optional[str] = None) -> "subprocess.CompletedProcess[str]":
-    return subprocess.run([sys.executable, AUDIT, *words], env=WITH_AGENT, cwd=folder,
-                          capture_output=True, text=True, timeout=600, check=False)
+    """Runs the program. A copy of this process does, unless LLDPA_AUDIT names another program: to
+    start Python and to load the modules would take most of the time of most tests."""
+    if "LLDPA_AUDIT" in os.environ:
+        return subprocess.run([sys.executable, AUDIT, *words], env=WITH_AGENT, cwd=folder,
+                              capture_output=True, text=True, timeout=600, check=False)
+    with tempfile.TemporaryFile("w+") as out, tempfile.TemporaryFile("w+") as err:
+        child = os.fork()
+        if child == 0:
+            end_as_the_program(words, folder, out.fileno(), err.fileno())
+        status = os.waitstatus_to_exitcode(os.waitpid(child, 0)[1])
+        out.seek(0)
+        err.seek(0)
+        return subprocess.CompletedProcess([*words], status, out.read(), err.read())
+
+
+def end_as_the_program(words: Sequence[str], folder: Optional[str], out: int, err: int) -> NoReturn:
+    """Does what the program does, in this process, and ends it."""
+    status = 70
+    try:
+        os.dup2(os.open(os.devnull, os.O_RDONLY), 0)
+        os.dup2(out, 1)
+        os.dup2(err, 2)
+        sys.stdout, sys.stderr = sys.__stdout__, sys.__stderr__
+        os.environ.update(WITH_AGENT)
+        os.chdir(folder or ".")
+        status = main([*words])
+    except BaseException:
+        os.write(2, traceback.format_exc().encode())
+    finally:
+        os._exit(status)
 
 
 def neighbor(port: str, host: str, port_id: str, descr: str = "", kind: str = "ifname",
@@ -77,6 +109,15 @@ def neighbor(port: str, host: str, port_id: str, descr: str = "", kind: str = "i
     lines += [f"1.org.00120f.4={size:04x}"] if size else []
     lines += [f"1.org.{tlv}" for tlv in tlvs]
     return "".join(f"lldp.{port}.{line}\n" for line in lines)
+
+
+def hears_two(port: str, *heard: Tuple[str, str]) -> str:
+    """Returns what `show neighbors` prints for a port with several neighbors."""
+    text = f"lldp.{port}.neighbors={len(heard)}\nlldp.{port}.octets=99\nlldp.{port}.too-many=no\n"
+    for number, (host, its) in enumerate(heard, 1):
+        lines = neighbor(port, host, its).splitlines(keepends=True)[3:]
+        text += "".join(line.replace(f"{port}.1.", f"{port}.{number}.") for line in lines)
+    return text
 
 
 class InAFolder(unittest.TestCase):

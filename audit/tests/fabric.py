@@ -35,7 +35,6 @@ class Fabric:
         self.names: Dict[str, str] = {}
         self.beside: Dict[End, List[End]] = defaultdict(list)
         self.deaf, self.mute, self.hidden = set[End](), set[End](), set[End]()
-        self.frames: Dict[str, int] = {}
         self.lags = dict(lags())
         self.faults: List[Fault] = []
         self.servers = [f"srv{number:03}" for number in range(1, SERVERS + 1)]
@@ -118,6 +117,10 @@ class Fabric:
         ends = [self.free(leafs[0], side) for side in ("80", "81")]
         self.join(*ends)
         self.told("loop", ends, "loop")
+        end = next(end for end in iter(self.port, None) if end not in self.lags)
+        self.cut(end)
+        self.peer[end] = end
+        self.told("itself", [end], "loop")
         ends = [self.free(leaf, "7") for leaf in leafs]
         self.join(*ends)
         self.told("unplanned", ends, "unplanned")
@@ -144,9 +147,6 @@ class Fabric:
         self.told("extra", [extra], "extra")
         self.beside[self.peer[doubled]].append(doubled)
         self.told("doubled", [doubled], "doubled")
-        ends = self.server()
-        self.frames[ends[0][0]] = 1500
-        self.told("small frames", ends, "mismatch")
 
     def heard(self, end: End) -> List[End]:
         """Returns the neighbors that an end hears: the name and the port of each."""

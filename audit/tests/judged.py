@@ -1,4 +1,5 @@
-"""For tests: cables that were judged wrongly, each with what its audit prints."""
+"""For tests: cables that the audit once judged wrongly, each with what it must print."""
+import gzip
 import json
 import os
 import time
@@ -7,7 +8,7 @@ from typing import Any
 
 from auditing import HEAD, Row
 from shapes import cable_between
-from situations import CABLES, DC, SIDES, SW1, situation
+from situations import CABLES, DC, SIDES, SW1, TYPED, situation
 
 TWO = HEAD + "leaf1,swp7,host07,eth0\nleaf1,swp8,host08,eth0\n"
 ONE_LIST = {"leaf1": "swp7\nswp8 host08 eth0\nswp17 host07 eth0"}
@@ -74,9 +75,32 @@ BREAKOUTS = (
                   "Ethernet1/1/2   wrong: wants c 1, has b 2 (planned at Ethernet1/1:?1)",
                   "Ethernet1/1:?1  silent: wants b 2 (seen at Ethernet1/1/2)",
                   "3 cables: 1 right, 2 wrong"]),
-    situation("a lane that nobody saw has the name of no other lane", OF_1.replace("/1", ""),
-              {"b": "1 a Ethernet1:2\n2 x y"}, 1, [
-                  "2  wrong: wants a Ethernet1:?1, has x y", "2 cables: 1 right, 1 wrong"]),
+    situation("a lane that nobody saw has the name of no other lane",
+              OF_1.replace("Ethernet1/1", "et-0/0/1"), {"b": "1 a et-0/0/1:2\n2 x y"}, 1, [
+                  "2  wrong: wants a et-0/0/1:?1, has x y", "2 cables: 1 right, 1 wrong"]),
+    situation("EOS' lanes, the first of which has the name of the whole port",
+              CABLES + 'a,Ethernet49/1,b,"1,2,3,4",aoc,connected\n',
+              {"a": "".join(f"Ethernet49/{at} b {at}\n" for at in range(1, 5))}, 0,
+              ["4 cables: 4 right, 0 wrong"], "--all"),
+    *[situation(f"lanes of another speed of {whole}", CABLES + f'a,{whole},b,"1,2",aoc,connected\n',
+                {"a": f"{lane.format(0)} b 1\n{lane.format(1)} b 2"}, 0,
+                ["2 cables: 2 right, 0 wrong"], "--all")
+      for whole, lane in (("et-0/0/48", "xe-0/0/48:{}"),
+                          ("HundredGigE0/0/0/1", "TenGigE0/0/0/1/{}"),
+                          ("100GE1/0/1", "25GE1/0/1:1{}"),
+                          ("FortyGigE1/0/1", "Ten-GigabitEthernet1/0/1:1{}"))],
+    situation("lanes of SONiC, by their sums", CABLES + 'a,Ethernet4,b,"1,2",aoc,connected\n',
+              {"a": "Ethernet4 b 1\nEthernet6 b 2"}, 0, ["2 cables: 2 right, 0 wrong"], "--all"),
+    *[situation(f"it is unknown whether {port} is a lane of {whole}",
+                CABLES + f'a,{whole},b,"1,2",aoc,connected\n', {"a": f"{first} b 1\n{port} b 2"},
+                status, [f"plan: {links}", *lines])
+      for whole, first, port, status, links, lines in (
+          ("foo7", "foo7.1", "foo7.2", 0, "2 links of breakout cables cannot be judged, since it "
+           "is unknown how the lanes are named: a foo7 with b 1, a foo7 with b 2",
+           ["2 cables: 0 right, 0 wrong, 2 not judged"]),
+          ("swp1", "swp1s0", "swp1_1", 0, "1 link of breakout cables cannot be judged, since it is "
+           "unknown how the lanes are named: a swp1 with b 2",
+           ["2 cables: 1 right, 0 wrong, 1 not judged"]))],
     situation("two ends hear the same lane", OF_1,
               {"b": "1 a Ethernet1/1/2\n2 a Ethernet1/1/2"}, 1, [
                   "2  wrong: wants a Ethernet1/1:?1, has a Ethernet1/1/2 (planned at 1)",
@@ -144,6 +168,12 @@ PANELED = ALL_DATA + "".join(f"{at},,{one},{other},{host},{peer},r1,r2,Connected
                                  ("pp2", "F1", "srv1", "e0"), ("leaf1", "swp2", "pp1", "F2"),
                                  ("pp1", "R2", "pp2", "R2"), ("pp2", "F2", "srv2", "e0"),
                                  ("leaf1", "swp3", "srv3", "e0"), ("leaf1", "swp4", "nas", "e0"))))
+IF_PANELS = "plan: if pp1, pp2 are panels, give --panels with NetBox's export of front ports"
+BYPASSED = (
+    ("NetBox's table", ALL_DATA + "1,,swp1,p1,leaf1,fw1,r,r,Connected,CAT6\n"
+     "2,,swp1,p2,leaf2,fw1,r,r,Connected,CAT6\n3,,swp2,e0,leaf1,x,r,r,Connected,CAT6\n"),
+    ("CSV", HEAD + "leaf1,swp1,fw1,p1\nleaf2,swp1,fw1,p2\nleaf1,swp2,x,e0\n"),
+    ("DOT", "graph { leaf1:swp1 -- fw1:p1 leaf2:swp1 -- fw1:p2 leaf1:swp2 -- x:e0 }"))
 
 
 def page(ids: range, count: int, following: Any = None) -> Any:
@@ -180,16 +210,30 @@ ALL_MEANS_ALL = (
                [f"plan: it has 2 of 4 cables: {GET_ALL}"]),
     situation("all data with panels, and without --panels", PANELED, {
         "leaf1": "swp1 srv1 e0\nswp2 srv2 e0\nswp3 srv3 e0"}, 1, [
-            "plan: 4 cables end at what look like patch panels and cannot be judged: give --panels "
-            "with NetBox's export of front ports", "swp4  silent: wants nas e0",
-            "4 cables: 1 right, 1 wrong, 2 not judged"]),
+            IF_PANELS, "swp1  wrong: wants pp1 F1, has srv1 e0 (planned at pp2 F1)",
+            "swp2  wrong: wants pp1 F2, has srv2 e0 (planned at pp2 F2)",
+            "swp4  silent: wants nas e0",
+            "8 cables: 1 right, 3 wrong, 4 not looked at (pp2, pp1, srv1, 1 more)"]),
     situation("a wrong cable beside panels", PANELED, {
         "leaf1": "swp1 srv1 e0\nswp2 srv2 e0\nswp3 x y\nswp4 srv3 e0"}, 1, [
-            "plan: 4 cables end at what look like patch panels and cannot be judged: give --panels "
-            "with NetBox's export of front ports",
+            IF_PANELS, "swp1  wrong: wants pp1 F1, has srv1 e0 (planned at pp2 F1)",
+            "swp2  wrong: wants pp1 F2, has srv2 e0 (planned at pp2 F2)",
             "swp3  wrong: wants srv3 e0 (seen at swp4), has x y",
             "swp4  wrong: wants nas e0, has srv3 e0 (planned at swp3)",
-            "4 cables: 0 right, 2 wrong, 2 not judged"]),
+            "8 cables: 0 right, 4 wrong, 4 not looked at (pp2, pp1, srv1, 1 more)"]),
+    *[situation(f"a firewall that a cable bypasses, in {form}", plan, {
+        "leaf1": "swp1 leaf2 swp1\nswp2 x e0", "leaf2": "swp1 leaf1 swp1"}, 1, [
+            "plan: if fw1 is a panel, give --panels with NetBox's export of front ports",
+            "leaf1 swp1  wrong: wants fw1 p1, has leaf2 swp1 (planned at fw1 p2)",
+            "leaf2 swp1  wrong: wants fw1 p2, has leaf1 swp1 (planned at fw1 p1)",
+            "3 cables: 1 right, 2 wrong"]) for form, plan in BYPASSED],
+    situation("a device that types say is no panel", TYPED + "".join(
+        f"{host},dcim.interface,{port},fw1,dcim.interface,p{at}\n"
+        for at, (host, port) in enumerate((("leaf1", "swp1"), ("leaf2", "swp1")))), {
+            "leaf1": "swp1 leaf2 swp1", "leaf2": "swp1 leaf1 swp1"}, 1, [
+                "leaf1 swp1  wrong: wants fw1 p0, has leaf2 swp1 (planned at fw1 p1)",
+                "leaf2 swp1  wrong: wants fw1 p1, has leaf1 swp1 (planned at fw1 p0)",
+                "2 cables: 0 right, 2 wrong"]),
     situation("a wrong cable without panels", ALL_DATA + "1,,p1,e0,leaf1,nas1,r,r,Connected,CAT6\n"
               "2,,p2,e0,leaf1,nas2,r,r,Connected,CAT6\n3,,e0,e0,srv9,nas3,r,r,Connected,CAT6\n",
               {"leaf1": "p1 srv9 e0\np2 x y"}, 1, [
@@ -234,4 +278,79 @@ SPELLED = (
                   "Et1  a loop: joined to Ethernet2, of the same host",
                   "1 cable: 0 right, 1 wrong; 1 unplanned port"], "--vendor-names"),
 )
-ROWS = (*MOVES, *BREAKOUTS, *DOMAINS, *CHASSIS, *ALL_MEANS_ALL, *SPELLED)
+TAGGED = ALL_DATA + ("1,,swp1,e0,leaf1 (A0017),srv1 (A 1),r,r,Connected,CAT6\n"
+                     "2,,swp2,e0,leaf1 (A0017),Model (7),r,r,Connected,CAT6\n"
+                     "3,,swp3,e0,leaf1 (A0017),Model (8),r,r,Connected,CAT6\n")
+NOTED = "host,port,peer,peer_port,note\n"
+PLANS = (
+    situation("asset tags in NetBox's tables", TAGGED, {"leaf1": "swp1 srv1 e0\nswp2 x y"}, 1, [
+        'swp2  wrong: wants "Model (7)" e0, has x y', 'swp3  silent: wants "Model (8)" e0',
+        "3 cables: 1 right, 2 wrong"]),
+    *[situation(f"Excel's separator {mark!r}", f"sep={mark}\n" + ONE.replace(",", mark),
+                {"leaf1": "swp1 srv1 eth0"}, 0, ["1 cable: 1 right, 0 wrong"]) for mark in ";|,"],
+    situation("lines are counted behind it", "sep=;\n" + ONE.replace(",", ";") + "a;1;b\n",
+              {"leaf1": ""}, 2, ["plan: line 4: its peer_port is missing"]),
+    Row("a plan in gzip", {"plan": gzip.compress(ONE.encode()),
+                           "leaf1": '{"swp1": [{"hostname": "srv1", "port": "eth0"}]}'},
+        "plan leaf1", 0, ["1 cable: 1 right, 0 wrong"]),
+    Row("one that is cut short", {"plan": gzip.compress(ONE.encode())[:-9], "leaf1": "{}"},
+        "plan leaf1", 2, ["plan: its gzip data is damaged: Compressed file ended before the "
+                          "end-of-stream marker was reached"]),
+    situation("a row that is commented out", ONE + "#leaf1,swp2,srv2,eth0\n",
+              {"leaf1": "swp1 srv1 eth0"}, 0, [
+                  "plan: 1 cable is left out: 1 in a line that begins with #",
+                  "1 cable: 1 right, 0 wrong"]),
+    situation("two stray quotes", NOTED + 'leaf1,swp1,srv1,eth0,"moved\nleaf1,swp2,srv2,eth0,\n'
+              'leaf1,swp3,srv3,eth0,see above"\n', {"leaf1": "swp1 srv1 eth0"}, 2, [
+                  "plan: line 2: a quoted field in it ends in line 4, and takes rows with it"]),
+    situation("two stray quotes in two lines", NOTED + 'leaf1,swp1,srv1,eth0,"moved\n'
+              'leaf1,swp2,srv2,eth0,here"\n', {"leaf1": "swp1 srv1 eth0"}, 2, [
+                  "plan: line 2: a quoted field in it ends in line 3, and takes rows with it"]),
+    situation("a row that two stray quotes make is not read", HEAD + "leaf1,swp1,srv1,eth0\n"
+              'leaf1,swp1,"srv2,eth0\nleaf1,swp2,srv3,eth0\nleaf1,swp3",eth0\n',
+              {"leaf1": "swp1 srv1 eth0"}, 2, [
+                  "plan: line 3: a quoted field in it ends in line 5, and takes rows with it"]),
+    situation("a note of two lines", "note," + HEAD + '"moved, in\nMay",leaf1,swp1,srv1,eth0\n',
+              {"leaf1": "swp1 srv1 eth0"}, 0, ["1 cable: 1 right, 0 wrong"]),
+)
+OWN = HEAD + "".join(f"leaf1,Gi1/0/{at},srv{at},eth0\n" for at in (1, 2))
+OWN_LISTS = {"leaf1": "".join(f"GigabitEthernet1/0/{at} srv{at}.lab eth0\n" for at in (1, 2))}
+FIRST_AUDITS = (
+    situation("short names of ports in a first audit", OWN, OWN_LISTS, 1, [
+        "leaf1                 silent at all 2 links that were looked at (there is a port "
+        "GigabitEthernet1/0/1: only the spelling differs: see --vendor-names)",
+        *(f"GigabitEthernet1/0/{at}  unplanned: has srv{at}.lab eth0" for at in (1, 2)),
+        "2 cables: 0 right, 2 wrong; 2 unplanned ports"]),
+    situation("then those of hosts", OWN + "leaf1,Gi1/0/3,srv1,eth1\n", {
+        "leaf1": OWN_LISTS["leaf1"] + "GigabitEthernet1/0/3 srv1.lab eth1\n"}, 1, [
+            "Gi1/0/2  wrong: wants srv2 eth0, has srv2.lab eth0 (only the domain differs)",
+            "srv1     is heard as srv1.lab at all 2 links whose other end hears a neighbor (only "
+            "the domain differs: see --short-names)",
+            "3 cables: 0 right, 3 wrong"], "--vendor-names"),
+    situation("then all are right", OWN, OWN_LISTS, 0, ["2 cables: 2 right, 0 wrong"],
+              "--vendor-names --short-names"),
+)
+SPELLED_LISTS = (
+    *[situation(f"a complete list of {name}, which lacks a planned port", HEAD + (
+        f"{planned},swp1,srv1,e0\n{planned},swp2,srv2,e0\n"), {name: "swp1 srv1 e0"}, 1, [
+            "swp2  silent: wants srv2 e0", "2 cables: 1 right, 1 wrong"], words)
+      for planned, name, words in (("LEAF1", "leaf1", "--ignore-case"),
+                                   ("leaf1", "LEAF1", "--ignore-case"),
+                                   ("leaf1", "leaf1.lab", "--short-names"),
+                                   ("fe80::1", "FE80:0::1", "--vendor-names"))],
+    situation("a run of three ports, and the one before it", HEAD + "".join(
+        f"s,p{at},x{at},e0\n" for at in range(5)), {"s": "".join(
+            f"p{at} x{at - 1} e0\n" for at in range(1, 5))}, 1, [
+                "p1 to p4  shifted by one: each has the neighbor that the previous port wants",
+                "5 cables: 0 right, 5 wrong"]),
+    situation("a renamed host whose other links hear nobody", HEAD + "".join(
+        f"leaf{at},p1,srv1,e{at}\n" for at in range(1, 5)), {
+            "leaf1": "p1 web1 e1", "leaf2": "p1 web1 e2", "leaf3": "p1",
+            "leaf4": "p1 other e9"}, 1, [
+                "leaf3 p1  silent: wants srv1 e3",
+                "leaf4 p1  wrong: wants srv1 e4, has other e9",
+                "srv1      is heard as web1 at 2 of 3 links whose other end hears a neighbor",
+                "4 cables: 0 right, 4 wrong"]),
+)
+ROWS = (*PLANS, *SPELLED_LISTS, *FIRST_AUDITS, *MOVES, *BREAKOUTS, *DOMAINS, *CHASSIS,
+        *ALL_MEANS_ALL, *SPELLED)

@@ -17,12 +17,33 @@ HEARS_HOST01, HEARS_HOST02 = (rack.pcap([rack.lldp_frame(host, "eth0")])
 ALL_RIGHT = ["3 cables: 3 right, 0 wrong"]
 NOT_LOOKED_AT = "3 cables: 0 right, 0 wrong, 3 not looked at (host01, host02, host04, 1 more)"
 USE_JSON = "use `lldpcli -f json show neighbors details`"
+USE_A_LIST = ("use what `show lldp neighbors detail | json` or NAPALM's get_lldp_neighbors_detail "
+              "prints")
 IOS = "Local Intf: Gi1/0/1\nChassis id: 0200.5e00.5301\nPort id: eth0\nSystem Name: host01\n"
 TRACEBACK = "Traceback (most recent call last):\n  File \"x.py\"\nTimeoutError: timed\x1b[2J out\n"
 NO_ROUTE = {"comment": "no route to leaf2", "result": False, "out": {}}
 TWICE = """{"swp1": [{"hostname": "x", "port": "y"}],
 "swp2": [{"hostname": "host02", "port": "eth0"}],
 "swp1": [{"hostname": "host01", "port": "eth0"}]}"""
+# JSON of other commands, and what is found in it; once it was read as if nobody was heard
+OTHER_DATA: Sequence[Tuple[str, Any, str]] = (
+    ("interfaces of OpenConfig", {"openconfig-interfaces:interface": [{"name": "swp1"}]},
+     "JSON with the names openconfig-interfaces:interface"),
+    ("the same without a module", {"interface": [{"name": "swp1", "state": {"mtu": 1500}},
+                                                 {"name": "swp2"}], "x": 1},
+     "JSON with the names interface, x"),
+    ("below interfaces", {"interfaces": {"interface": [{"name": "swp1"}, {"name": "swp2"}]}},
+     "JSON with the names interfaces"),
+    ("CDP of IOS-XR", {"Cisco-IOS-XR-cdp-oper:cdp": {"nodes": {"node": [{"neighbors": {
+        "details": {"detail": [{"cdp-neighbor": [{"port-id": "x"}]}]}}}]}}},
+     "JSON with the names Cisco-IOS-XR-cdp-oper:cdp"),
+    ("the same without a module", {"nodes": {"node": [{"neighbors": {"details": {"detail": [
+        {"cdp-neighbor": [{"port-id": "x"}]}]}}}]}}, "JSON with the names nodes"),
+    ("lists that are empty", {"interfaces": [], "routes": [], "users": [], "vlans": []},
+     "JSON with the names interfaces, routes, users, 1 more"),
+    ("`ip -json link`", [{"ifname": "swp1"}, {"ifname": "swp2"}],
+     "JSON with a list of 2 values, the first of which is JSON with the names ifname"),
+    ("rows of interfaces", {"swp1": [{"mtu": 1500}]}, "JSON with the names swp1"))
 # refused lists of leaf1's neighbors, and the cause
 REFUSED: Sequence[Tuple[str, Any, str]] = (
     ("7: a command that failed", NO_ROUTE, "the command failed: no route to leaf2"),
@@ -41,8 +62,14 @@ REFUSED: Sequence[Tuple[str, Any, str]] = (
     ("14: EOS' short list", {"lldpNeighbors": [
         {"port": "swp1", "neighborDevice": "host01", "neighborPort": "eth0", "ttl": 120}]},
      "it is EOS' short list, without chassis IDs: use `show lldp neighbors detail | json`"),
-    ("16: IOS", IOS, "it looks like a switch's plain text: use its JSON, or --platform (see "
-                     "lldpa-audit(1))"),
+    ("16: IOS", IOS, "it looks like a switch's plain text: use `show lldp neighbors detail | "
+                     "json`, or --platform"),
+    ("YAML", "leaf1:\n  swp1:\n  - hostname: host01\n", f"it is YAML: {USE_A_LIST}"),
+    ("YAML with a begin", "---\nswp1: []\n", f"it is YAML: {USE_A_LIST}"),
+    *((f"CSV with {mark!r}", HEAD.replace(",", mark), "it is CSV, as a plan is: the plan is the "
+       f"first argument; for a list, {USE_A_LIST}") for mark in ",;\t"),
+    *((f"other data: {name}", tree, f"it is {found}, not a known list of neighbors: {USE_A_LIST}")
+      for name, tree, found in OTHER_DATA),
     ("16: keyvalue", "lldp.swp1.via=LLDP\n", f"it is in lldpcli's keyvalue format: {USE_JSON}"),
     ("16: XML", '<?xml version="1.0"?>\n<lldp/>', f"it is lldpcli's XML: {USE_JSON}"),
     ("16: a page", "<!DOCTYPE html><p>Log in", "it is a web page, such as a login page"),
@@ -63,7 +90,17 @@ FAILED: Sequence[Tuple[str, Any, str]] = (
     ("10: null", None, "in place of a list it has nothing"),
     ("10: an error", {"error": "x"},
      "it is an error message, not a list of neighbors"))
+NO_LIST = f"it is JSON with the names rpc-reply, not a known list of neighbors: {USE_A_LIST}"
+DATA = "<rpc-reply><data>{}</data></rpc-reply>"
+IN_DATA = DATA.format(vendors.junos_xml(RIGHT).partition("\n")[2].replace(
+    "</rpc-reply>\n", "").replace("junos:", ""))
 PARTS = (
+    Row("what NETCONF returns, which has an element named data", {"l": IN_DATA}, "leaf1:l", 0, [
+        "3 cables: 2 right, 0 wrong, 1 not looked at (host04, leaf2.lab)"]),
+    Row("one that has no neighbors", {"l": DATA.format("<x/>"), "leaf2.lab": LEAF2},
+        "leaf1:l leaf2.lab", 1, [
+            f"l: {NO_LIST}", f"leaf1  no data at 2 of 2 ports (l: {NO_LIST})",
+            "3 cables: 1 right, 0 wrong, 2 not looked at (host01, host02)"]),
     *(Row(point, {"l": tree}, "leaf1:l", 1, [
         f"l: {cause}", f"leaf1  no data at 2 of 2 ports (l: {cause})", NOT_LOOKED_AT])
       for point, tree, cause in REFUSED),
@@ -109,6 +146,20 @@ PARTS = (
         {"Path": "a", "values": {"a": vendors.openconfig(RIGHT)}}]}]}, "leaf1:l", 0, [
             "3 cables: 2 right, 0 wrong, 1 not looked at (host04, leaf2.lab)"])
       for source in ("leaf1:57400", "leaf1.lab", "192.0.2.1:57400", "[2001:db8::1]:57400", "sw1")),
+    *(Row(f"a file that is named {name}", {name: LEAF1}, name, 2, [
+        f"plan.csv has no cable of the host {name} that can be judged, but has the host leaf1: see "
+        "--host, --ignore-case, --short-names"]) for name in ("LEAF1", "leaf1.lab")),
+    Row("gnmic of the host with this name in another domain", {
+        "plan.csv": f"{HEAD}sw.a,swp1,host01,eth0\nsw.b,swp1,host02,eth0\n",
+        "l": [{"source": "sw.b:57400", "updates": [{"Path": "a", "values": {
+            "a": vendors.openconfig({"swp1": [("host01", "eth0")]})}}]}]}, "sw.a:l", 1, [
+                "l: it is of sw.b, not of sw.a",
+                "swp1  no data: wants host01 eth0 (l: it is of sw.b, not of sw.a)",
+                "2 cables: 0 right, 0 wrong, 2 not looked at (host01, host02, sw.b)"]),
+    Row("gnmic of two hosts in one file", {"l": [
+        {"source": f"{host}:57400", "updates": [{
+            "Path": "a", "values": {"a": vendors.openconfig(ports)}}]}
+        for host, ports in (("leaf1", RIGHT), ("leaf2.lab", OF_LEAF2))]}, "l", 0, ALL_RIGHT),
     Row("a walk that stopped", {"l": vendors.walk(RIGHT).rpartition("iso.")[0]}, "leaf1:l", 1, [
         STOPPED, f"swp2  no data: wants host02 eth0 ({STOPPED})",
         "3 cables: 1 right, 0 wrong, 2 not looked at (host02, host04, leaf2.lab)"]),

@@ -1,7 +1,9 @@
-"""For tests: random networks in which cables, lanes, panels, bundles and names are exchanged.
+"""For tests: random networks in which cables, lanes, panels, bonds and names are exchanged.
 
 Each box is planned by one name and announces one; the two may differ in case, domain or spelling.
-`peer` maps each plugged end to the end that its cable leads to.
+So may the names in a host's own list. `peer` maps each plugged end to the end that its cable leads
+to. Nobody hears a firewall between two switches; a cable may bypass it. The plan may be NetBox's
+table, which has no types of ports.
 """
 import json
 import random
@@ -14,7 +16,7 @@ EMPTY = "lldp.{0}.neighbors=0\nlldp.{0}.octets=0\nlldp.{0}.too-many=no\n"
 FIELDS = ("remote_system_name", "remote_port", "remote_chassis_id")
 STRANGER = End("stranger", "p1")
 OPTIONS = ("--ignore-case", "--short-names", "--vendor-names", "--aliases aliases",
-           "--planned-only", "--all", "--settings", "--known known", "--by cable")
+           "--planned-only", "--all", "--known known")
 
 
 class Box(NamedTuple):
@@ -35,17 +37,28 @@ class Network:
         self.bonds: Dict[End, Tuple[str, int]] = {}
         self.paneled: Set[End] = set()
         self.ports = {switch: self.ports_of_switch() for switch in self.switches}
+        self.is_netbox = dice.random() < 0.4
         for server in self.servers:
             self.add_server(server)
+        self.firewalls = [f"fw{number}" for number in range(dice.choice((0, 0, 1, 2)))]
+        for firewall in self.firewalls:
+            for at in range(2):
+                switch = dice.choice(self.switches)
+                self.links.append((End(switch, next(self.ports[switch])), End(firewall, f"p{at}")))
+        self.mute = {*self.firewalls, *(one for one in self.servers if dice.random() < 0.1)}
         self.wants = {one: other for link in self.links for one, other in (link, link[::-1])}
         self.peer = dict(self.wants)
         self.boxes = {host: Box(*(dice.random() < 0.15 for _ in range(3)))
-                      for host in (*self.switches, *self.servers)}
+                      for host in (*self.switches, *self.servers, *self.firewalls)}
+        self.odd = {host: (dice.random() < 0.3, dice.random() < 0.3) for host in self.boxes}
+        for firewall in self.firewalls:
+            if dice.random() < 0.5:
+                self.bypass(firewall)
         self.announced = {host: host for host in self.boxes}
         for _ in range(dice.choice((0, 0, 1, 1, 2, 3))):
             dice.choice((self.exchange, self.exchange, self.exchange_in_a_host, self.move,
                          self.unplug, self.exchange_names))()
-        self.covered = {end for host in self.boxes if dice.random() < 0.6
+        self.covered = {end for host in self.boxes if dice.random() < 0.6 and host[:2] != "fw"
                         for end in {*self.wants, *self.peer} if end.host == host
                         and dice.random() < 0.95}
 
@@ -70,7 +83,7 @@ class Network:
                 bond = at % number_of_bonds
                 self.bonds[link[1]] = f"bond{bond}", bond + 1
                 self.bonds[link[0]] = "", 10 * int(server[3:]) + bond + 1
-            if dice.random() < 0.3:
+            if dice.random() < 0.3 and not self.is_netbox:
                 self.paneled.add(link[0])
 
     def exchange_ends(self, one: End, other: End) -> None:
@@ -85,6 +98,25 @@ class Network:
         one, other = self.dice.choice(ends), self.dice.choice(ends)
         if other not in (one, self.peer.get(one)):
             self.exchange_ends(one, other)
+
+    def bypass(self, firewall: str) -> None:
+        """Joins the ends at both sides of a firewall by a cable."""
+        one, other = [self.peer.pop(End(firewall, f"p{at}")) for at in range(2)]
+        self.peer[one], self.peer[other] = other, one
+
+    def hears(self, end: End) -> Optional[End]:
+        """Returns the end that an end hears, or None."""
+        far = self.peer.get(end)
+        return far if far is not None and far.host not in self.mute else None
+
+    def listed(self, host: str) -> str:
+        """Returns the name of a host by which its list is given."""
+        return host.upper() if self.odd[host][0] and "--ignore-case" in self.options else host
+
+    def listed_port(self, end: End) -> str:
+        """Returns the name of a port in the list of its host."""
+        is_odd = self.odd[end.host][1] and "--vendor-names" in self.options
+        return end.port.replace("Ethernet", "Eth") if is_odd else end.port
 
     def exchange_in_a_host(self) -> None:
         """Exchanges two cables of one host: two lanes, or two members of bonds."""
@@ -143,7 +175,7 @@ class Network:
         """Returns the state of a link: right if each covered end hears only the end that it wants.
         Returns None if bonds without aliases hide which of a host's ports an end hears."""
         ends = [end for end in link if end in self.covered]
-        hear = [self.peer.get(end) for end in ends]
+        hear = [self.hears(end) for end in ends]
         is_hidden = "--vendor-names" in self.options and "--aliases aliases" not in self.options
         if is_hidden and any(end.host == host and end in self.bonds and end != self.peer.get(far)
                              for host in {one.host for one in link}
@@ -164,19 +196,22 @@ class Network:
         aliases = "".join(f"{end.host},{end.port},{bond}\n"
                           for end, (bond, _) in self.bonds.items() if bond)
         known = "host,port,reason,until\n" + (f"{self.servers[0]},,off,\n")
-        return {"plan": "".join(self.rows()), "panels": "".join(self.panels()), "known": known,
+        rows = self.rows_of_netbox() if self.is_netbox else self.rows()
+        return {"plan": "".join(rows), "panels": "".join(self.panels()), "known": known,
                 "aliases": f"host,port,alias\n{aliases}", **lists}
 
     def list_of(self, ends: Sequence[End]) -> str:
         """Returns a host's list: NAPALM's, with a chassis ID in any spelling, or our own one. Only
         our own one can omit ports, and says whether a link is aggregated."""
-        heard = {end: self.peer[end] for end in ends if end in self.peer}
+        heard = {end: far for end in ends for far in [self.hears(end)] if far is not None}
         is_whole = {*ends} >= {end for end in self.wants if end.host == ends[0].host}
         if is_whole and not any(self.bonds.get(far, ("", 0))[1] for far in heard.values()):
-            return json.dumps({end.port: [dict(zip(FIELDS, (*self.said(far), self.chassis(far))))]
+            return json.dumps({self.listed_port(end): [dict(zip(FIELDS, (
+                *self.said(far), self.chassis(far))))]
                                for end, far in heard.items()})
-        return "".join(EMPTY.format(end.port) if end not in heard else neighbor(
-            end.port, *self.said(heard[end]), aggregate=self.bonds.get(heard[end], ("", 0))[1])
+        return "".join(EMPTY.format(self.listed_port(end)) if end not in heard else neighbor(
+            self.listed_port(end), *self.said(heard[end]),
+            aggregate=self.bonds.get(heard[end], ("", 0))[1])
             for end in ends)
 
     def chassis(self, end: End) -> str:
@@ -194,6 +229,13 @@ class Network:
                 rows = [(*one, "pp1", f"F{number}"), ("pp1", f"R{number}", "pp2", f"R{number}"),
                         ("pp2", f"F{number}", *other)]
             yield from (f"{','.join(row)},C{number % 3}\n" for row in rows)
+
+    def rows_of_netbox(self) -> Iterator[str]:
+        yield "ID,Label,Termination A,Termination B,Device A,Device B,Status,Type\n"
+        tags = {host: f" (A{at})" if at % 3 == 0 else "" for at, host in enumerate(self.boxes)}
+        for number, (one, other) in enumerate(self.links):
+            yield (f"{number},C{number % 3},{one.port},{other.port},{one.host}{tags[one.host]},"
+                   f"{other.host}{tags[other.host]},Connected,CAT6\n")
 
     def panels(self) -> Iterator[str]:
         yield "panel,front,rear\npp9,F,R\n"

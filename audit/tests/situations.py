@@ -107,6 +107,13 @@ PANELS = (
                   "NetBox's export of front ports", "2 cables: 1 right, 0 wrong, 1 not judged"],
               "--all"),
 )
+BETWEEN_PANELS = situation(
+    "a cable between panels is none of those that end at one", TYPED
+    + "leaf1,dcim.interface,swp1,pp1,dcim.frontport,F1\npp1,dcim.rearport,R1,pp2,dcim.rearport,R1\n"
+    + "leaf1,dcim.interface,swp2,srv2,dcim.interface,e0\n", {"leaf1": "swp1 x y\nswp2 srv2 e0"},
+    0, [
+        "plan: 1 cable ends at patch panels and cannot be judged: give --panels with NetBox's "
+        "export of front ports", "2 cables: 1 right, 0 wrong, 1 not judged"])
 CX = HEAD + "leaf1,swp5,cx1,1/1/5\nleaf1,swp6,cx1,1/1/6\n"
 NUMBERS = CX.replace("1/1/", "")
 OF_LLDPCLI = json.dumps({"lldp": {"interface": [{f"swp{at}": {"via": "LLDP", "chassis": {"cx1": {
@@ -143,31 +150,6 @@ NAMES = [
          ["1  wrong: wants sw1.dc1 p1, has sw1.dc9 p1 (only the domain differs)",
           "1 cable: 0 right, 1 wrong"]))]
 PAIR = HEAD + "leaf1,swp1,host01,eth0\n"
-SHOWS = {"leaf1": neighbor("swp1", "host01", "eth0", size=0x5dc, tlvs=["0080c2.1=0014"]),
-         "host01": neighbor("eth0", "leaf1", "swp1", size=9216)}
-UNLIKE = "leaf1 swp1  mismatch: leaf1 swp1 says MTU 9216, host01 eth0 says 1500"
-ONE_UNLIKE = "1 cable: 1 right, 0 wrong; 1 with a mismatch"
-SERVERS = range(1, 21)
-SETTINGS = (
-    situation("settings of nobody", HEAD + "a,1,b,1\n", {"a": "1 b 1"}, 0, [
-        "--settings compared nothing: no link judged right has a setting from both ends, or from "
-        "one end and the plan", "1 cable: 1 right, 0 wrong"], "--settings"),
-    situation("settings that nobody asks for", PAIR, SHOWS, 0, ["1 cable: 1 right, 0 wrong"]),
-    situation("settings of both ends", PAIR, SHOWS, 1, [UNLIKE, ONE_UNLIKE], "--settings"),
-    situation("settings of the plan", "host,port,peer,peer_port,mtu,pvid\n"
-              "leaf1,swp1,host01,eth0,9216,10\n", SHOWS, 1, [
-                  f"{UNLIKE}; host01 eth0 says MTU 1500, the plan has 9216; host01 eth0 says PVID "
-                  "20, the plan has 10", ONE_UNLIKE], "--settings"),
-    situation("nineteen of twenty servers differ from their switch",
-              HEAD + "".join(f"leaf1,swp{at},srv{at},eth0\n" for at in SERVERS),
-              {"leaf1": "".join(neighbor(f"swp{at}", f"srv{at}", "eth0",
-                                         size=1500 if at == 7 else 9194) for at in SERVERS),
-               **{f"srv{at}": neighbor("eth0", "leaf1", f"swp{at}", size=9216) for at in SERVERS}},
-              1, ["leaf1       mismatch at 19 links: differs in MTU by +22; for example, leaf1 "
-                  "swp1 says MTU 9216, srv1 eth0 says 9194",
-                  "leaf1 swp7  mismatch: leaf1 swp7 says MTU 9216, srv7 eth0 says 1500",
-                  "20 cables: 20 right, 0 wrong; 20 with a mismatch"], "--settings"),
-)
 RUNNERS = (
     situation("planned ports alone", PAIR, {"leaf1": "swp1 host01 eth0\nswp2 x y"}, 0,
               ["1 cable: 1 right, 0 wrong"], "--planned-only"),
@@ -178,30 +160,29 @@ RUNNERS = (
             "2 cables: 1 right, 1 wrong; 1 unplanned port"]),
 )
 SIDES = "a,1,b,1,cat6,connected\n"
-FOUR = f'a,1,b,"1, 2,3 , 4",aoc,connected\n'
+FOUR = 'a,swp1,b,"1, 2,3 , 4",aoc,connected\n'
 NETBOX = (
     situation("a breakout whose lanes are known", CABLES + FOUR, {"a": "".join(
-        f"1s{lane} b {at}\n" for lane, at in enumerate((2, 1, 4, 3)))}, 0,
+        f"swp1s{lane} b {at}\n" for lane, at in enumerate((2, 1, 4, 3)))}, 0,
         ["4 cables: 4 right, 0 wrong"]),
     situation("a breakout of which two lanes are heard", CABLES + FOUR,
-              {"a": "1s1 b 3\n1s0 b 4"}, 1, [
-        "1:?1  silent: wants b 1", "1:?2  silent: wants b 2", "4 cables: 2 right, 2 wrong"]),
+              {"a": "swp1s1 b 3\nswp1s0 b 4"}, 1, [
+        "swp1:?1  silent: wants b 1", "swp1:?2  silent: wants b 2",
+        "4 cables: 2 right, 2 wrong"]),
     situation("a breakout with a stranger, and one that comes twice", CABLES + FOUR, {
-        "a": "1s0 b 2\n1s1 x 1\n1s2 b 2\n1s3 b 4"}, 1, [
-            "1s1  wrong: wants b 1, has x 1", "1s2  wrong: wants b 3, has b 2 (planned at 1s0)",
+        "a": "swp1s0 b 2\nswp1s1 x 1\nswp1s2 b 2\nswp1s3 b 4"}, 1, [
+            "swp1s1  wrong: wants b 1, has x 1",
+            "swp1s2  wrong: wants b 3, has b 2 (planned at swp1s0)",
             "4 cables: 2 right, 2 wrong"]),
-    situation("lanes in another spelling, to which no cable was moved", CABLES + FOUR.replace(
-        "a,1,", "a,Ethernet1/1,").replace('"1, 2,3 , 4"', '"1,2"'),
-        {"a": "Eth1/1/1 b 2\nEth1/1/2 b 1"}, 1, [
-            "Eth1/1/1  unplanned: has b 2 (planned at Ethernet1/1:?2)",
-            "Eth1/1/2  unplanned: has b 1 (planned at Ethernet1/1:?1)",
-            "a         silent at all 2 links that were looked at",
-            "2 cables: 0 right, 2 wrong; 2 unplanned ports"]),
+    situation("lanes in another spelling", CABLES + FOUR.replace(
+        "a,swp1,", "a,Ethernet1/1,").replace('"1, 2,3 , 4"', '"1,2"'),
+        {"a": "Eth1/1/1 b 2\nEth1/1/2 b 1"}, 0, ["2 cables: 2 right, 0 wrong"]),
     situation("a breakout that is seen from the lanes' side", CABLES + FOUR, {
-        "b": "1 a 1/1\n2 a 1/2\n3 a 1/4\n4 x y"}, 1, [
-            "4  wrong: wants a 1:?1, has x y", "4 cables: 3 right, 1 wrong"]),
+        "b": "1 a swp1s0\n2 a swp1s1\n3 a swp1s3\n4 x y"}, 1, [
+            "4  wrong: wants a swp1:?1, has x y", "4 cables: 3 right, 1 wrong"]),
     situation("a breakout that is listed as one port", CABLES + FOUR, {
-        "a": "1 b 4\n1 b 3\n1 b 2\n1 b 1", "b": "1 a 1\n2 a 1\n3 a 1\n4 a 1"}, 0,
+        "a": "swp1 b 4\nswp1 b 3\nswp1 b 2\nswp1 b 1",
+        "b": "1 a swp1\n2 a swp1\n3 a swp1\n4 a swp1"}, 0,
         ["4 cables: 4 right, 0 wrong"]),
     situation("cables that cannot be judged", CABLES + SIDES + (
         "a,2,,,cat6,connected\n,,b,2,cat6,connected\na,PSU1,pdu1,Outlet 3,,connected\n"
@@ -240,10 +221,6 @@ TWO_PORTS = HEAD + "leaf1,swp1,host01,eth0\nleaf1,swp2,host01,eth1\n"
 TO_SWP2 = "swp1  wrong: wants host01 eth0, has host01 eth1 (planned at swp2)"
 BOND = HEAD + "".join(f"leaf1,swp{at},host01,eth{at - 1}\n" for at in range(1, 5))
 ALIASES = {"aliases": "host,port,alias\nhost01,eth0,bond0\nhost01,eth1,bond0\n"}
-MEMBERS = {"leaf1": "".join(neighbor(f"swp{at}", "host01", f"bond{bond}", aggregate=bond)
-                            for at, bond in ((1, 8), (2, 8), (3, 9), (4, 8))),
-           "host01": "".join(neighbor(f"eth{at}", "leaf1", f"swp{at + 1}", aggregate=lag)
-                             for at, lag in enumerate((5, 5, 6, 6)))}
 LANES = HEAD + "".join(f"leaf1,swp1s{at},leaf2,swp1s{at}\n" for at in range(4))
 RUN = HEAD + "".join(f"s,p{at},x{at},e0\n" for at in range(6))
 MORE = (
@@ -274,14 +251,6 @@ MORE = (
             "swp4  no data: wants host01 eth3",
             "4 cables: 1 right, 1 wrong, 2 not looked at (host01)"],
         "--vendor-names --aliases aliases", ALIASES),
-    situation("the numbers of both ends of bonds", BOND, MEMBERS, 1, [
-        "leaf1 swp3  wrong: wants host01 eth2, has host01 bond9",
-        "leaf1 swp4  wrong: wants host01 eth3, has host01 bond8",
-        "4 cables: 2 right, 2 wrong"], "--vendor-names"),
-    *[situation(f"{name} is not a number", f"{HEAD[:-1]},{name}\na,1,b,1,{text}\n",
-                {"a": "1 b 1"}, 2, [
-                    f"plan: a 1: {name} '{text}' is not a valid number"], "--settings")
-      for name, text in (("speed", "25G"), ("mtu", "9k"), ("pvid", "70000"))],
     situation("a full table that is empty", HEAD + "a,1,b,1\n", {"a": EMPTY.format(1, "yes")}, 1, [
         "1  wrong: wants b 1, has a neighbor that did not fit in the table",
         "1 cable: 0 right, 1 wrong"]),
@@ -306,5 +275,5 @@ MORE = (
             "p5        wrong: wants x5 e0, has x4 e0 (planned at p4)",
             "6 cables: 0 right, 6 wrong"]),
 )
-ROWS = (*MORE, *BY_LINK, *KNOWN_FAULTS, *PANELS, *PORT_IDS, *NAMES, *SETTINGS, *RUNNERS, *NETBOX,
-        *HOSTS)
+ROWS = (BETWEEN_PANELS, *MORE, *BY_LINK, *KNOWN_FAULTS, *PANELS, *PORT_IDS, *NAMES, *RUNNERS,
+        *NETBOX, *HOSTS)

@@ -47,18 +47,6 @@ def suzieq(ports: vendors.Ports, host: str = "leaf1", namespace: str = "dc1") ->
         "peerIfname": at, "description": "Cumulus Linux", "mgmtIP": "10.0.0.1", "timestamp": 1})
 
 
-def unifi(ports: vendors.Ports) -> Any:
-    """Writes the neighbors of a UniFi device. It announces no System Names."""
-    return each(ports, lambda port, host, at: {
-        "chassis_id": host, "is_wired": True, "local_port_idx": int(port[3:]), "port_id": at})
-
-
-def mikrotik(ports: vendors.Ports, protocols: str = "cdp,lldp,mndp") -> Any:
-    return each(ports, lambda port, host, at: {
-        ".id": "*1", "address4": "10.0.0.1", "discovered-by": protocols, "identity": host,
-        "interface": port, "interface-name": at, "mac-address": "02:00:00:00:00:01"})
-
-
 def updates(values: Sequence[Tuple[str, Any]], source: str = "leaf1:57400") -> Any:
     """Writes an answer of `gnmic get`."""
     return [{"source": source, "timestamp": 1, "time": "2026-11-27T00:00:00Z", "updates": [
@@ -83,9 +71,6 @@ READ: Mapping[str, Any] = {
     "IOS-XE, RESTCONF of the list (the same)": {f"{XE}:lldp-entry": xe(PORTS)},
     "IOS-XR, RESTCONF (YANG model Cisco-IOS-XR-ethernet-lldp-oper)": {
         f"{MODEL_OF_XR}:lldp": xr(PORTS)},
-    "MikroTik, /rest/ip/neighbor (help.mikrotik.com, Neighbor discovery)": mikrotik(PORTS),
-    "MikroTik, a neighbor that MNDP alone hears": [
-        *mikrotik(PORTS), *mikrotik({"swp1": [("far", "ether1")]}, "mndp")],
     "Ansible's command, JSON in stdout (docs.ansible.com, ansible.builtin.command)": {
         "changed": True, "rc": 0, "stdout": json.dumps(vendors.EOS), "stdout_lines": ["{"]},
     "Ansible's ios_command, a list of texts (docs.ansible.com, cisco.ios.ios_command)": {
@@ -98,6 +83,10 @@ OF_SOME_PORTS: Mapping[str, Any] = {
     "gnmic, an answer for each interface": [
         one for pair in by_interface(PORTS) for one in updates([pair])],
     "gnmic, the neighbors of each interface": updates(by_interface(PORTS, "/neighbors")),
+    "gnmic, a prefix for each interface": [
+        {"source": "leaf1:57400", "prefix": path.rpartition("/")[0], "updates": [
+            {"Path": "neighbors", "values": {"neighbors": value}}]}
+        for path, value in by_interface(PORTS, "/neighbors")],
     "gnmic, SR Linux by interface": updates([
         (f"system/lldp/interface[name={one['name']}]", one) for one in srlinux(PORTS)]),
 }
@@ -109,9 +98,6 @@ MANY: Mapping[str, Any] = {
     "rows of ntc-templates with a column for the host": [
         {"host": host, **row} for host, ports in (("leaf1", PORTS), ("leaf2", OTHER))
         for row in vendors.textfsm(ports)],
-    "UniFi, stat/device (pkg.go.dev/github.com/unpoller/unifi, USW)": {"meta": {}, "data": [
-        {"name": "leaf1", "mac": "x", "lldp_table": unifi(PORTS)}, {"name": "access point"},
-        {"name": "leaf2", "mac": "y", "lldp_table": unifi(OTHER)}]},
     "gnmic of two targets": [
         *updates([("lldp", {"interfaces": vendors.OPENCONFIG})], "leaf1:57400"),
         *updates([("lldp", {"interfaces": vendors.openconfig(OTHER)})], "[leaf2]:57400")],
@@ -134,12 +120,14 @@ REFUSED: Sequence[Tuple[Any, str]] = (
      "the port 'swp1' is in it twice: as entries 1 and 4"),
     ([{"source": "x", "updates": [{"Path": "a"}]}],
      f"it is an answer of gnmic whose update has no value: {GNMIC}"),
+    ([{"source": "x", "updates": [{"Path": "a", "values": {"a": vendors.OPENCONFIG, "b": {}}}]}],
+     f"it is an answer of gnmic whose update has no value: {GNMIC}"),
     ({f"{MODEL_OF_XR}:lldp": {"nodes": {"node": [{"neighbors": {"devices": {}}}]}}},
      "it is IOS-XR's neighbors without `details`: ask for nodes/node/neighbors/details"),
-    (mikrotik(PORTS, ""), "has a neighbor without a protocol: use RouterOS 7.7 or later"),
     ([*suzieq(PORTS), *suzieq(OTHER, "leaf1", "dc2")],
      "'leaf1' is in two namespaces, 'dc1' and 'dc2': give only one"),
     ([{**vendors.ROWS[0], "host": "leaf1"}, vendors.ROWS[1]], "only some of its rows have a host"),
     ({"rc": 0, "stdout": "Local Intf: x"}, "it looks like a switch's plain text"),
-    ({"rc": 0, "stdout": ["{}", "{}"]}, "it is JSON, but not a known list of neighbors"),
+    ({"rc": 0, "stdout": ["{}", "{}"]}, "it is JSON with the names rc, stdout, not a known "
+     "list of neighbors: use what"),
 )

@@ -7,7 +7,6 @@ from typing import List, Sequence
 
 from lldpa_audit.comparing import audit
 from lldpa_audit.judging import Finding, Verdict
-from lldpa_audit.link_settings import Settings
 from lldpa_audit.names import NAMELESS, End, Names, Seen
 from lldpa_audit.plan import Link, Plan, PlanFault
 from lldpa_audit.seen.tables import Tables
@@ -15,7 +14,7 @@ from lldpa_audit.seen.tables import Tables
 from slow_judge import SlowJudge
 
 # how many random plans are judged; set LLDPA_RANDOM_PLANS=10000 for a longer run
-RANDOM_PLANS = int(os.environ.get("LLDPA_RANDOM_PLANS", "3000"))
+RANDOM_PLANS = int(os.environ.get("LLDPA_RANDOM_PLANS", "1000"))
 
 HOSTS = ["a", "A", "b", "a.x", "a.y", "b.x", "B.X", "10.0.0.1", "10.0.0.2", "10"]
 PORTS = ["1", "2", "p", "P", "Et1", "Ethernet1", "bond0"]
@@ -82,7 +81,7 @@ class Case:
 
     def findings(self) -> Sequence[Finding]:
         plan = Plan("plan", [Link(one, other, None) for one, other in self.pairs], self.names)
-        tables = Tables(self.names)
+        tables = Tables(plan.names)
         for host in self.audited:
             tables.add_ports(host, {end.port: some for end, some in self.known.items()
                                     if end.host == host})
@@ -118,12 +117,12 @@ class RandomPlans(unittest.TestCase):
         self.assertEqual([one.end for one in found], planned)
         for end, finding in zip(planned, found):
             self.assertEqual([finding.verdict.value], verdicts[end], end)
-            self.assertEqual(finding.wants, judge.wants[end])
+            self.assertEqual(finding.expected, judge.wants[end])
             self.assertEqual(len(finding.has), len(judge.neighbors(end) or []))
             if finding.verdict is Verdict.SWAPPED:
                 self.assertEqual(finding.partner, judge.partners(end)[0])
             self.assertEqual(finding.moved_to, judge.moved_to(end) or (
-                judge.moved_to(finding.wants) if finding.verdict is Verdict.MOVED else None))
+                judge.moved_to(finding.expected) if finding.verdict is Verdict.MOVED else None))
         beside = [one.end for one in findings if one.verdict is Verdict.UNPLANNED]
         moved = {one.moved_to for one in findings}
         self.assertEqual(sorted(beside), sorted(set(judge.unplanned()) - moved))
@@ -132,17 +131,16 @@ class RandomPlans(unittest.TestCase):
 class Aggregates(unittest.TestCase):
     """Checks that judging twice as many links of aggregates takes at most 2.2 times the steps."""
 
-    def steps(self, links: int, peer: str, numbers: int) -> int:
+    def steps(self, links: int, peer: str) -> int:
         """Returns how many trace events an audit takes if host a hears `peer` at each port."""
-        names, count = Names(vendor_names=True), 0
+        count = 0
         plan = Plan("p", [Link(End(one, f"eth{at}"), End(other, f"eth{at}"), None)
-                          for one, other in (("a", "b"), ("c", "d")) for at in range(links)], names)
-        tables = Tables(names)
+                          for one, other in (("a", "b"), ("c", "d")) for at in range(links)],
+                    Names(vendor_names=True))
+        tables = Tables(plan.names)
         for host, other in (("a", peer), ("b", "a"), ("c", "x"), ("d", "x")):
             tables.add_ports(host, {
-                f"eth{at}": [Seen((other,), ("bond0",), aggregated=True,
-                                  settings=Settings(aggregation=at % numbers))]
-                for at in range(links)})
+                f"eth{at}": [Seen((other,), ("bond0",), aggregated=True)] for at in range(links)})
 
         def step(*_: object) -> object:
             nonlocal count
@@ -155,7 +153,18 @@ class Aggregates(unittest.TestCase):
             sys.settrace(None)
         return count
 
+    def test_a_partner_besides_the_wanted_end(self) -> None:
+        """Checks which end a port is swapped with that hears an aggregate of its own host, as does
+        the end that it wants."""
+        plan = Plan("p", [Link(End("a", f"eth{at}"), End("b", f"eth{at}"), None)
+                          for at in range(3)], Names(vendor_names=True))
+        tables = Tables(plan.names)
+        for host, ports in (("a", 1), ("b", 3)):
+            tables.add_ports(host, {f"eth{at}": [Seen((host,), ("bond0",), aggregated=True)]
+                                    for at in range(ports)})
+        partners = [one.partner for one in audit(plan, tables) if one.end == End("a", "eth0")]
+        self.assertEqual(partners, [End("b", "eth1")])
+
     def test_cost(self) -> None:
-        for peer, numbers in (("b", 1), ("b", 1000), ("d", 1), ("d", 1000)):
-            few, many = self.steps(100, peer, numbers), self.steps(200, peer, numbers)
-            self.assertLess(many, 2.2 * few, (peer, numbers))
+        for peer in ("b", "d"):
+            self.assertLess(self.steps(200, peer), 2.2 * self.steps(100, peer), peer)

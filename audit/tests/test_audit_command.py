@@ -50,8 +50,7 @@ class Forms(Audits):
             for port in rack.PORTS:
                 for octets in rack.frames(port):
                     served.frame(port, octets)
-            asked = [sys.executable, f"{REPOSITORY}/bin/lldpa-details", "--control", served.path,
-                     "--json", "neighbors"]
+            asked = [f"{REPOSITORY}/bin/lldpa-ctl", "--control", served.path, "--json", "neighbors"]
             told = subprocess.run(asked, capture_output=True, text=True, check=True).stdout
             ours = f"leaf1:{self.file('ours.json', told)}"
             for words in (captures, [whole], [show], [f"leaf1:{show}"], [ours],
@@ -106,7 +105,6 @@ class Words(Audits):
                 ("--live=", "the name of a file is missing"),
                 ("--liv", "unrecognized arguments: --liv"),
                 (capture[5:], "it does not name the port of its frames: write PORT="),
-                (f"--by row {capture}", "has no column row"),
                 (f"--host LEAF1.lab {capture}",
                  "no cable of the host LEAF1.lab that can be judged, but has the host leaf1: see")):
             status, out, err = self.audit(*words.split())
@@ -140,17 +138,16 @@ class Words(Audits):
         self.assertEqual({*told.split()} & {"ssl", "http", "email", "urllib.request"}, set())
 
     def test_ports_with_a_colon(self) -> None:
-        names = Names()
         plan = Plan("plan", [Link(End("leaf1", "swp1:0"), End("02:00:00:00:00:01", "p"), None)],
-                    names)
+                    Names())
         for port, host, its_port in (
                 ("swp1:0", "us", "swp1:0"), ("et-0/0/0:1", "us", "et-0/0/0:1"),
                 ("leaf1:swp1:0", "leaf1", "swp1:0"), ("leaf1:x", "leaf1", "x"),
                 ("02:00:00:00:00:01:p", "02:00:00:00:00:01", "p"), ("x:y", "x", "y"),
                 ("leaf1:3", "leaf1", "3"), ("swp1", "us", "swp1"), ("a:", "us", "a:")):
-            self.assertEqual(placed(What("us", port, "f"), plan, names, "us"),
+            self.assertEqual(placed(What("us", port, "f"), plan, "us"),
                              What(host, its_port, "f"), port)
-        self.assertEqual(placed(What("leaf1", "swp1:0", "f"), plan, names, "us").port, "swp1:0")
+        self.assertEqual(placed(What("leaf1", "swp1:0", "f"), plan, "us").port, "swp1:0")
 
 
 class Captures(Audits):

@@ -35,7 +35,7 @@ class Output(InAFolder):
         self.assertEqual((page.read_text(), Path(other).read_text()), ("ours", "theirs"))
         self.assertEqual(page.lstat().st_mode & 0o777, 0o644)
 
-    @unittest.skipUnless(os.geteuid() == 0, "it makes a link of another user")
+    @unittest.skipUnless(os.geteuid() == 0, "root: it makes a link of another user")
     def test_a_link_of_another_user_to_a_device(self) -> None:
         page = self.folder / "page.html"
         page.symlink_to(os.devnull)

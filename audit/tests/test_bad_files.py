@@ -26,24 +26,6 @@ PCAP = rack.pcap([])
 SECONDS = 40
 TEN = 10  # seconds for any one file
 PATIENCE = 600  # seconds until an audit hangs
-# runs the program at sys.argv[1], but little memory is warranted, and a plan is read only after any
-# process that reads lists has ended
-SLOW_PLAN = """
-import multiprocessing, sys, time
-sys.path[:0] = [sys.argv[1].replace("bin/lldpa-audit", part) for part in ("audit", "python")]
-from lldpa_audit import command, limits
-read_plan, limits.LEAST = command.read_plan, 8
-def slowly(*words):
-    while multiprocessing.active_children():
-        time.sleep(0.1)
-    end = time.process_time() + 10 * limits.BETWEEN
-    while time.process_time() < end:  # until its memory is looked at
-        pass
-    return read_plan(*words)
-command.read_plan = slowly
-sys.argv.pop(0)
-sys.exit(command.main())
-"""
 
 
 def captures() -> Iterator[Tuple[bytes, int, int]]:
@@ -236,19 +218,6 @@ class Shapes(InAFolder):
             ran = subprocess.run([sys.executable, "-I", program], capture_output=True, text=True,
                                  check=False)
             self.assertEqual((ran.returncode, ran.stderr), (2, f"lldpa-audit: {why}\n"))
-
-    def test_memory_that_lists_take(self) -> None:
-        """Checks that a plan, whose size warrants 8 MB, is not refused for what lists take."""
-        rows = "".join(f"s{at},p0,h,{at}\n" for at in range(120))
-        plan = self.file("plan", HEAD + rows)
-        for at in range(120):
-            ports = "".join(f"p{port} h {at if port == 0 else (at, port)}\n".replace(", ", ".")
-                            for port in range(500))
-            self.file(f"seen/s{at}", shapes.napalm(ports))
-        ran = subprocess.run([sys.executable, "-c", SLOW_PLAN, AUDIT, plan, f"{self.folder}/seen",
-                              "--planned-only"], capture_output=True, text=True, check=False)
-        self.assertEqual((ran.returncode, ran.stderr), (0, ""))
-        self.assertIn("120 cables: 120 right, 0 wrong", ran.stdout)
 
 
 class Texts(Hostile):

@@ -7,13 +7,10 @@ import unittest
 from pathlib import Path
 from typing import Any, Sequence, Tuple
 
-try:
-    import jsonschema
-except ImportError:  # Debian: python3-jsonschema
-    jsonschema = None
-
+import schema_rules
 from auditing import run
 from networks import CABLES, VENDORS, Planless
+from schemas import LACKS_IT, jsonschema
 from situations import napalm
 
 SCHEMA = json.loads(
@@ -91,6 +88,13 @@ class Hostile(Planless):
         self.check(run(plan, self.hostile, "--json").stdout)
 
 
+def without_chassis(text: str) -> str:
+    """Writes rows of ntc-templates without chassis IDs. Each line has a port, and its neighbor's
+    name, Port ID and Port Description."""
+    columns = ("local_interface", "neighbor_name", "neighbor_port_id", "neighbor_description")
+    return json.dumps([dict(zip(columns, line.split(" "))) for line in text.splitlines()])
+
+
 class Since(Planless):
     def since(self, before: Any, now: Any, *words: str) -> Tuple[int, Sequence[str], str]:
         """Returns the status, the lines and the errors of a comparison of two networks."""
@@ -99,7 +103,7 @@ class Since(Planless):
             for old in Path(folder).glob("*"):
                 old.unlink()
             for host, text in lists.items():
-                self.file(f"{folder}/{host}", napalm(text))
+                self.file(f"{folder}/{host}", text if text.startswith("[") else napalm(text))
         ran = run("--since", *folders, *words)
         return ran.returncode, ran.stdout.splitlines(), ran.stderr
 
@@ -117,8 +121,40 @@ class Since(Planless):
                 ({"a": a}, {"a": a.replace("y e0", "y e1")},
                  ["moved: a 2 is at y e1, was at y e0"], "2 links, 2 before: 1 moved"),
                 ({"a": a}, {"a": a.replace("1 x", "1 Y").replace("2 y", "2 x").replace("Y", "y")},
+                 ["moved: a 1 is at y e0, was at x e0", "moved: a 2 is at x e0, was at y e0"],
+                 "2 links, 2 before: 2 moved"),
+                ({"a": a}, {"a": a.replace("1 x", "3 x").replace("2 y", "1 y").replace("3", "2")},
                  ["moved: x e0 is at a 2, was at a 1", "moved: y e0 is at a 1, was at a 2"],
                  "2 links, 2 before: 2 moved"),
+                # each Port Description names the other port
+                ({"a": "1 b p1 c p2\n2 b p2 c p1"}, {"a": "1 b p2 c p1\n2 b p1 c p2"},
+                 ["moved: b p1 is at a 2, was at a 1", "moved: b p2 is at a 1, was at a 2"],
+                 "2 links, 2 before: 2 moved"),
+                # the same, without chassis IDs
+                ({"a": without_chassis("1 b p1 p2\n2 b p2 p1")},
+                 {"a": without_chassis("1 b p2 p1\n2 b p1 p2")},
+                 ["moved: b p1 is at a 2, was at a 1", "moved: b p2 is at a 1, was at a 2"],
+                 "2 links, 2 before: 2 moved"),
+                # the same, and the other host has a list that lacks both ports
+                ({"a": "1 b p1 c p2\n2 b p2 c p1", "b": "9 z e0"},
+                 {"a": "1 b p2 c p1\n2 b p1 c p2", "b": "9 z e0"},
+                 ["moved: b p1 is at a 2, was at a 1", "moved: b p2 is at a 1, was at a 2"],
+                 "3 links, 3 before: 2 moved"),
+                ({"a": "1 b p1 c p2", "b": "9 z e0"}, {"a": "1 b p1 d p2", "b": "9 z e0"},
+                 ["replaced: b p1 at a 1 announces d p1, announced c p1"],
+                 "2 links, 2 before: 1 replaced"),
+                # two devices of one name, and then a third one
+                ({"a": "1 x e0 c1 -\n2 x e0 c2 -"}, {"a": "1 x e0 c2 -\n2 x e0 c1 -"},
+                 ["moved: x e0 is at a 1, was at a 2", "moved: x e0 is at a 2, was at a 1"],
+                 "2 links, 2 before: 2 moved"),
+                ({"a": "1 x e0 c1 -\n2 x e0 c2 -"}, {"a": "1 x e0 c3 -\n2 x e0 c2 -"},
+                 ["replaced: x e0 at a 1 announces c3 e0, announced c1 e0"],
+                 "2 links, 2 before: 1 replaced"),
+                ({"a": "1 x 11 c up"}, {"a": "1 x 12 c up"},
+                 ["replaced: x up at a 1 announces c 12, announced c 11"],
+                 "1 link, 1 before: 1 replaced"),
+                # a list without chassis IDs says nothing of them
+                ({"a": "1 x e0 c1"}, {"a": "1 x e0"}, [], "1 link, 1 before: no change"),
                 ({"a": a}, {"a": a.replace("y", "z")}, ["renamed: y is now z, at 1 link"],
                  "2 links, 2 before: 1 renamed"),
                 # another device with another name
@@ -133,7 +169,7 @@ class Since(Planless):
                  "1 link, 2 before: 1 moved, 1 went"),
                 # one end sees a link that both saw before, and a port has another name there
                 ({"a": "3 b 02:00:00:00:00:09 c 1", "b": b}, {"a": "3 b 02:00:00:00:00:09 c 1"}, [],
-                 "1 link, 1 before: no change"),
+                 "1 link, 1 before: no change; 0 not compared (b)"),
                 ({"a": "3 b 1", "b": b}, {"a": "", "b": ""}, ["went: a 3 with b 1"],
                  "0 links, 1 before: 1 went"),
                 # a host with data at one of the two times only
@@ -145,6 +181,19 @@ class Since(Planless):
                 status, lines, said = self.since(before, now)
                 self.assertEqual((status, [re.sub("; sources .*", "", line) for line in lines],
                                   said), (1 if changes else 0, [*changes, count], ""))
+
+    def test_all(self) -> None:
+        """Checks that with --all, links that cannot be compared are faults."""
+        seen_by_both = {"a": "1 b 2", "b": "2 a 1"}
+        for before, now, status in (({"a": "1 x e0"}, {"a": "1 x e0"}, 0),
+                                    (seen_by_both, seen_by_both, 0),
+                                    (seen_by_both, {"a": "1 b 2"}, 1),
+                                    ({"a": "1 b 2"}, seen_by_both, 1),
+                                    ({"a": "1 x e0", "b": ""}, {"a": "1 x e0"}, 1),
+                                    ({"a": "1 x e0", "b": "1 y e0"}, {"a": "1 x e0"}, 1),
+                                    ({"a": "1 x e0"}, {"a": "1 x e0", "b": "1 y e0"}, 1)):
+            self.assertEqual(self.since(before, now, "--all")[0], status)
+            self.assertEqual(self.since(before, now)[0], 0)
 
     def test_three_vendors(self) -> None:
         """Checks one exchanged cable, in lists of three vendors at both times."""
@@ -158,7 +207,7 @@ class Since(Planless):
             "moved: srv1 eth0 is at spine1 Ethernet1/2, was at leaf1 Ethernet10",
             "moved: srv2 eno1 is at leaf1 Ethernet10, was at spine1 Ethernet1/2"]))
 
-    @unittest.skipIf(jsonschema is None, "jsonschema is not installed")
+    @unittest.skipIf(jsonschema is None, LACKS_IT)
     def test_json(self) -> None:
         end = {name: {"host": name, "port": port} for name, port in (("y", "e0"), ("z", "e0"))}
         status, lines, _ = self.since({"a": "1 x e0 c\n2 y e0 d", "b": "1 q 1"},
@@ -174,6 +223,12 @@ class Since(Planless):
             ("came", [], [[{"host": "a", "port": "4"}, end["z"]]], None, None),
             ("moved", [[end["y"], {"host": "a", "port": "2"}]],
              [[end["y"], {"host": "a", "port": "3"}]], None, None)])
+        left = schema_rules.rules_in(SCHEMA)
+        for rule, tree in schema_rules.broken(told, SCHEMA, SCHEMA):
+            left.discard(rule)
+            with self.assertRaises(jsonschema.ValidationError):
+                jsonschema.validate(tree, SCHEMA)
+        self.assertEqual(left, set())
         for name in SCHEMA["required"]:
             with self.assertRaises(jsonschema.ValidationError):
                 jsonschema.validate({key: value for key, value in told.items() if key != name},

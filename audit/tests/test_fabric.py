@@ -27,22 +27,20 @@ class Faults(InAFolder):
         kinds = {fault.kind for fault in fabric.faults}
         self.assertEqual((len(fabric.links), len(fabric.faults), len(kinds), len(fabric.lags)),
                          (2000, 100, 20, 640))
-        self.words = ["--panels", self.file("panels.csv", panels()), "--settings", "--vendor-names"]
+        self.words = ["--panels", self.file("panels.csv", panels()), "--vendor-names"]
         self.lags = {(fabric.names.get(end[0], end[0]), fabric.said(end)): number
                      for end, (_, number) in fabric.lags.items()}
         self.write_lists()
 
     def write_lists(self) -> None:
-        """Writes the list of each host, in all forms in turn. The form has frame sizes and LAGs if
+        """Writes the list of each host, in all forms in turn. The form has LAGs if
         these matter to the host. It is `show neighbors` if a port of the host is hidden."""
         self.assertGreater(len(FORMS), 6)
         fabric = self.fabric
         of_shows = {host for host, _ in fabric.hidden}
         for number, (host, ports) in enumerate(fabric.hosts().items()):
-            peers = {fabric.planned[end][0] for end in fabric.planned if end[0] == host}
             names_lag = any(port.startswith("bond") for some in ports.values() for _, port in some)
-            is_full = names_lag or not fabric.frames.keys().isdisjoint({host, *peers})
-            forms = sorted(cabling.FORMS if is_full else FORMS)
+            forms = sorted(cabling.FORMS if names_lag else FORMS)
             form = "show" if host in of_shows else forms[number % len(forms)]
             heard = ports if form == "show" else {one: some for one, some in ports.items() if some}
             words = [self.tlvs] if form in cabling.FORMS else []
@@ -50,10 +48,8 @@ class Faults(InAFolder):
 
     def tlvs(self, neighbor: End) -> Sequence[Tuple[str, str]]:
         """Returns TLVs with a neighbor's frame size and, if it has one, its LAG's number."""
-        size = self.fabric.frames.get(neighbor[0], 9216)
         lag = self.lags.get(neighbor)
-        told = [] if lag is None else [("00120f.3", f"03{lag:08x}")]
-        return [("00120f.4", f"{size:04x}"), *told]
+        return [("00120f.4", "2400"), *([] if lag is None else [("00120f.3", f"03{lag:08x}")])]
 
     def test_faults(self) -> None:
         words = [self.file("plan.csv", csv_plan(self.fabric.links)), *self.words,

@@ -17,7 +17,7 @@ CASES: Tuple[Tuple[str, str, str, str], ...] = (
     (HEAD + f"{X},1,{X},1\n", LIST, "", ""), (HEAD + f"leaf1,{X},srv1,eth0\n" * 2, LIST, "", ""),
     (HEAD + f"leaf1,{X},a,1\nb,2,leaf1,{X}\n", LIST, "", ""), (f"host,{X}\n", LIST, "", ""),
     (HEAD + f"{X * 40},1,b,1\n", LIST, "", ""), (PLAN, LIST, f"--columns host={X}", ""),
-    (PLAN, LIST, f"--by {X}", ""), (PLAN, LIST, f"--{X}", ""), (PLAN, LIST, X, ""),
+    (PLAN, LIST, f"--{X}", ""), (PLAN, LIST, X, ""),
     (PLAN, LIST, f"--stale-after {X}", ""), (PLAN, LIST, f"{X}:leaf1", ""),
     (PLAN, LIST.replace("srv1", X), "", ""), (PLAN, LIST.replace("swp1", X), "", ""),
     (PLAN, "{" + f'"{X}": 1,' * 2, "", ""), (PLAN, f"Traceback (most {X}\n{X}", "", ""),
@@ -34,7 +34,6 @@ CASES: Tuple[Tuple[str, str, str, str], ...] = (
         PLAN, HEAD + f"leaf1,swp1,{X},{X}\n{X},R,srv1,eth0\n") for rows in (
             f"panel,front,rear\n{X},{X},{X}\n", f"panel,front,rear\n{X},F,{X}\n",
             f"panel,front,rear\n{X},F,R\n{X},F,S\n")],
-    (f"mtu,{HEAD}{X},leaf1,swp1,srv1,eth0\n", LIST, "--settings", ""),
 )
 
 

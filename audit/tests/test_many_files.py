@@ -3,17 +3,16 @@ import json
 import multiprocessing
 import os
 import signal
-import struct
 import subprocess
 import sys
-from multiprocessing.connection import Connection
 from pathlib import Path
-from typing import Any, List, Optional
+from typing import Any, List, Optional, Sequence
 from unittest import mock
 
 import shapes
 import vendors
 from auditing import InAFolder
+from lldpa_audit.names import Seen
 from lldpa_audit.seen import files
 from lldpa_audit.seen.listing import Listing
 from lldpa_audit.what import What
@@ -38,6 +37,21 @@ print(*[child.pid for child in multiprocessing.active_children()], flush=True)
 os.kill(os.getpid(), signal.SIGKILL)
 """
 
+def without_memory(what: What, platforms: Sequence[str]) -> None:
+    raise MemoryError
+
+
+def killed(what: What, platforms: Sequence[str]) -> None:
+    os.kill(os.getpid(), signal.SIGKILL)
+
+
+def throw(octets: bytes, platform: str = "") -> Listing:
+    raise KeyError("x")
+
+
+def of_platform(octets: bytes, platform: str = "") -> Listing:
+    return Listing({}, True, source=platform)
+
 
 def comparable(listing: Optional[Listing]) -> Any:
     """Returns a listing with the neighbors of each port as a list."""
@@ -59,7 +73,8 @@ def has_ended(process: int) -> bool:
 class ManyFiles(InAFolder):
     def setUp(self) -> None:
         super().setUp()
-        at_three = mock.patch.object(files.os, "sched_getaffinity", return_value={0, 1, 2})
+        of_this_process = {0: {0, 1, 2}}.__getitem__
+        at_three = mock.patch.object(files.os, "sched_getaffinity", of_this_process)
         at_three.start()
         self.addCleanup(at_three.stop)
         texts = [vendors.FORMS["eos"](vendors.PORTS), shapes.napalm("p1 h e1\np1 h e2\np2 g e\n"),
@@ -76,6 +91,15 @@ class ManyFiles(InAFolder):
         self.assertEqual(self.read(), expected)
         self.assertEqual([one is None for one in expected].count(True), FILES // 7)
         self.assertTrue(all(expected[place].ports or expected[place].hosts for place in range(4)))
+        kinds = {type(neighbor) for one in files.read_files(self.whats) if one is not None
+                 for some in one.ports.values() for neighbor in some}
+        self.assertEqual(kinds, {Seen})
+
+    def test_platforms(self) -> None:
+        """Checks that each process knows the platforms that were given."""
+        with mock.patch.object(files, "read_list", of_platform):
+            found = [one.source for one in files.read_files(self.whats, ["cisco_ios"]) if one]
+        self.assertEqual(found, ["cisco_ios"] * (FILES - FILES // 7))
 
     def test_file_that_is_missing(self) -> None:
         self.whats[150] = What("h", "", f"{self.folder}/missing")
@@ -83,20 +107,31 @@ class ManyFiles(InAFolder):
             self.read()
         self.assertEqual(raised.exception.filename, f"{self.folder}/missing")
 
+    def test_file_that_vanishes_from_a_folder(self) -> None:
+        found = files.read_file(What("h", "", f"{self.folder}/gone", True))
+        self.assertEqual(found.faults if found else [],
+                         [f"{self.folder}/gone: No such file or directory"])
+
+    def test_what_a_list_may_need(self) -> None:
+        """Checks the seconds and the MB that the manual page promises to lists of these sizes."""
+        self.assertEqual(files.warranted(1 << 20), (5.0, 74))
+        self.assertEqual(files.warranted(3 << 20), (7.0, 94))
+
     def test_process_without_memory(self) -> None:
         """Checks that the audit learns of it, also if the kernel killed the process."""
-        def killed(what: What, platform: str) -> None:
-            os.kill(os.getpid(), signal.SIGKILL)
-        for effect in (MemoryError, killed):
-            with mock.patch.object(files, "read_file", side_effect=effect):
+        for effect in (without_memory, killed):
+            with mock.patch.object(files, "read_file", effect):
                 self.assertRaises(MemoryError, self.read)
             self.assertEqual(multiprocessing.active_children(), [])
 
-    def test_answer_that_is_cut_short(self) -> None:
-        def cut(_: Any, __: Any, sender: Connection, ___: Any) -> None:
-            os.write(sender.fileno(), struct.pack("!i", 100) + b"x")  # one octet of 100
-        with mock.patch.object(files, "send_parts", cut):
-            self.assertRaises(MemoryError, self.read)
+    def test_files_that_throw(self) -> None:
+        """Checks that whatever a file makes the reader throw is the fault of this file alone."""
+        with mock.patch.object(files, "read_list", throw):
+            for whats in (self.whats, self.whats[:files.MANY - 1]):
+                found = [one.faults if one else None for one in files.read_files(whats)]
+                why = 'it cannot be read: "KeyError: \'x\'"'
+                self.assertEqual(found, [None if at % 7 == 6 else [f"{what.file}: {why}"]
+                                         for at, what in enumerate(whats)])
 
     def test_audit_that_ends(self) -> None:
         """Checks that no process is left, even if the audit is killed while they have more to

@@ -9,6 +9,7 @@ import subprocess
 import sys
 import unittest
 from collections import Counter
+from typing import List, Tuple
 from xml.etree import ElementTree
 
 import rack
@@ -80,11 +81,22 @@ class Content(InAFolder):
         self.assertEqual(ran.stdout.splitlines()[:-1], [f"leaf1 swp7  {text}"])
         self.assertEqual(len(re.findall('<tr id="r', page.read_text())), 1)
         self.assertIn(text, Elements(page.read_text()).texts)
+        picture = next(one for one in re.findall("<svg.*?</svg>", page.read_text(), re.S)
+                       if ">swp7<" in one)
+        lines = re.findall(r'<line class="(has|expected)"', picture)
+        self.assertEqual((lines[:2], ">swp17<" in picture), (["expected", "has"], True))
         found = json.loads(run(plan, *lists, "--json").stdout)
         self.assertEqual([one["text"] for one in found["repairs"]], [text])
         self.assertEqual([(one["port"], one["moved_to"]["port"], one["repair"])
                           for one in found["ends"] if one["verdict"] != "right"],
                          [("eth0", "swp17", 1), ("swp7", "swp17", 1)])
+
+    def test_many_neighbors(self) -> None:
+        """Checks that a picture shows three neighbors, and says how many more there are."""
+        page = "".join(page_of(report_of("a 1 - b 1", "a 1 = c 1, c 2, c 3, c 4, c 5")))
+        texts = Elements(page[page.index("<svg"):page.index("</svg>")] + "</svg>").texts
+        self.assertEqual([text for text in texts if text in ("c 3", "c 4", "2 more")],
+                         ["c 3", "2 more"])
 
     def test_names_that_would_be_markup(self) -> None:
         page = "".join(page_of(report_of("<b>a 1& - \"' <", "<b>a 1& = <i>\udcff\x1b </svg>")))
@@ -121,7 +133,7 @@ class Content(InAFolder):
         self.assertTrue(all(letters * 6.6 <= width for _, width, letters in boxes), boxes)
 
 
-@unittest.skipUnless(BROWSER, "no chromium is installed")
+@unittest.skipUnless(BROWSER, "chromium: it is not installed")
 class InABrowser(InAFolder):
     """Checks that the page and its pictures are not wider than a wide or a narrow window."""
 
@@ -151,16 +163,43 @@ class Terminal(InAFolder):
         ours, theirs = pty.openpty()
         self.addCleanup(os.close, ours)
         self.addCleanup(os.close, theirs)
-        program = ("import time; from lldpa_audit.progress import Progress; p = Progress('x');\n"
-                   "for n in p.over(range(24), 24, 'files'): time.sleep(0.1)\n"
+        # each file takes 0.1 seconds of this clock
+        program = ("from lldpa_audit import progress; clock = [0.0]\n"
+                   "progress.time.monotonic = lambda: clock[0]\n"
+                   "p = progress.Progress('x')\n"
+                   "for n in p.over(range(24), 24, 'files'): clock[0] += 0.1\n"
                    "p.clear()")
         subprocess.run([sys.executable, "-c", program], stderr=theirs, timeout=60, check=True,
                        env={**os.environ, "PYTHONPATH": PATH})
-        text = os.read(ours, 10_000)
-        self.assertRegex(text, rb"^\r\x1b\[Kx: 2[0-9] of 24 files")
-        self.assertTrue(text.endswith(b"\r\x1b[K"), text)
+        self.assertEqual(os.read(ours, 10_000), b"\r\x1b[Kx: 21 of 24 files"
+                         b"\r\x1b[Kx: 23 of 24 files\r\x1b[K")
 
     def test_no_terminal(self) -> None:
         self.assertNotIn("\x1b", run(self.plan, "--host", "leaf1", "none").stderr)
         progress = Progress("x", is_on=False)
         self.assertEqual(list(progress.over("abc", 3, "letters")), ["a", "b", "c"])
+
+    def screen(self, *words: str) -> Tuple[List[str], str]:
+        """Runs the program at a terminal that shows progress at once. Returns the lines that the
+        terminal shows at the end, and what was written to it."""
+        ours, its = pty.openpty()
+        program = ("import sys; from lldpa_audit import progress; progress.PATIENCE = 0.0\n"
+                   "progress.BETWEEN = 0.0; from lldpa_audit.command import main; main(sys.argv[1:])")
+        with open(ours, "rb", buffering=0) as terminal, open(its, "wb", buffering=0) as output:
+            subprocess.run([sys.executable, "-c", program, *words], stdout=output, stderr=output,
+                           env={**os.environ, "PYTHONPATH": PATH}, check=False)
+            written = terminal.read(1 << 16).decode()
+        return [re.sub(".*\r\x1b\\[K", "", line) for line in written.split("\r\n")], written
+
+    def test_progress_leaves_nothing(self) -> None:
+        """Checks that the line of the progress is removed before any other line is written."""
+        leaf1, other = (self.file(name, shapes.napalm("swp1 host01 eth0\n"))
+                        for name in ("leaf1.json", "other.json"))
+        plan = self.file("plan", f"{HEAD}leaf1,swp1,host01,eth0\n")
+        for words, shows, count in (
+                ((plan, leaf1, other), ("1 of 2 lines of the plan", "2 of 2 files", "comparing"), 4),
+                (("--since", leaf1, leaf1), ("1 of 1 files",), 2)):
+            lines, written = self.screen(*words)
+            self.assertEqual([text for text in shows if f"lldpa-audit: {text}" not in written], [])
+            self.assertEqual([line for line in lines if any(text in line for text in shows)], [])
+            self.assertEqual(len(lines), count, lines)

@@ -8,62 +8,76 @@ from pathlib import Path
 from typing import Any
 from xml.etree import ElementTree
 
-try:
-    import jsonschema
-except ImportError:  # Debian: python3-jsonschema
-    jsonschema = None
-
+import schema_rules
 import situations
-from auditing import AUDIT, InAFolder, neighbor, run
+from auditing import AUDIT, InAFolder, hears_two, neighbor, run
+from schemas import LACKS_IT, jsonschema
 
 SCHEMA = json.loads((Path(__file__).parents[1] / "lldpa-audit.schema.json").read_text())
 PLAN = """\
-host,port,peer,peer_port,label,rack,mtu
+host,port,peer,peer_port,label,rack,
 leaf1,swp1,host01,eth0,C1,r2,
 leaf1,swp2,host02,eth0,C2,r1,
 leaf1,swp3,host03,eth0,C3,r1,
-leaf1,swp4,host04,eth0,C4,r10,1500
+leaf1,swp4,host04,eth0,C4,r10,
 """
 
 
 class Outputs(InAFolder):
-    """One audit of four ports: one right, one wrong, one silent, one with a mismatch."""
+    """One audit of four ports: one right, one wrong, one silent, and one extra."""
 
     def setUp(self) -> None:
         super().setUp()
         self.plan = self.file("plan.csv", PLAN)
         ports = [neighbor("swp1", "host01", "eth0"), neighbor("swp2", "x", "y"),
                  "lldp.swp3.neighbors=0\nlldp.swp3.octets=0\nlldp.swp3.too-many=no\n",
-                 neighbor("swp4", "host04", "eth0", size=9000)]
+                 hears_two("swp4", ("host04", "eth0"), ("x", "z"))]
         show = self.file("show", "".join(ports))
-        self.words = [self.plan, f"leaf1:{show}", "--settings"]
+        self.words = [self.plan, f"leaf1:{show}", "--planned-only"]
 
     def test_lines(self) -> None:
-        count = "4 cables: 2 right, 2 wrong; 1 with a mismatch"
+        count = "4 cables: 1 right, 3 wrong"
         lines = ["swp2  wrong: wants host02 eth0, has x y [label C2, rack r1]",
                  "swp3  silent: wants host03 eth0 [label C3, rack r1]",
-                 "swp4  mismatch: host04 eth0 says MTU 9000, the plan has 1500 [label C4, rack "
-                 "r10, mtu 1500]"]
+                 "swp4  extra: x z besides host04 eth0 [label C4, rack r10]"]
         self.assertEqual(run(*self.words).stdout.splitlines(), [*lines, count])
-        lines = [f"  {line}" for line in lines]
-        self.assertEqual(run(*self.words, "--by", "rack").stdout.splitlines(),
-                         ["rack r1: 2", *lines[:2], "rack r10: 1", lines[2], count])
 
-    @unittest.skipIf(jsonschema is None, "there is no jsonschema")
+    @unittest.skipIf(jsonschema is None, LACKS_IT)
     def test_json_is_as_its_schema_says(self) -> None:
         told = json.loads(run(*self.words, "--json").stdout)
         jsonschema.validate(told, SCHEMA)
         self.assertEqual([(one["number"], one["kind"], one["details"].get("rack"), one["links"])
                           for one in told["repairs"]],
-                         [(1, "wrong", "r1", 1), (2, "silent", "r1", 1), (3, "mismatch", "r10", 1)])
+                         [(1, "wrong", "r1", 1), (2, "silent", "r1", 1), (3, "extra", "r10", 1)])
         self.assertEqual([(one["verdict"], one["repair"], one["line"]) for one in told["ends"]],
                          [("right", None, 2), ("wrong", 1, 3), ("silent", 2, 4),
-                          ("mismatch", 3, 5)])
+                          ("extra", 3, 5)])
         self.assertEqual(told["ends"][1]["has"][0]["port_id"], "y")
+        self.assertEqual(list(told["sources"]), ["newest", "oldest"])
+        self.assertLess(told["sources"]["newest"], 600)
         for name in ("repairs", "form"):
             with self.assertRaises(jsonschema.ValidationError):
                 jsonschema.validate({key: value for key, value in told.items() if key != name},
                                     SCHEMA)
+
+    @unittest.skipIf(jsonschema is None, LACKS_IT)
+    def test_each_rule_of_the_schema(self) -> None:
+        """Checks that a document that breaks a rule is refused, so no rule can be left out."""
+        panels = self.file("panels", "panel,front,rear\npp1,F1,R1\n")
+        plan = self.file("paneled", PLAN + "pp1,R1,host09,eth0,C9,,\nleaf1,swp9,pp1,F1,C8,,\n"
+                         "leaf2,swp1,host11,eth0,,,\n")
+        page = self.folder / "page.html"
+        words = [plan, *self.words[1:], "--panels", panels, "--json", "--html", str(page)]
+        told = json.loads(run(*words).stdout)
+        self.assertIn("through pp1 F1, pp1 R1</small>", page.read_text())
+        jsonschema.validate(told, SCHEMA)
+        left = schema_rules.rules_in(SCHEMA)
+        for rule, tree in schema_rules.broken(told, SCHEMA, SCHEMA):
+            if rule in left:
+                left.remove(rule)
+                with self.assertRaises(jsonschema.ValidationError):
+                    jsonschema.validate(tree, SCHEMA)
+        self.assertEqual(left, set())
 
     def test_junit_and_metrics(self) -> None:
         junit, metrics = self.folder / "junit.xml", self.folder / "audit.prom"
@@ -75,8 +89,8 @@ class Outputs(InAFolder):
                                                           for at in (2, 3, 4)]])
         self.assertEqual((status, root.get("tests"), root.get("failures")), (1, "4", "3"))
         for line in ('lldpa_audit_ends{verdict="right"} 1',
-                     'lldpa_audit_ends{verdict="mismatch"} 1',
-                     'lldpa_audit_cables{state="right"} 2', 'lldpa_audit_cables{state="wrong"} 2',
+                     'lldpa_audit_ends{verdict="extra"} 1',
+                     'lldpa_audit_cables{state="right"} 1', 'lldpa_audit_cables{state="wrong"} 3',
                      'lldpa_audit_repairs{kind="silent"} 1', 'lldpa_audit_repairs{kind="loop"} 0'):
             self.assertIn(line + "\n", text)
         self.assertIn("lldpa_audit_run_timestamp_seconds ", text)
@@ -92,12 +106,13 @@ class Outputs(InAFolder):
         known = self.file("known.csv", rows + "leaf1,swp4,old,2020-01-01\n")
         ran = run(*self.words, "--known", known)
         self.assertEqual(ran.stdout.splitlines()[-1],
-                         "4 cables: 2 right, 0 wrong, 2 known; 1 with a mismatch")
+                         "4 cables: 1 right, 1 wrong, 2 known")
         self.assertIn("line 4: leaf1 swp4 was excused until 2020-01-01, and is judged", ran.stderr)
         told: Any = json.loads(run(*self.words, "--known", known, "--json").stdout)
         self.assertEqual([(one["verdict"], one["text"]) for one in told["ends"]][1:3],
                          [("known", 'known: "new card"'), ("known", 'known: "sends no LLDP"')])
-        self.assertEqual(run(*self.words[:2], "--known", known).returncode, 0)
+        self.file("known.csv", rows + "leaf1,swp4,a phone,,extra\n")
+        self.assertEqual(run(*self.words, "--known", known).returncode, 0)
         for bad in ("a,b\n", "host,port,reason,until\nleaf1,swp2,,\n",
                     "host,port,reason,until\nleaf1,swp2,x,soon\n"):
             self.assertEqual(run(*self.words, "--known", self.file("bad", bad)).returncode, 2)

@@ -117,7 +117,7 @@ class Plans(InAFolder):
 
     def links(self, plan: Plan) -> List[str]:
         """Returns a plan's links, each once, as `a 1 - b 2`."""
-        return [f"{wish.end} - {wish.wants}" for wish in list(plan.ends.values())[::2]]
+        return [f"{one.end} - {one.expected}" for one in list(plan.ends.values())[::2]]
 
     def notes(self, plan: Plan) -> List[str]:
         """Returns a plan's notes, without the name of the folder."""
@@ -178,7 +178,7 @@ class NetBox(Plans):
             "port of a device, 1 with the status planned or decommissioning",
             "plan: 1 cable ends at patch panels and cannot be judged: give --panels with NetBox's "
             "export of front ports"])
-        self.assertEqual(([wish.line for wish in plan.ends.values()], plan.not_judged), ([2, 2], 1))
+        self.assertEqual(([one.line for one in plan.ends.values()], plan.not_judged), ([2, 2], 1))
 
     def test_names_where_there_are_no_types(self) -> None:
         rows = "".join(f"{name},leaf1,pdu1,{other}\n" for name, other in (
@@ -222,7 +222,7 @@ class Panels(Plans):
         self.assertEqual(self.links(plan), ["leaf1 swp1 - host01 eth0", "host02 eth0 - leaf1 swp2",
                                             "leaf1 swp3 - host03 eth0"])
         self.assertEqual((self.notes(plan), plan.not_judged), ([], 0))
-        self.assertEqual([(wish.line, *map(str, wish.detail.path)) for wish in plan.ends.values()
+        self.assertEqual([(one.line, *map(str, one.detail.path)) for one in plan.ends.values()
                           ][:2], [(2, "pp1 F1", "pp1 R1", "pp2 R1", "pp2 F1"),
                                   (5, "pp2 F1", "pp2 R1", "pp1 R1", "pp1 F1")])
         for pairs in ("panel,front,rear\npp1,F1,R1\npp1,F2,R2\npp2,F1,R1\n",

@@ -7,6 +7,8 @@ from pathlib import Path
 from typing import Sequence
 
 from auditing import AUDIT, HEAD, InAFolder, without_ages
+from lldpa_audit.seen.listing import SeenFault
+from lldpa_audit.seen.templates import need_all
 
 TEMPLATE = r"""Value Required LOCAL_INTERFACE (\S+)
 Value CHASSIS_ID (\S+)
@@ -49,6 +51,16 @@ def has_textfsm(python: str) -> bool:
 PYTHON = next(filter(has_textfsm, (sys.executable, "/usr/bin/python3")), "")
 
 
+class Totals(unittest.TestCase):
+    def test_texts_that_end_with_a_total(self) -> None:
+        """Checks that the text of these platforms is refused if it does not end with a total."""
+        for platform in ("cisco_ios", "cisco_xr", "cisco_nxos"):
+            with self.assertRaisesRegex(SeenFault, "it was cut short"):
+                need_all("Local Intf: Gi1\n", platform, 1)
+            need_all("Total entries displayed: 1\n", platform, 1)
+        need_all("Local Intf: Gi1\n", "aruba_os", 1)
+
+
 class Platforms(InAFolder):
     def setUp(self) -> None:
         super().setUp()
@@ -69,7 +81,7 @@ class Platforms(InAFolder):
         said = ran.stderr.replace("lldpa-audit: ", "")
         return said.splitlines() + without_ages(ran.stdout).splitlines()
 
-    @unittest.skipUnless(PYTHON, "no Python here has textfsm (Debian: python3-textfsm)")
+    @unittest.skipUnless(PYTHON, "python3-textfsm: no Python here has it")
     def test_a_text(self) -> None:
         for platform in ("cisco_ios", "cisco_ios=sh lldp neighbors detail",
                          "huawei_vrp=display lldp neighbor"):
@@ -83,7 +95,7 @@ class Platforms(InAFolder):
         self.assertEqual(self.ran("--platform", "cisco_ios")[0],
                          "leaf1  silent at all 2 links that were looked at")
 
-    @unittest.skipUnless(PYTHON, "no Python here has textfsm (Debian: python3-textfsm)")
+    @unittest.skipUnless(PYTHON, "python3-textfsm: no Python here has it")
     def test_faults(self) -> None:
         for platform, text, why in (
                 ("cisco_nxos", TEXT, "templates has no template for cisco_nxos and `show lldp "
@@ -107,14 +119,29 @@ class Platforms(InAFolder):
         self.file("leaf1", TEXT)
         self.assertIn("gone/index: No such file", self.ran("--platform", "x", templates="gone")[0])
 
+    @unittest.skipUnless(PYTHON, "no Python here has textfsm (Debian: python3-textfsm)")
+    def test_the_platform_in_a_name(self) -> None:
+        """Checks that each file may have a platform of its own, and that --platform gives it a
+        command, or is for the files that name none."""
+        (self.folder / "leaf1").unlink()
+        self.file("plan", f"{PLAN}leaf2.lab,Gi1/0/1,host03,eth0\nleaf3,Gi1/0/1,host04,eth0\n")
+        for name, host in (("leaf1.cisco_ios.txt", "host01"), ("leaf2.lab.huawei_vrp", "host03"),
+                           ("leaf3.txt", "host04")):
+            self.file(f"leaf1/{name}", TEXT.replace("host01", host))
+        words = ["--planned-only", "--platform", "cisco_ios"]
+        self.assertIn("no template for huawei_vrp", self.ran(*words)[0])
+        found = self.ran(*words, "--platform", "huawei_vrp=display lldp neighbor")
+        self.assertEqual(found, ["4 cables: 4 right, 0 wrong"])
+
     def test_what_is_missing(self) -> None:
         """Checks that the fault names what to install."""
         without = ("/usr/bin/python3", "-S")  # a Python without Debian's packages
         self.assertIn("--platform needs textfsm (Debian: `apt install python3-textfsm`)",
                       self.ran("--platform", "cisco_ios", python=without)[0])
-        self.assertIn("use its JSON, or --platform", self.ran(python=without)[0])
+        self.assertIn("use `show lldp neighbors detail | json`, or --platform",
+                      self.ran(python=without)[0])
 
-    @unittest.skipUnless(PYTHON, "no Python here has textfsm (Debian: python3-textfsm)")
+    @unittest.skipUnless(PYTHON, "python3-textfsm: no Python here has it")
     def test_missing_templates(self) -> None:
         package = Path(self.folder, "package")
         self.assertIn(f"--platform needs {NTC}",

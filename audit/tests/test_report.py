@@ -4,7 +4,7 @@ from typing import Sequence, Tuple
 
 from lldpa_audit.comparing import audit
 from lldpa_audit.names import NAMELESS, End, Names, Seen
-from lldpa_audit.plan import Link, Plan
+from lldpa_audit.plan import Detail, Link, Plan
 from lldpa_audit.report.report import Report
 from lldpa_audit.seen.tables import Tables
 
@@ -93,10 +93,10 @@ def seen(text: str) -> Seen:
 
 def report_of(links: str, known: str) -> Report:
     """Returns the report of an audit of these links with these known neighbors."""
-    names = Names()
     pairs = [text.split(" - ") for text in links.split("; ")]
-    plan = Plan("plan", [Link(end(one), end(other), None) for one, other in pairs], names)
-    tables = Tables(names)
+    plan = Plan("plan", [Link(end(one), end(other), None) for one, other in pairs],
+                Names())
+    tables = Tables(plan.names)
     for text in known.split("; "):
         at, _, neighbors = text.partition(" =")
         host, port = end(at)
@@ -109,3 +109,14 @@ class Lines(unittest.TestCase):
     def test_lines(self) -> None:
         for links, known, lines in ROWS:
             self.assertEqual(report_of(links, known).lines(), lines)
+
+    def test_empty_columns(self) -> None:
+        """Checks that a line shows the further columns of its cable, but not the empty ones."""
+        for texts, shown in ((("C1", "", "r2"), " [label C1, rack r2]"), (("", "", ""), "")):
+            link = Link(End("a", "1"), End("b", "1"), None, detail=Detail(texts))
+            plan = Plan("plan", [link], Names())
+            plan.columns = ["label", "color", "rack"]
+            tables = Tables(plan.names)
+            tables.add_ports("a", {"1": []})
+            lines = Report(plan, tables, audit(plan, tables)).lines()
+            self.assertEqual(lines[0], f"1  silent: wants b 1{shown}")

@@ -5,7 +5,7 @@ import unittest
 
 from lldpa.agent.show import Counters, Neighbor, ShowFault, read_show
 from lldpa_audit.names import NAMELESS, Seen
-from lldpa_audit.seen.shows import SAID, read_ports, seen_neighbor
+from lldpa_audit.seen.shows import FURTHER, read_ports, seen_neighbor
 
 SHOW = """\
 lldp.ge-0/0/1.neighbors=2
@@ -111,7 +111,8 @@ class Neighbors(unittest.TestCase):
 def neighbor(one: Neighbor) -> Seen:
     """Converts a neighbor that the package lldpa has read to one of lldpa_audit."""
     said = "".join(f"\nlldp.{one.port}.1.{key}={value}" for key, value in one.said)
-    return seen_neighbor(one.chassis.text, one.port_id.kind, one.port_id.text, SAID.findall(said))
+    return seen_neighbor(one.chassis.text, one.port_id.kind, one.port_id.text,
+                         FURTHER.findall(said))
 
 
 def damaged(text: str, rng: random.Random) -> str:

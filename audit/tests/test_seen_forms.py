@@ -1,12 +1,17 @@
 """Tests damaged lists of neighbors and other files: each has a fault that says what is wrong."""
+import copy
 import gzip
+import json
+import os
 import random
 import re
 import tempfile
 import unittest
-from typing import Any, Iterator, Optional
+from itertools import product
+from typing import Any, Iterator, Optional, Tuple
 
 import lldpd_heard
+import table_forms
 import vendors
 from lldpa.agent.show import ShowFault
 from lldpa_audit.seen.files import MOST_OCTETS, read_file
@@ -18,11 +23,16 @@ from vendors import PORTS
 
 WHOLE = {**{form: write(PORTS).rstrip().encode() for form, write in vendors.FORMS.items()},
          **{form: lldpd_heard.sample("clean", form).rstrip() for form in ("json", "json0")}}
-DAMAGED = 3000
+# set LLDPA_DAMAGED=1 to try more
+IS_LONG = "LLDPA_DAMAGED" in os.environ
+DAMAGED, EXCHANGED, STEP = (30_000, 60_000, 1) if IS_LONG else (2000, 2000, 5)
+TREES = [*(write(PORTS) for write in vendors.OF_JSON), *table_forms.READ.values(),
+         *table_forms.OF_SOME_PORTS.values(), *table_forms.MANY.values(),
+         json.loads(lldpd_heard.sample("clean", "json0")),
+         json.loads(vendors.PROMETHEUS.read_bytes())]
 # what each neighbor must have: names in JSON, and lines in other forms
 NEEDED = {"chassisId", "chassis_id", "port_id", "l_port_id", "lldp-local-port-id",
-          "lldp-remote-chassis-id", "lldp-remote-port-id", "chassis-id", "ChassisID", "PortID",
-          "InterfaceName", "neighborInterfaceInfo", "chassis", "port", "lldpNeighborInfo",
+          "lldp-remote-chassis-id", "lldp-remote-port-id", "chassis-id", "neighborInterfaceInfo", "chassis", "port", "lldpNeighborInfo",
           "port-id"}
 NEEDED_LINES = re.compile(r"<lldp-(?:local-port-id|remote-chassis-id|remote-port-id)>.*\n|"
                           r"iso.0.8802.1.1.2.1.(?:3.7.1.3|4.1.1.[567])\..*\n")
@@ -59,6 +69,14 @@ def without_one(tree: Any) -> Iterator[Any]:
                 yield [*tree[:at], one, *tree[at + 1:]]
 
 
+def places_in(tree: Any) -> Iterator[Tuple[Any, Any]]:
+    """Yields each place in a JSON value: an object or a list, and a name or a place in it."""
+    for key, part in list(tree.items() if isinstance(tree, dict) else enumerate(tree)):
+        yield tree, key
+        if isinstance(part, (dict, list)):
+            yield from places_in(part)
+
+
 class Faults(unittest.TestCase):
     """Checks that damage is reported as a fault, and never raises another exception."""
 
@@ -68,7 +86,7 @@ class Faults(unittest.TestCase):
                 (interface, "'a' has a neighbor without a protocol: use `lldpcli -f json show"),
                 (b'{"lldp":[{"interface":[{"name":"a","via":"LLDP"}]}]}', "without chassis id"),
                 (b"lldp.a.status=RX\n", "the output of another show command"),
-                (b'{"lldp": ' + b"9" * 5000 + b"}", "it is JSON, but not a known list"),
+                (b'{"lldp": ' + b"9" * 5000 + b"}", "it is JSON with the names lldp, not a known"),
                 (b'{"swp1": []}\n{"swp2": []}', "more than a prompt follows its JSON"),
                 (b"<rpc-reply>\xff</rpc-reply>", "it is not valid XML: "),
                 (b"<?xml version='1.0' encoding='x'?><rpc-reply/>", "not a known list"),
@@ -97,9 +115,10 @@ class Faults(unittest.TestCase):
                     self.assertRaises(SeenFault, read, text[:found.start()] + text[found.end():])
 
     def test_cut_short(self) -> None:
+        """Checks samples that are cut at each octet, or in the gate at each fifth one."""
         for form, octets in WHOLE.items():
             begin = len(octets) // 3 if form == "walk" else 1  # its first third has no neighbors
-            for end in range(begin, len(octets), 7):
+            for end in range(begin, len(octets), STEP):
                 self.assertIsNotNone(fault_of(octets[:end]), (form, end))
 
     def test_random_damage(self) -> None:
@@ -113,6 +132,34 @@ class Faults(unittest.TestCase):
             faults += fault_of(bytes(octets)) is not None
         self.assertGreater(faults, DAMAGED // 10)
         self.assertLess(faults, DAMAGED)
+
+    def test_nested(self) -> None:
+        """Checks that a list inside another object, or in a list, is read or refused."""
+        names = ("data", "result", "rpc-reply", "lldp", "interface", "Neighbors", "stdout", "x")
+        is_read = set()
+        for tree in TREES if IS_LONG else TREES[::4]:
+            for one, other in product(names, names):
+                for nested in ({one: tree}, [tree, {one: tree}], {one: {other: tree}},
+                               {one: [{other: [tree]}]}, {one: tree, other: [tree]}):
+                    is_read.add(fault_of(json.dumps(nested).encode()) is None)
+        self.assertEqual(is_read, {True, False})
+        is_read.clear()
+        for inner in (vendors.XML, "<data/>", "<lldp-neighbors-information/>"):
+            for name in (*names, "multi-routing-engine-item", "lldp-neighbor-information"):
+                if name != "x":
+                    is_read.add(fault_of(f"<rpc-reply><{name}>{inner}</{name}></rpc-reply>".encode()) is None)
+        self.assertEqual(is_read, {True, False})
+
+    def test_exchanged_between_forms(self) -> None:
+        """Checks that lists with parts of other forms are read or refused."""
+        rng, faults = random.Random(17), 0
+        for _ in range(EXCHANGED):
+            one, other = (copy.deepcopy(tree) for tree in rng.choices(TREES, k=2))
+            place, key = rng.choice(list(places_in([one])))
+            place[key] = rng.choice([part[at] for part, at in places_in([other])])
+            faults += fault_of(json.dumps(one).encode()) is not None
+        self.assertGreater(faults, EXCHANGED // 10)
+        self.assertLess(faults, EXCHANGED)
 
     def test_parts_too_deep_in_one_another(self) -> None:
         for octets in (b"[" * 200000, b'{"lldp":' * 200000, b"<rpc-reply>" * 200000):

@@ -42,25 +42,14 @@ class Tables(unittest.TestCase):
             with self.subTest(name):
                 found = {host: names_of(one) for host, one in read(tree).hosts.items()}
                 wanted = {"leaf1": WANTED, "leaf2": {port: [*some] for port, some in OTHER.items()}}
-                if "UniFi" in name:
-                    wanted = {host: {port[3:]: some for port, some in ports.items()}
-                              for host, ports in wanted.items()}
                 self.assertEqual(found, wanted)
 
     def test_refused(self) -> None:
         for tree, why in table_forms.REFUSED:
             self.refused(tree, why)
 
-    def test_a_port_and_its_bridge(self) -> None:
-        for ports in (["swp1,bridge"], ["swp1,bridge", "swp2,bridge"], ["bridge,swp1", "bridge,swp2"],
-                      ["swp1,bond,bridge", "swp2,bond,bridge", "swp3,bridge"]):
-            heard = {port: [(f"host{at}", "eth0")] for at, port in enumerate(ports)}
-            wanted = {next(name for name in port.split(",") if "swp" in name): some
-                      for port, some in heard.items()}
-            self.assertEqual(names_of(read(table_forms.mikrotik(heard))), wanted)
-
     def test_addresses(self) -> None:
-        for tree in (table_forms.OF_SR_LINUX, table_forms.xr(PORTS), table_forms.mikrotik(PORTS),
+        for tree in (table_forms.OF_SR_LINUX, table_forms.xr(PORTS),
                      table_forms.suzieq(PORTS)):
             listing = read(tree)
             first = next(iter(listing.hosts.values()), listing).ports["swp1"][0]

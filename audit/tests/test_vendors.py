@@ -6,7 +6,6 @@ from typing import Any, Dict, List, Sequence, Tuple
 import lldpd_heard
 import vendors
 from lldpa import Agent
-from lldpa_audit.link_settings import Settings
 from lldpa_audit.names import NAMELESS, Seen
 from lldpa_audit.seen.files import placed
 from lldpa_audit.seen.forms import read_list
@@ -15,9 +14,6 @@ from lldpa_audit.seen.shows import read_ports
 from served import PROGRAM
 from vendors import PORTS
 
-# the settings of the first neighbor, for each form that has settings
-SETTINGS = {"eos": Settings(9216, 10), "nxos": Settings(None, 10), "networkctl": Settings(None, 10),
-            "textfsm": Settings(None, 10)}
 ROW = {"local_interface": "Gi1/0/1", "neighbor_name": "host01", "neighbor_interface": "eth0"}
 JUNOS_BY_NAME = {"lldp-neighbors-information": [{"lldp-neighbor-information": [{
     "lldp-local-interface": [{"data": "xe-0/0/1"}], "lldp-local-port-id": [{"data": "510"}],
@@ -41,8 +37,6 @@ HEARD = [
     (("value", "ifn"), ("02:00:00:00:00:0c",)),
     (("x=y\ttab<&>", "zz"), ("e=f",)),
 ]
-HEARD_SETTINGS = {2: Settings(9216, 10, 1000, "full", True, 7),
-                  11: Settings(None, None, 100, "full", None)}
 JSON0 = lldpd_heard.sample("clean", "json0").decode()
 
 
@@ -68,8 +62,7 @@ class Forms(unittest.TestCase):
                 first = listing.ports["swp1"][0]
                 self.assertEqual((first.chassis, first.is_named),
                                  (vendors.chassis_of("host01"), True))
-                self.assertEqual((first.ports, first.settings),
-                                 (("eth0", vendors.TO), SETTINGS.get(form)))
+                self.assertEqual((first.ports, first.aggregated), (("eth0", vendors.TO), False))
                 self.assertEqual(len(read(write({"swp1": [("a", "b")]})).ports), 1)
 
     def test_names_of_neighbors(self) -> None:
@@ -105,8 +98,7 @@ class Forms(unittest.TestCase):
         text = json.dumps(vendors.EOS).replace('"linkAggregationInterfaceId": 0',
                                                '"linkAggregationInterfaceId": 1000007')
         first = read(text).ports["swp1"][0]
-        self.assertEqual((first.aggregated, first.settings),
-                         (True, Settings(9216, 10, None, None, True, 1000007)))
+        self.assertTrue(first.aggregated)
 
     def test_walk_of_a_real_lldpd(self) -> None:
         listing = read(vendors.WALK.read_bytes())
@@ -119,11 +111,9 @@ class Forms(unittest.TestCase):
 class Lldpcli(unittest.TestCase):
     """Checks how lldpcli's output for a real lldpd is read, and our agent's for the same frames."""
 
-    def check(self, seen: Sequence[Seen], settings: Dict[int, Settings]) -> None:
+    def check(self, seen: Sequence[Seen]) -> None:
         self.assertEqual([(set(one.hosts), set(one.ports)) for one in seen],
                          [(set(hosts), set(ports)) for hosts, ports in HEARD])
-        said = {at: one.settings for at, one in enumerate(seen) if one.settings}
-        self.assertEqual(said, settings)
         self.assertEqual([at for at, one in enumerate(seen) if one.aggregated], [2])
 
     def test_each_form(self) -> None:
@@ -134,18 +124,14 @@ class Lldpcli(unittest.TestCase):
                 self.assertEqual(list(listing.ports), ["swp1", "swp2"])
                 self.assertEqual([(one.hosts, one.ports) for one in listing.ports["swp1"]], HEARD)
                 self.assertEqual(listing.ports["swp2"], listing.ports["swp1"][:1])
-                self.check(listing.ports["swp1"], HEARD_SETTINGS)
-                other = lldpd_heard.sample("clean", form).replace(b'"pvid": true', b'"pvid": false')
-                self.assertEqual(read(other).ports["swp1"][2].settings,
-                                 HEARD_SETTINGS[2]._replace(pvid=None))
+                self.check(listing.ports["swp1"])
 
     def test_our_show_says_the_same(self) -> None:
         with Agent.start(["swp1"], PROGRAM, receive_only=True) as agent:
             for octets in lldpd_heard.CLEAN:
                 agent.frame("swp1", octets)
             ours = read_ports("\n".join([*agent.ask("show neighbors"), ""]))["swp1"]
-        aggregated = HEARD_SETTINGS[11]._replace(is_aggregated=False)  # lldpcli does not write it
-        self.check(ours, {**HEARD_SETTINGS, 11: aggregated})
+        self.check(ours)
 
     def test_odd_names(self) -> None:
         """Checks names that are not UTF-8, and surrogates that do not stand for an octet."""
@@ -207,13 +193,13 @@ class Prometheus(unittest.TestCase):
 
     def test_labels(self) -> None:
         labels = {"management": "2001:0db8:0000:0000:0000:0000:0000:0001", "exported_name": "c",
-                  "max_frame_size": "9216", "pvid": "10", "port_descr": "to b"}
+                  "port_descr": "to b", "neighbor_port": "q"}  # the last one is not exported_port
         first, second, third = answer(
             neighbor("a:1", "p", "x", **labels),
-            neighbor("a:1", "p", "caf\\xc3\\xa9\\\\", max_frame_size="9" * 5000),
+            neighbor("a:1", "p", "caf\\xc3\\xa9\\\\"),
             neighbor("a:1", "p", "caf\xe9\ud800\\", port_id="\\x")).hosts["a"].ports["p"]
         self.assertEqual(first.hosts, ("c", "02:00:00:00:00:01", labels["management"],
                                        "2001:db8::1"))
-        self.assertEqual((first.ports, first.settings), (("eth0", "to b"), Settings(9216, 10)))
-        self.assertEqual((second.hosts[0], second.settings), ("caf\xe9\\", None))
+        self.assertEqual(first.ports, ("eth0", "to b"))
+        self.assertEqual(second.hosts[0], "caf\xe9\\")
         self.assertEqual((third.hosts[0], third.ports[0]), ("caf\xe9\ufffd\\", "\\x"))

@@ -133,6 +133,16 @@ class Plans(Planless):
             "a,2,c,1,by one end", "a,Ethernet1,b,GigabitEthernet1/0/1,by both ends"])
         self.assertEqual(self.audited(folder, *options), (0, ["2 cables: 2 right, 0 wrong"]))
 
+    def test_two_chassis_of_a_listed_host(self) -> None:
+        """Checks that a host with a list keeps its name, whatever chassis IDs are heard for it."""
+        folder = self.texts("lists", {
+            "a": "1 b p1 02:00:00:00:00:01 -\n2 d e0", "b": "9 x y",
+            "c": "1 b p1 02:00:00:00:00:02 -"})
+        note = "".join(f"lldpa-audit: {end} with b p1 is left out: b p1 is seen in several links\n"
+                       for end in ("a 1", "c 1"))
+        self.assertEqual(self.written(folder, said=note),
+                         ["a,2,d,e0,by one end", "b,9,x,y,by one end"])
+
     def test_aggregates(self) -> None:
         """Checks links whose ends name their aggregates in place of their ports."""
         tlv = {"aggregate": 7}
@@ -160,7 +170,8 @@ class Files(Planless):
             self.assertEqual((ran.returncode, ran.stdout, ran.stderr),
                              (2, "", f"lldpa-audit: {file}: {why}\n"))
         self.assertEqual(Path(mine).read_text(), "looked over")
-        ran = run("--write-plan", "/dev/stdout", self.seen)
+        ran = subprocess.run([sys.executable, AUDIT, "--write-plan", "/dev/stdout", self.seen],
+                             capture_output=True, text=True, check=False)  # to a pipe
         self.assertEqual((ran.returncode, ran.stdout.splitlines()[:-1]), (0, [HEADER, *Plans.ROWS]))
 
     def test_a_full_disk(self) -> None:

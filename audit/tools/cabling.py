@@ -11,15 +11,10 @@ import pathlib
 import sys
 
 TOP = pathlib.Path(__file__).resolve().parents[2]
-sys.path += [str(TOP / folder) for folder in ("python", "python/tests", "audit/tests")]
+sys.path += [str(TOP / folder) for folder in ("python", "python/tests", "audit", "audit/tests")]
+import lldpcli_lists  # noqa: E402
 import shapes  # noqa: E402
 from fabric import Fabric  # noqa: E402
-from lldpa import read_show  # noqa: E402
-from lldpa.lldpcli_forms.shows import Depth, Told, neighbors  # noqa: E402
-from lldpa.lldpcli_forms.writing import FORMS as OF_LLDPCLI  # noqa: E402
-
-# TLVs: a PVID, a VLAN name, a frame size, and the autonegotiation of a copper link
-SETTINGS = (("0080c2.1", "000a"), ("0080c2.3", "000a0374656e"), ("00120f.4", "2400"), ("00120f.1", "030001001e"))
 
 
 def write(folder, pods, form="show"):
@@ -43,27 +38,31 @@ def show_of(ports, tlvs=lambda neighbor: ()):
                    for line in show_of_port(neighbors, tlvs))
 
 
-def tree_of(ports, tlvs=lambda neighbor: SETTINGS):
+def neighbors_of(ports, tlvs=lambda neighbor: lldpcli_lists.SETTINGS):
     """Returns the neighbors as lldpcli shows them in detail, all received 12 minutes ago."""
-    show = read_show(show_of(ports, tlvs).splitlines())
-    since = {(one.port, one.id): "1970-01-01T00:00:00Z" for one in show.neighbors}
-    return neighbors(Told(show, since, {}, 725), None, Depth.DETAILS)
+    return [lldpcli_lists.neighbor(port, dict(lines_of(place, one)), tlvs(one))
+            for port, some in ports.items() for place, one in enumerate(some, 1)]
 
 
-FORMS = {"show": show_of, **{form: lambda *words, write=write: write(tree_of(*words)) + "\n"
-                             for form, write in OF_LLDPCLI.items() if form in ("json", "json0")}}
+FORMS = {"show": show_of, **{form: lambda *words, write=write: write(neighbors_of(*words)) for form, write in (
+    ("json", lldpcli_lists.short), ("json0", lldpcli_lists.json0))}}
 
 
 def show_of_port(neighbors, tlvs):
     yield from (f"neighbors={len(neighbors)}", f"octets={110 * len(neighbors)}", "too-many=no")
-    for place, (host, port_id) in enumerate(neighbors, 1):
-        high, low = divmod(sum(map(ord, host)), 256)
-        for line in (f"chassis.mac=02:00:5e:{place:02x}:{high:02x}:{low:02x}", f"port.ifname={port_id}",
-                     "ttl=120", "expires=107", "port.descr=to the fabric", f"chassis.name={host}",
-                     "chassis.descr=Debian GNU/Linux 12 (bookworm) Linux 6.1.0-18-amd64",
-                     "chassis.caps=Bridge:on,Router:on,Station:off", f"chassis.mgmt=10.0.{high}.{low},2,1,",
-                     *[f"org.{kind}={octets}" for kind, octets in tlvs((host, port_id))]):
-            yield f"{place}.{line}"
+    for place, one in enumerate(neighbors, 1):
+        for key, text in (*lines_of(place, one), *((f"org.{kind}", octets) for kind, octets in tlvs(one))):
+            yield f"{place}.{key}={text}"
+
+
+def lines_of(place, neighbor):
+    """Yields the keys and values of a neighbor, without TLVs of organizations."""
+    host, port_id = neighbor
+    high, low = divmod(sum(map(ord, host)), 256)
+    yield from (("chassis.mac", f"02:00:5e:{place:02x}:{high:02x}:{low:02x}"), ("port.ifname", port_id),
+                ("ttl", "120"), ("expires", "107"), ("port.descr", "to the fabric"), ("chassis.name", host),
+                ("chassis.descr", "Debian GNU/Linux 12 (bookworm) Linux 6.1.0-18-amd64"),
+                ("chassis.caps", "Bridge:on,Router:on,Station:off"), ("chassis.mgmt", f"10.0.{high}.{low},2,1,"))
 
 
 def main():

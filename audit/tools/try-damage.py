@@ -76,7 +76,7 @@ def words_of(room, place, dice):
     words = ["--host", "leaf01", str(names["plan"]), f"swp1={names['swp1']}" if place == "swp1" else str(names["leaf01"])]
     for option in ("panels", "aliases"):
         words += [f"--{option}", str(names[option])] if place == option or dice.random() < 0.5 else []
-    return [*words, *dice.choice([[], ["--json"], ["--settings"]]), *dice.choice([[], ["--vendor-names"]]),
+    return [*words, *dice.choice([[], ["--json"]]), *dice.choice([[], ["--vendor-names"]]),
             "--html", str(room / "page"), "--junit", str(room / "junit")]
 
 

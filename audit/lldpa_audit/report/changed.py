@@ -1,11 +1,11 @@
 """Reports what has changed since earlier lists, as lines and as JSON."""
 from typing import Iterator
 
-from ..changes import CAME, MOVED, RENAMED, WENT, Change, Changes, Ends
-from ..names import MOST_NAMED, shown, text_of
+from ..changes import CAME, MOVED, RENAMED, REPLACED, WENT, Change, Changes, Ends
+from ..names import first_of, shown, text_of
 from .objects import Json, dumped, json_of_ages, json_of_end, listed
 
-KINDS = (MOVED, RENAMED, CAME, WENT)
+KINDS = (MOVED, RENAMED, REPLACED, CAME, WENT)
 
 
 def text_of_change(one: Change) -> str:
@@ -14,6 +14,9 @@ def text_of_change(one: Change) -> str:
         other = ", with another chassis ID" if one.is_other else ""
         names = " is now ".join(map(shown, one.hosts))
         return f"renamed: {names}{other}, at {links(len(one.now))}"
+    if one.kind == REPLACED:
+        (near, far), (old, new) = one.now[0], one.hosts
+        return f"replaced: {far} at {near} announces {new}, announced {old}"
     if one.kind == MOVED:
         (end, now), (_, before) = one.now[0], one.before[0]
         return f"moved: {end} is at {now}, was at {before}"
@@ -31,10 +34,8 @@ def count_of(found: Changes) -> str:
     counts = [sum(one.kind == kind for one in found.changes) for kind in KINDS]
     kinds = [f"{count} {kind}" for count, kind in zip(counts, KINDS) if count]
     texts = [f"{links(found.now)}, {found.before} before: {', '.join(kinds) or 'no change'}"]
-    if found.not_compared:
-        more = len(found.hosts) - MOST_NAMED
-        names = [*map(shown, found.hosts[:MOST_NAMED]), *([f"{more} more"] if more > 0 else [])]
-        texts.append(f"{found.not_compared} not compared ({', '.join(names)})")
+    if found.hosts:
+        texts.append(f"{found.not_compared} not compared ({', '.join(first_of(found.hosts))})")
     before, now = found.ages
     texts += [f"sources {now}"] if now else []
     texts += [f"{'before: ' if now else ''}{before}"] if before else []

@@ -9,10 +9,10 @@ Pair = tuple[End, End]
 
 
 class Exchanges(NamedTuple):
-    """`told_at` maps each end of an exchange to the end whose line reports the exchange. `others`
+    """`line_at` maps each end of an exchange to the end whose line reports the exchange. `others`
     maps an end to the other side's pair of ends, if exchanging these would also mend the fault."""
 
-    told_at: dict[End, End]
+    line_at: dict[End, End]
     others: dict[End, Pair]
 
 
@@ -23,7 +23,7 @@ def exchanges_of(faults: Faults) -> Exchanges:
     ranks = {key: rank for rank, key in enumerate(faults.all)}
     for key in faults.all:
         twin = twin_of(faults, key)
-        if twin is not None and key not in found.told_at:
+        if twin is not None and key not in found.line_at:
             add(found, faults, (key, twin), ranks)
     return found
 
@@ -37,8 +37,8 @@ def add(found: Exchanges, faults: Faults, near: Pair, ranks: dict[End, int]) -> 
         found.others.update({key: pairs[key in near] for key in (*near, one, other)})
     place = min(pairs, key=lambda pair: (pair[0].host != pair[1].host,
                                          min(ranks[key] for key in pair)))
-    told_at = min(place, key=ranks.__getitem__)
-    found.told_at.update({key: told_at for key in (*near, one, other) if key is not None})
+    line_at = min(place, key=ranks.__getitem__)
+    found.line_at.update({key: line_at for key in (*near, one, other) if key is not None})
 
 
 def twin_of(faults: Faults, key: End) -> Optional[End]:
@@ -51,8 +51,8 @@ def twin_of(faults: Faults, key: End) -> Optional[End]:
 
 def far_of(faults: Faults, key: End, twin: End) -> Optional[End]:
     """Returns the end that `key` wants, if that end hears `twin`, with which `key` is swapped."""
-    wants = faults.all[key].wants
-    far = faults.names.end(wants) if wants is not None else None
+    expected = faults.all[key].expected
+    far = faults.names.end(expected) if expected is not None else None
     fault = faults.all.get(far) if far is not None else None
     if far is None or fault is None or fault.verdict not in HAVE_ANOTHER:
         return None

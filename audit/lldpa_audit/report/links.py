@@ -15,11 +15,11 @@ def of_exchanges(faults: Faults, texts: FaultTexts) -> Iterator[Repair]:
     """Yields a repair for each pair of exchanged cables."""
     members: dict[End, list[End]] = {}
     for key, _ in faults:
-        told_at = texts.exchanges.told_at.get(key)
-        if told_at is not None:
-            members.setdefault(told_at, []).append(key)
-    for told_at, keys in members.items():
-        fault = faults.left.get(told_at)
+        line_at = texts.exchanges.line_at.get(key)
+        if line_at is not None:
+            members.setdefault(line_at, []).append(key)
+    for line_at, keys in members.items():
+        fault = faults.left.get(line_at)
         if fault is not None:
             ends = faults.with_far(keys, [Verdict.DISAGREES])
             yield Repair("swapped", fault.end, texts.text(fault), faults.take(ends))

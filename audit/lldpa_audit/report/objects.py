@@ -4,8 +4,7 @@ from itertools import islice
 from typing import Dict, Iterator, Optional, Sequence, Union
 
 from ..ages import Ages
-from ..judging import Finding, Verdict
-from ..mismatches import MISMATCH
+from ..judging import Finding
 from ..names import End, Seen, text_of
 from .repairs import TO_DO, Repair
 from .report import Report
@@ -44,10 +43,9 @@ def json_of_count(report: Report) -> Json:
     count = report.count
     cables = {state.replace(" ", "_"): number for state, number in count.cables.items()}
     return {
-        "form": 2,
+        "form": 3,
         "cables": {"planned": count.planned, **cables},
         "unplanned": count.unplanned,
-        "mismatches": count.mismatches,
         "hosts_not_looked_at": [text_of(host) for host in count.hosts],
         "sources": json_of_ages(count.ages),
     }
@@ -76,12 +74,11 @@ def json_of_repair(report: Report, number: int, repair: Repair) -> Json:
 
 def json_of_finding(report: Report, finding: Finding) -> Json:
     text = report.texts.text(finding)
-    is_mismatch = finding.verdict is Verdict.RIGHT and bool(text)
     return {
         "host": text_of(finding.end.host),
         "port": text_of(finding.end.port),
-        "verdict": MISMATCH if is_mismatch else finding.verdict.value,
-        "wants": json_of_end(finding.wants),
+        "verdict": finding.verdict.value,
+        "wants": json_of_end(finding.expected),
         "has": [json_of_neighbor(neighbor) for neighbor in finding.has],
         "swapped_with": json_of_end(finding.partner),
         "moved_to": json_of_end(finding.moved_to),
@@ -93,10 +90,11 @@ def json_of_finding(report: Report, finding: Finding) -> Json:
 
 def json_of_plan(report: Report, end: End) -> Dict[str, Json]:
     """Returns an end's line in the plan, its further columns, and its path through panels."""
-    wish = report.planned(end)
-    return {"line": wish.line,
-            "details": {text_of(name): text_of(text) for name, text in report.plan.details(wish)},
-            "path": [json_of_end(one) for one in wish.detail.path]}
+    planned = report.planned(end)
+    return {"line": planned.line,
+            "details": {text_of(name): text_of(text)
+                        for name, text in report.plan.details(planned)},
+            "path": [json_of_end(one) for one in planned.detail.path]}
 
 
 def json_of_end(end: Optional[End]) -> Json:

@@ -6,8 +6,7 @@ from typing import Iterator, Sequence
 
 from lldpa.texts import printable
 
-from ..judging import Finding, Verdict
-from ..mismatches import MISMATCH
+from ..judging import Finding
 from ..names import End, shown, text_of
 from .drawing import pictures_of
 from .repairs import TO_DO
@@ -22,7 +21,7 @@ WORD = re.compile(r"[^\s<>&;]+")
 def page_of(report: Report) -> Iterator[str]:
     """Yields the page: count, repairs, faults by kind and host, a section per host with faults."""
     hosts: dict[str, list[Finding]] = {}
-    for fault in report.told[:MOST_ROWS]:
+    for fault in report.reported[:MOST_ROWS]:
         hosts.setdefault(report.names.host(fault.end.host), []).append(fault)
     file = text(report.plan.file)
     yield ('<!DOCTYPE html>\n<html lang="en">\n<head>\n<meta charset="utf-8">\n'
@@ -52,15 +51,15 @@ def repairs(report: Report) -> Iterator[str]:
                f"<td>{TO_DO[repair.kind]}<td>{planned(report, repair.end)}"
                f"<td class=number>{report.links_of(repair)}</tr>\n")
     yield "</table>\n"
-    if len(report.told) > MOST_ROWS:
+    if len(report.reported) > MOST_ROWS:
         yield (f"<p>This page has at most {MOST_ROWS} of the {len(report.repairs)} repairs "
-               f"and of the {len(report.told)} ends.</p>\n")
+               f"and of the {len(report.reported)} ends.</p>\n")
 
 
 def by_kind(report: Report) -> Iterator[str]:
     """Yields how many ends have each kind of fault."""
     yield "<table><caption>By kind</caption><tr><th>Fault<th>Ends</tr>\n"
-    for kind, number in Counter(map(kind_of, report.told)).most_common():
+    for kind, number in Counter(one.verdict.value for one in report.reported).most_common():
         yield f"<tr><td>{kind}<td class=number>{number}</tr>\n"
     yield "</table>\n"
 
@@ -69,7 +68,7 @@ def by_host(hosts: Sequence[Sequence[Finding]]) -> Iterator[str]:
     """Yields how many ends with a fault each host has, and of what kinds."""
     yield "<table><caption>By host</caption><tr><th>Host<th>Ends<th>Faults</tr>\n"
     for number, faults in enumerate(hosts):
-        counts = Counter(map(kind_of, faults))
+        counts = Counter(one.verdict.value for one in faults)
         kinds = ", ".join(f"{count} {kind}" for kind, count in counts.most_common())
         yield (f'<tr><td><a href="#h{number}">{text(shown(faults[0].end.host))}</a>'
                f"<td class=number>{len(faults)}<td>{kinds}</tr>\n")
@@ -101,17 +100,12 @@ def host(report: Report, number: int, faults: Sequence[Finding]) -> Iterator[str
 
 def planned(report: Report, end: End) -> str:
     """Returns what the plan says of an end: its line, its further columns and its path."""
-    wish = report.planned(end)
-    says = [] if wish.line is None else [f"line {wish.line}"]
-    says += [f"{text(name)} <b>{text(value)}</b>" for name, value in report.plan.details(wish)]
-    if wish.detail.path:
-        says.append(f"through {', '.join(text(str(one)) for one in wish.detail.path)}")
-    return f"<small>{', '.join(says)}</small>" if says else ""
-
-
-def kind_of(fault: Finding) -> str:
-    """Returns the kind of a fault. A right link among the faults has a mismatch."""
-    return MISMATCH if fault.verdict is Verdict.RIGHT else str(fault.verdict.value)
+    planned = report.planned(end)
+    parts = [] if planned.line is None else [f"line {planned.line}"]
+    parts += [f"{text(name)} <b>{text(value)}</b>" for name, value in report.plan.details(planned)]
+    if planned.detail.path:
+        parts.append(f"through {', '.join(text(str(one)) for one in planned.detail.path)}")
+    return f"<small>{', '.join(parts)}</small>" if parts else ""
 
 
 def text(name: str) -> str:

@@ -7,7 +7,6 @@ from typing import Iterator, Mapping
 from lldpa.texts import printable
 
 from ..judging import Finding, Verdict
-from ..mismatches import MISMATCH
 from ..names import End, text_of
 from .count import NOT_JUDGED
 from .repairs import TO_DO
@@ -45,7 +44,7 @@ def element_of(report: Report, one: Finding, unseen: str) -> str:
     """Returns the element of an end's test case, or an empty text if all is right."""
     if one.verdict is Verdict.NOT_LOOKED_AT:
         return unseen
-    if one.verdict is Verdict.RIGHT and one.end not in report.mismatches:
+    if one.verdict is Verdict.RIGHT:
         return ""
     return "skipped" if one.verdict is Verdict.KNOWN else "failure"
 
@@ -68,23 +67,21 @@ def quoted(text: str) -> str:
 def metrics_of(report: Report) -> Iterator[str]:
     count, now = report.count, time.time()
     verdicts = Counter(one.verdict.value for one in report.findings)
-    verdicts[MISMATCH] = count.mismatches
-    verdicts[Verdict.RIGHT.value] -= count.mismatches
-    names = [*(verdict.value for verdict in Verdict), MISMATCH]
     kinds = Counter(repair.kind for repair in report.repairs)
     ages = {} if count.ages is None else count.ages._asdict()
     yield gauge("cables", "Planned cables by state.", "state", count.cables)
-    yield gauge("ends", "Ends by verdict.", "verdict", {name: verdicts[name] for name in names})
+    yield gauge("ends", "Ends by verdict.", "verdict", {
+        one.value: verdicts[one.value] for one in Verdict})
     yield gauge("repairs", "Repairs by kind.", "kind", {kind: kinds[kind] for kind in TO_DO})
     yield gauge("source_timestamp_seconds", "When the newest and the oldest source were made.",
                 "source", {name: now - age for name, age in ages.items()})
     yield gauge("run_timestamp_seconds", "Time of the audit.", "", {"": now})
 
 
-def gauge(name: str, told: str, label: str, values: Mapping[str, float]) -> str:
+def gauge(name: str, help_text: str, label: str, values: Mapping[str, float]) -> str:
     """Returns a metric with a line for each value, or an empty text if there are no values."""
     name = f"lldpa_audit_{name}"
-    lines = [f"# HELP {name} {told}\n# TYPE {name} gauge\n"] if values else []
+    lines = [f"# HELP {name} {help_text}\n# TYPE {name} gauge\n"] if values else []
     for text, value in values.items():
         labels = f'{{{label}="{text}"}}' if label else ""
         lines.append(f"{name}{labels} {value:.15g}\n")

@@ -1,6 +1,7 @@
 """Finds hosts that announce another name than the planned one, and reports each in one line."""
 from typing import Iterator, Mapping, Sequence
 
+from ..differs import with_options
 from ..judging import Verdict
 from ..names import End, Seen, shown
 from .repairs import HAVE_ANOTHER, Faults, Repair
@@ -48,21 +49,21 @@ def other_names(faults: Faults) -> Mapping[str, Mapping[str, Sequence[tuple[End,
     wanted ends of the host, each with the neighbor that has this name and the wanted port."""
     heard: dict[str, dict[str, list[tuple[End, Seen]]]] = {}
     for key, fault in faults:
-        neighbor, wanted = faults.only(fault), faults.far(key)
-        if neighbor is None or wanted is None or not has_port(faults, neighbor, wanted):
+        neighbor, expected = faults.only(fault), faults.far(key)
+        if neighbor is None or expected is None or not has_port(faults, neighbor, expected):
             continue
         name = faults.names.host(neighbor.hosts[0])
-        heard.setdefault(wanted.host, {}).setdefault(name, []).append((wanted, neighbor))
+        heard.setdefault(expected.host, {}).setdefault(name, []).append((expected, neighbor))
     return heard
 
 
-def has_port(faults: Faults, neighbor: Seen, wanted: End) -> bool:
+def has_port(faults: Faults, neighbor: Seen, expected: End) -> bool:
     """Returns whether a neighbor is of another host, but may have the wanted port."""
     names = faults.names
     hosts = names.hosts_of(neighbor)
-    return bool(hosts) and wanted.host not in hosts and (
+    return bool(hosts) and expected.host not in hosts and (
         names.is_any_member(neighbor, hosts[0])
-        or any(wanted.port in names.ports(hosts[0], port) for port in names.heeded(neighbor)))
+        or any(expected.port in names.ports(hosts[0], port) for port in names.heeded(neighbor)))
 
 
 def is_heard_rightly(faults: Faults, host: str) -> bool:
@@ -70,19 +71,20 @@ def is_heard_rightly(faults: Faults, host: str) -> bool:
     ends, names = faults.tables.ends, faults.names
     return any(names.answers(neighbor, key)
                for key in faults.plan.ends_of_hosts.get(host, ())
-               for told in (ends.get(faults.plan.ends[key].wanted),) if told is not None
-               for neighbor in told.neighbors)
+               for port in (ends.get(faults.plan.ends[key].peer),) if port is not None
+               for neighbor in port.neighbors)
 
 
 def repair(faults: Faults, host: str, some: Sequence[tuple[End, Seen]]) -> Repair:
     """Returns the repair of a host that is heard under another name at these ends."""
     name, neighbor = faults.plan.hosts[host], some[0][1]
     differs = faults.differences.of_neighbor(neighbor, some[0][0])
-    fars = [faults.tables.ends.get(faults.plan.ends[key].wanted)
+    fars = [faults.tables.ends.get(faults.plan.ends[key].peer)
             for key in faults.plan.ends_of_hosts[host]]
-    known = [told for told in fars if told is not None and told.neighbors]
+    known = [port for port in fars if port is not None and port.neighbors]
     at = f"all {len(some)}" if len(some) == len(known) else f"{len(some)} of {len(known)}"
     text = f"is heard as {shown(neighbor.hosts[0])} at {at} links whose other end hears a neighbor"
-    ends = faults.with_far([faults.plan.ends[end].wanted for end, _ in some], [Verdict.DISAGREES])
-    return Repair("renamed", End(name, some[0][0].port), f"{text} ({differs})" if differs else text,
-                  faults.take(ends), shown(name))
+    ends = faults.with_far([faults.plan.ends[end].peer for end, _ in some], [Verdict.DISAGREES])
+    if differs:
+        text = f"{text} ({with_options(differs)})"
+    return Repair("renamed", End(name, some[0][0].port), text, faults.take(ends), shown(name))

@@ -5,7 +5,7 @@ from typing import Iterable, Iterator, NamedTuple, Optional, Sequence
 from ..differs import Differences
 from ..judging import Finding, Verdict
 from ..names import End, Seen, shown
-from ..plan import Plan, Wish
+from ..plan import Plan, PlannedEnd
 from ..seen.tables import Tables
 
 HAVE_ANOTHER = (Verdict.WRONG, Verdict.SWAPPED)
@@ -29,7 +29,6 @@ TO_DO = {
     "disagrees": "get new data from both ends",
     "no data": "get the host's list of neighbors, or a capture of the port",
     "unplanned": "remove the cable, or add it to the plan",
-    "mismatch": "give both ends the same setting: the planned one, if there is one",
 }
 
 
@@ -55,7 +54,7 @@ class Faults:
         self.all = {self.names.end(fault.end): fault for fault in faults}
         self.left = dict(self.all)
         self.differences = Differences(self.names)
-        self.seen = self._places_of_wanted()
+        self.seen = self._places_of_expected()
 
     @cached_property
     def _beside(self) -> dict[End, End]:
@@ -63,13 +62,13 @@ class Faults:
         beside = [self.tables.ends[key].end for key in self.tables.beside(self.plan)]
         return {self.differences.loosest(end): end for end in beside}
 
-    def _places_of_wanted(self) -> dict[End, End]:
+    def _places_of_expected(self) -> dict[End, End]:
         faults = self.all.values()
-        wanted = {self.names.end(fault.wants) for fault in faults if fault.wants}
+        expected = {self.names.end(fault.expected) for fault in faults if fault.expected}
         places: dict[End, End] = {}
         for fault in faults:
             for neighbor in fault.has:
-                for end in wanted.intersection(self.names.ends(neighbor)):
+                for end in expected.intersection(self.names.ends(neighbor)):
                     places.setdefault(end, fault.end)
         return places
 
@@ -82,13 +81,13 @@ class Faults:
 
     def written(self, key: End) -> End:
         """Returns an end as the plan writes it, or as it is seen if it is not planned."""
-        wish, told = self.plan.ends.get(key), self.tables.ends.get(key)
-        return wish.end if wish else told.end if told else self.left[key].end
+        planned, known = self.plan.ends.get(key), self.tables.ends.get(key)
+        return planned.end if planned else known.end if known else self.left[key].end
 
     def far(self, key: End) -> Optional[End]:
         """Returns the other end of an end's planned link, or None if the end is not planned."""
-        wish = self.plan.ends.get(key)
-        return wish.wanted if wish else None
+        planned = self.plan.ends.get(key)
+        return planned.peer if planned else None
 
     def with_far(self, keys: Iterable[End], verdicts: Sequence[Verdict]) -> list[End]:
         """Returns these ends, and each far end of their links that has one of these verdicts."""
@@ -106,10 +105,10 @@ class Faults:
     def meant(self, fault: Finding) -> Optional[End]:
         """Returns the planned end that wants the only neighbor of a faulty end."""
         neighbor = self.only(fault)
-        wish = self.planned(neighbor) if neighbor is not None else None
-        return self.names.end(wish.wants) if wish else None
+        planned = self.planned(neighbor) if neighbor is not None else None
+        return self.names.end(planned.expected) if planned else None
 
-    def planned(self, neighbor: Seen) -> Optional[Wish]:
+    def planned(self, neighbor: Seen) -> Optional[PlannedEnd]:
         """Returns the planned end that a neighbor may be, or None if there is not exactly one."""
         ends = {key for key in self.names.ends(neighbor) if key in self.plan.ends}
         return self.plan.ends[ends.pop()] if len(ends) == 1 else None

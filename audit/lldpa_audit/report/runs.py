@@ -1,17 +1,17 @@
 """Finds faults with one cause at several ports of a host: shifted cables, breakouts and loops."""
-import re
 from collections import Counter
 from typing import Iterator, Optional, Sequence
 
 from ..judging import Finding, Verdict
+from ..lanes import canonical, wholes_of
 from ..names import End, shown
 from ..order import by_port
 from .repairs import HAVE_ANOTHER, HAVE_NOBODY, Faults, Repair
 
 SHORTEST = 3
 FAR = (*HAVE_ANOTHER, *HAVE_NOBODY, Verdict.DISAGREES)
-# a lane of a port that is broken out: swp1s0 of swp1, et-0/0/0:0 of et-0/0/0, Et1/1/1 of Et1/1
-LANE = re.compile(r"(.*[0-9])[s:][0-9]|((?:Et|Eth|Ethernet)[0-9]+/[0-9]+)/[0-9]")
+# the host of a lane, and the names that the lane's port may have
+Group = tuple[str, frozenset[str]]
 
 
 def shifted(faults: Faults) -> Iterator[Repair]:
@@ -53,9 +53,9 @@ def repair_of_run(faults: Faults, ports: Sequence[End], begin: int, end: int, st
 
 def turned(faults: Faults) -> Iterator[Repair]:
     """Yields a repair for each port whose lanes are exchanged with one another."""
-    for whole, group in lanes(faults).items():
-        wrong = [key for key in group if key in faults.left
-                 and port_of(faults.meant(faults.left[key])) == whole]
+    for of_port, lanes in lanes_by_port(faults).items():
+        wrong = [key for key in lanes if key in faults.left
+                 and port_of(faults.meant(faults.left[key])) == of_port]
         if len(wrong) >= SHORTEST:
             wrong.sort(key=by_port)
             yield repair(faults, "turned", wrong, "turned: the lanes of one port are in the wrong "
@@ -64,18 +64,19 @@ def turned(faults: Faults) -> Iterator[Repair]:
 
 def broken_out(faults: Faults) -> Iterator[Repair]:
     """Yields a repair for each port that is broken out and should not be, or the reverse."""
-    for whole, group in lanes(faults).items():
-        one = faults.left.get(whole)
-        if one is None:
+    wholes = {(key.host, canonical(key.port)): key for key, _ in faults}
+    for (host, names), lanes in lanes_by_port(faults).items():
+        whole = next((wholes[host, name] for name in sorted(names) if (host, name) in wholes), None)
+        if whole is None or whole not in faults.left:
             continue
-        are_planned = [key in faults.plan.ends for key in group]
-        group.sort(key=by_port)
+        one, are_planned = faults.left[whole], [key in faults.plan.ends for key in lanes]
+        lanes.sort(key=by_port)
         if one.verdict is Verdict.UNPLANNED and all(are_planned):
-            text = f"not broken out: the plan has {of_ports(faults, group)}"
-            yield repair(faults, "not broken out", [whole, *group], text, [whole])
+            text = f"not broken out: the plan has {of_ports(faults, lanes)}"
+            yield repair(faults, "not broken out", [whole, *lanes], text, [whole])
         elif one.verdict in HAVE_NOBODY and not any(are_planned):
-            text = f"broken out into {of_ports(faults, group)}, but planned as one port"
-            yield repair(faults, "broken out", [whole, *group], text, [whole])
+            text = f"broken out into {of_ports(faults, lanes)}, but planned as one port"
+            yield repair(faults, "broken out", [whole, *lanes], text, [whole])
 
 
 def looped(faults: Faults) -> Iterator[Repair]:
@@ -114,17 +115,17 @@ def of_ports(faults: Faults, keys: Sequence[End]) -> str:
     return names[0] if len(keys) == 1 else f"{names[0]} to {names[1]}"
 
 
-def lanes(faults: Faults) -> dict[End, list[End]]:
+def lanes_by_port(faults: Faults) -> dict[Group, list[End]]:
     """Returns for each port the faulty ends that are named like its lanes."""
-    found: dict[End, list[End]] = {}
+    found: dict[Group, list[End]] = {}
     for key, _ in faults:
-        whole = port_of(key)
-        if whole is not None:
-            found.setdefault(whole, []).append(key)
+        of_port = port_of(key)
+        if of_port is not None:
+            found.setdefault(of_port, []).append(key)
     return found
 
 
-def port_of(lane: Optional[End]) -> Optional[End]:
+def port_of(lane: Optional[End]) -> Optional[Group]:
     """Returns the port that a lane belongs to, or None if the name is not that of a lane."""
-    found = LANE.fullmatch(lane.port) if lane is not None else None
-    return None if lane is None or found is None else End(lane.host, found[1] or found[2])
+    names = wholes_of(lane.port) if lane is not None else frozenset()
+    return (lane.host, names) if lane is not None and names else None

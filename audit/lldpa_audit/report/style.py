@@ -8,6 +8,8 @@ PICTURES = """
   --paper: #14181c; --red: #ff6b7a; --orange: #f0a840; --box: #20262c; } }
 svg { display: block; max-width: 100%; height: auto; }
 svg text { font: 11px ui-monospace, monospace; fill: var(--ink); }
+svg text.title { font-weight: bold; }
+svg text.note { fill: var(--dim); }
 svg rect { fill: var(--box); stroke: var(--rule); }
 svg line { stroke: var(--rule); stroke-width: 1.5; }
 svg .port.fault rect { fill: var(--red); stroke: var(--red); }
@@ -15,7 +17,7 @@ svg .port.unknown rect { fill: var(--orange); stroke: var(--orange); }
 svg .port text { fill: var(--paper); font-weight: bold; }
 svg line.has, svg .peer.has rect { stroke: var(--red); }
 svg line.has { stroke-width: 2.5; }
-svg line.wants, svg .peer.wants rect { stroke: var(--red); stroke-dasharray: 4 3; }
+svg line.expected, svg .peer.expected rect { stroke: var(--red); stroke-dasharray: 4 3; }
 svg line.unknown, svg .peer.unknown rect { stroke: var(--orange); stroke-dasharray: 4 3; }
 """
 STYLE = PICTURES + """

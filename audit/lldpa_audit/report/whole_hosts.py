@@ -1,15 +1,14 @@
-"""Finds faults of whole hosts: no data, silence, a name that two hosts have, differing settings."""
-from typing import Container, Iterator, Mapping, Sequence
+"""Finds faults of whole hosts: no data, silence, a name that two hosts have."""
+from typing import Container, Iterator, Sequence
 
+from ..differs import with_options
 from ..judging import Finding, Verdict
-from ..mismatches import MISMATCH, Mismatch
-from ..names import MOST_NAMED, End, Names, shown
-from ..plan import Plan
+from ..names import MOST_NAMED, End, shown
 from ..spelling import plain_chassis
 from .repairs import Faults, Repair
 from .texts import listed
 
-FEWEST, FEWEST_UNLIKE = 2, 3
+FEWEST = 2
 
 
 def without_data(faults: Faults) -> Iterator[Repair]:
@@ -38,7 +37,9 @@ def silent(faults: Faults) -> Iterator[Repair]:
         if len(links[host]) >= FEWEST and all(key in faults.left for key in keys):
             end = faults.plan.ends[faults.plan.ends_of_hosts[host][0]].end
             text = f"silent at all {len(links[host])} links that were looked at"
-            yield Repair("silent", end, text, faults.take(keys), shown(end.host))
+            like = next(filter(None, (faults.like(faults.left[key].end) for key in keys)), "")
+            yield Repair("silent", end, f"{text} ({with_options(like)})" if like else text,
+                         faults.take(keys), shown(end.host))
 
 
 def silent_links(faults: Faults, host: str) -> Sequence[Sequence[End]]:
@@ -93,10 +94,10 @@ def several_chassis(findings: Sequence[Finding], hosts: Container[str]) -> Itera
     send its own ID."""
     unified: dict[str, dict[str, tuple[str, End]]] = {}
     for one in findings if hosts else ():
-        if one.verdict is Verdict.RIGHT and one.wants is not None and one.wants.host in hosts:
+        if one.verdict is Verdict.RIGHT and one.expected is not None and one.expected.host in hosts:
             chassis = one.has[0].chassis
             if chassis:
-                unified.setdefault(one.wants.host, {})[plain_chassis(chassis)] = chassis, one.end
+                unified.setdefault(one.expected.host, {})[plain_chassis(chassis)] = chassis, one.end
     several = [host for host, some in unified.items() if len(some) > 1]
     for host in several[:1]:
         some = list(unified[host].values())
@@ -104,43 +105,3 @@ def several_chassis(findings: Sequence[Finding], hosts: Container[str]) -> Itera
         text = f"{len(some)} chassis IDs ({listed(ids, len(some) - len(ids))})"
         more = f"; in all, {len(several)} hosts have several chassis IDs" if several[1:] else ""
         yield f"{shown(host)} is heard with {text}: two devices may have the same name{more}"
-
-
-def together(faults: Sequence[Finding], found: Mapping[End, Mismatch], names: Names, plan: Plan
-             ) -> Iterator[Repair]:
-    """Yields a repair for each host with three or more links whose ends differ in the same way, and
-    for each other link with a mismatch. A link is reported at one host only: preferably one
-    where at least half of the links differ in that way, then the one with more such links."""
-    groups: dict[tuple[str, str], list[Finding]] = {}
-    for fault in faults:
-        for key in keys_of(found[fault.end], names):
-            groups.setdefault(key, []).append(fault)
-    told: set[End] = set()
-    def rank(group: tuple[tuple[str, str], list[Finding]]) -> tuple[bool, int]:
-        links = len(plan.ends_of_hosts.get(group[0][0], ()))
-        return 2 * len(group[1]) < links, -len(group[1])
-    for (host, by), some in sorted(groups.items(), key=rank):
-        left = [fault for fault in some if fault.end not in told]
-        if len(left) >= FEWEST_UNLIKE:
-            told.update(fault.end for fault in left)
-            yield of_host(host, by, left, found, names)
-    for fault in faults:
-        if fault.end not in told:
-            yield Repair(MISMATCH, fault.end, found[fault.end].text, (fault,))
-
-
-def keys_of(one: Mismatch, names: Names) -> Iterator[tuple[str, str]]:
-    """Yields each host of a link with how the host differs, unless an end differs from the plan."""
-    if one.by_how_much:
-        yield names.host(one.ends[0].host), one.by_how_much
-        yield names.host(one.ends[1].host), one.opposite
-
-
-def of_host(host: str, by: str, some: Sequence[Finding], found: Mapping[End, Mismatch],
-            names: Names) -> Repair:
-    """Returns the repair of a host that differs from its neighbors in one way at several links."""
-    first = found[some[0].end]
-    end = next(end for end in first.ends if names.host(end.host) == host)
-    example = first.text.partition(": ")[2]
-    text = f"mismatch at {len(some)} links: differs in {by}; for example, {example}"
-    return Repair(MISMATCH, end, text, some, shown(end.host))

@@ -52,12 +52,12 @@ def recorded(files: Sequence[str], port: str, program: str) -> Listing:
     faults: list[str] = []
     notes: list[str] = []
     times: list[float] = []
-    told = Told(notes.append, faults.append, times.append)
+    reports = Told(notes.append, faults.append, times.append)
     seen: Ports = {}
     for first in range(0, len(heard), MOST_PORTS):
         some = heard[first:first + MOST_PORTS]
-        seen.update(at_the_end(frames_of(sources, told, True), some, program))
-        told = SILENT  # faults and notes are reported once
+        seen.update(at_the_end(frames_of(sources, reports, True), some, program))
+        reports = SILENT  # faults and notes are reported once
     return Listing({name: seen.get(at, ()) for name, at in ports.items()}, False,
                    faults=faults, notes=notes, time=max(times, default=0.0))
 

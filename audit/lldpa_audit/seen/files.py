@@ -1,21 +1,19 @@
 """Reads files of neighbors in any form. Many files are read by several processes."""
 import os
+import pickle
 import signal
-from contextlib import suppress
-from functools import partial
+from ctypes import CDLL
 from multiprocessing import get_context
-from multiprocessing.connection import Connection
-from typing import BinaryIO, Callable, Iterator, Optional, Sequence, Union
+from typing import BinaryIO, Iterator, Optional, Sequence
 
 from lldpa.agent.show import ShowFault
 from lldpa.capture.source import opened
 from lldpa.capture.unzip import MAGIC, Unzipped
 from lldpa.capture.window import BadCapture, Readable
-from lldpa.faults import LldpaFault
 
 from ..limits import LimitFault, limited
 from ..names import shown
-from ..what import What
+from ..what import What, platform_of
 from .forms import is_text, read_list
 from .listing import Listing, SeenFault
 
@@ -29,19 +27,22 @@ MOST_OCTETS = 32 << 20
 # lists unpack to 10 to 100 times their size, and hostile ones to 1000 times.
 MOST_TIMES, ALWAYS = 128, 4 << 20
 SMALL = 1 << 20  # octets of a list that cannot need much
+PR_SET_PDEATHSIG = 1  # of prctl(2)
+# all files, and the platforms that were given; only a process that reads parts of them has this
+WORK: list[tuple[Sequence[What], Sequence[str]]] = []
 
-ReadOne = Callable[[What], Optional[Listing]]
 
-
-def read_file(what: What, platform: str = "") -> Optional[Listing]:
+def read_file(what: What, platforms: Sequence[str] = ()) -> Optional[Listing]:
     """Returns what is in a file, None if it is not text. A switch's text is read by the templates
-    for `platform`. Raises OSError unless `what.is_found`."""
+    for its platform. Whatever goes wrong is a fault of this file. Raises OSError unless
+    `what.is_found`, and MemoryError."""
     try:
         with opened(what.file) as file:
             stat = os.fstat(file.fileno())
             octets = octets_of(file, stat.st_size)
         if octets is None:
             return None
+        platform = platform_of(what.file, platforms)
         if len(octets) < SMALL and not platform:
             return placed(read_list(octets), what.file, stat.st_mtime)
         with limited(what.file, *warranted(len(octets))):
@@ -54,6 +55,11 @@ def read_file(what: What, platform: str = "") -> Optional[Listing]:
         if not what.is_found:
             raise
         return Listing({}, False, faults=[f"{what.file}: {fault.strerror or fault}"])
+    except MemoryError:
+        raise
+    except Exception as fault:  # one file must not end the audit of all others
+        why = shown(f"{type(fault).__name__}: {fault}")
+        return Listing({}, False, faults=[f"{what.file}: it cannot be read: {why}"])
 
 
 def warranted(octets: int) -> tuple[float, int]:
@@ -95,63 +101,36 @@ def placed(listing: Listing, file: str, written: float) -> Listing:
     return listing._replace(hosts=hosts, time=listing.time or written)
 
 
-def read_files(whats: Sequence[What], platform: str = "") -> Iterator[Optional[Listing]]:
-    """Reads the files, in parallel if there are many. Yields what is in each. Raises OSError."""
-    read_one = partial(read_file, platform=platform)
+def read_files(whats: Sequence[What], platforms: Sequence[str] = ()) -> Iterator[Optional[Listing]]:
+    """Yields what is in each file. Several processes read many files. Raises OSError, and
+    MemoryError if a process ends early."""
     processors = len(os.sched_getaffinity(0))
     if len(whats) < MANY or processors < 2:
-        return map(read_one, whats)
+        yield from (read_file(what, platforms) for what in whats)
+        return
+    from concurrent.futures.process import BrokenProcessPool, ProcessPoolExecutor  # slow to load
     at_a_time = min(FILES_AT_A_TIME, len(whats) // (4 * processors) + 1)
-    parts = [whats[at:at + at_a_time] for at in range(0, len(whats), at_a_time)]
-    return read_in_parallel(read_one, parts, processors)
-
-
-def read_in_parallel(read_one: ReadOne, parts: Sequence[Sequence[What]], count: int
-                     ) -> Iterator[Optional[Listing]]:
-    """Reads parts of the files by `count` processes, and yields what is in each file. The main
-    thread receives it: if memory ends in a pool's thread, an audit waits for ever. Raises
-    OSError."""
-    context = get_context("fork")
-    receivers: list[Connection] = []
-    processes = []
-    try:
-        for number in range(count):
-            receiver, sender = context.Pipe(duplex=False)
-            receivers.append(receiver)
-            process = context.Process(target=send_parts, args=(
-                read_one, parts[number::count], sender, receivers))
-            process.start()
-            processes.append(process)
-            sender.close()
-        for number in range(len(parts)):
-            yield from received(receivers[number % count])
-    finally:  # also if the rest is not wanted
-        for process in processes:
-            process.terminate()
-            process.join()
-
-
-def send_parts(read_one: ReadOne, parts: Sequence[Sequence[What]], sender: Connection,
-               receivers: Sequence[Connection]) -> None:
-    """Sends what is in parts of the files, or the exception that ends the reading. Nobody but the
-    audit can receive it, so this process ends if the audit does."""
-    signal.signal(signal.SIGINT, signal.SIG_DFL)
-    for receiver in receivers:
-        receiver.close()
-    with suppress(MemoryError, BrokenPipeError):
+    parts = [slice(at, at + at_a_time) for at in range(0, len(whats), at_a_time)]
+    with ProcessPoolExecutor(processors, get_context("fork"), begin, (whats, platforms)) as pool:
         try:
-            for part in parts:
-                sender.send(list(map(read_one, part)))
-        except (OSError, ValueError, LldpaFault) as fault:
-            sender.send(fault)
+            for octets in pool.map(read_part, parts):
+                yield from pickle.loads(octets)
+        except BrokenProcessPool:
+            raise MemoryError from None
+        finally:  # also if the rest is not wanted
+            pool.shutdown(cancel_futures=True)
 
 
-def received(receiver: Connection) -> Sequence[Optional[Listing]]:
-    """Returns what a process sends. A process that ends before it has sent all has no memory."""
-    try:
-        found: Union[Exception, Sequence[Optional[Listing]]] = receiver.recv()
-    except (EOFError, OSError):
-        raise MemoryError from None
-    if isinstance(found, Exception):
-        raise found
-    return found
+def begin(whats: Sequence[What], platforms: Sequence[str]) -> None:
+    """Begins a process that reads parts of these files, which it has from the audit that it is a
+    copy of. Lets it end if the audit does, or is interrupted."""
+    CDLL(None).prctl(PR_SET_PDEATHSIG, signal.SIGKILL)
+    signal.signal(signal.SIGINT, signal.SIG_DFL)
+    WORK.append((whats, platforms))
+
+
+def read_part(part: slice) -> bytes:
+    """Returns what is in a part of the files as octets. A pool's thread would make objects of them
+    while the main thread works, and each would wait for the other."""
+    (whats, platforms), = WORK
+    return pickle.dumps([read_file(what, platforms) for what in whats[part]])

@@ -1,6 +1,8 @@
 """Finds the files in a folder: HOST.json, or the files below a folder HOST."""
 import os
-from typing import Callable, Iterator, Sequence
+from typing import Callable, Iterable, Iterator, Sequence
+
+from lldpa.capture.source import hold
 
 from ..what import What, read_what, without_ending
 from .captures import is_of_one_port
@@ -21,6 +23,14 @@ def read_whats(words: Sequence[str], ours: str, say: Say) -> Iterator[What]:
         if not files:
             raise ValueError(f"{what.file}: it is a folder without files to read")
         yield from files
+
+
+def hold_pipes(whats: Iterable[What]) -> None:
+    """Copies what is in pipes, which can be read only once. No file of a folder is a pipe. Raises
+    OSError."""
+    for what in whats:
+        if not what.is_found:
+            hold(what.file)
 
 
 def of_hosts(folder: str, say: Say) -> Iterator[What]:

@@ -9,7 +9,7 @@ from .listing import Listing, SeenFault
 from .shows import read_ports
 from .snmp import IS_WALK, read_walk
 from .templates import rows_of
-from .trees import USE_JSON, last_line, listing_of
+from .trees import USE_A_LIST, USE_JSON, last_line, listing_of
 
 TEXT = bytes([*b"\t\r\n\x1b\a\b", *range(0x20, 0x100)])
 UTF_16 = (codecs.BOM_UTF16_LE, codecs.BOM_UTF16_BE)
@@ -22,8 +22,10 @@ FORMS: tuple[tuple[re.Pattern[str], Callable[[str], Listing]], ...] = (
     (XML, lambda text: listing_of(tree_of_xml(text), read_text)),
 )
 AT_ONCE = 1 << 16
+NO_MEMORY = 1  # the code of XML_ERROR_NO_MEMORY
 FAILED = "the command that wrote it failed"
-PLAIN = "it looks like a switch's plain text: use its JSON, or --platform (see lldpa-audit(1))"
+PLAIN = ("it looks like a switch's plain text: use `show lldp neighbors detail | json`, or "
+         "--platform")
 # what a text is if it is not a list of neighbors: a pattern for its beginning, and the message
 CAUSES = (
     (r"lldp\.[^\n=]+\.via=", f"it is in lldpcli's keyvalue format: {USE_JSON}"),
@@ -31,7 +33,11 @@ CAUSES = (
     (r"(?:<\?xml[^>]*>)?\s*<lldp\b", f"it is lldpcli's XML: {USE_JSON}"),
     (r"lldp\.", "it is the output of another show command: use `lldpa-ctl show neighbors`"),
     (r"\s*<(?:!DOCTYPE html|html)", "it is a web page, such as a login page"),
-    (r"\s*<", "it is XML, but not a known list of neighbors"),
+    (r"\s*<", "it is XML, but not a known list of neighbors: use `show lldp neighbors detail | "
+              "display xml`"),
+    (r"---\s|[\w./-]+:[ \t]*\n\s*(?:- |[\w./-]+:)", f"it is YAML: {USE_A_LIST}"),
+    (r"[\w\" ./-]*(?:[,;\t][\w\" ./-]*){3,}\n", "it is CSV, as a plan is: the plan is the first "
+                                              f"argument; for a list, {USE_A_LIST}"),
     (r"\s*[{\[]", "it begins like JSON, but is not valid JSON"),
     (r"(?is:.{0,4000}?(?:traceback \(most|invalid (?:input|command)|command not found|"
      r"permission denied|connection (?:refused|timed)|unknown command|syntax error))",
@@ -55,7 +61,7 @@ def read_text(text: str, platform: str = "") -> Listing:
     found = BEGIN.search(text, 0, LONGEST_BANNER)
     if found:
         # tools remove the last line feed of what a command printed
-        return listing_of(tree_of(text, found.end()), lambda said: read_text(said + "\n", platform))
+        return listing_of(tree_of(text, found.end()), lambda one: read_text(one + "\n", platform))
     cause = next(cause for begins, cause in CAUSES if re.match(begins, text))
     if cause == PLAIN and platform:
         if not text.endswith("\n"):
@@ -73,16 +79,18 @@ def tree_of_xml(text: str) -> Any:
         root.append(parser.close())
         return node_of(root)
     except (ElementTree.ParseError, RecursionError, ValueError) as fault:
+        if getattr(fault, "code", 0) == NO_MEMORY:
+            raise MemoryError from None
         raise SeenFault(f"it is not valid XML: {fault}") from None
 
 
 def node_of(element: ElementTree.Element) -> dict[str, Any]:
     """Returns an element as an object: its text, and its parts by their names."""
-    node: dict[str, Any] = {"data": (element.text or "").strip()}
+    node: dict[str, Any] = {}
     for part in element:
         name = part.tag.rpartition("}")[2]  # without its namespace
         node.setdefault(name, []).append(node_of(part))
-    return node
+    return node or {"data": (element.text or "").strip()}
 
 
 def text_of(octets: bytes) -> str:

@@ -4,12 +4,12 @@ from math import inf
 from typing import Callable, Iterator, Mapping, Optional, Sequence
 
 from lldpa.capture.source import opened
-from lldpa.client.connection import Client
 
 from ..ages import worded
 from ..names import End, Names, shown
 from ..plan import Plan
 from ..what import What, of_hosts
+from .asking import asked
 from .captures import read_captures
 from .listing import Listing
 from .shows import read_ports
@@ -124,13 +124,12 @@ class Gathering:
     def add_live(self, host: str, path: str, plan: Plan, seconds: float) -> None:
         """Adds the ports of lldpa-live when each planned port has a neighbor or the time is up."""
         end = time.monotonic() + seconds
-        with Client(path) as client:
-            while True:
-                ports = read_ports("\n".join([*client.ask("show neighbors"), ""]))
-                silent = [port for port, neighbors in ports.items() if not neighbors]
-                waits = any(self.tables.names.end(End(host, port)) in plan.ends for port in silent)
-                if not waits or time.monotonic() >= end:
-                    break
-                time.sleep(SECONDS_BETWEEN_LOOKS)
+        while True:
+            ports = read_ports(asked(path, "show neighbors"))
+            silent = [port for port, neighbors in ports.items() if not neighbors]
+            waits = any(self.tables.names.end(End(host, port)) in plan.ends for port in silent)
+            if not waits or time.monotonic() >= end:
+                break
+            time.sleep(SECONDS_BETWEEN_LOOKS)
         self.need_one(host, self.tables.add_ports(host, ports, path))
         self.tables.times.append(self.now)

@@ -1,8 +1,7 @@
 """Defines what each reader returns: the ports of a host, and the neighbors seen at them."""
 from __future__ import annotations
 
-from itertools import chain, islice
-from typing import Any, Mapping, NamedTuple, Sequence
+from typing import Mapping, NamedTuple, Sequence
 
 from lldpa.faults import LldpaFault
 from ..names import Seen
@@ -29,18 +28,3 @@ class Listing(NamedTuple):
     time: float = 0.0
     source: str = ""
     reasons: Mapping[str, str] = {}
-
-    def __reduce__(self) -> tuple[Any, ...]:
-        """Returns how another process makes a copy: from columns, the values of each field of all
-        neighbors. To copy neighbors one by one takes twice the time."""
-        counts = [len(some) for some in self.ports.values()]
-        columns = list(zip(*chain.from_iterable(self.ports.values())))
-        return listing_of_columns, (list(self.ports), counts, columns, self[1:])
-
-
-def listing_of_columns(ports: Sequence[str], counts: Sequence[int],
-                       columns: Sequence[Sequence[Any]], others: Sequence[Any]) -> Listing:
-    """Returns a listing from its ports, how many neighbors each has, and columns."""
-    neighbors = map(Seen._make, zip(*columns))
-    return Listing({port: tuple(islice(neighbors, count)) for port, count in zip(ports, counts)},
-                   *others)

@@ -2,24 +2,22 @@
 import ipaddress
 from contextlib import suppress
 from functools import lru_cache
-from typing import Iterable, Optional, Sequence
+from typing import Iterable, Sequence
 
 from ..names import Seen
-from ..link_settings import Settings
 
 LONGEST = 512
 MOST_KEPT = 32768
 
 
 def neighbor(chassis: str, kind: str, port_id: str, name: str = "", descr: str = "",
-             addresses: Iterable[str] = (), settings: Optional[Settings] = None) -> Seen:
+             addresses: Iterable[str] = (), aggregated: bool = False) -> Seen:
     """Returns a neighbor with all names of its host and port. A field that it does not announce is
     empty. `kind` is lldpcli's word for the type of its Port ID. The host's first name is the
     System Name; the port's is the Port Description, or the Port ID if that names an interface."""
     hosts, chassis = names_of_host(name, chassis, *addresses)
     ports, port_id, is_named = names_of_port(kind, port_id, descr)
-    aggregated = settings is not None and bool(settings.is_aggregated)
-    return Seen(hosts, ports, chassis, port_id, aggregated, settings, is_named)
+    return Seen(hosts, ports, chassis, port_id, aggregated, is_named)
 
 
 # many neighbors have the same texts: each text is kept only once, and sent once between processes

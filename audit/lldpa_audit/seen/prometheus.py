@@ -5,7 +5,6 @@ import re
 from collections import defaultdict
 from typing import Any, Iterator
 
-from ..link_settings import settings_of
 from ..names import NAMELESS, Seen
 from .listing import Listing, SeenFault
 from .neighbor import neighbor
@@ -32,9 +31,8 @@ def read_prometheus(tree: Any) -> Listing:
             if value:
                 at_port[PORTS] = NAMELESS
         elif "chassis" in labels and "port_id" in labels:
-            settings = settings_of(labels["max_frame_size"], labels["pvid"], "", "")
             one = neighbor(labels["chassis"], labels["port_id_kind"], labels["port_id"],
-                           labels["name"], labels["port_descr"], [labels["management"]], settings)
+                           labels["name"], labels["port_descr"], [labels["management"]])
             heard.setdefault(host, {}).setdefault(port, {})[one] = one
     if not heard:
         raise SeenFault("it is an answer of Prometheus without lldpa_neighbor_info: see "

@@ -1,17 +1,15 @@
 """Reads the neighbors of ports in JSON whose form is known."""
 import re
-from collections import Counter
 from functools import lru_cache
 from itertools import product
-from typing import Any, Iterator, Optional
+from typing import Any, Iterator
 
-from ..link_settings import Settings, settings_of
 from ..names import NAMELESS, Seen
 from .fields import OURS, Form
 from .listing import Listing, SeenFault
 from .neighbor import MOST_KEPT, neighbor
-from .shows import SETTING, settings_of_tlvs
-from .ways import found_by, reader_of, text, texts
+from .shows import is_aggregated
+from .paths import found_by, reader_of, text, texts
 
 LLDP = "LLDP"
 # vendors' words for the types of Port ID that are an interface's name or alias
@@ -32,7 +30,7 @@ class Fields:
         self.descr = reader_of(form.descr)
         self.kind = reader_of(form.kind) if form.kind else None
         self.addresses = form.addresses
-        self.has_settings = bool(form.settings) or form is OURS
+        self.may_be_member = bool(form.aggregate) or form is OURS
         self.has_quotes = form.chassis == "chassisId"
 
     def seen(self, node: dict[str, Any], port: str) -> Seen:
@@ -46,7 +44,15 @@ class Fields:
             port_id = port_id.strip('"')
         return neighbor(chassis, kind, port_id, name, descr,
                         texts(node, self.addresses) if self.addresses else (),
-                        settings(node, self.form) if self.has_settings else None)
+                        self.may_be_member and self.is_member(node))
+
+    def is_member(self, node: dict[str, Any]) -> bool:
+        """Returns whether a neighbor announces that its port is a member of an aggregate."""
+        if self.form is OURS:
+            return is_aggregated(tuple((f"org.{text(one, 'kind')}", text(one, "octets"))
+                                       for _, org in found_by(node, "org")
+                                       for one in listed(org, "org")))
+        return text(node, self.form.aggregate) not in ("", "0")
 
     def need_names(self, chassis: str, host: str, its_port: str, port: str) -> None:
         """Raises SeenFault if a neighbor without chassis ID or Port ID lacks what it needs."""
@@ -96,9 +102,8 @@ def is_by_lldp(node: dict[str, Any], form: Form, port: str) -> bool:
     protocol = text(node, form.protocol)
     if not protocol:
         raise SeenFault(f"{port!r} has a neighbor without a protocol: use "
-                        + ("RouterOS 7.7 or later" if form.protocol == "discovered-by" else
-                           "`lldpcli -f json show neighbors details`"))
-    return LLDP in protocol.upper().split(",")
+                        "`lldpcli -f json show neighbors details`")
+    return protocol.upper() == LLDP
 
 
 def listing_of_rows(rows: Any, form: Form) -> Listing:
@@ -112,23 +117,11 @@ def listing_of_rows(rows: Any, form: Form) -> Listing:
             raise SeenFault(f"{host!r} is in two namespaces, {spaces[host]!r} and {space!r}: give "
                             "only one")
         hosts.setdefault(host, []).append(row)
-    if form.protocol:
-        hosts = {host: list(at_one_port_each(some, form)) for host, some in hosts.items()}
-        form = form._replace(protocol="")
     if "" not in hosts:
         return Listing({}, True, {host: read_form(some, form) for host, some in hosts.items()})
     if len(hosts) > 1:
         raise SeenFault(f"only some of its rows have a {form.host}")
     return read_form(hosts[""], form)
-
-
-def at_one_port_each(rows: list[dict[str, Any]], form: Form) -> Iterator[dict[str, Any]]:
-    """Yields the rows of RouterOS about neighbors heard by LLDP; other protocols cross switches. A
-    row names a port and its bridge: the port is the interface that the fewest rows name."""
-    rows = [row for row in rows if is_by_lldp(row, form, text(row, form.port))]
-    times = Counter(one for row in rows for one in text(row, form.port).split(","))
-    for row in rows:
-        yield {**row, form.port: min(text(row, form.port).split(","), key=times.__getitem__)}
 
 
 def ports_of(tree: Any, form: Form) -> Iterator[tuple[str, Any]]:
@@ -148,23 +141,13 @@ def ports_of(tree: Any, form: Form) -> Iterator[tuple[str, Any]]:
 
 def neighbors_of(node: Any, form: Form, port: str) -> list[Any]:
     """Returns the neighbors of a port. Raises SeenFault if the field for them is missing."""
-    way = form.neighbors
-    if not way:
+    path = form.neighbors
+    if not path:
         return listed(node, port)
-    found = list(found_by(node, way.removeprefix("?")))
-    if not found and not way.startswith("?"):
-        raise SeenFault(f"{port!r} has no {way}")
+    found = list(found_by(node, path.removeprefix("?")))
+    if not found and not path.startswith("?"):
+        raise SeenFault(f"{port!r} has no {path}")
     return [neighbor for _, some in found for neighbor in listed(some, port)]
-
-
-def settings(node: Any, form: Form) -> Optional[Settings]:
-    """Returns the settings that a neighbor announces."""
-    if form is OURS:
-        tlvs = [(f"org.{text(one, 'kind')}", text(one, "octets"))
-                for _, org in found_by(node, "org") for one in listed(org, "org")]
-        return settings_of_tlvs(tuple(one for one in tlvs if re.fullmatch(SETTING, one[0])))
-    size, pvid, mau, aggregate = (text(node, way) for way in form.settings)
-    return settings_of(size, pvid, mau, aggregate if aggregate != "0" else "")
 
 
 @lru_cache(MOST_KEPT)

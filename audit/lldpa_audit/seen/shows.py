@@ -3,15 +3,14 @@ of its time here, so one expression matches a whole neighbor, and a port that ha
 import re
 from functools import lru_cache
 from sys import intern
-from typing import Optional, Sequence
+from typing import Sequence
 
 from lldpa.agent.show import (CHASSIS_KINDS, DIGITS, NAME, PORT_KINDS, ShowFault, read_show,
                               unescaped)
 from lldpa.agent.shown import SAID_KEY
-from lldpa.organizational import LinkAggregation, MacPhy, said_by
 
-from ..link_settings import Settings, none_if_empty
 from ..names import NAMELESS, Seen
+from . import aggregates
 from .listing import Ports
 from .neighbor import MOST_KEPT, neighbor
 
@@ -41,11 +40,10 @@ PORT = re.compile(of_port(f"({DIGITS})", "(yes|no)"))
 NEIGHBOR = re.compile(of_neighbor(rf"lldp\.({NAME})\.({DIGITS})", r"lldp\.\1\.\2"))
 # most ports have one neighbor
 PORT_WITH_ONE = re.compile(of_port("1", "no") + of_neighbor(r"lldp\.\1\.1", r"lldp\.\1\.1"))
-# Port VLAN ID, MAC/PHY, Maximum Frame Size, and Link Aggregation by 802.1 and by 802.3
-SETTING = r"org\.(?:0080c2\.[17]|00120f\.[134])"
-# the other lines that name the neighbor, or have a setting of its link
-SAID = re.compile(
-    rf"\nlldp\.[^.]+\.[0-9]+\.(chassis\.name|chassis\.mgmt|port\.descr|{SETTING})=(.*)")
+AGGREGATION = rf"org\.(?:{'|'.join(map(re.escape, aggregates.KINDS))})"
+# the other lines that name the neighbor, or say that its port is a member of an aggregate
+FURTHER = re.compile(
+    rf"\nlldp\.[^.]+\.[0-9]+\.(chassis\.name|chassis\.mgmt|port\.descr|{AGGREGATION})=(.*)")
 OTHER_SHOW = re.compile(rf"lldp\.{NAME}\.sent=|local-chassis\.|configuration\.")
 
 
@@ -96,16 +94,16 @@ def neighbor_of(lines: str, chassis: str, kind: str, port_id: str, descr: str, n
                 address: str, others: str) -> Seen:
     """Returns the neighbor in these lines, by what an expression has found in them."""
     if others or "\\" in lines:
-        said = SAID.findall(others)
-        return seen_neighbor(chassis, kind, port_id, said, descr, name, address)
+        further = FURTHER.findall(others)
+        return seen_neighbor(chassis, kind, port_id, further, descr, name, address)
     return neighbor(chassis, kind, port_id, name, descr, (address,))
 
 
-def seen_neighbor(chassis: str, kind: str, port_id: str, said: Sequence[tuple[str, str]],
+def seen_neighbor(chassis: str, kind: str, port_id: str, further: Sequence[tuple[str, str]],
                   descr: str = "", name: str = "", address: str = "") -> Seen:
     """Returns a neighbor from its identifiers, its first lines and its other lines."""
     addresses, tlvs = [address], []
-    for key, value in said:
+    for key, value in further:
         if key == "chassis.name":
             name = value
         elif key == "port.descr":
@@ -114,22 +112,16 @@ def seen_neighbor(chassis: str, kind: str, port_id: str, said: Sequence[tuple[st
             addresses.append(value)
         else:
             tlvs.append((key, value))
-    settings = settings_of_tlvs(tuple(tlvs)) if tlvs else None
     return neighbor(plain(chassis), kind, plain(port_id), plain(name), plain(descr),
-                    map(plain, addresses), settings)
+                    map(plain, addresses), is_aggregated(tuple(tlvs)))
 
 
-@lru_cache(MOST_KEPT)  # a network has few settings, and many ports
-def settings_of_tlvs(tlvs: tuple[tuple[str, str], ...]) -> Optional[Settings]:
-    """Returns the settings in TLVs, each given by its key in `show neighbors` and its octets."""
-    said = said_by([(key[len("org."):], octets) for key, octets in tlvs])
-    mac_phy, aggregation = said.one(MacPhy), said.one(LinkAggregation)
-    mau = None if mac_phy is None else mac_phy.mau
-    speed, duplex = (None, None) if mau is None else (mau.speed, mau.duplex)
-    is_aggregated = None if aggregation is None else aggregation.is_aggregated
-    number = aggregation.port if aggregation is not None and is_aggregated else None
-    return none_if_empty(Settings(said.max_frame_size or None, said.pvid or None, speed, duplex,
-                                  is_aggregated, number))
+@lru_cache(MOST_KEPT)  # a network has few aggregates, and many ports
+def is_aggregated(tlvs: tuple[tuple[str, str], ...]) -> bool:
+    """Returns whether TLVs say that a port is a member of an aggregate. Each has its key in `show
+    neighbors` and its octets."""
+    return aggregates.is_aggregated(octets for key, octets in tlvs
+                                    if re.fullmatch(AGGREGATION, key))
 
 
 def line_of(text: str, at: int) -> int:

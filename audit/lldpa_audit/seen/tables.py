@@ -31,7 +31,7 @@ class Tables:
         """Adds an audited host. Raises ValueError if --short-names merges it with another."""
         before = self.hosts.setdefault(self.names.host(host), host)
         if before != host and self.names.short_names:
-            whole = self.names.with_domains()
+            whole = self.names.of_whole_hosts()
             if whole.host(before) != whole.host(host):
                 raise ValueError(f"{shown(before)} and {shown(host)} would be one host with "
                                  "--short-names")
@@ -71,12 +71,7 @@ class Tables:
             self.ends = {key: port for key, port in self.ends.items()
                          if key.host not in self._forgotten}
 
-    def complete(self, plan: Plan) -> None:
-        """Adds the planned ports that complete lists of neighbors lack."""
-        for key, wish in plan.ends.items():
-            self.told(key, wish.end)
-
-    def told(self, key: End, end: End) -> Optional[KnownPort]:
+    def known(self, key: End, end: End) -> Optional[KnownPort]:
         """Returns what is known of a planned port, written as `end`. Adds the port if a complete
         list of neighbors lacks it: it has no neighbor. A port for which a reason was noted, such
         as a damaged file, remains without data."""
@@ -89,6 +84,10 @@ class Tables:
         """Returns whether it is known what an end hears, perhaps from a complete list that does not
         have the end."""
         return key in self.ends or key.host in self._listed and not self.reason(key)
+
+    def with_data(self) -> set[str]:
+        """Returns the hosts of which something is known, even if it is that they hear nobody."""
+        return {key.host for key in self.ends} | self._listed.keys()
 
     def beside(self, plan: Plan) -> list[End]:
         """Returns the ports with data that are not planned, sorted."""

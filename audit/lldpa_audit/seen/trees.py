@@ -1,15 +1,17 @@
 """Finds which form JSON has, also inside answers of APIs and files of many hosts."""
+import re
 from typing import Any, Callable, Optional
 
 from lldpa.texts import printable
 
-from .fields import FORMS, NAPALM, ROWS, UNIFI, Form
+from ..names import first_of
+from .fields import FORMS, NAPALM, ROWS, Form
 from .gnmic import is_gnmic, read_gnmic
 from .listing import Listing, SeenFault
 from .neighbor import clean
 from .prometheus import read_prometheus
 from .reading import listing_of_rows, read_form
-from .ways import begins_of, leads, text
+from .paths import begins_of, leads, text
 
 # names under which NAPALM, salt, Ansible, eAPI, NX-API, Junos and gNMI tools put neighbors
 GETTERS = [f"{front}lldp_neighbors{detail}" for front in ("", "get_", "napalm_")
@@ -18,7 +20,9 @@ WRAPPERS = (*GETTERS, "out", "ansible_facts", "result", "ins_api", "outputs", "o
             "rpc-reply", "multi-routing-engine-results", "multi-routing-engine-item", "stdout",
             "parsed", "notification", "update", "val", "Cisco-IOS-XR-ethernet-lldp-oper:lldp",
             "srl_nokia-lldp:lldp", "openconfig-lldp:lldp", "lldp", "openconfig-lldp:interfaces",
-            "interfaces")
+            "interfaces", "data")
+USE_A_LIST = ("use what `show lldp neighbors detail | json` or NAPALM's get_lldp_neighbors_detail "
+              "prints")
 USE_JSON = "use `lldpcli -f json show neighbors details`"
 # for JSON that is not a full list of neighbors: names that lead somewhere in it, and what it is
 CAUSES = (
@@ -34,11 +38,11 @@ CAUSES = (
      "IOS-XR's neighbors without `details`: ask for nodes/node/neighbors/details"),
 )
 LONGEST_SHOWN = 200
-# an object of none of these ways is a wrapper, or has NAPALM's form: most lists are found so
+# an object of none of these paths is a wrapper, or has NAPALM's form: most lists are found so
 ROW_SIGNS = ", ".join(form.sign for form in ROWS)
-SIGNS = ", ".join([ROW_SIGNS, *(form.sign for form in FORMS), *(ways for ways, _ in CAUSES),
+SIGNS = ", ".join([ROW_SIGNS, *(form.sign for form in FORMS), *(paths for paths, _ in CAUSES),
                    "data"])
-OF_ANY_NAME = ", ".join(way for way in SIGNS.split(", ") if way.startswith("*"))
+OF_ANY_NAME = ", ".join(path for path in SIGNS.split(", ") if path.startswith("*"))
 
 ReadText = Callable[[str], Listing]
 
@@ -72,14 +76,11 @@ def listing_of_host(tree: Any, read_text: ReadText) -> Optional[Listing]:
         return listing_of_rows(tree, rows)
     if isinstance(tree, list):
         return listing_of_one(tree, read_text)
-    cause = next((cause for way, cause in CAUSES if leads(tree, way)), "")
+    cause = next((cause for path, cause in CAUSES if leads(tree, path)), "")
     if cause:
         raise SeenFault(f"it is {cause}")
     if leads(tree, "data resultType"):
         return read_prometheus(tree)
-    if leads(tree, "data lldp_table"):
-        return Listing({}, True, {text(one, "name, mac"): read_form(one["lldp_table"], UNIFI)
-                                  for one in tree["data"] if leads(one, "lldp_table")})
     form = next((form for form in FORMS if leads(tree, form.sign)), None)
     if form is not None:
         need_one(tree, form)
@@ -101,13 +102,21 @@ def listing_in(tree: dict[str, Any], read_text: ReadText) -> Optional[Listing]:
     wrapper = next((name for name in WRAPPERS if name in tree), None)
     if wrapper is not None:
         inner = tree[wrapper]
-        said = inner[0] if isinstance(inner, list) and len(inner) == 1 else inner
-        is_text = wrapper == "stdout" and isinstance(said, str)
-        return read_text(said) if is_text else listing_of_host(inner, read_text)
-    is_napalm = all(isinstance(one, list) for one in tree.values())
-    first = next(filter(None, tree.values()), ())
-    is_of_rows = leads(lowered(first), ROW_SIGNS)
-    return read_form(tree, NAPALM) if is_napalm and not is_of_rows else None
+        printed = inner[0] if isinstance(inner, list) and len(inner) == 1 else inner
+        is_text = wrapper == "stdout" and isinstance(printed, str)
+        return read_text(printed) if is_text else listing_of_host(inner, read_text)
+    return read_form(tree, NAPALM) if is_of_napalm(tree) else None
+
+
+def is_of_napalm(tree: dict[str, Any]) -> bool:
+    """Returns whether an object has a list for each port: NAPALM's neighbors or, if all lists are
+    empty, names with a number. An object without names is NAPALM's if nobody is heard."""
+    if not all(isinstance(one, list) for one in tree.values()):
+        return False
+    first = next(filter(None, tree.values()), None)
+    if first is None:
+        return all(map(re.compile("[0-9]").search, tree))
+    return leads({"": first}, NAPALM.sign) and not leads(lowered(first), ROW_SIGNS)
 
 
 def listing_of_one(answers: list[Any], read_text: ReadText) -> Optional[Listing]:
@@ -155,7 +164,17 @@ def unknown(tree: Any) -> SeenFault:
                          "if it cannot parse the text")
     if leads(tree, "message, msg, error, errors"):
         return SeenFault("it is an error message, not a list of neighbors")
-    return SeenFault("it is JSON, but not a known list of neighbors: see lldpa-audit(1)")
+    return SeenFault(f"it is {found_in(tree)}, not a known list of neighbors: {USE_A_LIST}")
+
+
+def found_in(tree: Any) -> str:
+    """Returns what JSON has, in a few words."""
+    if isinstance(tree, list):
+        count = f"JSON with a list of {len(tree)} {'value' if len(tree) == 1 else 'values'}"
+        return f"{count}, the first of which is {found_in(tree[0])}"
+    if not isinstance(tree, dict):
+        return "JSON without any object" if isinstance(tree, (bool, type(None))) else "a text"
+    return f"JSON with the names {', '.join(first_of([name[:LONGEST_SHOWN] for name in tree]))}"
 
 
 def last_line(words: Optional[str]) -> str:
