@@ -1,6 +1,6 @@
 /*
- * An agent that sends and receives LLDP on Linux interfaces. It prints each neighbor that comes or
- * leaves, sleeps until something is due or a frame comes, and says goodbye on SIGINT or SIGTERM.
+ * An agent that sends and receives LLDP on Linux interfaces. It prints each neighbor that comes, leaves
+ * or ages out, sleeps until something is due or a frame comes, and says goodbye on SIGINT or SIGTERM.
  * Needs the right to open packet sockets (CAP_NET_RAW).
  *     cc agent.c $(pkg-config --cflags --libs lldpa) -o agent && sudo ./agent eth0 eth1
  */
@@ -89,6 +89,29 @@ static void send_all(lldpa_agent *agent, const lldpa_marks *marks)
     }
 }
 
+/* Prints what happened to a neighbor, whose IDs are ranges of these octets. */
+static void print_neighbor(uint32_t port, const char *what, const uint8_t *octets, lldpa_place chassis, lldpa_place id)
+{
+    static uint8_t first[LLDPA_VALUE_ROOM], second[LLDPA_VALUE_ROOM];
+    size_t used = 0, more = 0;
+    lldpa_tlv_text(1, octets + chassis.start, chassis.length, first, sizeof first, &used);
+    lldpa_tlv_text(2, octets + id.start, id.length, second, sizeof second, &more);
+    printf("%s %s %.*s %.*s\n", names[port], what, (int)used, (const char *)first, (int)more, (const char *)second);
+    fflush(stdout);
+}
+
+/* Prints the neighbors that aged out at the last second that was reported. */
+static void print_aged(lldpa_agent *agent)
+{
+    static uint8_t room[LLDPA_NEIGHBOR_ROOM];
+    lldpa_held held;
+    for (uint32_t port = 0; port < count; port++) {
+        for (uint32_t at = 0; lldpa_aged(agent, port, at, room, sizeof room, &held) == LLDPA_OK; at++) {
+            print_neighbor(port, "aged out", room, held.pdu.chassis, held.pdu.port);
+        }
+    }
+}
+
 /* Reports the seconds that passed. Sends what became due in each of them. */
 static void pass(lldpa_agent *agent, uint32_t seconds)
 {
@@ -96,14 +119,14 @@ static void pass(lldpa_agent *agent, uint32_t seconds)
     lldpa_ticks_taken done;
     for (; seconds > 0 && lldpa_ticks(agent, seconds, &marks, &done) == LLDPA_OK; seconds -= done.taken) {
         send_all(agent, &marks);
+        print_aged(agent);
     }
 }
 
 /* Passes a frame to the agent, and prints whether a neighbor came or left. */
 static void hear(lldpa_agent *agent, uint32_t port)
 {
-    static uint8_t frame[2048], chassis[LLDPA_VALUE_ROOM], id[LLDPA_VALUE_ROOM];
-    size_t used = 0, more = 0;
+    static uint8_t frame[2048];
     lldpa_marks marks;
     lldpa_news news;
     ssize_t length = recv(ports[port].fd, frame, sizeof frame, 0);
@@ -112,11 +135,7 @@ static void hear(lldpa_agent *agent, uint32_t port)
     }
     send_all(agent, &marks);
     if (news.what == LLDPA_NEWS_NEW || news.what == LLDPA_NEWS_GONE) {
-        lldpa_tlv_text(1, frame + news.chassis.start, news.chassis.length, chassis, sizeof chassis, &used);
-        lldpa_tlv_text(2, frame + news.port.start, news.port.length, id, sizeof id, &more);
-        printf("%s %s %.*s %.*s\n", names[port], news.what == LLDPA_NEWS_NEW ? "new" : "gone", (int)used,
-               (const char *)chassis, (int)more, (const char *)id);
-        fflush(stdout);
+        print_neighbor(port, news.what == LLDPA_NEWS_NEW ? "new" : "gone", frame, news.chassis, news.port);
     }
 }
 

@@ -1,14 +1,26 @@
 #!/usr/bin/env python3
 """Compares lldpa with plain C that does the same work (tools/bench/yardstick.c), in one run.
 
+    tools/bench/bench.py [--program PROGRAM] [--only TEXT] [--times N]   prints the table
+    tools/bench/bench.py --others      also measures a start, readers of captures, and an audit
+    tools/bench/bench.py --save        also writes docs/bench.json and docs/bench.svg
+    tools/bench/bench.py --svg FILE    draws docs/bench.json again, and measures nothing
+    tools/bench/bench.py --check       measures, and compares the times beside plain C with the saved ones
+
 For each row the programs run in turn, several times, on a trace and on the beginning of that trace.
 The row shows each program's least processor time for the trace, less that for the beginning, per
-item. C with vector instructions checks no TLVs, so it only shows what is possible. If valgrind is
-installed, callgrind counts instructions on a shorter trace, in columns that begin with #. Installed
-readers (tshark, tcpdump) are measured too. Needs a C compiler.
+item. C with vector instructions checks no TLVs, so it only shows what is possible. callgrind (of
+valgrind) counts instructions on a shorter trace. --others measures installed readers (tshark,
+tcpdump) too. Needs a C compiler, and --save needs valgrind.
 
-bench_rows.py has the rows, bench_counts.py counts instructions, bench_captures.py measures readers
-of captures, and bench_picture.py draws the picture.
+What is saved is measured by one run with one program, and the gate measures it again: the
+instructions (bench_counts.py), and how many times as long as plain C the program takes. Both have
+the same hour and the same machine, so what the machine makes of an hour does not matter; a row fails
+if lldpa is off by more than a quarter in each of three tries (C with vector instructions, which depends
+on where its data lie, by more than six tenths). Nanoseconds are printed, but not saved.
+
+bench_rows.py has the rows, bench_captures.py measures readers of captures, and bench_picture.py draws
+the picture.
 """
 from __future__ import annotations
 
@@ -16,20 +28,25 @@ import argparse
 import json
 import platform
 import re
-import shutil
 import subprocess
+import sys
 import tempfile
 import time
 from pathlib import Path
 from typing import Any
 
-from bench_captures import AUDIT, audit_of_cabling, capture_rows, other_readers, seconds, spent
+from bench_captures import audit_of_cabling, capture_rows, other_readers, seconds, spent
 from bench_counts import counted, counted_start, library
 from bench_picture import picture
 from bench_rows import PORTS, Row, rows
 
 TOP = Path(__file__).resolve().parents[2]
-HEADS = ["lldpa", "C", "ratio", "vectors"]
+sys.path.append(str(TOP / "tools" / "gate"))
+from counts import Counts, ran  # noqa: E402
+
+SAVED, PICTURE = TOP / "docs" / "bench.json", TOP / "docs" / "bench.svg"
+HEADS = ["lldpa", "C", "ratio", "vectors", "# lldpa"]
+MOST_OFF, MOST_OFF_OF_VECTORS, TRIES = 1.25, 1.6, 3
 
 
 def resident(words: list[str]) -> int:
@@ -53,7 +70,12 @@ def by_turns(row: Row, room: Path, sides: list[list[str]], times: int) -> list[f
     return [1e9 * (all_of_it - before) / things for all_of_it, before in best]
 
 
-def start(program: str, room: Path) -> list[str]:
+def beside_c(figures: list[float]) -> list[float]:
+    """Returns how many times as long as plain C lldpa takes, and C with vector instructions."""
+    return [round(figures[at] / figures[1], 3) for at in (0, *range(2, len(figures)))] if len(figures) > 1 else []
+
+
+def start(program: str) -> list[str]:
     """Returns lines on the cost of a start: one port, and 64 ports for 128 neighbors each."""
     lines = []
     for title, words in (("one port", ["eth0"]), ("64 ports", ["--max-neighbors=128", *PORTS])):
@@ -63,12 +85,11 @@ def start(program: str, room: Path) -> list[str]:
     return lines
 
 
-def columns(figures: list[float], unit: str = "") -> str:
-    """Returns the columns of a row: lldpa, C, their ratio, and C with vector instructions."""
-    shown = [f"{value:.0f}{unit}" for value in figures]
-    if len(figures) > 1:
-        shown.insert(2, f"{figures[0] / figures[1]:.2f}")
-    return "".join(f"{column:>11}" for column in shown).ljust(11 * len(HEADS))
+def columns(figures: list[float], instructions: list[float]) -> str:
+    """Returns the columns of a row, in the order of HEADS."""
+    shown = [f"{value:.0f} ns" for value in figures] + [""] * (3 - len(figures))
+    shown.insert(2, f"{figures[0] / figures[1]:.2f}" if len(figures) > 1 else "")
+    return "".join(f"{column:>11}" for column in [*shown, *(f"{count:.0f}" for count in instructions)])
 
 
 def machine() -> str:
@@ -83,38 +104,52 @@ def compiled(room: Path) -> str:
     return yardstick
 
 
-def table(options: argparse.Namespace, room: Path, saved: dict[str, list[float]],
-          count: bool) -> list[dict[str, Any]]:
-    """Measures each row, or uses its saved times. Prints and returns the rows."""
-    heads = HEADS + [f"# {head}" for head in HEADS] if count else HEADS
-    print(" " * 48 + "".join(f"{head:>11}" for head in heads))
+def table(options: argparse.Namespace, room: Path) -> list[dict[str, Any]]:
+    """Measures each row, prints it, and returns what is saved of it."""
+    print(" " * 48 + "".join(f"{head:>11}" for head in HEADS))
     yardstick, told = compiled(room), []
     for row in rows(options.program, room):
         if options.only in row.title:
             sides = row.sides(options.program, yardstick)
-            spent = saved.get(row.title) or by_turns(row, room, sides, options.times)
-            ran = counted(row, room, sides) if count else []
-            print(f"{row.title:48}{columns(spent, ' ns')}{columns(ran) if count else ''}", flush=True)
-            told.append({"title": row.title, "time": spent, "instructions": ran})
+            figures = by_turns(row, room, sides, options.times)
+            count = counted(row, room, sides[:1]) if options.save else []
+            print(f"{row.title:48}{columns(figures, count)}", flush=True)
+            told.append({"title": row.title, "beside_c": beside_c(figures), "instructions": count})
     return told
 
 
-def measure(options: argparse.Namespace, room: Path, told: dict[str, Any]) -> None:
-    """Fills a table with measurements. In a saved table only the instructions are counted again."""
-    is_saved, count = bool(told), bool(shutil.which("valgrind"))
-    told.setdefault("machine", machine())
-    print(f"machine: {told['machine']}")
-    saved = {row["title"]: row["time"] for row in told.get("rows", [])}
-    told["rows"] = table(options, room, saved, count)
-    if count:
+def measure(options: argparse.Namespace, room: Path) -> dict[str, Any]:
+    """Measures all, prints it, and returns what is saved of it."""
+    print(f"machine: {machine()}")
+    told: dict[str, Any] = {"machine": machine(), "rows": table(options, room)}
+    if options.save:
         told["start_instructions"], told["library"] = counted_start(options.program, room), library()
-    if is_saved:
-        return
-    told["start"], told["others"] = start(options.program, room), other_readers(room, options.times)
-    told["captures"] = capture_rows(room, options.times)
-    if options.only in AUDIT:
-        told["others"] += audit_of_cabling(room)
-    print("\n".join(told["start"] + told["others"] + told["captures"]))
+    if options.others:
+        others = start(options.program) + other_readers(room, options.times) + capture_rows(room, options.times)
+        print("\n".join(others + audit_of_cabling(room)))
+    return told
+
+
+def is_near(now: list[float], saved: list[float]) -> bool:
+    most = (MOST_OFF, MOST_OFF_OF_VECTORS)
+    return len(now) == len(saved) and all(one / off <= other <= one * off for one, other, off in zip(now, saved, most))
+
+
+def check(options: argparse.Namespace, room: Path) -> int:
+    """Compares each row's time beside plain C with the saved one."""
+    saved = {row["title"]: row["beside_c"] for row in json.loads(SAVED.read_text())["rows"]}
+    yardstick, counts = compiled(room), Counts()
+    for row in rows(options.program, room):
+        sides, told = row.sides(options.program, yardstick), saved.pop(row.title, [])
+        ran(row.title)
+        now: list[float] = []
+        for _ in range(TRIES if row.yardsticks else 0):
+            now = beside_c(by_turns(row, room, sides, options.times))
+            if is_near(now, told):
+                break
+        counts.judge(None if is_near(now, told) else f"{now} times plain C, {told} saved", row.title)
+    counts.judge(f"no such rows: {list(saved)}" if saved else None, "docs/bench.json")
+    return counts.end()
 
 
 def read_options() -> argparse.Namespace:
@@ -123,24 +158,29 @@ def read_options() -> argparse.Namespace:
     add("--program", default=str(TOP / "crates/lldpa/out/lldpa"), help="the built program")
     add("--times", type=int, default=5, help="runs of each program; the least time counts (default: 5)")
     add("--only", default="", help="only rows with this text in their title")
-    add("--save", metavar="FILE", help="save the table to this file")
-    add("--saved", metavar="FILE", help="measure nothing; read the table from this file")
-    add("--counts", action="store_true", help="with --saved, count the instructions of each row")
-    add("--svg", metavar="FILE", help="draw the table to this file (the pages show docs/bench.svg)")
+    add("--others", action="store_true", help="also measure a start, readers of captures, and an audit")
+    add("--save", action="store_true", help="write docs/bench.json, and draw it")
+    add("--svg", metavar="FILE", help="draw docs/bench.json to this file, and measure nothing")
+    add("--check", action="store_true", help="compare the times beside plain C with docs/bench.json")
     return parser.parse_args()
 
 
-def main() -> None:
+def main() -> int:
     options = read_options()
-    told = json.loads(Path(options.saved).read_text()) if options.saved else {}
-    if options.counts or not told:
-        with tempfile.TemporaryDirectory() as folder:
-            measure(options, Path(folder), told)
-    if options.save:
-        Path(options.save).write_text(json.dumps(told, indent=1) + "\n")
     if options.svg:
-        Path(options.svg).write_text(picture(told))
+        Path(options.svg).write_text(picture(json.loads(SAVED.read_text())))
+        return 0
+    if options.save and options.only:
+        sys.exit("what is saved is measured whole: --save takes no --only")
+    with tempfile.TemporaryDirectory() as folder:
+        if options.check:
+            return check(options, Path(folder))
+        told = measure(options, Path(folder))
+    if options.save:
+        SAVED.write_text(json.dumps(told, indent=1) + "\n")
+        PICTURE.write_text(picture(told))
+    return 0
 
 
 if __name__ == "__main__":
-    main()
+    sys.exit(main())

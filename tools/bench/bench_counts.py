@@ -1,13 +1,12 @@
 #!/usr/bin/env python3
-"""Counts the instructions of eight rows of the benchmark, and compares them with docs/bench.json.
+"""Counts the instructions of each row of the benchmark, and compares them with docs/bench.json.
 bench_calls.py does the same for calls of the library.
 
     python3 tools/bench/bench_counts.py [--program PROGRAM]
 
-A row fails if it needs over 1 % more instructions than the saved count (with another C library,
-over 5 % more). Without valgrind the status is 3. The last line is `N passed, M failed`. If a row
-has become slower on purpose, save new counts:
-`tools/bench/bench.py --saved docs/bench.json --counts --save docs/bench.json --svg docs/bench.svg`.
+A row fails if its instructions are over 1 % more or fewer than the saved count (with another C
+library, over 5 %). Without valgrind the status is 3. The last line is `N passed, M failed`. If a row
+has become slower or faster on purpose, `tools/bench/bench.py --save` saves all figures anew.
 """
 from __future__ import annotations
 
@@ -26,13 +25,10 @@ from bench_rows import MANY, PORTS, Row, rows
 
 TOP = Path(__file__).resolve().parents[2]
 sys.path.append(str(TOP / "tools" / "gate"))
-from counts import Counts  # noqa: E402
+from counts import Counts, ran  # noqa: E402
 
 MOST, MOST_ELSEWHERE = 1.01, 1.05
 START = "start with 64 ports"
-HELD = ("receive a typical frame, 32 neighbors", "receive the shortest frame, 36 octets",
-        "receive a typical frame, 128 neighbors", "the same, names chosen to collide",
-        "one second of 64 ports with 128 neighbors each", "print a line of the neighbor table", "send a frame")
 
 
 def instructions(words: list[str], trace: Path) -> int:
@@ -69,8 +65,7 @@ def counted_start(program: str, room: Path) -> int:
 
 
 def counts(program: str, room: Path) -> dict[str, float]:
-    held = [row for row in rows(program, room) if row.title in HELD]
-    found = {row.title: counted(row, room, [[program, *row.words]])[0] for row in held}
+    found = {row.title: counted(row, room, [[program, *row.words]])[0] for row in rows(program, room)}
     return {**found, START: counted_start(program, room)}
 
 
@@ -79,18 +74,19 @@ def main() -> int:
     parser.add_argument("--program", default=str(TOP / "crates/lldpa/out/lldpa"), help="the built program")
     program = parser.parse_args().program
     if not shutil.which("valgrind"):
-        print("skipped: instruction counts, which need valgrind")
+        print("skipped: valgrind: instruction counts")
         return 3
     told = json.loads((TOP / "docs/bench.json").read_text())
-    saved = {row["title"]: row["instructions"][0] for row in told["rows"] if row["instructions"]}
+    saved = {row["title"]: row["instructions"][0] for row in told["rows"]}
     saved[START] = told["start_instructions"]
     most = MOST if told["library"] == library() else MOST_ELSEWHERE
     judged = Counts()
     with tempfile.TemporaryDirectory() as folder:
         now = counts(program, Path(folder))
+    ran(*now)
     for title, count in now.items():
         print(f"{title}: {count:.0f} instructions, {saved[title]:.0f} before")
-        judged.that(f"{title} is as fast as before", count <= most * saved[title])
+        judged.that(f"{title} is as fast as before", saved[title] / most <= count <= most * saved[title])
     with tempfile.TemporaryDirectory() as folder:
         judge_calls(Path(folder), most, judged)
     return judged.end()

@@ -5,26 +5,31 @@ import html
 from typing import Any
 
 LEFT, WIDEST, TOP, BAR, WIDTH = 300, 330, 66, 15, 940
-# The names of the programs in the picture, in the order of a row's figures.
+# The names of the programs in the picture, in the order of a row's bars.
 NAMES = ["lldpa", "plain C", "C that checks nothing, with vector instructions"]
 FILLS = ["#3b7dd8", "#a9b4c2", "#d9b26f"]
 
 
+def bars_of(row: dict[str, Any]) -> list[float]:
+    """Returns the lengths of a row's bars: that of plain C is 1."""
+    ours, *vectors = row["beside_c"]
+    return [ours, 1.0, *vectors]
+
+
 def high(row: dict[str, Any]) -> int:
-    """Returns the height of a row: a bar for each figure, and a gap."""
-    return BAR * len(row["time"]) + 10
+    """Returns the height of a row: its bars, and a gap."""
+    return BAR * len(bars_of(row)) + 10
 
 
 def bars(row: dict[str, Any], y: float, scale: float) -> list[str]:
     """Returns the SVG lines of a row whose top is at `y`. The bar of plain C is `scale` long."""
-    ours, theirs = row["time"][:2]
     middle = y + high(row) / 2
     out = [f'<text x="{LEFT - 10}" y="{middle:.0f}" text-anchor="end">{html.escape(row["title"])}</text>']
-    for k, value in enumerate(row["time"]):
-        width, down = scale * value / theirs, y + 2 + BAR * k
+    for k, value in enumerate(bars_of(row)):
+        width, down = scale * value, y + 2 + BAR * k
         out.append(f'<rect x="{LEFT}" y="{down}" width="{width:.0f}" height="13" fill="{FILLS[k]}"/>'
-                   f'<text x="{LEFT + 6 + width:.0f}" y="{down + 11}" font-size="11">{NAMES[k]} {value:.0f} ns</text>')
-    out.append(f'<text x="{WIDTH - 16}" y="{middle:.0f}" text-anchor="end">{ours / theirs:.2f} times plain C</text>')
+                   f'<text x="{LEFT + 6 + width:.0f}" y="{down + 11}" font-size="11">{NAMES[k]} {value:.2f}</text>')
+    out.append(f'<text x="{WIDTH - 16}" y="{middle:.0f}" text-anchor="end">{row["instructions"][0]:,.0f} instructions</text>')
     return out
 
 
@@ -34,19 +39,18 @@ def head(told: dict[str, Any], height: float) -> list[str]:
             'font-family="sans-serif" font-size="13">',
             '<rect width="100%" height="100%" fill="white"/>',
             '<text x="16" y="24" font-size="16">Processor time of the agent, beside C that does the same work</text>',
-            '<text x="16" y="44" fill="#555">shorter is better; the bar of plain C is as long in each row; on '
-            f'{html.escape(told["machine"])}</text>']
+            '<text x="16" y="44" fill="#555">shorter is better; plain C is 1 in each row; at the right, what the agent '
+            f'executes; on {html.escape(told["machine"])}</text>']
 
 
 def picture(told: dict[str, Any]) -> str:
     """Returns the picture: bars for rows that C runs too, then lines of text for the rest."""
-    rows_of_c = [row for row in told["rows"] if len(row["time"]) > 1]
-    others = [row for row in told["rows"] if len(row["time"]) == 1]
+    rows_of_c = [row for row in told["rows"] if row["beside_c"]]
     end = TOP + sum(high(row) for row in rows_of_c)
-    foot = [f"{row['title']}: {row['time'][0]:.0f} ns" for row in others] + told["start"] + told["others"]
-    foot += told.get("captures", [])
+    foot = [f"{row['title']}: {row['instructions'][0]:,.0f} instructions" for row in told["rows"] if not row["beside_c"]]
+    foot.append(f"a start with 64 ports for 128 neighbors each: {told['start_instructions']:,} instructions")
     # C's bar has the same length in all rows, chosen so that the longest bar just fits
-    scale = WIDEST / max(max(row["time"]) / row["time"][1] for row in rows_of_c)
+    scale = WIDEST / max(max(bars_of(row)) for row in rows_of_c)
     out, y = head(told, end + 34 + 19 * len(foot)), TOP
     for row in rows_of_c:
         out += bars(row, y, scale)

@@ -63,14 +63,14 @@ def greatest(names: int) -> list[bytes]:
     return [frame(*name(i), [*said, tlv(127, b"\0\x80\xc2\x63" + bytes(room[i] - 6))]) for i in range(names)]
 
 
-# Exchanging these segments in a name does not change its tag. Seven segments make 128 names.
-ONE_TAG = bytes([70, 40, 10, 107]), bytes([98, 119, 110, 100])
+# Names whose numbers differ by this divisor have the same tag in the neighbor table.
+DIVISOR = 65_521
 
 
 def one_tag() -> list[bytes]:
     """Returns frames of 128 senders whose names have the same tag in the neighbor table."""
-    chassis = [b"\x07" + b"".join(ONE_TAG[i >> k & 1] for k in range(7)) for i in range(128)]
-    return [frame(octets, b"\x05swp1", []) for octets in chassis]
+    ends = [(2 ** 56 + i * DIVISOR).to_bytes(8, "big") for i in range(128)]
+    return [frame(b"\x07" + bytes(20) + end, b"\x05swp1", []) for end in ends]
 
 
 def own_tags() -> list[bytes]:

@@ -1,13 +1,14 @@
 #!/usr/bin/env python3
-"""Tests the tests of lldpa-live and of the crate for Rust: which wrong bodies does no test see?
+"""Tests the tests of lldpa-live, lldpa-ctl and of the crate for Rust: which wrong bodies does no test see?
 
     tools/by-hand/mutate_rust.py --room DIR [--seed N] [--count N] [--jobs N] [--only TEXT]
                                  [--cargo | --modules NAME..]
 
-A wrong body differs from rust/live or rust/lldpa by one small change of one line, outside tests. The
-seed draws from all files, so that each has its share. A change is `refused` by the compiler and then
-not counted, seen by `cargo test`, or, unless --cargo is given, seen by the tests of python/tests that
-run lldpa-live (as root), or by tools/library/check-library.py for the crate. Otherwise it SURVIVED.
+A wrong body differs from rust/live, rust/people or rust/lldpa by one small change of one line, outside
+tests. The seed draws from all files, so that each has its share. A change is `refused` by the compiler
+and then not counted, seen by `cargo test`, or, unless --cargo is given, seen by the tests of
+python/tests that run lldpa-live or, for rust/people, its example or lldpa-ctl (as root), or by
+tools/library/check-library.py for the crate. Otherwise it SURVIVED.
 Needs the library (tools/library/library.sh) and the program.
 
 DIR keeps a checkout for each job and a line of JSON for each change; a later call goes on there, and
@@ -44,6 +45,10 @@ STATEMENT = re.compile(r"^ +[a-z_.*&]+[\w.]*(\(.*\))?(\.\w+\(.*\))*\??;$|^ +[\w.
 CARGO = ("sh", "-c", '. ../../tools/release/crates.sh && cargo_with_crates "$@"', "sh")
 BY_CARGO_ALONE = "SURVIVED cargo test"
 
+CRATES = ("rust/live", "rust/lldpa", "rust/people")
+# what scripts write
+WRITTEN = ("rust/lldpa/src/sys.rs", "rust/people/src/letters.rs", "rust/people/src/organizational/mau.rs")
+
 
 class Change(NamedTuple):
     file: str
@@ -79,8 +84,8 @@ def wrong_codes(line: str) -> Iterator[tuple[str, str]]:
 
 def changes() -> list[Change]:
     found = []
-    for path in sorted([*TOP.glob("rust/live/src/**/*.rs"), *TOP.glob("rust/lldpa/src/**/*.rs")]):
-        if path.name in ("fuzz.rs",) or path == TOP / "rust/lldpa/src/sys.rs":
+    for path in sorted(path for crate in CRATES for path in (TOP / crate / "src").rglob("*.rs")):
+        if path.name == "fuzz.rs" or str(path.relative_to(TOP)) in WRITTEN:
             continue
         text = re.split(r"(?m)^#\[cfg\(test\)\]", path.read_text())[0]
         for number, line in enumerate(text.splitlines()):
@@ -104,10 +109,10 @@ def drawn(options: argparse.Namespace) -> list[Change]:
     return found
 
 
-def modules_of_live() -> list[str]:
-    """Returns the modules of python/tests that run lldpa-live."""
+def modules_that_run(programs: str) -> list[str]:
+    """Returns the modules of python/tests that run programs whose names in the tests match this."""
     tests = TOP / "python" / "tests"
-    helpers = [path.stem for path in tests.glob("*.py") if "LIVE" in path.read_text()]
+    helpers = [path.stem for path in tests.glob("*.py") if re.search(rf"\b(?:{programs})\b", path.read_text())]
     words = re.compile(rf"^(?:from|import) (?:{'|'.join(helpers)})\b", re.M)
     return sorted(path.stem for path in tests.glob("test_*.py") if words.search(path.read_text()) or path.stem in helpers)
 
@@ -165,7 +170,7 @@ class Run:
             copy = self.copy(thread)
             copy.mkdir(exist_ok=True)
             renew(copy)
-            for crate in ("rust/live", "rust/lldpa"):
+            for crate in CRATES:
                 for words in (["build", "--tests"], ["test"]):
                     began = time.monotonic()
                     if self.fails([*CARGO, *words, "--quiet"], copy / crate, copy, 1800, sys.stderr):
@@ -216,7 +221,13 @@ class Run:
             return "seen by check-library.py"
         if self.fails(["tools/release/live.sh"], copy, copy, 900):
             return "refused"
-        for module in self.modules or modules_of_live():
+        is_of_people = crate.name == "people"
+        if is_of_people:  # the example with which test_native compares
+            if self.fails([*CARGO, "build", "--release", "--example", "people", "--quiet"], crate, copy, 900):
+                return "refused"
+            (crate / "out").mkdir(exist_ok=True)
+            shutil.copy(copy / "target/release/examples/people", crate / "out/people")
+        for module in self.modules or modules_that_run("LIVE|CTL|PEOPLE" if is_of_people else "LIVE"):
             if self.fails(["python3", "-m", "unittest", "-q", module], copy / "python/tests", copy, 900):
                 return f"seen by {module}"
         return "SURVIVED"

@@ -22,15 +22,14 @@ import sys
 
 TOP = pathlib.Path(__file__).resolve().parents[2]
 sys.path[:0] = [str(TOP / "python"), str(TOP / "python" / "tests")]
-from by_tshark import compared, is_left_out, wanted  # noqa: E402
-from encoding import SAMPLES, encoded  # noqa: E402
-from judges import PARTS, Judged, compare, flat, leaves, sender_of_frame  # noqa: E402
+from by_tshark import is_left_out, told_of  # noqa: E402
+from judges import PARTS, Judged, compare, flat, leaves, sender_of_frame, shown_value  # noqa: E402
 from patience import eventually  # noqa: E402
+from people import objects_of  # noqa: E402
 from real_lldpd import Lldpd  # noqa: E402
+from samples import SAMPLES, changed, has_ignored_bits  # noqa: E402
 from senders import SENDERS  # noqa: E402
 from served import frame, tlv  # noqa: E402
-from lldpa.organizational import read_tlv  # noqa: E402
-from test_organizational import changed  # noqa: E402
 from wires import Peer, Wires  # noqa: E402
 
 JUDGED = TOP / "python" / "tests" / "judged.json"
@@ -53,9 +52,8 @@ def sent_by_lldpd(wires):
 
 def made():
     """Yields names and bodies of made-up TLVs: each kind, and each value that has a name."""
-    for number, sample in enumerate(SAMPLES):
-        (oui, subtype), octets = sample.kind, bytes.fromhex(sample.octets)
-        yield f"{oui}.{subtype}-{number}", bytes.fromhex(oui) + bytes([subtype]) + octets
+    for number, (kind, octets) in enumerate(SAMPLES):
+        yield f"{kind}-{number}", body_of(kind, octets)
     for number in range(146):
         yield f"mau-{number}", bytes.fromhex("00120f01036c01") + number.to_bytes(2, "big")
     for bit in range(16):
@@ -119,29 +117,31 @@ def compare_octets(room):
     are equal, and the differences. Skips TLVs that lldpa shows in hexadecimal, that have
     reserved bits, or that have a text with a NUL (tshark cuts it there) or not in UTF-8."""
     equal, differences = 0, []
-    for sample in SAMPLES:
-        octets = bytes.fromhex(sample.octets)
-        variants = [(some, read_tlv(*sample.kind, some))
-                    for some in [*(octets[:end] for end in range(1, len(octets))), *changed(octets)]]
-        read = [(some, tlv) for some, tlv in variants if tlv is not None and encoded(tlv) == some and not has_odd_text(tlv)]
-        frames = [frame(b"\x04\x02\0\0\0\0\1", b"\x05p1", 120, tlv_of(sample.kind, some)) for some, _ in read]
-        for (some, tlv), (shown,) in zip(read, shown_by_tshark(frames, room)):
-            is_equal = [tuple(pair) for pair in compared(shown)] == wanted(sample.kind, tlv)
-            equal += is_equal
-            if not is_equal:
-                differences.append(f"{sample.kind} {some.hex()}: tshark shows {shown}, lldpa reads {tlv}")
+    for kind, octets in SAMPLES:
+        variants = [some for some in [*(octets[:end] for end in range(1, len(octets))), *changed(octets)]
+                    if not has_ignored_bits(kind, some)]
+        all_said = objects_of([[(kind, some.hex())] for some in variants])
+        read = [(some, said) for some, said in zip(variants, all_said)
+                if not said["organizational"] and not has_odd_text(said)]
+        frames = [frame(b"\x04\x02\0\0\0\0\1", b"\x05p1", 120, tlv(127, body_of(kind, some))) for some, _ in read]
+        for (some, said), (shown,) in zip(read, shown_by_tshark(frames, room)):
+            theirs, ours = shown_value(kind, shown), told_of(kind, said)
+            equal += theirs == ours
+            if theirs != ours:
+                differences.append(f"{kind} {some.hex()}: tshark shows {theirs}, lldpa reads {ours}")
     return equal, differences
 
 
-def has_odd_text(tlv):
-    """Returns whether a text of the TLV has a NUL, or is not UTF-8."""
-    texts = [value for value in vars(tlv).values() if isinstance(value, bytes)] if not hasattr(tlv, "protocol") else []
-    texts += [text for _, text in getattr(tlv, "elements", ())]
-    return any(b"\0" in text or text != text.decode("utf-8", "replace").encode() for text in texts)
+def has_odd_text(said):
+    """Returns whether a text has a NUL, or is not UTF-8."""
+    text = json.dumps(said)
+    return "\\u0000" in text or '"octets": {' in text
 
 
-def tlv_of(kind, octets):
-    return tlv(127, bytes.fromhex(kind[0]) + bytes([kind[1]]) + octets)
+def body_of(kind, octets):
+    """Returns the body of a TLV of this kind, such as 0080c2.1."""
+    oui, _, subtype = kind.partition(".")
+    return bytes.fromhex(oui) + bytes([int(subtype)]) + octets
 
 
 def run(given, wires):

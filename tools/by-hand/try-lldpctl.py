@@ -19,14 +19,15 @@ import re
 import socket
 import subprocess
 import sys
+import unicodedata
 
 TOP = pathlib.Path(__file__).resolve().parents[2]
-sys.path[:0] = [str(TOP / "python"), str(TOP / "python" / "tests"), str(TOP / "tools" / "gate")]
+sys.path[:0] = [str(TOP / folder) for folder in ("python", "python/tests", "audit/tests", "tools/gate")]
 from counts import Counts  # noqa: E402
 from running_live import Live  # noqa: E402
-from judges import flat, sender_of_frame  # noqa: E402
-from lldpa.lldpcli_forms.writing import LINE, one_line, shortened  # noqa: E402
-from lldpa.texts import printable  # noqa: E402
+from judges import flat, sender_of_frame, with_chassis  # noqa: E402
+from lldpa.texts import escaped, printable  # noqa: E402
+from lldpcli_lists import shortened  # noqa: E402
 from patience import eventually  # noqa: E402
 from real_lldpd import Lldpd  # noqa: E402
 from senders import SENDERS  # noqa: E402
@@ -42,6 +43,7 @@ COMMANDS = ("show neighbors", "show neighbors details", "show neighbors summary"
             "show chassis", "show chassis summary", "show statistics", "show statistics summary",
             "show statistics ports eth1", "show configuration")
 OF_NEIGHBORS = ("show neighbors details",)
+LINE = "-" * 79
 BATCH = 60  # at two ports; lldpd keeps at most 32 neighbors of a port
 SIGN = re.compile(r"-(?=\d)|(?<=\d)[NSEW]")
 IDENTIFIER = re.compile(r"(chassis|port)\.(mac|ip|ifname|ifalias|local|unhandled|id|id\.type)|ChassisID|PortID")
@@ -103,6 +105,17 @@ def listed_keys(page):
 def escaped_alike(values):
     """Returns the values as texts that are escaped in the same way for all forms."""
     return [printable(one_line(str(value))) for value in values]
+
+
+def one_line(text):
+    """Returns a text in one line, as lldpctl prints it. Line feeds become spaces, and what controls a
+    terminal is escaped."""
+    return "".join(" " if letter == "\n" else escaped(letter) if is_control(letter) else letter for letter in text)
+
+
+def is_control(letter):
+    kind = unicodedata.category(letter)
+    return kind in ("Zl", "Zp") or kind[0] == "C" and kind not in ("Cf", "Co", "Cn") and letter != "\t"
 
 
 def by_key(pairs):
@@ -283,9 +296,7 @@ def sent(lab, comparison, name, frames):
 def judged_frames():
     """Yields the frames of judged.json, each with a chassis ID of its own."""
     for number, one in enumerate(json.loads(JUDGED.read_text())):
-        octets = bytes.fromhex(one["frame"])
-        rest = octets[16 + (int.from_bytes(octets[14:16], "big") & 511):]
-        yield octets[:14] + tlv(1, b"\x04\x02\0\0\x05" + number.to_bytes(2, "big")) + rest
+        yield with_chassis(bytes.fromhex(one["frame"]), number)
 
 
 def place_of(degrees, resolution):

@@ -1,13 +1,15 @@
 #!/bin/sh
 # Boots a new Debian in a container. Installs the packages there, runs each command of the pages that
 # needs root and the service, upgrades and purges the packages, and checks that no file is left. Then
-# removes Python, and tries the package lldpa alone.
+# removes Python, and tries the package lldpa alone. Before that it makes an image, as their makers do:
+# installs the package in a chroot without systemd, and boots it, with groups that are missing or that
+# a directory tells late, and with an ExecStart of its own.
 #     tools/by-hand/try-package.sh [ROOT]
-# ROOT is a folder with a Debian that has python3, systemd-sysv, dbus and iproute2; it is not
-# changed. Without it debootstrap gets one from the network. Needs Linux, root, and Debian's
-# packages systemd-container and, without ROOT, debootstrap. LLDPA_BUILT names what was built, as for
-# tools/release/package.sh. If BEFORE names a package lldpa of revision 1, upgrades from it first.
-# If NODE_EXPORTER names that program, it reads the metrics.
+# ROOT is a folder with a Debian that has python3, systemd-sysv, dbus, iproute2 and libnss-extrausers;
+# it is not changed. Without it debootstrap gets one from the network, of the release SUITE (default
+# bookworm). Needs Linux, root, and Debian's packages systemd-container and, without ROOT,
+# debootstrap. LLDPA_BUILT names what was built, as for tools/release/package.sh. If NODE_EXPORTER
+# names that program, it reads the metrics.
 # The last line is `N passed, M failed`. If something is missing, the status is 77.
 set -u
 skip() {
@@ -23,25 +25,24 @@ command -v systemd-nspawn > /dev/null || skip "there is no systemd-nspawn"
 [ -n "$given" ] || command -v debootstrap > /dev/null || skip "there is no debootstrap"
 room=$(mktemp -d) || exit 2
 trap 'rm -rf "$room"' EXIT
-root=$room/root
-if [ -n "$given" ]; then
-    cp -a "$given" "$root" || exit 1
-else
-    debootstrap --variant=minbase --include=python3,systemd-sysv,dbus,iproute2 bookworm "$root" > "$room/said" || exit 1
+if [ -z "$given" ]; then
+    given=$room/given
+    debootstrap --variant=minbase --include=python3,systemd-sysv,dbus,iproute2,libnss-extrausers "${SUITE-bookworm}" "$given" \
+        > "$room/said" || exit 1
 fi
+root=$room/root
+cp -a "$given" "$root" || exit 1
 "$tools/release/package.sh" "$root/root/packages" || exit 1
 # A package of the next revision, with the same files.
 dpkg-deb -R "$root"/root/packages/lldpa_*-2_*.deb "$room/next" || exit 1
 sed -i 's/^\(Version: .*\)-2$/\1-3/' "$room/next/DEBIAN/control"
 dpkg-deb -b "$room/next" "$root/root/packages" || exit 1
-[ -z "${BEFORE-}" ] || cp "$BEFORE" "$root/root/packages" || exit 1
 [ -z "${NODE_EXPORTER-}" ] || cp "$NODE_EXPORTER" "$root/root/node_exporter" || exit 1
 cp "$tools/../debian/tests/service" "$root/root/service"
 python3 "$tools/gate/examples.py" --as-root > "$root/root/commands" || exit 1
 
-# The script that runs in the container. Each check writes a line: `held` or `FAILED`, and a name.
-cat > "$root/root/try.sh" <<'EOF'
-#!/bin/bash
+# What both scripts in containers use. Each check writes a line: `held` or `FAILED`, and a name.
+cat > "$root/root/checks.sh" <<'EOF'
 export DEBIAN_FRONTEND=noninteractive
 cd /root/packages || exit
 check() {
@@ -49,6 +50,107 @@ check() {
     shift
     if "$@" > /root/said 2>&1; then echo "held: $what"; else echo "FAILED: $what: $(tail -n 3 /root/said)"; fi
 }
+process() { systemctl show -p MainPID --value lldpa; }
+# Runs a command until it succeeds, for a minute at most.
+eventually() { for _ in $(seq 120); do "$@" && return; sleep 0.5; done; false; }
+answers() { lldpa-ctl show chassis | grep "$1"; }
+shows() { eventually answers "$1"; }
+collected=/var/lib/prometheus/node-exporter
+published() { eventually grep -x "lldpa_up $1" $collected/lldpa.prom; }
+# as_member GROUP COMMAND..: runs a command as a member of a group. as_nobody succeeds if others cannot run it.
+as_member() { setpriv --reuid=4711 --regid=4711 --groups="$1" "${@:2}"; }
+as_nobody() { ! setpriv --reuid=4711 --regid=4711 --clear-groups "$@"; }
+# Succeeds if node_exporter reads the file of metrics without an error, with this line about lldpa_up if one is given.
+scraped() {
+    [ -x /root/node_exporter ] || return 0
+    /root/node_exporter --collector.disable-defaults --collector.textfile --collector.textfile.directory=$collected \
+        --web.listen-address=127.0.0.1:9100 > /root/exporter 2>&1 &
+    eventually python3 -c 'import sys, urllib.request
+text = urllib.request.urlopen("http://127.0.0.1:9100/metrics").read().decode()
+lines = [line for line in text.splitlines() if line.startswith(("lldpa_up", "node_textfile_scrape_error "))]
+mtime = "node_textfile_mtime_seconds{file=\"" in text and "lldpa.prom" in text
+sys.exit(0 if lines == [*sys.argv[1:], "node_textfile_scrape_error 0"] and mtime else str(lines))' "$@"
+    local status=$?
+    kill %+
+    return $status
+}
+ip link add eth0 type veth peer name far && ip link set eth0 up && ip link set far up
+EOF
+
+# The script of the image.
+cat > "$room/image.sh" <<'EOF'
+#!/bin/bash
+. /root/checks.sh
+at_first_start() { eventually systemctl is-active lldpa && [ "$(systemctl show -p NRestarts --value lldpa)" -eq 0 ]; }
+readable() { setpriv --reuid=4711 --regid=4711 --clear-groups cat /run/lldpa-metrics/lldpa.prom; }
+has_no_word_of_it() { ! grep lldpa_up $collected/lldpa.prom && [ -e $collected/lldpa.prom ]; }
+options() { sed -i "s/^LIVE_OPTIONS=.*/LIVE_OPTIONS=\"$1\"/" /etc/default/lldpa; }
+restarts() { systemctl restart lldpa && shows Station:on; }
+mkdir -p $collected
+ln -s /run/lldpa-metrics/lldpa.prom $collected/lldpa.prom
+check "an image: it has no user and no group of its own" bash -c '! grep lldpa /etc/passwd /etc/group'
+check "an image: it runs at the first start" at_first_start
+check "an image: it answers" shows Station:on
+check "an image: its metrics are written" published 1
+check "an image: node_exporter reads them" scraped "lldpa_up 1"
+check "an image: others may read them" readable
+check "an image: the unknown group is reported" eventually journalctl -u lldpa -g 'group late is not known'
+check "an image: nobody may ask meanwhile" as_nobody lldpa-ctl
+echo 'late:x:61234:' > /var/lib/extrausers/group
+check "an image: a group that the directory tells late may ask" eventually as_member 61234 lldpa-ctl
+check "an image: it may change something" as_member 61234 lldpa-ctl configure lldp tx-hold 5
+check "an image: nobody else may ask" as_nobody lldpa-ctl
+check "an image: that took no restart" at_first_start
+options --no-log
+check "an image: it restarts without a log" restarts
+check "an image: the log is off" bash -c 'lldpa-ctl live | grep -x live.log=off'
+# A second service, as OPERATORS makes it.
+ip link add eth1 type veth peer name far1 && ip link set eth1 up && ip link set far1 up
+bash /root/second
+sed -i 's/^PORTS=.*/PORTS="eth1"/' /etc/default/lldpa2
+systemctl daemon-reload
+ln -s /run/lldpa2-metrics/lldpa2.prom $collected/lldpa2.prom
+systemctl start lldpa2
+second_says() { eventually grep -x "lldpa_up{service=\"lldpa2\"} $1" $collected/lldpa2.prom; }
+check "a second service: its metrics name it" second_says 1
+check "a second service: node_exporter reads both files" scraped 'lldpa_up 1' 'lldpa_up{service="lldpa2"} 1'
+systemctl stop lldpa2
+check "a second service: its end is told" second_says 0
+check "a second service: node_exporter reads that" scraped 'lldpa_up 1' 'lldpa_up{service="lldpa2"} 0'
+rm -r /etc/systemd/system/lldpa2.service $collected/lldpa2.prom
+mkdir -p /etc/systemd/system/lldpa.service.d
+printf '[Service]\nExecStart=\nExecStart=/usr/bin/lldpa-live --control /run/lldpa/control eth0\n' \
+    > /etc/systemd/system/lldpa.service.d/own.conf
+systemctl daemon-reload
+check "an ExecStart of its own: it runs" restarts
+check "an ExecStart of its own: no file says that it is down" has_no_word_of_it
+check "an ExecStart of its own: node_exporter reads nothing about it" scraped
+systemctl stop lldpa
+check "an ExecStart of its own: the end is told" published 0
+printf '[Service]\nExecStart=\nExecStart=/usr/bin/lldpa-live --wrong\n' > /etc/systemd/system/lldpa.service.d/own.conf
+systemctl daemon-reload
+check "a wrong ExecStart: it does not run" bash -c '! systemctl start lldpa'
+check "a wrong ExecStart: the metrics tell it" published 0
+rm -r /etc/systemd/system/lldpa.service.d
+systemctl daemon-reload
+# What the service's user could do to the folder, which is its own.
+systemctl stop lldpa
+echo 'of root' > /etc/victim
+ln -sf /etc/victim /run/lldpa-metrics/lldpa.prom
+check "a link in the place of the metrics: it runs" restarts
+check "a link in the place of the metrics: they are written" published 1
+check "a link in the place of the metrics: nothing is written through it" grep -x 'of root' /etc/victim
+systemctl stop lldpa
+rm -r /run/lldpa-metrics
+touch /run/lldpa-metrics
+check "no folder for the metrics: it runs" restarts
+poweroff
+EOF
+
+# The script that runs in the container.
+cat > "$root/root/try.sh" <<'EOF'
+#!/bin/bash
+. /root/checks.sh
 # Lists the files below /etc, /usr and other folders, except those that apt, dpkg and systemd write.
 listed() {
     find /etc /usr /opt /srv /var/lib /run/lldpa -path /var/lib/dpkg -prune -o -path /var/lib/apt -prune -o -printf '%p %M %u %g %l\n' 2> /dev/null |
@@ -67,13 +169,8 @@ for_a_while() {
 }
 inactive() { ! systemctl is-active lldpa; }
 install_all() { apt-get install -y ./lldpa-tools_*-2_*.deb ./lldpa_*-2_*.deb; }
-process() { systemctl show -p MainPID --value lldpa; }
 is_another() { [ "$old" != "$(process)" ]; }
-# Runs a command until it succeeds, for a minute at most.
-eventually() { for _ in $(seq 120); do "$@" && return; sleep 0.5; done; false; }
-answers() { lldpa-ctl show chassis | grep "$1"; }
-shows() { eventually answers "$1"; }
-finds() { python3 -c 'import lldpa.client'; }
+finds() { python3 -c 'import lldpa.ctl'; }
 reads() { lldpa-capture --show /usr/share/doc/lldpa/docs/lab.pcap | lldpa --receive-only eth0 | grep -x lldp.eth0.neighbors=2; }
 
 notifies() { systemctl show -p Type -p StatusText lldpa | grep -c -x -e Type=notify -e 'StatusText=[0-9no]* neighbors\? on 1 port' | grep -x 2; }
@@ -122,10 +219,6 @@ confined_live() {
         lambda: connect("/run/dbus/system_bus_socket", socket.SOCK_STREAM),
         lambda: connect("/run/systemd/journal/socket", socket.SOCK_DGRAM)' Type=oneshot Restart=no WatchdogSec=0
 }
-published() { eventually grep -x "lldpa_up $1" $collected/lldpa.prom; }
-# as_member runs a command as a member of group asking. as_nobody succeeds if others cannot run it.
-as_member() { setpriv --reuid=4711 --regid=4711 --groups="$(getent group asking | cut -d: -f3)" "$@"; }
-as_nobody() { ! setpriv --reuid=4711 --regid=4711 --clear-groups "$@"; }
 # Sends the frame of a neighbor once, with a time to live of an hour.
 say_once() {
     python3 -c 'import socket
@@ -136,29 +229,14 @@ sender.send(bytes.fromhex("0180c200000e02000000000b88cc02070402000000000b0403057
 keeps() { eventually sh -c 'lldpa-ctl neighbors | grep keeper'; }
 is_another_active() { is_another && systemctl is-active lldpa; }
 starts_anew() { eventually is_another_active; }
-collected=/var/lib/prometheus/node-exporter
-has_link() { [ "$(readlink $collected/lldpa.prom)" = /run/lldpa-metrics/lldpa.prom ] && ! systemctl is-active lldpa-metrics.timer; }
-# Succeeds if node_exporter reads the file of metrics, with this value of lldpa_up and without an error.
-scraped() {
-    [ -x /root/node_exporter ] || return 0
-    /root/node_exporter --collector.disable-defaults --collector.textfile --collector.textfile.directory=$collected \
-        --web.listen-address=127.0.0.1:9100 > /root/exporter 2>&1 &
-    eventually python3 -c 'import sys, urllib.request
-text = urllib.request.urlopen("http://127.0.0.1:9100/metrics").read().decode()
-lines = [line for line in text.splitlines() if line.startswith(("lldpa_up ", "node_textfile_scrape_error "))]
-mtime = "node_textfile_mtime_seconds{file=\"" in text and "lldpa.prom" in text
-sys.exit(0 if lines == ["lldpa_up " + sys.argv[1], "node_textfile_scrape_error 0"] and mtime else str(lines))' "$1"
-    local status=$?
-    kill %+
-    return $status
-}
+has_link() { [ "$(readlink $collected/lldpa.prom)" = /run/lldpa-metrics/lldpa.prom ]; }
 killed() {
-    systemctl kill -s KILL lldpa
+    kill -KILL "$(process)"
     eventually inactive
-    published 1 && scraped 1
+    published 0 && scraped "lldpa_up 0"
 }
 without_python() { apt-get purge -y --auto-remove 'python3*' 'libpython3*' && ! ls /usr/bin/python3*; }
-tells_alone() { lldpa-live --ask "$1" | grep "$2"; }
+tells_alone() { lldpa-ctl $1 | grep "$2"; }
 # Sends a neighbor's frame each second, at the other end of the link.
 neighbor() {
     python3 -c 'import socket, time
@@ -169,42 +247,8 @@ while True:
     time.sleep(1)'
 }
 
-ip link add eth0 type veth peer name far && ip link set eth0 up && ip link set far up
 neighbor &
 listed > /root/before
-if [ -e lldpa_*-1_*.deb ]; then
-    check "the earlier version installs" dpkg -i lldpa_*-1_*.deb
-    sed -i 's/^AGENT_OPTIONS=.*/AGENT_OPTIONS="--role bridge"/' /etc/default/lldpa
-    echo 'configure system description "of the folder"' > /etc/lldpa.d/a.conf
-    systemctl enable --now lldpa
-    eventually answers Bridge:on
-    say_once
-    check "the earlier version sees a neighbor" keeps
-    ls /var/lib/lldpa/*.trace > /root/logs
-    mkdir -p /var/lib/prometheus/node-exporter
-    systemctl enable --now lldpa-metrics.timer
-    old=$(process)
-    check "an upgrade from it asks nothing" install_all
-    check "it runs the new program" is_another
-    check "it keeps the table" keeps
-    check "a link takes the place of the file that the timer wrote" has_link
-    check "the metrics are still written" published 1
-    check "all files are there after the upgrade" bash -c '! dpkg --verify lldpa lldpa-tools | grep .'
-    check "it keeps the configuration" shows Bridge:on
-    check "it keeps the settings" shows 'descr=of the folder'
-    check "it keeps the logs" xargs ls < /root/logs
-    check "its packages are purged" dpkg -P lldpa lldpa-tools
-    check "no metrics are left" [ ! -e $collected/lldpa.prom ]
-    rm -r /var/lib/prometheus
-    listed > /root/after
-    check "the earlier version leaves no file" diff /root/before /root/after
-    check "the earlier version installs again" dpkg -i lldpa_*-1_*.deb
-    systemctl enable --now lldpa-metrics.timer
-    check "an upgrade without lldpa-tools asks nothing" dpkg -i lldpa_*-2_*.deb
-    check "its package is purged" dpkg -P lldpa
-    listed > /root/after
-    check "the upgraded version leaves no file" diff /root/before /root/after
-fi
 check "it installs" install_all
 check "it does not run before it is enabled" inactive
 check "its programs run" reads
@@ -218,34 +262,32 @@ check "systemd receives its state" notifies
 check "the journal names the new neighbor" tells
 check "its metrics are written, by the link" published 1
 check "the link is there" has_link
-check "node_exporter reads the metrics" scraped 1
+check "node_exporter reads the metrics" scraped "lldpa_up 1"
 mkdir -p /run/systemd/system/lldpa.service.d
 printf '[Service]\nRestart=no\n' > /run/systemd/system/lldpa.service.d/once.conf
 systemctl daemon-reload
-check "after a kill node_exporter reads the last metrics" killed
+check "after a crash node_exporter reads that it does not answer" killed
 rm -r /run/systemd/system/lldpa.service.d
 systemctl daemon-reload
 systemctl restart lldpa
 check "after a restart the metrics are new" published 1
 systemctl stop lldpa
 check "the metrics report that it does not answer" published 0
-check "node_exporter reads that it does not answer" scraped 0
+check "node_exporter reads that it does not answer" scraped "lldpa_up 0"
 rm -r /var/lib/prometheus
 systemctl restart lldpa
 check "the service answers" shows Station:on
 groupadd asking
-mkdir -p /etc/systemd/system/lldpa.service.d
-printf '[Service]\nSupplementaryGroups=asking\n' > /etc/systemd/system/lldpa.service.d/group.conf
+group=$(getent group asking | cut -d: -f3)
 cp /etc/default/lldpa /root/default
 sed -i 's/^LIVE_OPTIONS=.*/LIVE_OPTIONS="--control-group asking"/' /etc/default/lldpa
 systemctl daemon-reload
 systemctl restart lldpa
 shows Station:on > /root/said 2>&1
-check "a member of the group may ask" as_member lldpa-ctl
-check "a member of the group may ask without Python" as_member lldpa-live --ask 'show neighbors'
+check "a member of the group may ask" as_member "$group" lldpa-ctl
+check "a member of the group may ask without Python" as_member "$group" lldpa-ctl show neighbors
 check "nobody else may" as_nobody lldpa-ctl
 cp /root/default /etc/default/lldpa
-rm -r /etc/systemd/system/lldpa.service.d
 groupdel asking
 systemctl daemon-reload
 systemctl restart lldpa
@@ -304,19 +346,39 @@ StandardOutput=file:/root/tried
 EOF
 mkdir -p "$root/etc/systemd/system/multi-user.target.wants"
 ln -s ../try.service "$root/etc/systemd/system/multi-user.target.wants/try.service"
-# systemd needs a control group hierarchy of its own, of version 2.
-unshare --mount --pid --fork --kill-child sh -c 'mount --make-rprivate / && mount -t proc proc /proc &&
-    { umount -R -l /sys/fs/cgroup; mount -t cgroup2 none /sys/fs/cgroup; } &&
-    exec timeout 500 systemd-nspawn --quiet --register=no --keep-unit --private-network -D "$0" -b' "$root" \
-    < /dev/null > "$room/said" 2>&1
-if ! [ -s "$root/root/tried" ]; then
+
+# boot ROOT: boots, and waits until the script there has ended. systemd needs a control group hierarchy of its own, of
+# version 2.
+boot() {
+    rm -f "$1/root/tried"
+    unshare --mount --pid --fork --kill-child sh -c 'mount --make-rprivate / && mount -t proc proc /proc &&
+        { umount -R -l /sys/fs/cgroup; mount -t cgroup2 none /sys/fs/cgroup; } &&
+        exec timeout 500 systemd-nspawn --quiet --register=no --keep-unit --private-network -D "$0" -b' "$1" \
+        < /dev/null > "$room/said" 2>&1
+    [ -s "$1/root/tried" ] && return
     tail -n 5 "$room/said"
     skip "it does not boot here"
-fi
-cat "$root/root/tried"
-passed=$(grep -c '^held: ' "$root/root/tried")
-failed=$(grep -c '^FAILED: ' "$root/root/tried")
-wanted=$((46 + ${BEFORE:+18} + $(wc -l < "$root/root/commands")))
+}
+
+# The image was booted once before the package comes, so that systemd does not make users at the next boot.
+image=$room/image
+cp -a "$root" "$image"
+printf '#!/bin/sh\necho booted\npoweroff\n' > "$image/root/try.sh"
+boot "$image"
+cp "$room/image.sh" "$image/root/try.sh"
+chmod 755 "$image/root/try.sh"
+sed -n '/^sed -e .*default.lldpa/,/^cp /p' "$tools/../docs/OPERATORS.md" > "$image/root/second"
+chroot "$image" sh -c 'mount -t proc proc /proc; dpkg -i /root/packages/lldpa_*-2_*.deb; status=$?; umount /proc
+    userdel _lldpa; mkdir -p /etc/sysusers.d /var/lib/extrausers; ln -s /dev/null /etc/sysusers.d/lldpa.conf; : > /var/lib/extrausers/group; systemctl enable lldpa; exit $status' \
+    > "$room/said" 2>&1 || { tail -n 5 "$room/said"; echo "FAILED: it does not install in a chroot"; exit 1; }
+sed -i 's/^group:.*/group: files extrausers/' "$image/etc/nsswitch.conf"
+sed -i 's/^LIVE_OPTIONS=.*/LIVE_OPTIONS="--control-group late"/' "$image/etc/default/lldpa"
+boot "$image"
+boot "$root"
+cat "$image/root/tried" "$root/root/tried" | tee "$room/tried"
+passed=$(grep -c '^held: ' "$room/tried")
+failed=$(grep -c '^FAILED: ' "$room/tried")
+wanted=$((28 + 46 + $(wc -l < "$root/root/commands")))
 [ $((passed + failed)) -eq "$wanted" ] || failed=$((failed + 1))
 echo "$passed passed, $failed failed"
 [ "$failed" -eq 0 ]

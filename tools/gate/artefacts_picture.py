@@ -27,13 +27,13 @@ LANES = (
         ("the service:|rust/live", "types"), ("the crate rust/lldpa,|in part unsafe", "tested"),
         ("the front and|memory.c, in C", "tested"),
         ("the agent: exports|of liblldpa", "proved"))),
-    ("lldpa-ctl, which shows what lldpa-live answers", (
+    ("lldpa-ctl and lldpctl, which show what lldpa-live answers", (
         ("sockets: unsafe in|rust/live/src/sys", "tested"),
         ("asks and waits:|rust/live", "types"), ("texts for people:|rust/people", "types"))),
     ("liblldpa, in your own process", (
         ("your program", "trusted"), ("the front and|memory.c, in C", "tested"),
         ("the agent, reader,|builder: exports", "proved"))),
-    ("lldpctl, lldpa-capture and lldpa-audit, which show what neighbors said", (
+    ("lldpa-capture and lldpa-audit, which show what neighbors said", (
         ("answers, captures:|python/lldpa", "tested"),
         ("plans and lists:|audit/lldpa_audit", "tested"))),
     ("What made them", (

@@ -5,9 +5,9 @@
 
 It checks links and their anchors, and names of files, calls and options. Blocks marked `rust` or
 `antt` must be consecutive lines of one source. On pages about proofs, each word in backticks and
-each large number must occur in the sources. In SECURITY.md, each cell of a column "Shown by" must
-name existing laws or calls of the crates, tests of python/tests or audit/tests, or scripts. No page
-may call lldpa-live "the bridge". No line of text may be over 120 columns long.
+each large number must occur in the sources. Each promise of SECURITY.md has an entry in security.txt,
+which names existing laws or calls of the crates, tests of python/tests or audit/tests, or scripts. No
+page may call lldpa-live "the bridge". No line of text may be over 120 columns long.
 
 With --installed it checks only the links of the pages in FOLDER, which tools/release/install.sh has
 filled. The last line is `N passed, M failed`.
@@ -20,7 +20,8 @@ from counts import Counts
 
 TOP = pathlib.Path(__file__).resolve().parents[2]
 CRATES = [line.split(":")[0].split()[0] for line in (TOP / "crates.txt").read_text().splitlines()]
-PAGES = [path for folder in (".", "docs", "examples", "audit") for path in sorted((TOP / folder).glob("*.md"))]
+SHOWN = TOP / "tools" / "gate" / "security.txt"
+PAGES = [path for folder in (".", "docs", "audit") for path in sorted((TOP / folder).glob("*.md"))]
 SOURCE = "\n".join(path.read_text() for path in TOP.glob("crates/*/src/**/*.rt"))
 DEFINITIONS = "\n".join(path.read_text() for path in TOP.glob("crates/*/specs/**/*.antt"))
 FUNCTIONS = set(re.findall(r"\b(?:fn|const|type|struct|enum|trait) (\w+)", SOURCE))
@@ -28,7 +29,7 @@ FUNCTIONS |= set(re.findall(r"^    (\w+)(?:\(|,| \{)", SOURCE, re.M))  # the cas
 PROOFS = "\n".join(path.read_text() for path in TOP.glob("crates/*/proofs/**/*.antt"))
 FILES = {name for path in TOP.rglob("*") if not {"out", ".git"} & set(path.relative_to(TOP).parts) for name in (path.stem, path.name)}
 NAMES = FILES | {name for text in (SOURCE, DEFINITIONS, PROOFS) for name in re.findall(r"\w+(?:-\w+)*", text)} | set(CRATES)
-ABOUT_PROOFS = ("CLAIMS.md", "DEFINITIONS.md", "PROOFS.md", "ARCHITECTURE.md", "STANDARD.md")
+ABOUT_PROOFS = ("CLAIMS.md", "DEFINITIONS.md", "ARCHITECTURE.md", "STANDARD.md")
 SCRIPTS = "\n".join(path.read_text() for path in (TOP / "tools").rglob("*.*") if path.suffix in (".py", ".sh"))
 NUMBERS_OF_CODE = set(re.findall(r"\d+", (SOURCE + DEFINITIONS).replace("_", "")))
 NUMBERS_OF_SOURCES = NUMBERS_OF_CODE | set(re.findall(r"\d+", SCRIPTS.replace("_", "")))
@@ -41,7 +42,7 @@ OPTIONS = {option for path in OF_OPTIONS if path.is_file() and path.suffix != ".
 # options of the toolchain and of other programs
 OPTIONS |= {"--only", "--anew", "--list-axioms", "--allow-holes", "--fix-imports", "--test", "--minutes", "--line-buffered", "--now", "--since"}
 
-FOLDERS_OF_A_CRATE = ("specs", "proofs", "src", "must-fail")
+FOLDERS_OF_A_CRATE = ("specs", "proofs", "src", "must-fail", "wrong")
 
 
 def without_code(text):
@@ -172,19 +173,30 @@ def is_shown_by(name):
     return re.search(rf"\bpub fn {name}\b", SOURCE) is not None
 
 
+def items_of(section):
+    """Returns the plain words of each item of a section's first list, or of each row of its table."""
+    found = re.search(r"^(?:\| .*\n\|---.*\n)((?:\|.*\n)+)|^((?:- .*\n(?:  .*\n)*)+)", section, re.M)
+    items = [] if found is None else re.findall(r"^\| (.*) \|$", found[1] or "", re.M) or re.split(r"^- ", found[2], flags=re.M)[1:]
+    without_links = (re.sub(r"\[([^][]*)\]\([^)]*\)", r"\1", item) for item in items)
+    return [" ".join(re.sub("[`*]", "", item).split()) for item in without_links]
+
+
 def faults_of_security():
-    """Yields each row and each name of the columns "Shown by", with its fault or None."""
-    is_claimed = False
-    for line in (TOP / "SECURITY.md").read_text().splitlines():
-        if not line.startswith("|"):
-            is_claimed = False
-        elif line.endswith("| Shown by |"):
-            is_claimed = True
-        elif is_claimed and not line.startswith("|---"):
-            named = re.findall(r"`([^`]+)`", line.split("|")[-2])
-            yield line[:50], None if named else "it names nothing that shows it"
-            for name in named:
-                yield name, None if is_shown_by(name) else "no such law, call, test or script"
+    """Yields each item that SECURITY.md promises, and each name that shows one, with its fault or None."""
+    page = (TOP / "SECURITY.md").read_text()
+    sections = re.split(r"^== (.*)$", SHOWN.read_text(), flags=re.M)[1:]
+    for name, text in zip(sections[::2], sections[1::2]):
+        found = re.search(rf"^##+ {re.escape(name)}\n(.*?)(?=^##|\Z)", page, re.M | re.S)
+        items = items_of(found[1]) if found else []
+        shown = re.findall(r"^(\S.*)\n((?:    .*\n)*)", text, re.M)
+        for item in items:
+            is_shown = [begin for begin, _ in shown if item.startswith(begin)]
+            yield item[:50], None if len(is_shown) == 1 else f"{SHOWN.name} has {len(is_shown)} entries for it"
+        for begin, names in shown:
+            yield begin, None if any(map(str.startswith, items, [begin] * len(items))) else "SECURITY.md does not say this any more"
+            yield begin, None if names else "nothing shows it"
+            for one in names.split():
+                yield one, None if is_shown_by(one) else "no such law, call, test or script"
 
 
 def faults_of_installed(page, folder):

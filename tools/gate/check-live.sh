@@ -18,9 +18,8 @@ done
 . tools/release/crates.sh
 cd rust/live || exit 2
 export CARGO_TARGET_DIR=out/target
-check "cargo fmt --check" cargo fmt --check
-for words in "clippy --locked --all-targets --quiet -- -D warnings" "test --locked --quiet"; do
-    # shellcheck disable=SC2086
-    check "cargo $words" cargo_with_crates $words
-done
+needs cargo-fmt && check "cargo fmt --check" cargo fmt --check
+needs cargo-clippy && check "cargo clippy" cargo_with_crates clippy --locked --all-targets --quiet -- -D warnings
+check "cargo test" cargo_with_crates test --locked
+ran_by_cargo cargo_with_crates
 finish

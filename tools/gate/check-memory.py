@@ -7,9 +7,9 @@ allocator, and only opening calls receive one. They pass it only to opening call
 no more room than needed. Only modules that read the arguments receive the runtime's `Global`.
 
 Accesses: `Times` counts each access to a stored time. Only its functions `get`, `set` and `look`
-reach the times. A `Times` cannot be copied. `look` does not count, and only `Table::entries` and
-`Table::entry` use it. No tick calls these two: `entries` is called to show neighbors, `entry` only
-in tests. The types of a table have only known fields, since another field could store times. Only
+reach the times. A `Times` cannot be copied. `look` does not count, and only `Table::entries`,
+`Table::entry` and `Table::soonest` use it. No tick calls these: the program calls `entries` to show
+neighbors, and only the library and tests call the others. The types of a table have only known fields, since another field could store times. Only
 two functions of `Count` and those of a C handle have proofs by hand, which could claim any count.
 
     tools/gate/check-memory.py
@@ -56,27 +56,27 @@ HANDLES = "lldpa_c/proofs/handle/"
 WALKS = ("count/Count/add/Proof.antt", "count/Count/new/Proof.antt")
 TABLE = "lldp_table/src/"
 ABOVE_THE_TABLE = ("lldp_engine", "lldp_program", "lldpa/")
-LOOKS = r"\.(?:entries|entry)\(|::(?:entries|entry)\b(?!::)"
+LOOKS = r"\.(?:entries|entry|soonest)\(|::(?:entries|entry|soonest)\b(?!::)"
 # Patterns, the crates that are searched for each, and how often it must occur in each module.
 REACHED = (
     (r"\bself\.each\b", TABLE, {TABLE + "times.rt": 3}),
     (r"\bself\.each\[slot as usize\]", TABLE, {TABLE + "times.rt": 3}),
     (r"\bTimes \{", TABLE, {TABLE + "times.rt": 4}),
-    (r"\blook\b", TABLE, {TABLE + "times.rt": 1}),
-    (r"\blefts_in\(", TABLE, {TABLE + "queue.rt": 1}),
-    (r"(?:\.|::)lefts\b", TABLE, {TABLE + "table.rt": 2}),
-    (LOOKS, TABLE, {}),
+    (r"\blook\b", TABLE, {TABLE + "times.rt": 2, TABLE + "queue.rt": 1}),
+    (r"\blefts?_in\(", TABLE, {TABLE + "queue.rt": 2}),
+    (r"(?:\.|::)(?:lefts|left_of)\b", TABLE, {TABLE + "table.rt": 2}),
+    (LOOKS, TABLE, {TABLE + "table.rt": 1}),
     (r"\bEntries \{", TABLE, {TABLE + "table.rt": 1}),
     (r"\bCount::new\(", TABLE, {TABLE + "times.rt": 1}),
     (r"\bTimes::new\(", TABLE, {TABLE + "queue.rt": 1}),
     (r"\bQueue::new\(", TABLE, {TABLE + "table.rt": 1}),
-    (LOOKS, ABOVE_THE_TABLE, {"lldp_engine/src/show/neighbor_lines.rt": 1}),
+    (LOOKS, ABOVE_THE_TABLE, {"lldp_engine/src/show/neighbor_lines.rt": 1, "lldp_engine/src/show/cursor.rt": 1}),
     *((re.escape(call), "", {module: 1}) for call, module in HANDED_ON.items()),
 )
 COUNTING = ("count.rt", "times.rt", "queue.rt")
 # The fields of the types that make up a table.
 HOLDS = {"Count": "number", "Times": "each count", "Queue": "slots last times",
-         "Slot": "tag ttl length room", "Table": "slots order used gone queue limit too_many"}
+         "Slot": "ttl length room", "Tags": "tags", "Table": "slots order used gone queue tags limit too_many"}
 FIELD = r"(?:^|[{,])\s*(?:pub(?:\(crate\))? )?(?:ghost )?(\w+):"
 
 

@@ -2,11 +2,11 @@
 """Checks that the gate runs everything that tools/named.txt lists.
 
 An entry `body` must have an edit, which the prover must refuse. Each other entry must name what
-tries it: a transcript, a row, a test, a command of tools/gate/words.sh or a script of check.sh.
+tries it: a transcript, a row, a test, a command of tools/gate/words.sh or a script that the gate runs.
 
-    tools/gate/check-named.py
+    tools/gate/check-named.py [--names]
 
-`rt ci` checks that the edits are refused and the tests pass. The last line is `N passed, M failed`.
+--names prints the entries. `rt ci` checks that the edits are refused and the tests pass. The last line is `N passed, M failed`.
 """
 from __future__ import annotations
 
@@ -15,12 +15,13 @@ import pathlib
 import re
 import sys
 
-from counts import Counts
+from counts import Counts, ran
+from plan import PARTS
 
 TOP = pathlib.Path(__file__).resolve().parents[2]
 NAMED = TOP / "tools" / "named.txt"
 TESTS = TOP / "crates" / "lldp_tests" / "src"
-CHECK = (TOP / "tools" / "gate" / "check.sh").read_text()
+COMMANDS = [word for part in PARTS for word in part.command.split()]
 WORDS = (TOP / "tools" / "gate" / "words.sh").read_text()
 KINDS = ("body", "tested", "example")
 # the test of lldp_tests that runs the rows of each kind
@@ -90,7 +91,7 @@ def fault_of_shell(command: str) -> str | None:
 def fault_of_script(name: str) -> str | None:
     if not (TOP / name).is_file():
         return f"{name} is missing"
-    return None if name in CHECK.split() else f"tools/gate/check.sh does not call {name}"
+    return None if name in COMMANDS else f"tools/gate/plan.py does not run {name}"
 
 
 PLACES = {"transcript": fault_of_transcript, "counters": fault_of_counters, "vector": fault_of_vector,
@@ -123,7 +124,11 @@ def fault_of(kind: str, text: str) -> str | None:
 
 def main() -> int:
     lines = [line for line in NAMED.read_text().splitlines() if line and not line.startswith("#")]
+    if sys.argv[1:] == ["--names"]:
+        print("\n".join(lines))
+        return 0
     counts = Counts()
+    ran(*lines)
     for line in lines:
         kind, _, text = line.partition(" ")
         fault = fault_of(kind, text) if kind in KINDS else "its kind is unknown"

@@ -10,15 +10,13 @@ set -u
 LLDPA=$(realpath -- "${1:-$(dirname "$0")/../../crates/lldpa/out/lldpa}")
 export LLDPA
 cd "$(dirname "$0")/../.." || exit 2
-for needed in strip objdump nm; do
-    command -v "$needed" > /dev/null || { echo "skipped: the package, since there is no $needed"; exit 3; }
-done
+. tools/gate/parts.sh
+needs objcopy || exit 3 # of the package binutils, as are strip, objdump and nm
 export LLDPA_LIVE="$PWD/rust/live/out/dynamic/lldpa-live"
 if ! [ -x "$LLDPA_LIVE" ]; then
-    echo "skipped: the package, since there is no lldpa-live: tools/release/live.sh --dynamic builds it"
+    echo "skipped: cargo: the package, since tools/release/live.sh --dynamic builds lldpa-live with it"
     exit 3
 fi
-. tools/gate/parts.sh
 multiarch=$(dpkg-architecture -qDEB_HOST_MULTIARCH 2> /dev/null || true)
 export LIBDIR="/usr/lib${multiarch:+/$multiarch}"
 version=$(sed -n 's/^## \([0-9][0-9.]*\)$/\1/p' CHANGELOG.md | head -n 1)
@@ -127,11 +125,9 @@ check_library() {
     install_into "$room/dev" --library /usr
     check "links of the library's page" python3 tools/gate/check-links.py --installed "$room/dev/usr/share/doc/liblldpa-dev"
     shared_object "$room/dev$LIBDIR/liblldpa.so.1"
-    if command -v pkg-config > /dev/null && command -v cc > /dev/null; then
+    if needs pkg-config && needs cc; then
         told_by_pkg_config liblldpa.so.1
         told_by_pkg_config -l:liblldpa.a
-    else
-        echo "skipped: a program built with pkg-config, since pkg-config or cc is missing"
     fi
     install_into "$room/undone" --library /usr
     install_into "$room/undone" --uninstall --library /usr
@@ -184,7 +180,7 @@ check_files() {
     check "the packages have other files than tools/release/install.sh installs" diff "$room/installed" "$room/packaged"
     set -- --remove-section=.comment --remove-section=.note
     strip "$@" "$room/usr/usr/bin/lldpa" "$room/usr/usr/bin/lldpa-live"
-    strip "$@" --strip-unneeded "$room/usr$LIBDIR/liblldpa.so.1"
+    find "$room/usr$LIBDIR" -name liblldpa.so.1 -exec strip "$@" --strip-unneeded {} +
     strip "$@" --strip-debug --enable-deterministic-archives "$room/usr$LIBDIR/liblldpa.a"
     diff -rq "$room/usr" "$room/package" | grep -v 'Only in .*package/usr/share/doc' > "$room/out"
     [ ! -s "$room/out" ]
@@ -196,7 +192,7 @@ field() {
     dpkg-deb -f "$room/packages/$1"_*.deb "$2"
 }
 
-# What a package needs, what an upgrade may ask, and that the library has the symbols of abi.txt.
+# What a package needs, what an upgrade may ask, and that the library has the symbols of each release.
 check_control() {
     dpkg-deb -x "$room"/packages/lldpa_*.deb "$room/alone"
     ! grep -rlI python "$room/alone/usr/bin" "$room/alone/usr/lib" && ! field lldpa Depends | grep python
@@ -208,10 +204,64 @@ check_control() {
     [ "$(field lldpa Version | sed 's/-[0-9]*$//')" = "$version" ]
     judge $? "debian/changelog has another version than CHANGELOG.md"
     dpkg-deb --info "$room"/packages/liblldpa1_*.deb symbols | sed -n 's/^ \(lldpa_.*\)@\(LLDPA_[0-9]*\) .*/function \1 \2/p' > "$room/said"
-    grep '^function ' tools/library/abi.txt > "$room/listed"
-    check "the symbols of liblldpa1 are not those of tools/library/abi.txt" diff "$room/listed" "$room/said"
+    ! sed -n '/^function /p' tools/library/abi/*.txt | grep -vxF -f "$room/said"
+    judge $? "liblldpa1 lacks symbols of a release in tools/library/abi"
     dpkg-deb --info "$room"/packages/liblldpa1_*.deb shlibs | grep -q '^liblldpa 1 liblldpa1 '
     judge $? "the shlibs file of liblldpa1 does not have the name of the package"
+}
+
+# Installs the package in a copy of this host's files in which no systemd runs, as makers of images do. Then systemd
+# seems to run, and a service that was taken over has left links to a file of root: neither an upgrade nor a purge
+# writes through them.
+check_chroot() {
+    [ "$(id -u)" -eq 0 ] || { echo "skipped: the package in a chroot, which needs root"; return; }
+    needs unshare || return
+    cat > "$room/in-chroot" <<'END'
+#!/bin/sh
+# in-chroot FOLDER PACKAGE: writes a line for each check, `held` or `FAILED`, and a name.
+mkdir -p "$1" && mount -t tmpfs tmpfs "$1" && mkdir "$1/upper" "$1/work" "$1/root" || exit 3
+mount -t overlay overlay -o "lowerdir=/,upperdir=$1/upper,workdir=$1/work" "$1/root" || exit 3
+root=$1/root
+mount -t proc proc "$root/proc" && mount --rbind /dev "$root/dev" || exit 3
+mount -t tmpfs tmpfs "$root/run" && mount -t tmpfs tmpfs "$root/tmp" || exit 3
+cp "$2" "$root/tmp/lldpa.deb"
+held() {
+    what=$1
+    shift
+    if "$@" > "${root%root}said" 2>&1; then echo "held: $what"; else echo "FAILED: $what: $(tail -n 3 "${root%root}said")"; fi
+}
+# The folders that the service's user can write, with links in the places of the files that stood there.
+plant() {
+    mkdir -p "$root/run/systemd/system"
+    for folder in run/private/lldpa var/lib/private/lldpa run/lldpa-metrics; do
+        mkdir -p "$root/$folder"
+        chown nobody "$root/$folder"
+    done
+    rm -f "$root/run/private/lldpa/state" "$root/run/lldpa-metrics/lldpa.prom"
+    echo forged > "$root/run/private/lldpa/state"
+    chown nobody "$root/run/private/lldpa/state"
+    for link in var/lib/private/lldpa/state run/lldpa-metrics/lldpa.prom; do ln -sfT /etc/lldpa-victim "$root/$link"; done
+}
+unharmed() { [ "$(stat -c '%U %a' "$root/etc/lldpa-victim") $(cat "$root/etc/lldpa-victim")" = "root 600 of root" ]; }
+held "it installs without systemd" chroot "$root" dpkg -i /tmp/lldpa.deb
+held "it has a configuration" [ -f "$root/etc/default/lldpa" ]
+held "it has a user for lldpa-live by hand" chroot "$root" id _lldpa
+(umask 077 && echo of root > "$root/etc/lldpa-victim")
+plant
+held "it upgrades" chroot "$root" dpkg -i /tmp/lldpa.deb
+held "an upgrade writes through no link of the service" unharmed
+plant
+held "it is purged" chroot "$root" dpkg -P lldpa
+held "a purge writes through no link of the service" unharmed
+held "no file of it is left" [ -z "$(cd "$root" && ls -d run/lldpa* var/lib/private/lldpa etc/default/lldpa etc/lldpa.d 2> /dev/null)" ]
+END
+    unshare --mount --propagation private sh "$room/in-chroot" "$room/over" "$(ls "$room"/packages/lldpa_*.deb)" > "$room/tried" 2>&1
+    if [ $? -eq 3 ]; then
+        echo "skipped: the package in a chroot, since no file system can be laid over this one: $(tail -n 1 "$room/tried")"
+        return
+    fi
+    [ "$(grep -c '^held: ' "$room/tried")" -eq 8 ]
+    judge $? "the package in a chroot: $(grep -v '^held: ' "$room/tried")"
 }
 
 # debian/rules refuses a program of another version.
@@ -250,7 +300,7 @@ check_programs
 check_pages
 check_units
 if ! tools/library/library.sh "$room/built" > "$room/said" 2>&1; then
-    echo "skipped: the library and the packages: $(cat "$room/said")"
+    judge 1 "the library and the packages: $(cat "$room/said")"
     finish
     exit
 fi
@@ -259,7 +309,7 @@ export LLDPA_LIB_DIR="$PWD/crates/lldpa_c/out/lib"
 cmp -s "$room/built/liblldpa.a" "$LLDPA_LIB_DIR/liblldpa.a" || LLDPA_LIB_DIR=$room/built
 check_library
 for needed in dpkg-buildpackage dh dh_python3 cargo; do
-    needs "$needed" || { echo "skipped: the packages"; finish; exit; }
+    needs "$needed" || { finish; exit; }
 done
 mkdir "$room/given"
 cp "$LLDPA" "$room/given/lldpa"
@@ -268,6 +318,7 @@ export LLDPA_BUILT="$room/given"
 check "tools/release/package.sh" tools/release/package.sh "$room/packages"
 check_files
 check_control
+check_chroot
 check_refusal
 check_crate
 if needs lintian; then

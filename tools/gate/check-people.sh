@@ -8,11 +8,10 @@ cd "$(dirname "$0")/../../rust/people" || exit 2
 . ../../tools/gate/parts.sh
 needs cargo || exit 3
 export CARGO_TARGET_DIR=out/target
-check "cargo fmt --check" cargo fmt --check
-for words in "clippy --locked --all-targets --quiet -- -D warnings" "test --locked --quiet" \
-    "build --locked --release --example people --quiet"; do
-    # shellcheck disable=SC2086
-    check "cargo $words" cargo $words
-done
+needs cargo-fmt && check "cargo fmt --check" cargo fmt --check
+needs cargo-clippy && check "cargo clippy" cargo clippy --locked --all-targets --quiet -- -D warnings
+check "cargo test" cargo test --locked
+ran_by_cargo cargo
+check "cargo build" cargo build --locked --release --example people --quiet
 check "the example" cp out/target/release/examples/people out/people
 finish

@@ -11,6 +11,7 @@ from __future__ import annotations
 
 import os
 import re
+import shlex
 import shutil
 import subprocess
 import sys
@@ -27,8 +28,8 @@ COMMANDS = {"lldpa-ctl": r"^  ([a-z]+) ", "lldpctl": r"^  (show|watch|configure|
 # A bash script that prints the completions of the first word after a program's name.
 COMPLETE = f"""
 . {LIBRARY}
-. {IN_BASH}
-lldpa() {{ cat {TOP}/examples/help.txt; }}
+. {shlex.quote(str(IN_BASH))}
+lldpa() {{ cat {shlex.quote(str(TOP))}/examples/help.txt; }}
 COMP_WORDS=("$@") COMP_CWORD=1 COMP_LINE="$*" COMP_POINT=${{#COMP_LINE}}
 call=$(complete -p "$1" | sed 's/.*-F \\([^ ]*\\).*/\\1/')
 "$call" "$1" "$2" "$1" 2> /dev/null
@@ -69,7 +70,7 @@ def main() -> int:
     native = {"lldpa-live", "lldpa-ctl"}
     programs = [one for one in PROGRAMS if one not in native or LIVE.exists()]
     if programs != [*PROGRAMS]:
-        print("skipped: completions for lldpa-live and lldpa-ctl, which tools/release/live.sh builds")
+        print("skipped: cargo: completions for lldpa-live and lldpa-ctl, which tools/release/live.sh builds")
     for program in programs:
         missing = [one for one in sorted(options_of(program)) if not is_in_manual(program, one)]
         counts.judge(f"it lacks {missing}" if missing else None, f"the manual page of {program}")
@@ -82,14 +83,14 @@ def main() -> int:
         for program in commands:
             counts.that(f"the commands of {program} in bash", offered(program, "") == commands[program] | links)
     else:
-        print(f"skipped: completions for bash, since {LIBRARY} is missing")
+        print("skipped: bash-completion: completions for bash")
     for program in commands:
         found = re.search(rf"^    1{program}\) commands=\((.*)\)", IN_ZSH.read_text(), re.M)
         counts.that(f"the commands of {program} in zsh", found and set(found[1].split()) == commands[program])
     if shutil.which("zsh"):
         counts.that("zsh reads its file", subprocess.run(["zsh", "-n", IN_ZSH], check=False).returncode == 0)
     else:
-        print("skipped: whether zsh reads its file, since it is not installed")
+        print("skipped: zsh: whether it reads its file")
     return counts.end()
 
 

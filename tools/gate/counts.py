@@ -1,6 +1,16 @@
 """Counts the checks of a script. tools/gate/check.sh adds up the last lines of its scripts."""
 from __future__ import annotations
 
+import os
+
+
+def ran(*names: str) -> None:
+    """Notes the names of what a script runs, for tools/gate/ledger.py."""
+    file = os.environ.get("GATE_NAMES")
+    if file and names:
+        with open(file, "a", encoding="utf-8") as notes:
+            notes.write("".join(f"{' '.join(name.split())}\n" for name in names))
+
 
 class Counts:
     """Counts the checks that held and those that failed, and reports the failed ones."""

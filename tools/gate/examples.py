@@ -4,14 +4,14 @@
     python3 tools/gate/examples.py PROGRAM [NAME ...]
     python3 tools/gate/examples.py --as-root
 
-The transcripts are in examples/; the README there describes the files. The texts of a filter have
+The transcripts are in examples/; CONTRIBUTING.md describes the files. The texts of a filter have
 only small letters and hyphens, and must occur in shown lines. Each transcript runs in four ways:
 its first N lines, for each N; without its last LF, which changes nothing; octet by octet; and in
 two pieces, cut at every place (inputs of up to 10,000 octets). A piece is written after the program
 has read the one before. Each run must end with status 0 and write nothing on standard error.
 receive-counters.rows has counters of eth0 that `show statistics` must show after a transcript.
 
-Examples of the pages and the manual page are blocks whose first line begins with `$ `. Each line
+Examples of the pages and the manual pages are blocks whose first line begins with `$ `. Each line
 that begins so is a command. If it ends with <<'EOF' or <<EOF, its input follows, up to a line EOF.
 Then its output follows, up to the next command. A status other than 0 must be shown by `echo $?`.
 Standard error must be empty. A free port replaces the number after --listen, and ages of sources
@@ -211,13 +211,14 @@ def run_rows(program, only):
 
 
 def blocks():
-    """Yields the name and the lines of each block of the pages and of the manual page."""
-    for path in [path for folder in (".", "docs", "examples") for path in sorted((TOP / folder).glob("*.md"))]:
+    """Yields the name and the lines of each block of the pages and of the manual pages."""
+    for path in [path for folder in (".", "docs") for path in sorted((TOP / folder).glob("*.md"))]:
         for place, block in enumerate(re.findall(r"^```\w*\n(.*?)^```$", path.read_text(), re.M | re.S), 1):
             yield f"{path.relative_to(TOP)}, block {place}", block.splitlines()
-    page = (TOP / "man" / "lldpa.1").read_text().replace("\\e", "\\").replace("\\-", "-").replace("\\&", "")
-    for place, block in enumerate(re.findall(r"^\.Bd -literal\n(.*?)^\.Ed$", page, re.M | re.S), 1):
-        yield f"manual page, block {place}", block.splitlines()
+    for path in sorted((TOP / "man").iterdir()):
+        page = path.read_text().replace("\\e", "\\").replace("\\-", "-").replace("\\&", "")
+        for place, block in enumerate(re.findall(r"^\.Bd -literal\n(.*?)^\.Ed$", page, re.M | re.S), 1):
+            yield f"{path.relative_to(TOP)}, block {place}", block.splitlines()
 
 
 def commands(lines):

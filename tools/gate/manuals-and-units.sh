@@ -1,6 +1,6 @@
 #!/bin/sh
-# Checks that the manual pages are well formed, that the service has few rights, and that
-# share/default/lldpa has the variables of lldpa.service. The last line is `N passed, M failed`.
+# Checks that the manual pages are well formed, and that share/default/lldpa has the variables of
+# lldpa.service. The last line is `N passed, M failed`.
 set -u
 cd "$(dirname "$0")/../.." || exit 2
 . tools/gate/parts.sh
@@ -16,10 +16,6 @@ if needs groff; then
         groff -mandoc -ww -z "$page" > "$room/out" 2>&1 && [ ! -s "$room/out" ]
         judge $? "groff: $(cat "$room/out")"
     done
-fi
-if needs systemd-analyze; then
-    systemd-analyze security --offline=true --threshold=20 "$PWD/share/systemd/lldpa.service" > "$room/out" 2>&1
-    judge $? "systemd-analyze security: $(tail -n 1 "$room/out")"
 fi
 for name in PORTS LIVE_OPTIONS AGENT_OPTIONS; do
     grep -q "^$name=" share/default/lldpa && grep -q "^ExecStart=.* \$$name\b" share/systemd/lldpa.service

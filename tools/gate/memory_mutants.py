@@ -46,11 +46,13 @@ MUTANTS = {
         ("self.gone = self.used - kept;", "let _ = self.entries(); @"),
         ("self.gone = self.used - kept;", "let _ = Table::entries(self); @"),
         ("self.gone = self.used - kept;", "for i in 0..kept { let _ = self.entry(i); } @"),
+        ("self.gone = self.used - kept;", "let _ = self.soonest(); @"),
     ),
     "lldp_table/src/queue.rt": (
         ("    last: u16,", "@ all: [u16; MOST_NEIGHBORS],", "            last: 0,", "@ all: [0; MOST_NEIGHBORS],",
          "self.last -= 1;", "@ for left in &mut self.all { *left = left.saturating_sub(1); }"),
         ("let first = self.slots[0];", "let _ = self.lefts(); @"),
+        ("let first = self.slots[0];", "let _ = self.left_of(0); @"),
     ),
     "lldp_table/src/room.rt": (
         ("items: Vec::with_capacity(alloc, capacity)?,",

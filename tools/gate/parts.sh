@@ -4,10 +4,7 @@ room=$(mktemp -d) || exit 2
 trap 'rm -rf "$room"' EXIT
 passed=0
 failed=0
-kept=0
-skipped=0
 export PYTHONDONTWRITEBYTECODE=1
-: > "$room/seconds"
 
 # judge STATUS WHAT: counts a check as passed if STATUS is 0; otherwise counts and reports it.
 judge() {
@@ -27,50 +24,33 @@ check() {
     judge $? "$check_what: $(tail -n 20 "$room/out")"
 }
 
-# needs COMMAND: succeeds if the command is installed; otherwise reports it as skipped.
+# needs NAME: succeeds if this command is installed; otherwise says that its checks are skipped. The
+# gate counts this as a failure unless tools/gate/install.sh lists the command.
 needs() {
     command -v "$1" > /dev/null && return
-    echo "skipped: $1, which is not installed"
+    echo "skipped: $1: it is not installed"
     false
 }
 
-# part NAME COMMAND..: runs a script, adds the counts of its last line `N passed, M failed`, and
-# notes its seconds. A script that skips its task ends with status 3 and says why.
-part() {
-    part_name=$1
-    shift
-    echo "== $part_name"
-    began=$(date +%s)
-    { "$@" 2>&1; echo $? > "$room/status"; } | tee "$room/part"
-    part_status=$(cat "$room/status")
-    took=$(($(date +%s) - began))
-    printf '%6d s  %s\n' "$took" "$part_name" >> "$room/seconds"
-    echo "   $took s"
-    skipped=$((skipped + $(grep -c "^skipped: " "$room/part")))
-    last=$(tail -n 1 "$room/part")
-    counted=$(expr "$last" : '\([0-9]*\) passed, [0-9]* failed$')
-    uncounted=$(expr "$last" : '[0-9]* passed, \([0-9]*\) failed$')
-    if [ "$part_status" -eq 3 ]; then
-        return
-    elif [ -z "$counted" ]; then
-        judge 1 "$part_name: the script ended with status $part_status and printed no count"
-    elif [ "$part_status" -ne 0 ] && [ "$uncounted" -eq 0 ]; then
-        judge 1 "$part_name: the script counts no failure, but ended with status $part_status"
-    else
-        passed=$((passed + counted))
-        failed=$((failed + uncounted))
-        grep -q "^kept: " "$room/part" && kept=$((kept + counted))
-    fi
+# ran NAME..: notes the names of what a script runs, each of one line, for tools/gate/ledger.py.
+ran() {
+    [ -z "${GATE_NAMES-}" ] || printf '%s\n' "$@" >> "$GATE_NAMES"
 }
 
-# Prints the seconds of the parts, and the counts in the last line.
+# ran_by_cargo CARGO..: notes the tests that this command of cargo runs in the current folder, and
+# those that it ignores. (Their results are not read, since what a test writes may stand between a
+# name and its result.)
+ran_by_cargo() {
+    for words in "" "--ignored"; do
+        # shellcheck disable=SC2086 # no word, or one
+        "$@" test --locked --quiet -- --list $words 2> /dev/null | sed -n "s/^\(.*\): test\$/\1/p" > "$room/tests$words"
+    done
+    grep -vxF -f "$room/tests--ignored" "$room/tests" | while read -r test; do ran "$test"; done
+    while read -r test; do ran "ignored: $test"; done < "$room/tests--ignored"
+}
+
+# Prints the counts in the last line. The status is 1 if a check failed.
 finish() {
-    if [ -s "$room/seconds" ]; then
-        echo "== seconds of each part"
-        sort -rn "$room/seconds"
-        echo "kept from an earlier run: $kept of $passed"
-        echo "lines above that begin with 'skipped: ': $skipped (tools/gate/install.sh installs what they need)"
-    fi
     echo "$passed passed, $failed failed"
     [ "$failed" -eq 0 ]
 }

@@ -61,7 +61,7 @@ def pictures_of_pages() -> Iterator[tuple[str, str, pathlib.Path]]:
 
 def main() -> int:
     if shutil.which("rsvg-convert") is None:
-        print("skipped: pictures, which need rsvg-convert")
+        print("skipped: rsvg-convert: pictures")
         return 3
     counts = Counts()
     pictures = {pathlib.Path(name) for name in sys.argv[1:]}

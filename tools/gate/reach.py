@@ -68,6 +68,16 @@ def without_comments(text: str) -> str:
     return re.sub(r"(?m)--.*$", "", text)
 
 
+def definitions_in(crate: str, module: str, text: str) -> dict[Definition, str]:
+    """Returns the definitions of a module, each with its text."""
+    found = {}
+    for item in ITEM.split(text):
+        begin = BEGIN.match(item)
+        if begin and " : " in without_comments(item):
+            found[Definition(crate, module, begin[1])] = item
+    return found
+
+
 class Specification:
     """All definitions of the crates, and which of them each one cites."""
 
@@ -82,10 +92,17 @@ class Specification:
         module = ".".join(modules)
         text = path.read_text()
         self.imports[crate, module] = imports_of(text)
-        for item in ITEM.split(text):
-            begin = BEGIN.match(item)
-            if begin and " : " in without_comments(item):
-                self.texts[Definition(crate, module, begin[1])] = item
+        self.texts |= definitions_in(crate, module, text)
+
+    def changed_by(self, crate: str, texts: dict[str, str]) -> set[Definition]:
+        """Returns the definitions that other texts change, by the paths of their files in a crate."""
+        found: set[Definition] = set()
+        for path, text in texts.items():
+            parts = pathlib.PurePath(path).with_suffix("").parts
+            if parts[0] == "specs":
+                changed = definitions_in(crate, ".".join(parts[1:]), text)
+                found |= {one for one in changed if self.texts.get(one) != changed[one]}
+        return found
 
     def cited_by(self, one: Definition) -> set[Definition]:
         imports = self.imports[one.crate, one.module]

@@ -13,8 +13,8 @@
 set -u
 cd "$(dirname "$0")/../.." || exit 2
 program=$(realpath -- "${1:-crates/lldpa/out/lldpa}") && [ -x "$program" ] || { echo "no program"; exit 2; }
-command -v cc > /dev/null || { echo "skipped: refused memory, which needs a C compiler (cc)"; exit 3; }
 . tools/gate/parts.sh
+needs cc || exit 3
 cc -O1 -shared -fPIC -o "$room/refuse.so" tools/gate/refuse.c || exit 2
 survived=0
 

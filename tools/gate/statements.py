@@ -4,16 +4,17 @@
     tools/gate/statements.py [FILE]              the checks that need no built program
     tools/gate/statements.py --built PROGRAM     the other checks
     tools/gate/statements.py --open PAGE         sentences with a number that no statement has
+    tools/gate/statements.py --names             the page and the words of each statement
 
 FILE, by default tools/gate/statements.txt, has comments that begin with #, and these lines:
 
     == PAGE                            the statements below are on this page
     A sentence, or a part of one.      must be on the page; marks of Markdown and mdoc do not count
-        in FILE: TEXT                  the text is in this file, or in a file of this folder
-        in FILE: /PATTERN/             the same for a regular expression
+        row FILE: TEXT                 this file has what the gate tries, and the text among it: see ROWS
         help PROGRAM: TEXT             the text is in PROGRAM --help
         run COMMAND => STATUS TEXT     the shell command ends with this status, and prints the text
-        test MODULE.NAME               this test exists; the gate runs it
+        test MODULE.NAME[: TEXT]       this test exists, and has this row; the gate runs it
+        part NAME                      this is a part of the gate
 
 Each statement has a check, and each number of a statement is also in its checks or in the named
 test: so whoever changes a sentence also sees the check. A command that runs lldpa, or a program of
@@ -24,6 +25,7 @@ from __future__ import annotations
 
 import concurrent.futures
 import dataclasses
+import fnmatch
 import functools
 import os
 import pathlib
@@ -34,7 +36,8 @@ import tempfile
 from collections.abc import Iterator
 from typing import Tuple
 
-from counts import Counts
+from counts import Counts, ran
+from plan import PARTS
 
 TOP = pathlib.Path(__file__).resolve().parents[2]
 FILE = TOP / "tools" / "gate" / "statements.txt"
@@ -44,6 +47,10 @@ NAMES = ["lldpa", *(path.name for path in sorted((TOP / "bin").iterdir())
                     if "python" not in path.read_text().partition("\n")[0])]
 BUILT = re.compile(rf"(?<![\w/.-])(?:{'|'.join(NAMES)})(?![\w./-])")
 SECONDS = 30  # that a command may take
+# the files whose rows or tests the gate runs
+ROWS = ("examples/*.expect", "examples/*.rows", "examples/help.txt", "audit/worked/*", "share/prometheus/*.test.yml",
+        "tools/gate/words.sh", "tools/library/c/*.c", "crates/lldp_tests/src/*.rt", "python/tests/*", "audit/tests/*",
+        "rust/*.rs")
 
 # the macros of mdoc that mark words
 MACROS = frozenset("Ar Bd Cm Dl Dq Dv Ed El Ev Fl Ic It Li Nd Ns Op Pa Pc Po Pp Pq Ql Sh Ss Sx"
@@ -58,6 +65,10 @@ class Statement:
 
 
 Pair = Tuple[Statement, str]  # a statement and one of its checks
+
+
+def named(statement: Statement) -> str:
+    return f"{statement.page}: {statement.words}"
 
 
 @functools.lru_cache(None)
@@ -121,6 +132,13 @@ def texts_of(name: str) -> tuple[str, ...]:
     return tuple(re.sub(r"\\\n\s*", "", text) for text in texts)  # joins lines of a string
 
 
+def tried_in(name: str) -> tuple[str, ...]:
+    """Returns the texts of a file that the gate tries: of a source in Rust, only its tests."""
+    if name.endswith(".rs") and not re.search(r"/tests(?:/|\.rs$)", name):
+        return tuple(text.partition("#[cfg(test)]")[2] for text in texts_of(name))
+    return texts_of(name)
+
+
 def has(text: str, wanted: str) -> bool:
     """Returns whether a text has these words, or a match of this /PATTERN/."""
     if len(wanted) > 2 and wanted[0] == wanted[-1] == "/":
@@ -156,8 +174,8 @@ def fault_of_statement(statement: Statement) -> str | None:
     shown = " ".join(statement.checks)
     for check in statement.checks:
         if check.startswith("test "):
-            shown += source_of_test(check[5:]) or ""
-    shown = re.sub(r"(?<=\d)[,_](?=\d)", "", shown.replace("\\", ""))
+            shown += source_of_test(check[5:].partition(": ")[0]) or ""
+    shown = re.sub(r"(?<=\d)[,_](?=\d)|(?<=\b0)o(?=\d)", "", shown.replace("\\", ""))
     missing = [number for number in numbers_of(statement.words) if number not in shown]
     return f"no check has its number {min(missing)}" if missing else None
 
@@ -176,10 +194,11 @@ def written_by(command: str, folder: str) -> tuple[int, str]:
     """Returns the status of a command and what it wrote; `folder` has the built programs."""
     environment = {**os.environ, "PATH": f"{folder}:{TOP / 'bin'}:{os.environ['PATH']}",
                    "PYTHONDONTWRITEBYTECODE": "1", "LC_ALL": "C.UTF-8", "COLUMNS": "80"}
-    ran = subprocess.run(["sh", "-c", command], cwd=TOP, env=environment, text=True,
+    environment.pop("GATE_NAMES", None)  # what a command runs is no part of the gate
+    ended = subprocess.run(["sh", "-c", command], cwd=TOP, env=environment, text=True,
                          stdin=subprocess.DEVNULL, stdout=subprocess.PIPE,
                          stderr=subprocess.STDOUT, timeout=SECONDS, check=False)
-    return ran.returncode, ran.stdout
+    return ended.returncode, ended.stdout
 
 
 def fault_of_run(command: str, wanted: str, folder: str) -> str | None:
@@ -193,11 +212,21 @@ def fault_of_run(command: str, wanted: str, folder: str) -> str | None:
     return None if has(written, text) else f"it wrote {written[-300:]!r}"
 
 
+def fault_of_test(named_test: str) -> str | None:
+    name, _, row = named_test.partition(": ")
+    source = source_of_test(name)
+    if source is None:
+        return "there is no such test"
+    return None if has(source, row) else "the test does not have this"
+
+
 def fault_of_check(check: str, folder: str) -> str | None:
     kind, _, rest = check.partition(" ")
-    if kind == "in":
+    if kind == "row":
         name, _, wanted = rest.partition(": ")
-        return None if any(has(text, wanted) for text in texts_of(name)) else "it is not there"
+        if not any(fnmatch.fnmatch(name, pattern) for pattern in ROWS):
+            return "the gate does not try what this file has"
+        return None if any(has(text, wanted) for text in tried_in(name)) else "it is not there"
     if kind == "help":
         program, _, wanted = rest.partition(": ")
         if program == "lldpa":
@@ -207,7 +236,9 @@ def fault_of_check(check: str, folder: str) -> str | None:
         command, _, wanted = rest.rpartition(" => ")
         return fault_of_run(command, wanted, folder)
     if kind == "test":
-        return None if source_of_test(rest) else "there is no such test"
+        return fault_of_test(rest)
+    if kind == "part":
+        return None if rest in [part.name for part in PARTS] else "the gate has no such part"
     return "this is no form of a check"
 
 
@@ -217,7 +248,7 @@ def without_unbuilt(pairs: list[Pair], folder: str) -> list[Pair]:
     needs = re.compile(rf"(?<![\w/.-])(?:{'|'.join(unbuilt)})(?![\w./-])")
     kept = [pair for pair in pairs if not unbuilt or not needs.search(pair[1])]
     if unbuilt:
-        print(f"skipped: statements by {', '.join(unbuilt)}, which tools/release/live.sh builds")
+        print(f"skipped: cargo: statements by {', '.join(unbuilt)}, which tools/release/live.sh builds")
     return kept
 
 
@@ -225,14 +256,15 @@ def judge(counts: Counts, statements: list[Statement], folder: str, built: bool)
     """Counts the statements with their checks, or only the checks that need a built program."""
     if not built:
         for statement in statements:
-            counts.judge(fault_of_statement(statement), f"{statement.page}: {statement.words}")
+            counts.judge(fault_of_statement(statement), named(statement))
+            ran(named(statement))
     pairs = [(one, check) for one in statements for check in one.checks if is_built(check) is built]
     if built:
         pairs = without_unbuilt(pairs, folder)
     with concurrent.futures.ThreadPoolExecutor(os.cpu_count()) as pool:
         faults = pool.map(lambda pair: fault_of_check(pair[1], folder), pairs)
         for (statement, check), fault in zip(pairs, faults):
-            counts.judge(fault, f"{statement.page}: {statement.words}: {check}")
+            counts.judge(fault, f"{named(statement)}: {check}")
 
 
 def print_open(page: str) -> None:
@@ -252,6 +284,9 @@ def main() -> int:
     words = sys.argv[1:]
     if words[:1] == ["--open"]:
         print_open(words[1])
+        return 0
+    if words == ["--names"]:
+        print("\n".join(map(named, statements_of(FILE))))
         return 0
     built = words[:1] == ["--built"]
     statements = list(statements_of(FILE if built or not words else pathlib.Path(words[0])))

@@ -9,4 +9,4 @@ bindgen crates/lldpa_c/include/lldpa.h --disable-header-comment --use-core --siz
     --raw-line '//! The declarations of `lldpa.h`, written by tools/library/bindings.sh.' --with-derive-default \
     --with-derive-eq --with-derive-hash --with-derive-partialeq --fit-macro-constant-types \
     --allowlist-function 'lldpa_.*' --allowlist-var 'LLDPA_.*' -- -std=c99 -fparse-all-comments |
-    sed '/^pub type __/d; s/lldpa_statistics_told/Statistics/g'
+    sed -E '/^pub type __\w+ = [^;]*;$/d; s/pub type __\w+ = [^;]*;//g; s/lldpa_statistics_told/Statistics/g'

@@ -1,10 +1,11 @@
 #!/usr/bin/env python3
-"""Builds the program and the library for arm64, runs them with qemu, and makes the packages.
+"""Builds the program and the library for arm64, and runs them with qemu.
 
     python3 tools/library/check-arm64.py [FOLDER]
 
 The program's output is compared with the transcripts of examples/, and with the model's output for
-random traces. C programs of tools/library/c test the library. Without FOLDER, build.sh builds both.
+random traces. C programs of tools/library/c test the library. If GATE_WHOLE is set, lldpa-live and the
+Debian packages are built too. Without FOLDER, build.sh builds both.
 Without gcc for arm64 or qemu-user the status is 3. The last line is `N passed, M failed`.
 """
 from __future__ import annotations
@@ -14,6 +15,7 @@ import functools
 import importlib
 import os
 import pathlib
+import shlex
 import shutil
 import sys
 import tempfile
@@ -28,13 +30,14 @@ TOOLS = TOP / "tools" / "library" / "c"
 MODEL = TOP / "tools" / "model"
 TRACES = "200"
 EM_AARCH64 = 183
+IS_WHOLE = bool(os.environ.get("GATE_WHOLE"))  # tools/gate/check.sh --whole
 NATIVE = importlib.import_module("check-library")
 
 
 def wrapped(program: pathlib.Path) -> pathlib.Path:
     """Writes a script that runs a program with qemu, and returns its path."""
     script = program.with_name(f"{program.name}-by-qemu")
-    script.write_text(f'#!/bin/sh\nexec {" ".join(QEMU)} {program} "$@"\n')
+    script.write_text(f'#!/bin/sh\nexec {" ".join(QEMU)} {shlex.quote(str(program))} "$@"\n')
     script.chmod(0o755)
     return script
 
@@ -78,7 +81,7 @@ def has_live(folder: pathlib.Path, counts: Counts) -> bool:
     for words in ([], ["--dynamic"]):
         made = ran([TOP / "tools" / "release" / "live.sh", "--arch", "arm64", *words], env=settings)
         if made.returncode == 3:
-            skip(f"lldpa-live and the packages of the programs for arm64: {made.stderr.strip()}")
+            skip("libstd-rust-dev:arm64", f"lldpa-live for arm64: {made.stderr.strip()}")
             return False
         said = ran([*QEMU, made.stdout.strip(), "--version"])
         is_right = said.stdout.startswith("lldpa-live ")
@@ -91,7 +94,7 @@ def check_packages(folder: pathlib.Path, room: pathlib.Path, counts: Counts) -> 
     is_whole = has_live(folder, counts)
     for command in ("dpkg-buildpackage", "dh", "dh_python3"):
         if shutil.which(command) is None:
-            skip(f"the packages for arm64, since there is no {command}")
+            skip(command, "the packages for arm64")
             return
     names = ["lldpa", "liblldpa1", "liblldpa-dev"] if is_whole else ["liblldpa1", "liblldpa-dev"]
     options = ["-a", "arm64"] if is_whole else ["-a", "arm64", "-Ppkg.lldpa.library"]
@@ -110,7 +113,7 @@ def check_packages(folder: pathlib.Path, room: pathlib.Path, counts: Counts) -> 
 def main() -> int:
     for command in (COMPILER, QEMU[0]):
         if shutil.which(command) is None:
-            skip(f"arm64, since there is no {command}")
+            skip(command, "arm64")
             return 3
     counts = Counts()
     with tempfile.TemporaryDirectory() as name:
@@ -123,7 +126,7 @@ def main() -> int:
             programs = [pathlib.Path(shutil.copy(folder / name, room)) for name in ("lldpa", "lldpa-static")]
             side_by_side([*(functools.partial(check_program, program) for program in programs),
                           functools.partial(check_library, folder / "lib", room),
-                          functools.partial(check_packages, folder, room)], counts)
+                          *([functools.partial(check_packages, folder, room)] if IS_WHOLE else [])], counts)
     return counts.end()
 
 

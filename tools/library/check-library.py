@@ -6,12 +6,12 @@
 Programs of tools/library/c run with the library, most with the compiler's sanitizers. vectors.c
 runs the rows of examples/vectors.rows, and reads cut and altered LLDPDUs. transcript.c runs the
 transcripts of examples/ and long shows. nulls.c passes NULL for each pointer, and values out of
-range. limits.c tries small buffers and random octets, and ranges.c the ends of ranges and calls with
-two wrong arguments. refused.c refuses memory to the library.
+range. limits.c tries small buffers and random octets, and ranges.c the ends of ranges, long lists and
+long waits. refused.c refuses memory to the library.
 
 FOLDER has liblldpa.a, liblldpa.so.1 and lldpa.h. Without FOLDER tools/library/library.sh makes
-them. Checks that need a missing program, such as cargo, are reported and not counted. Without
-a C compiler or a library the status is 3. The last line is `N passed, M failed`.
+them; if it fails, so does this script. Checks that need a missing program, such as cargo, are
+reported and not counted. Without a C compiler the status is 3. The last line is `N passed, M failed`.
 """
 from __future__ import annotations
 
@@ -24,9 +24,11 @@ import tempfile
 from typing import Callable
 
 from library_abi import check_abi
+from library_abi_edits import check_edits
 from library_examples import check_page, check_receive, check_sd_lldp_rx, check_who
 from library_front import check_front
 from library_layout import check_layout
+from library_level import check_level
 from library_machine import check_machine
 from library_parts import (TOP, WARNINGS, Counts, Library, count_of, fault_of, ran, side_by_side,
                            skip)
@@ -47,7 +49,7 @@ def check_header(library: Library, counts: Counts) -> None:
     for compiler, language, standard in (("cc", "c", "c99"), ("cc", "c", "c11"),
                                          ("c++", "c++", "c++11")):
         if shutil.which(compiler) is None:
-            skip(f"the header in {standard}, since there is no {compiler}")
+            skip(compiler, f"the header in {standard}")
             continue
         flags = [f"-std={standard}", *WARNINGS, "-fsyntax-only", "-include", header]
         command = [compiler, "-x", language, *flags, "/dev/null"]
@@ -64,6 +66,16 @@ def check_functions(library: Library, counts: Counts) -> None:
     counts.judge(None if is_same else f"{sorted(found ^ declared)}", "the functions of lldpa.h")
     named = set(re.findall(r'(lldpa_\w+) ?"?\(', MANUAL.read_text()))
     counts.judge(None if named == declared else f"{sorted(named ^ declared)}", "the functions of lldpa(3)")
+
+
+def check_needs(library: Library, counts: Counts) -> None:
+    """Checks that docs/LIBRARY.md names the functions that the archive needs, and no others."""
+    undefined = ran(["nm", "--undefined-only", library.folder / "liblldpa.a"]).stdout
+    needed = set(re.findall(r"^ +U (\w+)$", undefined, re.M))
+    page = re.sub(r"\s+", " ", (TOP / "docs" / "LIBRARY.md").read_text())
+    said = re.search(r"Firmware without a C library must give six functions: ([^.]*)\.", page)
+    named = set(re.findall(r"`(\w+)`", said[1])) if said else set()
+    counts.judge(None if named == needed and len(named) == 6 else f"{sorted(needed)}", "the functions of firmware")
 
 
 def check_plug_in(library: Library, counts: Counts) -> None:
@@ -100,7 +112,7 @@ def check_programs(library: Library, counts: Counts) -> None:
     """Runs the C programs, with the sanitizers if the compiler has them."""
     flags = SANITIZERS if has_sanitizers(library.room) else []
     if not flags:
-        skip("the sanitizers, which the compiler does not have")
+        skip("sanitizers", "memory and arithmetic of the C programs")
     for name in ("vectors", "transcript", "nulls", "limits", "ranges"):
         fault = library.compiled(TOOLS / f"{name}.c", name, *flags)
         counts.judge(fault, f"building {name}")
@@ -123,7 +135,7 @@ def check_refused(library: Library, counts: Counts) -> None:
     installed."""
     wrapper = VALGRIND if shutil.which("valgrind") else []
     if not wrapper:
-        skip("valgrind, which is not installed")
+        skip("valgrind", "memory of refused.c")
     fault = library.compiled(TOOLS / "refused.c", "refused", *WRAPPED)
     counts.judge(fault, "building refused")
     if fault is None:
@@ -132,8 +144,8 @@ def check_refused(library: Library, counts: Counts) -> None:
 
 def check_processor(library: Library, counts: Counts) -> None:
     """Checks that the library for amd64 runs on an old processor, which qemu emulates."""
-    if shutil.which("qemu-x86_64") is None or os.uname().machine != "x86_64":
-        skip("an old processor, since there is no qemu-x86_64")
+    if os.uname().machine != "x86_64" or shutil.which("qemu-x86_64") is None:
+        skip("qemu-user" if os.uname().machine == "x86_64" else "x86-64", "an old processor")
         return
     counts.judge(library.compiled(TOOLS / "vectors.c", "vectors"), "building vectors")
     program = str(library.room / "vectors")
@@ -151,8 +163,8 @@ def check_stack(library: Library, counts: Counts) -> None:
 
 # The checks that take longest come first.
 CHECKS = (check_programs, check_rust, check_front, check_refused, check_receive, check_layout, check_header,
-          check_processor, check_functions, check_abi, check_plug_in, check_bindings, check_size,
-          check_machine, check_stack, check_page, check_who, check_sd_lldp_rx)
+          check_processor, check_level, check_functions, check_needs, check_abi, check_edits, check_plug_in,
+          check_bindings, check_size, check_machine, check_stack, check_page, check_who, check_sd_lldp_rx)
 
 
 def in_own_room(check: Callable[[Library, Counts], None], folder: pathlib.Path,
@@ -165,17 +177,16 @@ def in_own_room(check: Callable[[Library, Counts], None], folder: pathlib.Path,
 
 def main() -> int:
     if shutil.which("cc") is None:
-        skip("the library, since there is no cc")
+        skip("cc", "the library")
         return 3
     counts = Counts()
     with tempfile.TemporaryDirectory() as name:
         room = pathlib.Path(name)
         folder = pathlib.Path(sys.argv[1]).resolve() if sys.argv[1:] else room / "lib"
         fault = None if sys.argv[1:] else fault_of([TOP / "tools/library/library.sh", folder])
-        if fault is not None:
-            skip(f"the library: {fault}")
-            return 3
-        side_by_side([in_own_room(check, folder, room) for check in CHECKS], counts)
+        counts.judge(fault, "tools/library/library.sh")
+        if fault is None:
+            side_by_side([in_own_room(check, folder, room) for check in CHECKS], counts)
     return counts.end()
 
 

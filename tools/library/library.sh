@@ -3,14 +3,16 @@
 #     tools/library/library.sh [--arch amd64|arm64] [FOLDER]
 # By default FOLDER is crates/lldpa_c/out/lib and the architecture is that of this machine. Another
 # architecture needs a C compiler and binutils, such as the package gcc-aarch64-linux-gnu. The
-# library for amd64 runs on every amd64 processor.
+# library for amd64 runs on every amd64 processor. A second shared object from the same sources, in
+# FOLDER/glibc-hwcaps/x86-64-v3, is for amd64 processors with AVX2: there the loader of the GNU C
+# library takes it in place of the first.
 #
-# `rt lib` builds an archive, whose functions get the prefix `proved_`. Programs call the functions
-# of crates/lldpa_c/front. These check for NULL, then call malloc and the proved functions. Each
-# group of functions below is one object of liblldpa.a, with what they use. The archive's global
-# names are the functions of lldpa.h. `rt lib` runs if a source, a definition, a proof, crates.txt
-# or the toolchain has changed since the last `rt lib` for this architecture. Prints FOLDER.
+# tools/release/assembly.sh gives the proved functions as assembly, and they get the prefix `proved_`.
+# Programs call the functions of crates/lldpa_c/front. These check for NULL, then call malloc and the
+# proved functions. Each group of functions below is one object of liblldpa.a, with what they use. The
+# archive's global names are the functions of lldpa.h. Prints FOLDER.
 set -eu
+export LC_ALL=C # in Turkish a-z does not have each letter
 cd "$(dirname "$0")/../.."
 front=crates/lldpa_c/front
 header=crates/lldpa_c/include
@@ -31,43 +33,42 @@ groups() {
 }
 
 . tools/library/arch.sh
-for command in "${tools}gcc" "${tools}ar" "${tools}ld" "${tools}nm" "${tools}objcopy" rt sha256sum; do
+for command in "${tools}gcc" "${tools}ar" "${tools}ld" "${tools}nm" "${tools}objcopy" sha256sum; do
     command -v "$command" > /dev/null || fail "there is no $command"
 done
-kept=crates/lldpa_c/out/$arch
 folder=$(realpath -m -- "${folder:-crates/lldpa_c/out/lib}")
 room=$(mktemp -d)
 trap 'rm -rf "$room"' EXIT
 
-# Prints a digest of everything that the archive is built from.
-state() {
-    {
-        rt version
-        cat crates.txt
-        find crates -name out -prune -o -type f \( -path '*/src/*' -o -path '*/specs/*' -o -path '*/proofs/*' \) -print |
-            LC_ALL=C sort | xargs sha256sum
-    } | sha256sum
+# proved ARCH NAME: makes the archive NAME.a of the proved functions, with their prefix.
+proved() {
+    "${tools}gcc" -c "$(tools/release/assembly.sh "$1" lldpa_c)" -o "$room/$2.o"
+    "${tools}nm" --defined-only "$room/$2.o" | sed -n 's/^.* T \(lldpa_.*\)$/\1 proved_\1/p' > "$room/names"
+    "${tools}objcopy" --redefine-syms="$room/names" "$room/$2.o"
+    "${tools}ar" rcsD "$room/$2.a" "$room/$2.o"
 }
 
-if [ "$(cat "$kept/stamp" 2> /dev/null)" != "$(state)" ]; then
-    rm -rf "$kept"
-    before=$(state)
-    # shellcheck disable=SC2086 # the target is several words
-    (cd crates/lldpa_c && rt lib --target $target) > "$room/said" 2>&1 || fail "rt lib: $(tail -n 5 "$room/said")"
-    mkdir -p "$kept"
-    cp crates/lldpa_c/out/liblldpa_c.a "$kept/"
-    echo "$before" > "$kept/stamp"
-fi
-
-# The proved functions get their prefix. Each function of the front gets a section of its own.
-"${tools}nm" --defined-only "$kept/liblldpa_c.a" | sed -n 's/^.* T \(lldpa_.*\)$/\1 proved_\1/p' > "$room/names"
-"${tools}objcopy" --redefine-syms="$room/names" "$kept/liblldpa_c.a" "$room/proved.a"
+# Each function of the front gets a section of its own.
 compile() {
     "${tools}gcc" -std=gnu99 -O2 -fPIC -ffunction-sections -Wall -Wextra -Werror -I"$header" -c "$@"
 }
+
+# shared FOLDER NAME OPTION..: makes the shared object in a folder, from the front, compiled with these
+# options, and the archive NAME.a.
+shared() {
+    into=$1 name=$2
+    shift 2
+    mkdir -p "$into"
+    compile "$@" $front/lldpa.c -o "$room/exported.o"
+    "${tools}gcc" -shared -o "$into/liblldpa.so.1" "$room/exported.o" -Wl,--start-group "$room/$name.a" \
+        "$room/memory.o" -Wl,--end-group -Wl,--gc-sections -Wl,-z,defs,-z,now,-soname,liblldpa.so.1 \
+        -Wl,--version-script="$room/exports"
+}
+
+proved "$arch" proved
+echo 'LLDPA_1 { global: lldpa_*; local: *; };' > "$room/exports"
 # The archive's functions are hidden, so a shared object that contains them does not export them.
 compile -fvisibility=hidden $front/lldpa.c -o "$room/front.o"
-compile $front/lldpa.c -o "$room/exported.o"
 compile $front/memory.c -o "$room/memory.o"
 mkdir -p "$room/objects" "$folder"
 groups | while read -r name calls; do
@@ -86,7 +87,9 @@ install -m 644 "$room/liblldpa.a" "$header/lldpa.h" "$folder"
 # The functions that the front calls, for tests that link them with a changed front.
 cp "$room/proved.a" "$folder/proved.a"
 "${tools}ar" rsD "$folder/proved.a" "$room/memory.o" 2> /dev/null
-echo 'LLDPA_1 { global: lldpa_*; local: *; };' > "$room/exports"
-"${tools}gcc" -shared -o "$folder/liblldpa.so.1" "$room/exported.o" -Wl,--start-group "$room/proved.a" "$room/memory.o" \
-    -Wl,--end-group -Wl,--gc-sections -Wl,-z,defs,-z,now,-soname,liblldpa.so.1 -Wl,--version-script="$room/exports"
+shared "$folder" proved
+if [ "$arch" = amd64 ]; then
+    proved amd64-v3 proved-v3
+    shared "$folder/glibc-hwcaps/x86-64-v3" proved-v3 -march=x86-64-v3
+fi
 echo "$folder"

@@ -113,14 +113,16 @@ def next_line(heard: subprocess.Popen[bytes]) -> str:
 
 
 def met(here: subprocess.Popen[bytes], there: subprocess.Popen[bytes], end: Callable[[], object],
-        names: tuple[str, str]) -> str | None:
-    """Returns None if two agents report each other, and one the other's goodbye. Otherwise, what
-    they said."""
+        names: tuple[str, str], send: Callable[[bytes], object]) -> str | None:
+    """Returns None if two agents report each other, one a third neighbor, whose frame is sent to it
+    and which soon ages out, and the other's goodbye. Otherwise, what they said."""
     told = [next_line(here), next_line(there)]
+    send(frame_of(KEY + "06020001"))
+    told += [next_line(here), next_line(here)]
     end()
     told += [next_line(here), str(there.wait(SECONDS))]
     neighbor = r"(\w+ )?{} chassis\.mac=\S+ port\.ifname={}"
-    words = (("new", names[1]), ("new", names[0]), ("gone", names[1]))
+    words = (("new", names[1]), ("new", names[0]), ("new", "eth0"), ("aged out", "eth0"), ("gone", names[1]))
     wanted = [*(neighbor.format(*pair) for pair in words), "0"]
     return None if all(map(re.fullmatch, wanted, told)) else f"{told}"
 
@@ -129,9 +131,11 @@ def meet(command: list[str]) -> int:
     """Returns 0 if two agents at the ends of a link report each other, and one the other's goodbye."""
     for words in LINK:
         subprocess.run(["ip", *words.split()], check=True)
-    with subprocess.Popen([*command, "here"], stdout=subprocess.PIPE) as here, \
+    with socket.socket(socket.AF_PACKET, socket.SOCK_RAW) as sender, \
+            subprocess.Popen([*command, "here"], stdout=subprocess.PIPE) as here, \
             subprocess.Popen([*command, "there"], stdout=subprocess.PIPE) as there:
-        fault = met(here, there, there.terminate, ("here", "there"))
+        sender.bind(("there", 0))
+        fault = met(here, there, there.terminate, ("here", "there"), sender.send)
         here.terminate()
     if fault is not None:
         sys.stderr.write(fault)
@@ -155,12 +159,12 @@ def check_receive(library: Library, counts: Counts) -> None:
     for name in ("receive", "agent"):
         counts.judge(library.compiled(EXAMPLES / "c" / f"{name}.c", name), f"building examples/c/{name}.c")
     if shutil.which("ip") is None or fault_of(["unshare", "--net", "true"]) is not None:
-        skip("receiving on a link, which needs root, ip and unshare")
+        skip("ip" if shutil.which("ip") is None else "link-veth", "receiving on a link")
         return
     python = [sys.executable, EXAMPLES / "python" / "receive.py"]
     for name, how, example in (("c/receive.c", "--hear", [library.room / "receive"]),
                                ("c/agent.c", "--meet", [library.room / "agent"]),
-                               *([("python/receive.py", "--hear", python)] if library.shared() else [])):
+                               ("python/receive.py", "--hear", python)):
         command = ["unshare", "--net", sys.executable, __file__, how, *example]
         ended = ran(command, env=loading(library))
         counts.judge(ended.stderr[-1500:] + ended.stdout if ended.returncode else None, f"examples/{name} on a link")
@@ -171,11 +175,8 @@ def check_who(library: Library, counts: Counts) -> None:
     wanted = (EXAMPLES / "c" / "who.expect").read_text()
     counts.judge(library.compiled(EXAMPLES / "c" / "who.c", "who"), "building examples/c/who.c")
     check_example("examples/c/who.c", [library.room / "who", CAPTURE], wanted, counts)
-    if library.shared():
-        command = [sys.executable, EXAMPLES / "python" / "who.py", CAPTURE]
-        check_example("examples/python/who.py", command, wanted, counts, env=loading(library))
-    else:
-        skip("the examples in Python, since there is no liblldpa.so.1")
+    command = [sys.executable, EXAMPLES / "python" / "who.py", CAPTURE]
+    check_example("examples/python/who.py", command, wanted, counts, env=loading(library))
 
 
 if __name__ == "__main__":

@@ -55,6 +55,37 @@ EDITS = (
     ("lldpa_aged_count counts those of the first port",
      "LLDPA_NULL, (COPY(agent), port, count))\n\nCHECKED(uint8_t, lldpa_aged,",
      "LLDPA_NULL, (COPY(agent), port < 2 ? 0 : port, count))\n\nCHECKED(uint8_t, lldpa_aged,"),
+    ("lldpa_neighbor_count writes 0 if it is refused",
+     "agent == NULL || count == NULL, LLDPA_NULL, (COPY(agent), port, count))\n\nCHECKED(uint8_t, lldpa_neighbor,",
+     "agent == NULL || count == NULL || (*count = 0), LLDPA_NULL, (COPY(agent), port, count))\n\n"
+     "CHECKED(uint8_t, lldpa_neighbor,"),
+    ("lldpa_build checks the number of faults first",
+     "is_missing(room, room_length) || length == NULL, LLDPA_NULL,\n        (octets(chassis)",
+     "is_missing(room, room_length) || length == NULL || fault_count < tlv_count,\n"
+     "        length != NULL && fault_count < tlv_count ? LLDPA_NO_ROOM : LLDPA_NULL, (octets(chassis)"),
+    ("lldpa_open counts the ports first", "return is_whole ? proved_lldpa_open(&given, agent)",
+     "return is_whole ? given.port_count > 64 ? LLDPA_TOO_MANY_PORTS : proved_lldpa_open(&given, agent)"),
+    ("lldpa_chassis tells 255.255.255.255 for no address",
+     "lldpa_chassis_told *told),\n        agent == NULL || told == NULL, LLDPA_NULL, (COPY(agent), told))",
+     "lldpa_chassis_told *told),\n        agent == NULL || told == NULL, LLDPA_NULL, (COPY(agent), told)\n"
+     "        ?: (told->managed ? 0 : (__builtin_memset(told->management, 255, 4), 0)))"),
+    ("lldpa_examine counts discarded TLVs modulo 256", "(octets(pdu), length, told))",
+     "(octets(pdu), length, told) ?: (told->discarded %= 256, 0))"),
+    ("lldpa_examine counts unrecognized TLVs modulo 256", "(octets(pdu), length, told))",
+     "(octets(pdu), length, told) ?: (told->unrecognized %= 256, 0))"),
+    ("lldpa_examine tells the TTL modulo 32,768", "(octets(pdu), length, told))",
+     "(octets(pdu), length, told) ?: (told->ttl %= 32768, 0))"),
+    ("lldpa_statistics tells no drops", "(COPY(agent), port, told))",
+     "(COPY(agent), port, told) ?: (told->drops = 0))"),
+    ("lldpa_neighbor_count counts modulo 64",
+     "LLDPA_NULL, (COPY(agent), port, count))\n\nCHECKED(uint8_t, lldpa_neighbor,",
+     "LLDPA_NULL, (COPY(agent), port, count) ?: (*count %= 64, 0))\n\nCHECKED(uint8_t, lldpa_neighbor,"),
+    ("lldpa_neighbor tells 0 seconds left",
+     "(COPY(agent), port, index, room_at(room), room_length, told))\n\nCHECKED(uint8_t, lldpa_aged_count,",
+     "(COPY(agent), port, index, room_at(room), room_length, told) ?: (told->left = 0))\n\n"
+     "CHECKED(uint8_t, lldpa_aged_count,"),
+    ("lldpa_next_kept begins anew after the last TLV", "(octets(extent), length, walk))",
+     "(octets(extent), length, walk) || (walk->next = 0))"),
 )
 
 

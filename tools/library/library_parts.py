@@ -18,8 +18,9 @@ WARNINGS = ["-pedantic", "-Wall", "-Wextra", "-Werror"]
 SECONDS = 1800
 
 
-def skip(what: str) -> None:
-    print(f"skipped: {what}")
+def skip(name: str, what: str) -> None:
+    """Says what is skipped, and which package or feature of tools/gate/install.sh --list is missing."""
+    print(f"skipped: {name}: {what}")
 
 
 def ran(command: Sequence[object], cwd: pathlib.Path | None = None,

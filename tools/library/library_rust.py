@@ -65,7 +65,7 @@ def check_versions(library: Library, counts: Counts) -> None:
 def check_bindings(library: Library, counts: Counts) -> None:
     """Checks that the declarations for Rust are those that bindgen writes for the header."""
     if shutil.which("bindgen") is None:
-        skip("the declarations for Rust, since there is no bindgen")
+        skip("bindgen", "the declarations for Rust")
         return
     written, kept = ran([TOP / "tools" / "library" / "bindings.sh"]).stdout, (CRATE / "src" / "sys.rs").read_text()
     # bindgen's layout depends on whether rustfmt is installed, so it is not compared.
@@ -107,7 +107,10 @@ def fault_of_agents(program: str) -> str | None:
     with subprocess.Popen([program, "one", one, other], **pipes) as here, \
             subprocess.Popen([program, "other", other, one], **pipes) as there:
         assert here.stdin is not None and there.stdin is not None
-        fault = met(here, there, there.stdin.close, ("one", "other"))
+        with socket.socket(type=socket.SOCK_DGRAM) as sender:
+            address = one.split(":")
+            fault = met(here, there, there.stdin.close, ("one", "other"),
+                        lambda frame: sender.sendto(frame, (address[0], int(address[1]))))
         here.stdin.close()
     return fault or (None if here.returncode == 0 else f"status {here.returncode}")
 
@@ -115,7 +118,7 @@ def fault_of_agents(program: str) -> str | None:
 def check_oldest(library: Library, counts: Counts) -> None:
     """Checks that the crate builds with the system's compiler, if there is one."""
     if not pathlib.Path("/usr/bin/rustc").exists() or not pathlib.Path("/usr/bin/cargo").exists():
-        skip("the crate for Rust with the system's compiler, since there is none")
+        skip("rustc", "the crate for Rust with Debian's compiler")
         return
     ended = cargo(["build", "--all-targets"], library.folder, library, "/usr/bin/cargo",
                   RUSTC="/usr/bin/rustc", CARGO_TARGET_DIR=str(library.room / "oldest"))
@@ -156,14 +159,14 @@ def check_edits(library: Library, counts: Counts) -> None:
 def check_rust(library: Library, counts: Counts) -> None:
     """Checks the crate's tests, examples and lints, and its tests with a wrong archive."""
     if shutil.which("cargo") is None:
-        skip("the crate for Rust, since there is no cargo")
+        skip("cargo", "the crate for Rust")
         return
     check_crate(["test"], library.folder, library, counts)
     if fault_of(["cargo", "clippy", "--version"]) is None:
         for words in (["--all-targets"], ["--no-default-features"]):
             check_crate(["clippy", *words, "--", "-D", "warnings"], library.folder, library, counts)
     else:
-        skip("clippy, which is not installed")
+        skip("cargo-clippy", "warnings about the crate for Rust")
     check_crate(["test", "--test", "strange", "--", "--ignored"], strange_archive(library), library, counts)
     check_edits(library, counts)
     check_versions(library, counts)
@@ -172,3 +175,5 @@ def check_rust(library: Library, counts: Counts) -> None:
     missing = cargo(["check"], library.room / "none", library)
     is_said = missing.returncode != 0 and "Set LLDPA_LIB_DIR to the folder" in missing.stderr
     counts.judge(None if is_said else missing.stderr, "the crate for Rust without an archive")
+    pages = cargo(["doc", "--no-deps"], library.room / "none", library)
+    counts.judge(pages.stderr if pages.returncode else None, "cargo doc without an archive")

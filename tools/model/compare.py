@@ -1,5 +1,5 @@
 """Runs lldpa with arguments and a trace, over standard input or connections. Compares its answers
-with model.py and judge.py, and its messages about arguments with docs/TRACE.md."""
+with model.py, and its messages about arguments with lldpa(1)."""
 import contextlib
 import itertools
 import os
@@ -11,7 +11,6 @@ import sys
 import time
 
 sys.path.append(str(pathlib.Path(__file__).resolve().parents[1] / "gate"))
-import judge  # noqa: E402
 import model  # noqa: E402
 
 # replaced in arguments by the number of a free port of this host
@@ -19,7 +18,7 @@ FREE_PORT = "FREE"
 
 SECONDS = 60
 
-# the program's messages about wrong arguments, as in docs/TRACE.md
+# the program's messages about wrong arguments, as in lldpa(1)
 WRONG_WORDS = (
     r"error: unexpected argument '(?P<word>.+)' found",
     r"error: invalid value '(?P<value>.*)' for '(?P<option>--[a-z-]+) <.*",
@@ -112,7 +111,7 @@ def answer_of_program(program, words, trace):
 
 
 def is_told(complaint, words):
-    """Returns whether a message has a form of docs/TRACE.md and names one of these arguments."""
+    """Returns whether a message has a form of lldpa(1) and names one of these arguments."""
     first = complaint.split("\n")[0]
     found = next(filter(None, (re.fullmatch(form, first) for form in WRONG_WORDS)), None)
     if found is None:
@@ -151,14 +150,3 @@ def difference(program, words, lines):
     got, want = output.split(b"\n"), wanted.encode("latin-1").split(b"\n")
     place = next(at for at in range(len(got) + 1) if got[at:at + 1] != want[at:at + 1])
     return f"output line {place + 1}: {got[place:place + 1]}, the model says {want[place:place + 1]}"
-
-
-def judged(program, words, lines):
-    """Returns what the judge finds wrong, or None. It judges no traces over connections."""
-    try:
-        model.opened(words)
-    except model.NoRun:
-        return None
-    if any(FREE_PORT in word for word in words):
-        return None
-    return judge.judged(lambda words, trace: answer_of_program(program, words, trace)[1], words, lines)

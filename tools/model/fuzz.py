@@ -3,10 +3,9 @@
 
     python3 tools/model/fuzz.py [--program FILE] [--seed N] [--seconds S] [--traces N]
 
-For one trace in 20, tools/model/judge.py also checks when frames were sent. Trace K of a run has
-the seed N + K, so `--seed SEED --traces 1` runs that trace alone. The first seed is printed first.
-The first difference ends the run; the trace is made small and printed with its seed. Without
---seconds and --traces it runs for half a minute. The last line is `N passed, M failed`.
+Trace K of a run has the seed N + K, so `--seed SEED --traces 1` runs that trace alone. The first seed
+is printed first. The first difference ends the run; the trace is made small and printed with its
+seed. Without --seconds and --traces it runs for half a minute. The last line is `N passed, M failed`.
 """
 import argparse
 import functools
@@ -19,15 +18,14 @@ import time
 from concurrent.futures import ProcessPoolExecutor
 
 import model
-import near
-from compare import FREE_PORT, difference, judged
+from compare import FREE_PORT, difference
 from examples import words_and_filter
 
 TOP = pathlib.Path(__file__).resolve().parents[2]
 
 
-# how many traces the processors receive at once; one trace in JUDGED_ONE_IN is also judged
-AT_ONCE, JUDGED_ONE_IN = 200, 20
+# how many traces the processors receive at once
+AT_ONCE = 200
 
 # ------------------------------------------------------------------------------------------------ frames
 HEADER = bytes.fromhex("0180c200000e00112233445588cc")
@@ -143,6 +141,24 @@ ODD_WORDS = (b"x tick rx up show lldp status neighbors eth9 0 TICK tick\r \xff c
              b"configure # a#b 00 zz \0 ").split(b" ")
 
 
+# what begins a comment in other languages, or what other programs ignore
+MARKS = [b"//", b"--", b"/*", b";", b"!", b"REM ", b"> ", b"$ ", b"\xef\xbb\xbf"]
+UNITS = [b"s", b"sec", b"ms", b"m", b"%"]
+KNOWN_WORDS = (b"tick rx up down show configure update neighbors statistics chassis configuration system lldp ports "
+               b"hostname description tx-interval tx-hold max-neighbors status rx-and-tx rx-only tx-only disabled").split()
+
+
+def slip(dice, word):
+    """Returns a word with a typing error, in another case, with a unit, or another known word."""
+    at = dice.randrange(len(word) + 1)
+    front, rest = word[:at], word[at:]
+    return dice.choice([
+        front + rest[1:], front + rest[1:2] + rest[:1] + rest[2:], front + rest[:1] + rest, front,
+        front + bytes([dice.randrange(33, 127)]) + rest, front + bytes([dice.randrange(33, 127)]) + rest[1:],
+        word.upper(), word.capitalize(), word.replace(b"-", b"_"), word.replace(b"-", b""), word + word, b"0" + word,
+        word + dice.choice(UNITS), dice.choice(KNOWN_WORDS), dice.choice(KNOWN_WORDS)])
+
+
 def ticks(dice, port_count):
     """Returns a tick line. Long waits are rare, and rarer with many ports: they take time."""
     if port_count > 9:
@@ -199,10 +215,10 @@ def altered_line(dice, line):
     """Returns a line with something wrong or unusual."""
     words = line.split(b" ")
     place = dice.randrange(len(words))
-    change = dice.weighted({"near": 12, "word": 5, "number": 4, "drop": 4, "add": 4, "quote": 4, "mark": 4, "space": 3,
+    change = dice.weighted({"slip": 12, "word": 5, "number": 4, "drop": 4, "add": 4, "quote": 4, "mark": 4, "space": 3,
                             "end": 3, "comment": 2, "octet": 3, "long": 1, "case": 1})
-    if change == "near":
-        words[place] = near.some_near(dice, words[place].decode("latin-1")).encode("latin-1")
+    if change == "slip":
+        words[place] = slip(dice, words[place])
     elif change == "word":
         words[place] = dice.choice(ODD_WORDS)
     elif change == "number":
@@ -224,7 +240,7 @@ def altered_line(dice, line):
     if change == "end":
         return line + dice.choice([b"\r", b" \r", b"\0", b" #", b"\x0b", b" x"])
     if change == "comment":
-        return dice.choice([b"#", b" # ", b"\t#", b"\r#", *near.MARKS]) + line
+        return dice.choice([b"#", b" # ", b"\t#", b"\r#", *MARKS]) + line
     if change == "octet":
         return altered_octets(dice, line).replace(b"\n", b"")
     if change == "long":
@@ -241,13 +257,11 @@ def line_of(dice, ports):
 
 
 def near_line(dice):
-    """Returns a line that is nearly right. All valid lines are equally likely."""
-    words = list(dice.choice(near.LINES))
-    if dice.happens(20):
-        return dice.choice(near.MARKS) + " ".join(words).encode()
+    """Returns a line with one slip."""
+    words = good_line(dice, [b"eth0"]).split(b" ")
     place = dice.randrange(len(words))
-    words[place] = near.some_near(dice, words[place])
-    return " ".join(words).encode("latin-1").replace(b"\n", b"")
+    words[place] = slip(dice, words[place])
+    return b" ".join(words).replace(b"\n", b"")
 
 
 # ------------------------------------------------------------------------------------ arguments and traces
@@ -393,12 +407,12 @@ def shorter_line(line, differs):
     return line
 
 
-def made_small(find, program, words, lines):
-    """Removes lines and arguments while the fault remains, for at most two minutes."""
+def made_small(program, words, lines):
+    """Removes lines and arguments while they differ, for at most two minutes."""
     end = time.monotonic() + 120
 
     def differs(words, lines):
-        return time.monotonic() < end and find(program, words, lines) is not None
+        return time.monotonic() < end and difference(program, words, lines) is not None
 
     before = None
     while before != (words, lines):
@@ -434,28 +448,26 @@ def main():
     with ProcessPoolExecutor(initializer=sys.setrecursionlimit, initargs=(100000,)) as pool:
         while time.monotonic() - begin < seconds and ran < most:
             seeds = range(given.seed + ran, given.seed + min(ran + AT_ONCE, most))
-            for seed, finder in zip(seeds, pool.map(functools.partial(finder_of, given), seeds, chunksize=5)):
-                if finder is not None:
-                    show(finder, given.program, seed)
+            for seed, is_so in zip(seeds, pool.map(functools.partial(agrees, given.program), seeds, chunksize=5)):
+                if not is_so:
+                    show(given.program, seed)
                     return 1
             ran += len(seeds)
     print(f"{ran} traces agree, in {time.monotonic() - begin:.0f} seconds\n1 passed, 0 failed")
     return 0
 
 
-def finder_of(given, seed):
-    """Returns the first function that finds a fault in the trace of this seed, or None."""
-    words, lines = case(seed)
-    finders = [difference] + [judged] * (seed % JUDGED_ONE_IN == 0)
-    return next((find for find in finders if find(given.program, words, lines) is not None), None)
+def agrees(program, seed):
+    """Returns whether program and model agree on the trace of a seed."""
+    return difference(program, *case(seed)) is None
 
 
-def show(find, program, seed):
-    """Prints what is wrong with the trace of a seed, and the same for a smaller trace."""
+def show(program, seed):
+    """Prints how program and model differ on the trace of a seed, and on a smaller trace."""
     words, lines = case(seed)
-    print(f"seed {seed} differs: {find(program, words, lines)[:1000]}", flush=True)
-    words, lines = made_small(find, program, words, lines)
-    print(f"made smaller: {find(program, words, lines)}\n{as_command(program, words, lines)}")
+    print(f"seed {seed} differs: {difference(program, words, lines)[:1000]}", flush=True)
+    words, lines = made_small(program, words, lines)
+    print(f"made smaller: {difference(program, words, lines)}\n{as_command(program, words, lines)}")
     print("FAILED: the program and the model differ\n0 passed, 1 failed")
 
 

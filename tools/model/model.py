@@ -4,7 +4,7 @@
     python3 tools/model/model.py WORDS.. < TRACE
 
 It accepts the arguments of lldpa and a trace, and writes what lldpa must write, on standard output
-or over connections. It was written from IEEE 802.1AB-2009 (clauses 8 and 9) and docs/TRACE.md, and
+or over connections. It was written from IEEE 802.1AB-2009 (clauses 8 and 9) and man/lldpa.1, and
 shares no code with lldpa. tools/model/fuzz.py compares the two. If lldpa's argument parser answers
 (a bad option, --help), the model knows the status but not the text.
 
@@ -600,11 +600,17 @@ def run(words, trace):
     return 0, "".join(f"{written}\n" for line in lines for written in answer(agent, line)), ""
 
 def main():
-    status, output, complaint = run(sys.argv[1:], sys.stdin.buffer.read())
-    sys.stdout.write(output)
-    if complaint != "":
-        print(complaint or "model: lldpa's argument parser has its own text for this", file=sys.stderr)
-    return status
+    """Answers each line of standard input at once."""
+    try:
+        agent = opened(sys.argv[1:])
+    except NoRun as why:
+        status, complaint = why.args
+        print(complaint or "lldpa-model: these arguments are wrong; --help lists the right ones", file=sys.stderr)
+        return status
+    for line in sys.stdin.buffer:
+        for written in answer(agent, line.decode("latin-1").removesuffix("\n")):
+            print(written, flush=True)
+    return 0
 
 if __name__ == "__main__":
     sys.exit(main())

@@ -9,7 +9,8 @@
 #                    licence of the GNU C library in it (LGPL) requires lldpa.o, to link it again
 #     lldpa.o        the program before it is linked
 #     lib            what tools/library/library.sh makes
-# `lldpa` and `lldpa_c` are proved for this architecture, and the crates that they use for all.
+# Both are made from assembly that tools/release/assembly.sh gives: in a release without the kit, else
+# with it. `lldpa` and `lldpa_c` are proved for this architecture, and the crates that they use for all.
 set -eu
 cd "$(dirname "$0")/../.."
 fail() {
@@ -18,55 +19,22 @@ fail() {
 }
 
 . tools/library/arch.sh
-for command in "${tools}gcc" "${tools}strip" rt; do
+for command in "${tools}gcc" "${tools}strip"; do
     command -v "$command" > /dev/null || fail "$command is not installed"
 done
-kit=$(dirname "$(rt doc)")
 folder=$(realpath -m -- "${folder:-crates/lldpa/out/$arch}")
 mkdir -p "$folder"
 room=$(mktemp -d)
 trap 'rm -rf "$room"' EXIT
 
-# named_by CRATE prints what crates.txt lists for CRATE; below CRATE adds what these crates need.
-named_by() {
-    sed -n "s/^$1\( [a-z]*\)*: *//p" crates.txt
-}
-below() {
-    for crate in $(named_by "$1"); do
-        if [ -d "crates/$crate" ]; then
-            echo "$crate"
-            below "$crate"
-        fi
-    done
-}
-
-# rt links only for this machine, so this runs the command with which rt compiles.
-compile_program() {
-    (cd crates/lldpa && rt check) || return
-    set -- --crate-name lldpa src/main.rt --extern "std=$kit/rlibs/std.rlib" -L "dependency=$kit/rlibs"
-    for crate in $(named_by lldpa); do
-        if [ -d "crates/$crate" ]; then
-            set -- "$@" --extern "$crate=$PWD/crates/$crate/out/rlib/$crate.rlib"
-        else
-            set -- "$@" --extern "$crate=$kit/rlibs/$crate.rlib"
-        fi
-    done
-    for crate in $(below lldpa | sort -u); do
-        set -- "$@" -L "dependency=$PWD/crates/$crate/out/rlib"
-    done
-    set -- "$@" --antt-project "$kit/rattle/logic/antt-project.json" --logic-built "$kit/logic_built" --links lldpa= \
-        --incremental out/incremental --toolchain "$kit/toolchain" --backend llvm -o "$folder/lldpa.o"
-    # shellcheck disable=SC2086 # the target is several words
-    (cd crates/lldpa && "$kit/bin/rattle" build "$@" --target $target)
-}
-
 # The library is built at the same time. If its build fails, library.sh reports why.
 tools/library/library.sh --arch "$arch" "$folder/lib" > /dev/null &
 library=$!
-compile_program > "$room/said" 2>&1 || {
+if ! assembly=$(tools/release/assembly.sh "$arch" lldpa); then
     wait "$library" || true
-    fail "the build of the program failed: $(tail -n 5 "$room/said")"
-}
+    exit 1
+fi
+"${tools}gcc" -c "$assembly" -o "$folder/lldpa.o"
 for source in tools/release/platform.c crates/lldpa_c/front/memory.c; do
     "${tools}gcc" -std=gnu99 -O2 -fPIE -Wall -Wextra -Werror -c "$source" -o "$room/$(basename "$source").o"
 done

@@ -4,12 +4,14 @@
 # The default prefix is /usr/local; DESTDIR, if set, is put before all paths. It copies the programs
 # with their Python packages, manual pages, completions, the service with its configuration, alerts
 # for Prometheus, and the pages; with --library only the C library, to LIBDIR (default PREFIX/lib).
-# --uninstall removes them. A configuration that was changed stays. `import lldpa` works for a
+# --uninstall removes them, and says what stays: a configuration that was changed, settings that
+# somebody added, logs and the state. It does not stop the service. `import lldpa` works for a
 # python3 that searches PYTHON_FOLDER (default: the first folder below the prefix that python3
 # searches). LLDPA names the program (default crates/lldpa/out/lldpa), LLDPA_LIVE names lldpa-live
 # (default rust/live/out/lldpa-live), and LLDPA_LIB_DIR the folder that tools/library/library.sh made
 # (default crates/lldpa_c/out/lib).
 set -eu
+export LC_ALL=C # in Turkish A-Z does not have each letter
 uninstall=
 library=
 prefix=/usr/local
@@ -25,6 +27,7 @@ program=$(realpath -m -- "${LLDPA:-$(dirname "$0")/../../crates/lldpa/out/lldpa}
 live=$(realpath -m -- "${LLDPA_LIVE:-$(dirname "$0")/../../rust/live/out/lldpa-live}")
 built=$(realpath -m -- "${LLDPA_LIB_DIR:-$(dirname "$0")/../../crates/lldpa_c/out/lib}")
 libdir=${LIBDIR:-$prefix/lib}
+destination=${DESTDIR:+$(realpath -m -- "$DESTDIR")}
 cd "$(dirname "$0")/../.."
 umask 022
 private=$prefix/lib/lldpa
@@ -60,16 +63,17 @@ put_programs() {
         put 755 "$private/bin" "$file"
         link "../lib/lldpa/$file" "$prefix/$file"
     done
-    # lldpd has programs with two of these names, and lldpa-ctl runs the third, so they are not on the path.
-    put 755 "$private/bin" bin/lldpctl bin/lldpcli bin/lldpa-details
     [ "$prefix" != /usr ] || sed -i '1s,.*,#!/usr/bin/python3 -I,' "$tree$private"/bin/*
+    # lldpd has programs with these names, so they are not on the path.
+    link ../../../bin/lldpa-live "$private/bin/lldpctl"
+    link ../../../bin/lldpa-live "$private/bin/lldpcli"
     find python/lldpa audit/lldpa_audit -name '*.py' -o -name py.typed | while read -r file; do
         put 644 "$private/$(dirname "$file")" "$file"
     done
     looks=${PYTHON_FOLDER:-$(python3 -c 'import site; print(*site.getsitepackages(), sep="\n")' |
         awk -v front="$prefix/" 'index($0, front) == 1 && !found++')}
     if [ -z "$looks" ]; then
-        echo "to import lldpa, put $private/python and $private/audit on PYTHONPATH: python3 does not search $prefix"
+        [ -n "$uninstall" ] || echo "to import lldpa, put $private/python and $private/audit on PYTHONPATH: python3 does not search $prefix"
     else
         link "$(realpath -m --relative-to="$looks" "$private/python/lldpa")" "$looks/lldpa"
         link "$(realpath -m --relative-to="$looks" "$private/audit/lldpa_audit")" "$looks/lldpa_audit"
@@ -100,7 +104,7 @@ put_pages() {
     put 644 "$documents/audit" audit/README.md audit/*.schema.json
     put 644 "$documents/audit/worked" audit/worked/*
     install -m 644 CHANGELOG.md "$tree$documents/changelog"
-    sources='crates|examples|man|tools|share|python|rust|CONTRIBUTING|CHANGELOG|lldpa-audit\.1'
+    sources='crates|examples|man|tools|share|python|rust|CONTRIBUTING|CHANGELOG|(audit/)?lldpa-audit\.1'
     find "$tree$documents" -name '*.md' -exec sed -zEi "s,\[([^]]*)\]\((\.\./)*($sources)[^)]*\),\1,g" {} +
 }
 
@@ -108,6 +112,8 @@ put_library() {
     put 644 "$prefix/include" "$built/lldpa.h"
     put 644 "$libdir" "$built/liblldpa.a" "$built/liblldpa.so.1"
     link liblldpa.so.1 "$libdir/liblldpa.so" # the linker searches for this name
+    fast=glibc-hwcaps/x86-64-v3 # the loader searches here first, on amd64 processors with AVX2
+    [ ! -e "$built/$fast" ] || put 644 "$libdir/$fast" "$built/$fast/liblldpa.so.1"
     put 644 "$libdir/pkgconfig" share/pkgconfig/lldpa.pc
     version=$(sed -n 's/^## \([0-9][0-9.]*\)$/\1/p' CHANGELOG.md | head -n 1)
     sed -i "s,@prefix@,$prefix,; s,@libdir@,$libdir,; s,@version@,$version," "$tree$libdir/pkgconfig/lldpa.pc"
@@ -122,7 +128,9 @@ put_library() {
 
 if [ -n "$uninstall" ]; then # only names count, so nothing has to be built
     program=$room/lldpa live=$room/lldpa-live built=$room
-    touch "$program" "$live" "$room/lldpa.h" "$room/liblldpa.a" "$room/liblldpa.so.1"
+    mkdir -p "$room/glibc-hwcaps/x86-64-v3"
+    touch "$program" "$live" "$room/lldpa.h" "$room/liblldpa.a" "$room/liblldpa.so.1" \
+        "$room/glibc-hwcaps/x86-64-v3/liblldpa.so.1"
 fi
 if [ -n "$library" ]; then
     put_library
@@ -132,7 +140,7 @@ else
     put_pages
 fi
 (cd "$tree" && find . ! -type d) | sed 's/^\.//' | while read -r name; do
-    new=$tree$name there=${DESTDIR-}$name
+    new=$tree$name there=$destination$name
     if [ "${name#"$etc/"}" != "$name" ] && [ -e "$there" ] && ! cmp -s "$new" "$there"; then
         echo "$there was changed, so it stays"
     elif [ -n "$uninstall" ]; then
@@ -144,9 +152,11 @@ fi
     fi
 done
 if [ -n "$uninstall" ] && [ -n "$library" ]; then
-    rm -rf "${DESTDIR-}$prefix/share/doc/liblldpa-dev"
+    rm -rf "$destination$prefix/share/doc/liblldpa-dev"
 elif [ -n "$uninstall" ]; then # also what Python has compiled
-    rm -rf "${DESTDIR-}$private" "${DESTDIR-}$prefix/share/lldpa" "${DESTDIR-}$documents"
-    [ ! -d "${DESTDIR-}$etc/lldpa.d" ] || rmdir --ignore-fail-on-non-empty "${DESTDIR-}$etc/lldpa.d"
+    rm -rf "$destination$private" "$destination$prefix/share/lldpa" "$destination$documents"
+    [ ! -d "$destination$etc/lldpa.d" ] || rmdir --ignore-fail-on-non-empty "$destination$etc/lldpa.d"
+    [ ! -d "$destination$etc/lldpa.d" ] || echo "$destination$etc/lldpa.d has settings of yours, so it stays"
+    [ ! -e "$destination/var/lib/lldpa" ] || echo "$destination/var/lib/lldpa has the logs and the state, so it stays"
 fi
-echo "${uninstall:+un}installed under ${DESTDIR-}$prefix"
+echo "${uninstall:+un}installed under $destination$prefix"

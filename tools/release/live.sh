@@ -1,6 +1,6 @@
 #!/bin/sh
-# Builds lldpa-live with the library that tools/library/library.sh makes, and prints its path. lldpa-ctl
-# is a link to it beside it.
+# Builds lldpa-live with the library that tools/library/library.sh makes, which runs first if there is no
+# library yet. Prints the path of lldpa-live. lldpa-ctl, lldpctl and lldpcli are links to it beside it.
 #     tools/release/live.sh [--arch amd64|arm64] [--dynamic]
 # The program is rust/live/out/lldpa-live for this machine, rust/live/out/ARCH/lldpa-live for
 # another architecture. It is linked statically. With --dynamic it uses the GNU C library of the
@@ -19,7 +19,7 @@ fail() {
 machine=$(uname -m)
 arch=
 dynamic=
-flags="-C target-feature=+crt-static"
+flags=-Ctarget-feature=+crt-static
 while [ $# -gt 0 ]; do
     case $1 in
         --arch) arch=${2-} && shift ;;
@@ -49,14 +49,21 @@ else
     export CARGO_TARGET_AARCH64_UNKNOWN_LINUX_GNU_LINKER=aarch64-linux-gnu-gcc
     export CARGO_TARGET_X86_64_UNKNOWN_LINUX_GNU_LINKER=x86_64-linux-gnu-gcc
 fi
+[ -n "${LLDPA_LIB_DIR-}" ] || [ -f "$library/liblldpa.a" ] || tools/library/library.sh --arch "$arch" "$library" > /dev/null
 export LLDPA_LIB_DIR="${LLDPA_LIB_DIR:-$library}"
 [ -f "$LLDPA_LIB_DIR/liblldpa.a" ] || fail "$LLDPA_LIB_DIR has no liblldpa.a; tools/library/library.sh makes it"
-# The program does not name the folder in which it was built.
-export CARGO_TARGET_DIR="$out/target" RUSTFLAGS="$flags --remap-path-prefix=$PWD=lldpa"
+# The program does not name the folder in which it was built, of which cargo knows the name without links.
+sources=$(cd rust && pwd -P)
+separator=$(printf '\037')
+export CARGO_ENCODED_RUSTFLAGS="$flags${flags:+$separator}--remap-path-prefix=${sources%/rust}=lldpa"
+export CARGO_TARGET_DIR="$out/target"
 . tools/release/crates.sh
-(cd rust/live && cargo_with_crates build --release --locked --quiet --target "$triple")
+(cd rust/live && cargo_with_crates build --release --locked --quiet --target "$triple") ||
+    fail "cargo failed. Without Debian's librust-libc-dev it needs a network, to fetch the crate libc"
 mkdir -p "$(dirname "$program")"
 cp "$out/target/$triple/release/lldpa-live" "$program.new"
 mv "$program.new" "$program"
-ln -f "$program" "${program%-live}-ctl"
+for name in lldpa-ctl lldpctl lldpcli; do
+    ln -f "$program" "$(dirname "$program")/$name"
+done
 echo "$program"

@@ -2,7 +2,7 @@
 # Builds the Debian packages into a folder, with dpkg-buildpackage, and prints their names.
 #     tools/release/package.sh FOLDER [OPTION..]
 # The options are those of dpkg-buildpackage, such as `-a arm64`. LLDPA_BUILT names the folder that
-# tools/release/build.sh filled. The sources stay as they are, and no build dependency is checked,
+# tools/release/build.sh filled, by default crates/lldpa/out/ARCH. The sources stay as they are, and no build dependency is checked,
 # since cargo need not be Debian's. Needs debhelper and dh-python, but not root.
 set -eu
 [ $# -gt 0 ] || { echo "usage: tools/release/package.sh FOLDER [OPTION..]" >&2; exit 2; }
@@ -16,7 +16,7 @@ mkdir "$room/source"
 ln -s "$PWD"/* "$room/source"
 rm "$room/source/debian"
 cp -R debian "$room/source/debian"
-if ! (cd "$room/source" && dpkg-buildpackage -b -d -uc -us "$@") > "$room/said" 2>&1; then
+if ! (cd "$room/source" && dpkg-buildpackage -b -d -nc -uc -us "$@") > "$room/said" 2>&1; then
     tail -n 20 "$room/said" >&2
     exit 1
 fi

@@ -22,8 +22,8 @@ WRITTEN_BY = {
     "crates/lldp_pdu/proofs/Vectors/Rows.antt": "tools/write/vectors.py",
     "crates/lldp_tests/src/rows.rt": "tools/write/vectors.py --table",
     "rust/people/src/letters.rs": "tools/write/letters.py",
-    "rust/people/src/organizational/mau.rs": "tools/write/mau.py",
-    "docs/bench.svg": "tools/bench/bench.py --saved docs/bench.json --svg",
+    "docs/LAWS.md": "tools/write/laws.py",
+    "docs/bench.svg": "tools/bench/bench.py --svg",
 }
 
 

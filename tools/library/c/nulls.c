@@ -1,7 +1,8 @@
 /*
  * Calls each function of the library with NULL for each pointer, with handles that are not
- * open, and with numbers, ports and buffers that are out of range. A call must report this and
- * write nothing. NULL with a length of 0 means no octets, no TLVs, no ports or no buffer.
+ * open, and with numbers, ports and buffers that are out of range, also two of these at once. A
+ * call must report the first and write nothing. NULL with a length of 0 means no octets, no TLVs,
+ * no ports or no buffer.
  *     nulls
  * Failed checks are reported; the last line is `N passed, M failed`.
  */
@@ -37,12 +38,19 @@ static lldpa_agent agent;
 
 static const uint8_t frame[] = "\1\200\302\0\0\16\0\21\"3DU\210\314\2\7\4\0\21\"3DU\4\5\5eth0\6\2\0x\0";
 
-static void begin(void)
+/* Fills all that a call may write to with an octet. What a call also reads is valid: the machine, and the bools of a
+ * walk. */
+static void fill(uint8_t octet)
 {
-    memset(&now, 0, sizeof now);
-    memset(&now.room, 0x5a, sizeof now.room);
+    memset(&now, octet, sizeof now);
+    memset(now.kept.met, 1, sizeof now.kept.met);
     lldpa_transmit_new(&now.machine, 5, 4, 2, true);
     memcpy(&before, &now, sizeof now);
+}
+
+static void begin(void)
+{
+    fill(0x5a);
 }
 
 static int is_as_before(void)
@@ -50,35 +58,16 @@ static int is_as_before(void)
     return memcmp(&now, &before, sizeof now) == 0;
 }
 
-/* Checks that a call returns this answer and writes nothing. */
-#define ANSWERS(call, wanted)                                                                                          \
+/* Checks that a call returns this answer and writes nothing: neither over 0x5a, nor a 0x5a over another octet. */
+#define ANSWERS(wanted, call)                                                                                          \
     do {                                                                                                               \
         begin();                                                                                                       \
         int answer = (call);                                                                                           \
         holds(answer == (wanted) && is_as_before(), #call);                                                            \
-    } while (0)
-
-static void read_nulls(void)
-{
-    ANSWERS(lldpa_frame_pdu(NULL, 33, &now.place), false);
-    ANSWERS(lldpa_frame_pdu(NULL, 0, &now.place), false);
-    ANSWERS(lldpa_frame_pdu(frame, sizeof frame, NULL), false);
-    ANSWERS(lldpa_examine(NULL, 19, &now.examined), LLDPA_NULL);
-    ANSWERS(lldpa_examine(NULL, 0, &now.examined), LLDPA_TRUNCATED);
-    ANSWERS(lldpa_examine(frame + 14, sizeof frame - 14, NULL), LLDPA_NULL);
-    ANSWERS(lldpa_examine(NULL, 0, NULL), LLDPA_NULL);
-    ANSWERS(lldpa_next_kept(NULL, 19, &now.kept), false);
-    ANSWERS(lldpa_next_kept(NULL, 0, &now.kept), false);
-    ANSWERS(lldpa_next_kept(frame + 14, sizeof frame - 14, NULL), false);
-    ANSWERS(lldpa_caps(NULL, 4, &now.capabilities), false);
-    ANSWERS(lldpa_caps(NULL, 0, &now.capabilities), false);
-    ANSWERS(lldpa_caps((const uint8_t *)"\0\4\0\4", 4, NULL), false);
-    ANSWERS(lldpa_mgmt(NULL, 12, &now.management), false);
-    ANSWERS(lldpa_mgmt(NULL, 0, &now.management), false);
-    ANSWERS(lldpa_mgmt((const uint8_t *)"\5\1\n\0\0\1\2\0\0\0\1\0", 12, NULL), false);
-    ANSWERS(lldpa_caps((const uint8_t *)"\0\4\0\24", 4, &now.capabilities), false);
-    ANSWERS(lldpa_mgmt((const uint8_t *)"\5\1\n\0\0\1\2\0\0\0\1", 11, &now.management), false);
-}
+        fill(0xa5);                                                                                                    \
+        answer = (call);                                                                                               \
+        holds(answer == (wanted) && is_as_before(), #call);                                                            \
+    } while (0);
 
 /* Checks that a frame may have any source address, but no other change of its header. */
 static void read_headers(void)
@@ -92,7 +81,7 @@ static void read_headers(void)
         other[at] ^= 1;
         holds(lldpa_frame_pdu(other, sizeof other, &place) == (at >= 6 && at < 12), "a frame with another header");
     }
-    ANSWERS(lldpa_frame_pdu(frame, 13, &now.place), false);
+    begin();
     holds(lldpa_examine(frame + 14, sizeof frame - 14, &now.examined) == LLDPA_OK && now.examined.chassis.start == 2 &&
               now.examined.port.start == 11, "the places of the identifiers");
 }
@@ -104,6 +93,154 @@ static uint8_t built(const lldpa_tlv *tlvs, size_t count, uint8_t *faults, size_
     return lldpa_build(frame + 16, 7, frame + 25, 5, 120, tlvs, count, faults, fault_count, room, room_length,
                        length);
 }
+
+/* What cannot be read. */
+#define READS(CALL)                                                                                                    \
+    CALL(false, lldpa_frame_pdu(NULL, 33, &now.place))                                                                 \
+    CALL(false, lldpa_frame_pdu(NULL, 0, &now.place))                                                                  \
+    CALL(false, lldpa_frame_pdu(frame, sizeof frame, NULL))                                                            \
+    CALL(LLDPA_NULL, lldpa_examine(NULL, 19, &now.examined))                                                           \
+    CALL(LLDPA_TRUNCATED, lldpa_examine(NULL, 0, &now.examined))                                                       \
+    CALL(LLDPA_NULL, lldpa_examine(frame + 14, sizeof frame - 14, NULL))                                               \
+    CALL(LLDPA_NULL, lldpa_examine(NULL, 0, NULL))                                                                     \
+    CALL(false, lldpa_next_kept(NULL, 19, &now.kept))                                                                  \
+    CALL(false, lldpa_next_kept(NULL, 0, &now.kept))                                                                   \
+    CALL(false, lldpa_next_kept(frame + 14, sizeof frame - 14, NULL))                                                  \
+    CALL(false, lldpa_caps(NULL, 4, &now.capabilities))                                                                \
+    CALL(false, lldpa_caps(NULL, 0, &now.capabilities))                                                                \
+    CALL(false, lldpa_caps((const uint8_t *)"\0\4\0\4", 4, NULL))                                                      \
+    CALL(false, lldpa_mgmt(NULL, 12, &now.management))                                                                 \
+    CALL(false, lldpa_mgmt(NULL, 0, &now.management))                                                                  \
+    CALL(false, lldpa_mgmt((const uint8_t *)"\5\1\n\0\0\1\2\0\0\0\1\0", 12, NULL))                                     \
+    CALL(false, lldpa_caps((const uint8_t *)"\0\4\0\24", 4, &now.capabilities))                                        \
+    CALL(false, lldpa_mgmt((const uint8_t *)"\5\1\n\0\0\1\2\0\0\0\1", 11, &now.management))                            \
+    CALL(false, lldpa_frame_pdu(frame, 13, &now.place))
+
+static const lldpa_tlv two_tlvs[2] = {{frame, 4, 5}, {NULL, 1, 6}};
+
+/* What cannot be built. The last rows have two errors each. */
+#define BUILDS(CALL)                                                                                                   \
+    CALL(LLDPA_NULL, lldpa_build(NULL, 7, frame, 5, 120, NULL, 0, NULL, 0, now.room, 1500, &now.length))               \
+    CALL(LLDPA_NULL, lldpa_build(frame, 7, NULL, 5, 120, NULL, 0, NULL, 0, now.room, 1500, &now.length))               \
+    CALL(LLDPA_OUT_OF_RANGE, lldpa_build(NULL, 0, frame, 5, 120, NULL, 0, NULL, 0, now.room, 1500, &now.length))       \
+    CALL(LLDPA_OUT_OF_RANGE, lldpa_build(frame, 7, NULL, 0, 120, NULL, 0, NULL, 0, now.room, 1500, &now.length))       \
+    CALL(LLDPA_NULL, built(NULL, 1, now.faults, 1, now.room, 1500, &now.length))                                       \
+    CALL(LLDPA_NULL, built(two_tlvs, 2, now.faults, 2, now.room, 1500, &now.length))                                   \
+    CALL(LLDPA_NULL, built(two_tlvs, 1, NULL, 1, now.room, 1500, &now.length))                                         \
+    CALL(LLDPA_NO_ROOM, built(two_tlvs, 1, NULL, 0, now.room, 1500, &now.length))                                      \
+    CALL(LLDPA_NULL, built(NULL, 0, NULL, 0, NULL, 1500, &now.length))                                                 \
+    CALL(LLDPA_NO_ROOM, built(NULL, 0, NULL, 0, NULL, 0, &now.length))                                                 \
+    CALL(LLDPA_NULL, built(NULL, 0, NULL, 0, now.room, 1500, NULL))                                                    \
+    CALL(LLDPA_NO_ROOM, built(NULL, 0, NULL, 0, now.room, 21, &now.length))                                            \
+    CALL(LLDPA_NULL, lldpa_build(NULL, 1, frame, 257, 120, two_tlvs, 1, now.faults, 0, now.room, 0, &now.length))      \
+    CALL(LLDPA_NULL, lldpa_build(frame, 1, frame, 5, 120, two_tlvs, 2, now.faults, 1, now.room, 0, &now.length))       \
+    CALL(LLDPA_OUT_OF_RANGE, lldpa_build(frame, 1, frame, 5, 120, two_tlvs, 1, now.faults, 0, now.room,                \
+         1500, &now.length))                                                                                           \
+    CALL(LLDPA_OUT_OF_RANGE, lldpa_build(frame, 7, frame, 1, 120, two_tlvs, 1, now.faults, 0, now.room,                \
+         1500, &now.length))                                                                                           \
+    CALL(LLDPA_OUT_OF_RANGE, lldpa_build(frame, 7, frame, 257, 120, two_tlvs, 1, now.faults, 1, now.room,              \
+         21, &now.length))                                                                                             \
+    CALL(LLDPA_NO_ROOM, built(two_tlvs, 1, now.faults, 0, now.room, 21, &now.length))
+
+/* Machines and marks that are missing. */
+#define MACHINES(CALL)                                                                                                 \
+    CALL(LLDPA_NULL, lldpa_transmit_new(NULL, 5, 4, 2, true))                                                          \
+    CALL(LLDPA_NULL, lldpa_transmit_event(NULL, LLDPA_CAUSE_TICK, 30, &now.octet))                                     \
+    CALL(LLDPA_NULL, lldpa_transmit_event(&now.machine, LLDPA_CAUSE_TICK, 30, NULL))
+
+/* What lacks an agent, octets, or a place to write to. */
+#define EVENTS(CALL)                                                                                                   \
+    CALL(LLDPA_NULL, lldpa_leave(NULL, &now.marks))                                                                    \
+    CALL(LLDPA_NULL, lldpa_leave(&agent, NULL))                                                                        \
+    CALL(LLDPA_NULL, lldpa_ticks(NULL, 1, &now.marks, &now.ticks))                                                     \
+    CALL(LLDPA_NULL, lldpa_ticks(&agent, 1, NULL, &now.ticks))                                                         \
+    CALL(LLDPA_NULL, lldpa_ticks(&agent, 1, &now.marks, NULL))                                                         \
+    CALL(LLDPA_NULL, lldpa_due(NULL, &now.number))                                                                     \
+    CALL(LLDPA_NULL, lldpa_due(&agent, NULL))                                                                          \
+    CALL(LLDPA_NULL, lldpa_statistics(NULL, 0, &now.statistics))                                                       \
+    CALL(LLDPA_NULL, lldpa_statistics(&agent, 0, NULL))                                                                \
+    CALL(LLDPA_NULL, lldpa_configuration(NULL, &now.configuration))                                                    \
+    CALL(LLDPA_NULL, lldpa_configuration(&agent, NULL))                                                                \
+    CALL(LLDPA_NULL, lldpa_chassis(NULL, &now.chassis))                                                                \
+    CALL(LLDPA_NULL, lldpa_chassis(&agent, NULL))                                                                      \
+    CALL(LLDPA_NULL, lldpa_frame(NULL, 0, frame, 33, &now.marks, &now.news))                                           \
+    CALL(LLDPA_NULL, lldpa_frame(&agent, 0, NULL, 33, &now.marks, &now.news))                                          \
+    CALL(LLDPA_NULL, lldpa_frame(&agent, 0, frame, 33, NULL, &now.news))                                               \
+    CALL(LLDPA_NULL, lldpa_neighbor_count(NULL, 0, &now.number))                                                       \
+    CALL(LLDPA_NULL, lldpa_neighbor_count(&agent, 0, NULL))                                                            \
+    CALL(LLDPA_NULL, lldpa_neighbor(NULL, 0, 0, now.room, 1500, &now.held))                                            \
+    CALL(LLDPA_NULL, lldpa_neighbor(&agent, 0, 0, NULL, 1500, &now.held))                                              \
+    CALL(LLDPA_OUT_OF_RANGE, lldpa_neighbor(&agent, 0, 0, NULL, 0, &now.held))                                         \
+    CALL(LLDPA_NULL, lldpa_neighbor(&agent, 0, 0, now.room, 1500, NULL))                                               \
+    CALL(LLDPA_NULL, lldpa_aged_count(NULL, 0, &now.number))                                                           \
+    CALL(LLDPA_NULL, lldpa_aged_count(&agent, 0, NULL))                                                                \
+    CALL(LLDPA_NULL, lldpa_aged(NULL, 0, 0, now.room, 1500, &now.held))                                                \
+    CALL(LLDPA_NULL, lldpa_aged(&agent, 0, 0, NULL, 1500, &now.held))                                                  \
+    CALL(LLDPA_OUT_OF_RANGE, lldpa_aged(&agent, 0, 0, NULL, 0, &now.held))                                             \
+    CALL(LLDPA_NULL, lldpa_aged(&agent, 0, 0, now.room, 1500, NULL))                                                   \
+    CALL(LLDPA_NULL, lldpa_link(NULL, 0, false, &now.marks))                                                           \
+    CALL(LLDPA_NULL, lldpa_link(&agent, 0, false, NULL))                                                               \
+    CALL(LLDPA_NULL, lldpa_command(NULL, (const uint8_t *)"update", 6, &now.number, &now.marks))                       \
+    CALL(LLDPA_NULL, lldpa_command(&agent, NULL, 6, &now.number, &now.marks))                                          \
+    CALL(LLDPA_UNKNOWN, lldpa_command(&agent, NULL, 0, &now.number, &now.marks))                                       \
+    CALL(LLDPA_NULL, lldpa_command(&agent, (const uint8_t *)"update", 6, NULL, &now.marks))                            \
+    CALL(LLDPA_NULL, lldpa_command(&agent, (const uint8_t *)"update", 6, &now.number, NULL))
+
+/* What lacks octets, an agent, or room. */
+#define SHOWS(CALL)                                                                                                    \
+    CALL(LLDPA_NULL, lldpa_tlv_text(5, NULL, 3, now.room, 1058, &now.length))                                          \
+    CALL(LLDPA_NULL, lldpa_tlv_text(5, frame, 3, NULL, 1058, &now.length))                                             \
+    CALL(LLDPA_NO_ROOM, lldpa_tlv_text(5, NULL, 0, NULL, 0, &now.length))                                              \
+    CALL(LLDPA_NULL, lldpa_tlv_text(5, frame, 3, now.room, 1058, NULL))                                                \
+    CALL(LLDPA_NULL, lldpa_escape(NULL, 3, now.room, 12, &now.length))                                                 \
+    CALL(LLDPA_NULL, lldpa_escape(frame, 3, NULL, 12, &now.length))                                                    \
+    CALL(LLDPA_NULL, lldpa_escape(frame, 3, now.room, 12, NULL))                                                       \
+    CALL(LLDPA_NULL, lldpa_fault_text(LLDPA_MEMORY, NULL, 65, &now.length))                                            \
+    CALL(LLDPA_NO_ROOM, lldpa_fault_text(LLDPA_MEMORY, NULL, 0, &now.length))                                          \
+    CALL(LLDPA_NULL, lldpa_fault_text(LLDPA_MEMORY, now.room, 65, NULL))                                               \
+    CALL(LLDPA_NULL, lldpa_show_lines(NULL, 3, 0, now.room, 1514, &now.lines))                                         \
+    CALL(LLDPA_NULL, lldpa_show_lines(&agent, 3, 0, NULL, 1514, &now.lines))                                           \
+    CALL(LLDPA_NO_ROOM, lldpa_show_lines(&agent, 3, 0, NULL, 0, &now.lines))                                           \
+    CALL(LLDPA_NULL, lldpa_show_lines(&agent, 3, 0, now.room, 1514, NULL))                                             \
+    CALL(LLDPA_NULL, lldpa_frame_of(NULL, 0, LLDPA_ORDINARY, now.room, 1514, &now.length))                             \
+    CALL(LLDPA_NULL, lldpa_frame_of(&agent, 0, LLDPA_ORDINARY, NULL, 1514, &now.length))                               \
+    CALL(LLDPA_NO_ROOM, lldpa_frame_of(&agent, 0, LLDPA_ORDINARY, NULL, 0, &now.length))                               \
+    CALL(LLDPA_NULL, lldpa_frame_of(&agent, 0, LLDPA_ORDINARY, now.room, 1514, NULL))
+
+/* Calls that only read accept a handle in read-only memory. */
+static const lldpa_agent none = {NULL, false};
+static lldpa_agent closed;
+
+/* Calls on handles that are not open. */
+#define CLOSED(CALL)                                                                                                   \
+    CALL(LLDPA_NOT_OPEN, lldpa_neighbor_count(&none, 0, &now.number))                                                  \
+    CALL(LLDPA_NOT_OPEN, lldpa_neighbor(&none, 0, 0, now.room, 1500, &now.held))                                       \
+    CALL(LLDPA_NOT_OPEN, lldpa_aged_count(&none, 0, &now.number))                                                      \
+    CALL(LLDPA_NOT_OPEN, lldpa_aged(&none, 0, 0, now.room, 1500, &now.held))                                           \
+    CALL(LLDPA_NOT_OPEN, lldpa_due(&none, &now.number))                                                                \
+    CALL(LLDPA_NOT_OPEN, lldpa_statistics(&none, 0, &now.statistics))                                                  \
+    CALL(LLDPA_NOT_OPEN, lldpa_configuration(&none, &now.configuration))                                               \
+    CALL(LLDPA_NOT_OPEN, lldpa_show_lines(&none, 3, 0, now.room, 1514, &now.lines))                                    \
+    CALL(LLDPA_NOT_OPEN, lldpa_frame_of(&none, 0, LLDPA_ORDINARY, now.room, 1514, &now.length))                        \
+    CALL(LLDPA_NOT_OPEN, lldpa_chassis(&none, &now.chassis))                                                           \
+    CALL(LLDPA_NOT_OPEN, lldpa_leave(&closed, &now.marks))                                                             \
+    CALL(LLDPA_NOT_OPEN, lldpa_ticks(&closed, 9, &now.marks, &now.ticks))                                              \
+    CALL(LLDPA_NOT_OPEN, lldpa_frame(&closed, 0, frame, 33, &now.marks, NULL))                                         \
+    CALL(LLDPA_NOT_OPEN, lldpa_frame(&closed, 0, frame, 33, &now.marks, &now.news))                                    \
+    CALL(LLDPA_NOT_OPEN, lldpa_link(&closed, 0, true, &now.marks))                                                     \
+    CALL(LLDPA_NOT_OPEN, lldpa_command(&closed, (const uint8_t *)"update", 6, &now.number, &now.marks))
+
+/* Calls on a port that the agent does not have. */
+#define PORTS(CALL)                                                                                                    \
+    CALL(LLDPA_NO_PORT, lldpa_frame(&agent, port, frame, 0, &now.marks, NULL))                                         \
+    CALL(LLDPA_NO_PORT, lldpa_frame(&agent, port, frame, 0, &now.marks, &now.news))                                    \
+    CALL(LLDPA_NO_PORT, lldpa_link(&agent, port, true, &now.marks))                                                    \
+    CALL(LLDPA_NO_PORT, lldpa_frame_of(&agent, port, LLDPA_ORDINARY, now.room, 1514, &now.length))                     \
+    CALL(LLDPA_NO_PORT, lldpa_neighbor_count(&agent, port, &now.number))                                               \
+    CALL(LLDPA_NO_PORT, lldpa_statistics(&agent, port, &now.statistics))                                               \
+    CALL(LLDPA_NO_PORT, lldpa_neighbor(&agent, port, 0, now.room, 1500, &now.held))                                    \
+    CALL(LLDPA_NO_PORT, lldpa_aged_count(&agent, port, &now.number))                                                   \
+    CALL(LLDPA_NO_PORT, lldpa_aged(&agent, port, 0, now.room, 1500, &now.held))
 
 /* Checks that a TLV with NULL for its body is treated like one with a body of no octets. */
 static void build_empty_bodies(void)
@@ -121,40 +258,22 @@ static void build_empty_bodies(void)
     }
 }
 
-static void build_nulls(void)
+static void build_badly(void)
 {
-    lldpa_tlv tlvs[2] = {{frame, 4, 5}, {NULL, 1, 6}};
+    static const uint8_t identifier[257] = {4};
+    static const size_t lengths[] = {0, 1, 257};
     uint8_t *room = now.room;
-    ANSWERS(lldpa_build(NULL, 7, frame, 5, 120, NULL, 0, NULL, 0, room, 1500, &now.length), LLDPA_NULL);
-    ANSWERS(lldpa_build(frame, 7, NULL, 5, 120, NULL, 0, NULL, 0, room, 1500, &now.length), LLDPA_NULL);
-    ANSWERS(lldpa_build(NULL, 0, frame, 5, 120, NULL, 0, NULL, 0, room, 1500, &now.length), LLDPA_OUT_OF_RANGE);
-    ANSWERS(lldpa_build(frame, 7, NULL, 0, 120, NULL, 0, NULL, 0, room, 1500, &now.length), LLDPA_OUT_OF_RANGE);
-    ANSWERS(built(NULL, 1, now.faults, 1, room, 1500, &now.length), LLDPA_NULL);
-    ANSWERS(built(tlvs, 2, now.faults, 2, room, 1500, &now.length), LLDPA_NULL);
-    ANSWERS(built(tlvs, 1, NULL, 1, room, 1500, &now.length), LLDPA_NULL);
-    ANSWERS(built(tlvs, 1, NULL, 0, room, 1500, &now.length), LLDPA_NO_ROOM);
-    ANSWERS(built(NULL, 0, NULL, 0, NULL, 1500, &now.length), LLDPA_NULL);
-    ANSWERS(built(NULL, 0, NULL, 0, NULL, 0, &now.length), LLDPA_NO_ROOM);
-    ANSWERS(built(NULL, 0, NULL, 0, room, 1500, NULL), LLDPA_NULL);
+    BUILDS(ANSWERS)
     begin();
     holds(built(NULL, 0, NULL, 0, room, 1500, &now.length) == LLDPA_OK && now.length == 22, "no TLVs, by NULL");
-    ANSWERS(built(NULL, 0, NULL, 0, room, 21, &now.length), LLDPA_NO_ROOM);
+    ANSWERS(LLDPA_NO_ROOM, built(NULL, 0, NULL, 0, room, 21, &now.length));
     for (size_t at = 0; at < 3; at++) {
-        static const uint8_t identifier[257] = {4};
-        static const size_t lengths[] = {0, 1, 257};
-        ANSWERS(lldpa_build(identifier, lengths[at], frame, 5, 120, NULL, 0, NULL, 0, room, 1500, &now.length),
-                LLDPA_OUT_OF_RANGE);
-        ANSWERS(lldpa_build(frame, 7, identifier, lengths[at], 120, NULL, 0, NULL, 0, room, 1500, &now.length),
-                LLDPA_OUT_OF_RANGE);
+        ANSWERS(LLDPA_OUT_OF_RANGE,
+                lldpa_build(identifier, lengths[at], frame, 5, 120, NULL, 0, NULL, 0, room, 1500, &now.length));
+        ANSWERS(LLDPA_OUT_OF_RANGE,
+                lldpa_build(frame, 7, identifier, lengths[at], 120, NULL, 0, NULL, 0, room, 1500, &now.length));
     }
     build_empty_bodies();
-}
-
-static void machine_nulls(void)
-{
-    ANSWERS(lldpa_transmit_new(NULL, 5, 4, 2, true), LLDPA_NULL);
-    ANSWERS(lldpa_transmit_event(NULL, LLDPA_CAUSE_TICK, 30, &now.octet), LLDPA_NULL);
-    ANSWERS(lldpa_transmit_event(&now.machine, LLDPA_CAUSE_TICK, 30, NULL), LLDPA_NULL);
 }
 
 static void machine_numbers(void)
@@ -162,14 +281,14 @@ static void machine_numbers(void)
     static const uint8_t wrong[][3] = {{0, 4, 2}, {11, 4, 2}, {5, 0, 2}, {5, 9, 2}, {5, 4, 0}, {5, 4, 11}};
     lldpa_machine *machine = &now.machine;
     for (size_t at = 0; at < sizeof wrong / sizeof *wrong; at++) {
-        ANSWERS(lldpa_transmit_new(machine, wrong[at][0], wrong[at][1], wrong[at][2], true), LLDPA_OUT_OF_RANGE);
+        ANSWERS(LLDPA_OUT_OF_RANGE, lldpa_transmit_new(machine, wrong[at][0], wrong[at][1], wrong[at][2], true));
     }
     for (uint32_t cause = 8; cause < 600; cause++) {
-        ANSWERS(lldpa_transmit_event(machine, cause, 30, &now.octet), LLDPA_OUT_OF_RANGE);
+        ANSWERS(LLDPA_OUT_OF_RANGE, lldpa_transmit_event(machine, cause, 30, &now.octet));
     }
-    ANSWERS(lldpa_transmit_event(machine, LLDPA_CAUSE_TICK, 0, &now.octet), LLDPA_OUT_OF_RANGE);
-    ANSWERS(lldpa_transmit_event(machine, LLDPA_CAUSE_TICK, 3601, &now.octet), LLDPA_OUT_OF_RANGE);
-    ANSWERS(lldpa_transmit_event(machine, LLDPA_CAUSE_TICK, 65566, &now.octet), LLDPA_OUT_OF_RANGE);
+    ANSWERS(LLDPA_OUT_OF_RANGE, lldpa_transmit_event(machine, LLDPA_CAUSE_TICK, 0, &now.octet));
+    ANSWERS(LLDPA_OUT_OF_RANGE, lldpa_transmit_event(machine, LLDPA_CAUSE_TICK, 3601, &now.octet));
+    ANSWERS(LLDPA_OUT_OF_RANGE, lldpa_transmit_event(machine, LLDPA_CAUSE_TICK, 65566, &now.octet));
     machine->credit = 6; /* above its credit_max */
     holds(lldpa_transmit_event(machine, LLDPA_CAUSE_TICK, 30, &now.octet) == LLDPA_OUT_OF_RANGE, "too much credit");
 }
@@ -201,12 +320,79 @@ static void open_numbers(lldpa_options options)
     REFUSES(&options, LLDPA_OUT_OF_RANGE);
 }
 
+/* Options with two errors each, and the one that lldpa.h names first. NO_UTF8 is also no text that an agent accepts. */
+#define GOOD {(const uint8_t *)"eth0", 4}
+#define OTHER {(const uint8_t *)"eth1", 4}
+#define DOT {(const uint8_t *)"a.b", 3}
+#define NO_UTF8 {(const uint8_t *)"\xff", 1}
+#define NO_TEXT {(const uint8_t *)"\n", 1}
+#define MISSING {NULL, 1}
+static const struct {
+    const char *what;
+    size_t size;
+    lldpa_text names[2];
+    size_t port_count;
+    lldpa_text hostname;
+    uint32_t role;
+    uint32_t most_neighbors;
+    uint8_t wanted;
+} doubly_wrong[] = {
+    {"another size, and a name that is missing",
+     sizeof(lldpa_options) - 1, {MISSING}, 1, GOOD, 0, 2, LLDPA_OUT_OF_RANGE},
+    {"a role that is none, and a name that is missing",
+     sizeof(lldpa_options), {MISSING}, 1, GOOD, 3, 2, LLDPA_NULL},
+    {"a number out of range, and a hostname that is missing",
+     sizeof(lldpa_options), {GOOD}, 1, MISSING, 0, 129, LLDPA_NULL},
+    {"a role that is none, and no port",
+     sizeof(lldpa_options), {GOOD}, 0, GOOD, 3, 2, LLDPA_OUT_OF_RANGE},
+    {"a number out of range, and too many ports",
+     sizeof(lldpa_options), {GOOD}, 66, GOOD, 0, 0, LLDPA_OUT_OF_RANGE},
+    {"a hostname that is not UTF-8, and no port",
+     sizeof(lldpa_options), {GOOD}, 0, NO_UTF8, 0, 2, LLDPA_OUT_OF_RANGE},
+    {"a name that is not UTF-8 behind one that is not valid",
+     sizeof(lldpa_options), {DOT, NO_UTF8}, 2, GOOD, 0, 2, LLDPA_OUT_OF_RANGE},
+    {"names that are not UTF-8, and too many",
+     sizeof(lldpa_options), {NO_UTF8}, 66, GOOD, 0, 2, LLDPA_OUT_OF_RANGE},
+    {"no port, and a hostname that is not printable",
+     sizeof(lldpa_options), {GOOD}, 0, NO_TEXT, 0, 2, LLDPA_NO_PORTS},
+    {"too many ports with names that are not valid",
+     sizeof(lldpa_options), {DOT}, 66, GOOD, 0, 2, LLDPA_TOO_MANY_PORTS},
+    {"too many ports, and a hostname that is not printable",
+     sizeof(lldpa_options), {GOOD}, 66, NO_TEXT, 0, 2, LLDPA_TOO_MANY_PORTS},
+    {"names that are not valid and the same",
+     sizeof(lldpa_options), {DOT, DOT}, 2, GOOD, 0, 2, LLDPA_PORT_NAME},
+    {"a name that is not valid, and a hostname that is not printable",
+     sizeof(lldpa_options), {DOT, OTHER}, 2, NO_TEXT, 0, 2, LLDPA_PORT_NAME},
+    {"names that are the same, and a hostname that is not printable",
+     sizeof(lldpa_options), {GOOD, GOOD}, 2, NO_TEXT, 0, 2, LLDPA_SAME_PORT},
+};
+
+static void open_doubly(void)
+{
+    for (size_t at = 0; at < sizeof doubly_wrong / sizeof *doubly_wrong; at++) {
+        lldpa_text names[66];
+        lldpa_options options = LLDPA_OPTIONS_INIT;
+        for (size_t name = 0; name < 66; name++) {
+            names[name] = doubly_wrong[at].names[name == 1];
+        }
+        options.size = doubly_wrong[at].size;
+        options.ports = names;
+        options.port_count = doubly_wrong[at].port_count;
+        options.hostname = doubly_wrong[at].hostname;
+        options.role = doubly_wrong[at].role;
+        options.max_neighbors = doubly_wrong[at].most_neighbors;
+        lldpa_agent handle = {0};
+        uint8_t answer = lldpa_open(&options, &handle);
+        holds(answer == doubly_wrong[at].wanted && !handle.open, doubly_wrong[at].what);
+    }
+}
+
 static void open_nulls(void)
 {
     lldpa_text names[66] = {{(const uint8_t *)"eth0", 4}, {NULL, 4}};
     lldpa_options options = {sizeof options, names, 1, {NULL, 0}, {2, 0, 0, 0, 0, 1}, {0}, false, false, 0, 2, 5, 4, 2};
-    ANSWERS(lldpa_open(NULL, &agent), LLDPA_NULL);
-    ANSWERS(lldpa_open(&options, NULL), LLDPA_NULL);
+    ANSWERS(LLDPA_NULL, lldpa_open(NULL, &agent));
+    ANSWERS(LLDPA_NULL, lldpa_open(&options, NULL));
     options.hostname.length = 1;
     REFUSES(&options, LLDPA_NULL);
     options.hostname.length = 0;
@@ -226,97 +412,15 @@ static void open_nulls(void)
     options.ports = names;
     options.port_count = 1;
     open_numbers(options);
-    ANSWERS(lldpa_open(&options, &agent), LLDPA_OK);
-    ANSWERS(lldpa_open(&options, &agent), LLDPA_IS_OPEN);
-}
-
-static void step_nulls(void)
-{
-    uint32_t *show = &now.number;
-    ANSWERS(lldpa_leave(NULL, &now.marks), LLDPA_NULL);
-    ANSWERS(lldpa_leave(&agent, NULL), LLDPA_NULL);
-    ANSWERS(lldpa_ticks(NULL, 1, &now.marks, &now.ticks), LLDPA_NULL);
-    ANSWERS(lldpa_ticks(&agent, 1, NULL, &now.ticks), LLDPA_NULL);
-    ANSWERS(lldpa_ticks(&agent, 1, &now.marks, NULL), LLDPA_NULL);
-    ANSWERS(lldpa_due(NULL, &now.number), LLDPA_NULL);
-    ANSWERS(lldpa_due(&agent, NULL), LLDPA_NULL);
-    ANSWERS(lldpa_statistics(NULL, 0, &now.statistics), LLDPA_NULL);
-    ANSWERS(lldpa_statistics(&agent, 0, NULL), LLDPA_NULL);
-    ANSWERS(lldpa_configuration(NULL, &now.configuration), LLDPA_NULL);
-    ANSWERS(lldpa_configuration(&agent, NULL), LLDPA_NULL);
-    ANSWERS(lldpa_chassis(NULL, &now.chassis), LLDPA_NULL);
-    ANSWERS(lldpa_chassis(&agent, NULL), LLDPA_NULL);
-    ANSWERS(lldpa_frame(NULL, 0, frame, 33, &now.marks, &now.news), LLDPA_NULL);
-    ANSWERS(lldpa_frame(&agent, 0, NULL, 33, &now.marks, &now.news), LLDPA_NULL);
-    ANSWERS(lldpa_frame(&agent, 0, frame, 33, NULL, &now.news), LLDPA_NULL);
-    ANSWERS(lldpa_neighbor_count(NULL, 0, &now.number), LLDPA_NULL);
-    ANSWERS(lldpa_neighbor_count(&agent, 0, NULL), LLDPA_NULL);
-    ANSWERS(lldpa_neighbor(NULL, 0, 0, now.room, 1500, &now.held), LLDPA_NULL);
-    ANSWERS(lldpa_neighbor(&agent, 0, 0, NULL, 1500, &now.held), LLDPA_NULL);
-    ANSWERS(lldpa_neighbor(&agent, 0, 0, NULL, 0, &now.held), LLDPA_OUT_OF_RANGE);
-    ANSWERS(lldpa_neighbor(&agent, 0, 0, now.room, 1500, NULL), LLDPA_NULL);
-    ANSWERS(lldpa_aged_count(NULL, 0, &now.number), LLDPA_NULL);
-    ANSWERS(lldpa_aged_count(&agent, 0, NULL), LLDPA_NULL);
-    ANSWERS(lldpa_aged(NULL, 0, 0, now.room, 1500, &now.held), LLDPA_NULL);
-    ANSWERS(lldpa_aged(&agent, 0, 0, NULL, 1500, &now.held), LLDPA_NULL);
-    ANSWERS(lldpa_aged(&agent, 0, 0, NULL, 0, &now.held), LLDPA_OUT_OF_RANGE);
-    ANSWERS(lldpa_aged(&agent, 0, 0, now.room, 1500, NULL), LLDPA_NULL);
-    ANSWERS(lldpa_link(NULL, 0, false, &now.marks), LLDPA_NULL);
-    ANSWERS(lldpa_link(&agent, 0, false, NULL), LLDPA_NULL);
-    ANSWERS(lldpa_command(NULL, (const uint8_t *)"update", 6, show, &now.marks), LLDPA_NULL);
-    ANSWERS(lldpa_command(&agent, NULL, 6, show, &now.marks), LLDPA_NULL);
-    ANSWERS(lldpa_command(&agent, NULL, 0, show, &now.marks), LLDPA_UNKNOWN);
-    ANSWERS(lldpa_command(&agent, (const uint8_t *)"update", 6, NULL, &now.marks), LLDPA_NULL);
-    ANSWERS(lldpa_command(&agent, (const uint8_t *)"update", 6, show, NULL), LLDPA_NULL);
-}
-
-static void show_nulls(void)
-{
-    uint8_t *room = now.room;
-    ANSWERS(lldpa_tlv_text(5, NULL, 3, room, 1058, &now.length), LLDPA_NULL);
-    ANSWERS(lldpa_tlv_text(5, frame, 3, NULL, 1058, &now.length), LLDPA_NULL);
-    ANSWERS(lldpa_tlv_text(5, NULL, 0, NULL, 0, &now.length), LLDPA_NO_ROOM);
-    ANSWERS(lldpa_tlv_text(5, frame, 3, room, 1058, NULL), LLDPA_NULL);
-    ANSWERS(lldpa_escape(NULL, 3, room, 12, &now.length), LLDPA_NULL);
-    ANSWERS(lldpa_escape(frame, 3, NULL, 12, &now.length), LLDPA_NULL);
-    ANSWERS(lldpa_escape(NULL, 0, NULL, 0, &now.length), LLDPA_OK);
-    ANSWERS(lldpa_escape(frame, 3, room, 12, NULL), LLDPA_NULL);
-    ANSWERS(lldpa_fault_text(LLDPA_MEMORY, NULL, 65, &now.length), LLDPA_NULL);
-    ANSWERS(lldpa_fault_text(LLDPA_MEMORY, NULL, 0, &now.length), LLDPA_NO_ROOM);
-    ANSWERS(lldpa_fault_text(LLDPA_MEMORY, room, 65, NULL), LLDPA_NULL);
-    ANSWERS(lldpa_show_lines(NULL, 3, 0, room, 1514, &now.lines), LLDPA_NULL);
-    ANSWERS(lldpa_show_lines(&agent, 3, 0, NULL, 1514, &now.lines), LLDPA_NULL);
-    ANSWERS(lldpa_show_lines(&agent, 3, 0, NULL, 0, &now.lines), LLDPA_NO_ROOM);
-    ANSWERS(lldpa_show_lines(&agent, 3, 0, room, 1514, NULL), LLDPA_NULL);
-    ANSWERS(lldpa_frame_of(NULL, 0, LLDPA_ORDINARY, room, 1514, &now.length), LLDPA_NULL);
-    ANSWERS(lldpa_frame_of(&agent, 0, LLDPA_ORDINARY, NULL, 1514, &now.length), LLDPA_NULL);
-    ANSWERS(lldpa_frame_of(&agent, 0, LLDPA_ORDINARY, NULL, 0, &now.length), LLDPA_NO_ROOM);
-    ANSWERS(lldpa_frame_of(&agent, 0, LLDPA_ORDINARY, room, 1514, NULL), LLDPA_NULL);
-}
-
-/* Uses handles that are not open. Calls that only read accept a handle in read-only memory. */
-static void use_closed(void)
-{
-    static const lldpa_agent none = {NULL, false};
-    lldpa_agent closed = none;
-    uint8_t *room = now.room;
-    ANSWERS(lldpa_neighbor_count(&none, 0, &now.number), LLDPA_NOT_OPEN);
-    ANSWERS(lldpa_neighbor(&none, 0, 0, room, 1500, &now.held), LLDPA_NOT_OPEN);
-    ANSWERS(lldpa_aged_count(&none, 0, &now.number), LLDPA_NOT_OPEN);
-    ANSWERS(lldpa_aged(&none, 0, 0, room, 1500, &now.held), LLDPA_NOT_OPEN);
-    ANSWERS(lldpa_due(&none, &now.number), LLDPA_NOT_OPEN);
-    ANSWERS(lldpa_statistics(&none, 0, &now.statistics), LLDPA_NOT_OPEN);
-    ANSWERS(lldpa_configuration(&none, &now.configuration), LLDPA_NOT_OPEN);
-    ANSWERS(lldpa_show_lines(&none, 3, 0, room, 1514, &now.lines), LLDPA_NOT_OPEN);
-    ANSWERS(lldpa_frame_of(&none, 0, LLDPA_ORDINARY, room, 1514, &now.length), LLDPA_NOT_OPEN);
-    ANSWERS(lldpa_leave(&closed, &now.marks), LLDPA_NOT_OPEN);
-    ANSWERS(lldpa_ticks(&closed, 9, &now.marks, &now.ticks), LLDPA_NOT_OPEN);
-    ANSWERS(lldpa_frame(&closed, 0, frame, 33, &now.marks, NULL), LLDPA_NOT_OPEN);
-    ANSWERS(lldpa_frame(&closed, 0, frame, 33, &now.marks, &now.news), LLDPA_NOT_OPEN);
-    ANSWERS(lldpa_link(&closed, 0, true, &now.marks), LLDPA_NOT_OPEN);
-    ANSWERS(lldpa_command(&closed, (const uint8_t *)"update", 6, &now.number, &now.marks), LLDPA_NOT_OPEN);
-    lldpa_close(&closed);
-    holds(!closed.open, "a handle is open after it was closed");
+    open_doubly();
+    holds(lldpa_open(&options, &agent) == LLDPA_OK, "an agent");
+    ANSWERS(LLDPA_IS_OPEN, lldpa_open(&options, &agent));
+    options.role = 3;
+    ANSWERS(LLDPA_IS_OPEN, lldpa_open(&options, &agent));
+    options.hostname = (lldpa_text){NULL, 1};
+    ANSWERS(LLDPA_NULL, lldpa_open(&options, &agent));
+    options.size--;
+    ANSWERS(LLDPA_OUT_OF_RANGE, lldpa_open(&options, &agent));
 }
 
 /* Uses ports, marks and shows that do not exist, and buffers that are one octet too small. */
@@ -326,22 +430,14 @@ static void use_badly(void)
     uint8_t *room = now.room;
     for (size_t at = 0; at < sizeof ports / sizeof *ports; at++) {
         uint32_t port = ports[at];
-        ANSWERS(lldpa_frame(&agent, port, frame, 0, &now.marks, NULL), LLDPA_NO_PORT);
-        ANSWERS(lldpa_frame(&agent, port, frame, 0, &now.marks, &now.news), LLDPA_NO_PORT);
-        ANSWERS(lldpa_link(&agent, port, true, &now.marks), LLDPA_NO_PORT);
-        ANSWERS(lldpa_frame_of(&agent, port, LLDPA_ORDINARY, room, 1514, &now.length), LLDPA_NO_PORT);
-        ANSWERS(lldpa_neighbor_count(&agent, port, &now.number), LLDPA_NO_PORT);
-        ANSWERS(lldpa_statistics(&agent, port, &now.statistics), LLDPA_NO_PORT);
-        ANSWERS(lldpa_neighbor(&agent, port, 0, room, 1500, &now.held), LLDPA_NO_PORT);
-        ANSWERS(lldpa_aged_count(&agent, port, &now.number), LLDPA_NO_PORT);
-        ANSWERS(lldpa_aged(&agent, port, 0, room, 1500, &now.held), LLDPA_NO_PORT);
+        PORTS(ANSWERS)
     }
     for (uint32_t mark = 0; mark < 256; mark += 3) { /* neither LLDPA_ORDINARY nor LLDPA_SHUTDOWN */
-        ANSWERS(lldpa_frame_of(&agent, 0, mark, room, 1514, &now.length), LLDPA_OUT_OF_RANGE);
-        ANSWERS(lldpa_show_lines(&agent, mark == 0 ? 0 : mark + 2, 0, room, 1514, &now.lines), LLDPA_OUT_OF_RANGE);
+        ANSWERS(LLDPA_OUT_OF_RANGE, lldpa_frame_of(&agent, 0, mark, room, 1514, &now.length));
+        ANSWERS(LLDPA_OUT_OF_RANGE, lldpa_show_lines(&agent, mark == 0 ? 0 : mark + 2, 0, room, 1514, &now.lines));
     }
-    ANSWERS(lldpa_frame_of(&agent, 0, LLDPA_ORDINARY, room, 56, &now.length), LLDPA_NO_ROOM);
-    ANSWERS(lldpa_show_lines(&agent, LLDPA_SHOW_CHASSIS, 3, room, 29, &now.lines), LLDPA_NO_ROOM);
+    ANSWERS(LLDPA_NO_ROOM, lldpa_frame_of(&agent, 0, LLDPA_ORDINARY, room, 56, &now.length));
+    ANSWERS(LLDPA_NO_ROOM, lldpa_show_lines(&agent, LLDPA_SHOW_CHASSIS, 3, room, 29, &now.lines));
     holds(lldpa_frame_of(&agent, 0, LLDPA_ORDINARY, room, 57, &now.length) == LLDPA_OK, "a frame of 57 octets");
     holds(lldpa_show_lines(&agent, LLDPA_SHOW_CHASSIS, 9, room, 0, &now.lines) == LLDPA_OK && now.lines.done &&
               now.lines.length == 0 && now.lines.next == 9, "lines after the last");
@@ -364,16 +460,20 @@ static size_t shown(uint8_t *room, size_t length)
 int main(void)
 {
     static uint8_t first[8192], last[8192];
-    read_nulls();
+    READS(ANSWERS)
     read_headers();
-    build_nulls();
-    machine_nulls();
+    build_badly();
+    MACHINES(ANSWERS)
     machine_numbers();
     open_nulls();
     size_t length = shown(first, sizeof first);
-    step_nulls();
-    show_nulls();
-    use_closed();
+    EVENTS(ANSWERS)
+    SHOWS(ANSWERS)
+    begin();
+    holds(lldpa_escape(NULL, 0, NULL, 0, &now.length) == LLDPA_OK && now.length == 0, "no octets, escaped");
+    CLOSED(ANSWERS)
+    lldpa_close(&closed);
+    holds(!closed.open, "a handle is open after it was closed");
     use_badly();
     holds(shown(last, sizeof last) == length && memcmp(first, last, length) == 0, "the agent has changed");
     begin();

@@ -1,6 +1,6 @@
 /*
- * Tests the ends of ranges, calls with two wrong arguments, and long lists and waits: what the
- * rows and transcripts of examples/ leave out. Each number and its limit is from lldpa.h.
+ * Tests the ends of ranges, and long lists and waits: what the rows and transcripts of examples/
+ * leave out. Each number and its limit is from lldpa.h.
  *     ranges
  * Failed checks are reported; the last line is `N passed, M failed`.
  */
@@ -61,38 +61,20 @@ static void try_options(void)
     opens(&options, LLDPA_SAME_PORT, "two names that are the same, and a hostname that is not a text");
 }
 
-/* Checks that the first check of lldpa.h's list decides if two arguments are wrong. */
+/* Checks the order of checks where the C code around the proved functions could change it. The law
+ * checks_are_in_order has the order of all checks of the proved functions. */
 static void try_two_wrong(void)
 {
     lldpa_options wrong = options_of(NULL, 2);
-    lldpa_held held;
     lldpa_lines lines;
-    lldpa_news news;
-    uint32_t number;
     wrong.size--;
     holds(lldpa_open(&wrong, &agent) == LLDPA_OUT_OF_RANGE, "another size, NULL, and an agent that is open");
     wrong = options_of(names, 0);
     wrong.role = 3;
     holds(lldpa_open(&wrong, &agent) == LLDPA_IS_OPEN, "an agent that is open, and options that are wrong");
-    holds(lldpa_frame(&closed, 64, frame, 33, &marks, NULL) == LLDPA_NOT_OPEN, "a frame, no agent and no port");
-    holds(lldpa_frame(&closed, 64, frame, 33, &marks, &news) == LLDPA_NOT_OPEN, "news, no agent and no port");
-    holds(lldpa_link(&closed, 64, true, &marks) == LLDPA_NOT_OPEN, "a link, no agent and no port");
-    holds(lldpa_neighbor_count(&closed, 64, &number) == LLDPA_NOT_OPEN, "a count, no agent and no port");
-    holds(lldpa_neighbor(&closed, 64, 9, room, 0, &held) == LLDPA_NOT_OPEN, "a neighbor, no agent and no port");
-    holds(lldpa_neighbor(&agent, 2, 9, room, 0, &held) == LLDPA_NO_PORT, "a neighbor, no port and no index");
-    holds(lldpa_neighbor(&agent, 0, 1, room, 0, &held) == LLDPA_OUT_OF_RANGE, "a neighbor, no index and no room");
-    holds(lldpa_aged_count(&closed, 64, &number) == LLDPA_NOT_OPEN, "who aged out, no agent and no port");
-    holds(lldpa_aged(&closed, 64, 9, room, 0, &held) == LLDPA_NOT_OPEN, "one that aged out, no agent and no port");
-    holds(lldpa_aged(&agent, 2, 9, room, 0, &held) == LLDPA_NO_PORT, "one that aged out, no port and no index");
-    holds(lldpa_aged(&agent, 0, 0, room, 0, &held) == LLDPA_OUT_OF_RANGE, "one that aged out, no index and no room");
-    holds(lldpa_command(&closed, (const uint8_t *)"x", 1, &number, &marks) == LLDPA_NOT_OPEN, "a command and no agent");
     holds(lldpa_show_lines(&closed, 5, 0, room, 0, &lines) == LLDPA_OUT_OF_RANGE, "lines, no show and no agent");
-    holds(lldpa_show_lines(&closed, 1, 0, room, 0, &lines) == LLDPA_NOT_OPEN, "lines, no agent and no room");
     holds(lldpa_frame_of(&closed, 64, 3, room, 0, &length) == LLDPA_OUT_OF_RANGE, "a frame to send, no mark and no agent");
-    holds(lldpa_frame_of(&closed, 64, 1, room, 0, &length) == LLDPA_NOT_OPEN, "a frame to send, no agent and no port");
     holds(lldpa_frame_of(&agent, 2, 1, room, 0, &length) == LLDPA_NO_PORT, "a frame to send, no port and no room");
-    holds(lldpa_tlv_text(3, frame, 2, room, 0, &length) == LLDPA_OUT_OF_RANGE, "a TLV that is not written, and no room");
-    holds(lldpa_fault_text(9, room, 0, &length) == LLDPA_OUT_OF_RANGE, "no fault and no room");
 }
 
 /* Checks the longest text that is escaped, and the longest TLV that is written. */
@@ -111,6 +93,34 @@ static void try_texts(void)
     holds(lldpa_tlv_text(9, text, 512, room, sizeof room, &length) == LLDPA_OUT_OF_RANGE, "a TLV of 512 octets");
 }
 
+/* Checks that a walk finds this many TLVs, and then stays where it is. */
+static void try_walk(size_t extent, size_t kept)
+{
+    lldpa_kept walk = LLDPA_KEPT_INIT, last;
+    size_t found = 0;
+    while (found <= kept && lldpa_next_kept(room, extent, &walk)) {
+        found++;
+    }
+    last = walk;
+    holds(found == kept && !lldpa_next_kept(room, extent, &walk), "a walk over many TLVs");
+    holds(walk.next == last.next && walk.kind == last.kind, "a walk that has ended");
+}
+
+/* Checks what is told of an LLDPDU with many TLVs of type 9, and then of the same with type 127, which are too short. */
+static void try_many_told(size_t put)
+{
+    lldpa_examined told;
+    holds(lldpa_examine(room, length, &told) == LLDPA_OK && told.ttl == 65535 && told.extent == length - 2, "the LLDPDU");
+    holds(told.unrecognized == put && told.discarded == 0, "many TLVs that are not recognized");
+    try_walk(told.extent, put);
+    for (size_t at = 20; at + 2 < length; at += 3) {
+        room[at] = 127 << 1;
+    }
+    holds(lldpa_examine(room, length, &told) == LLDPA_OK && told.unrecognized == 0 && told.discarded == put,
+          "many TLVs that are discarded");
+    try_walk(told.extent, 0);
+}
+
 /* Checks that each of many TLVs is built or has a fault. */
 static void try_many_tlvs(void)
 {
@@ -122,7 +132,7 @@ static void try_many_tlvs(void)
             tlvs[at] = (lldpa_tlv){frame, 1, 9};
         }
         memset(faults, 77, sizeof faults);
-        uint8_t answer = lldpa_build(frame + 16, 7, frame + 25, 5, 120, tlvs, count, faults, count, room, 1500, &length);
+        uint8_t answer = lldpa_build(frame + 16, 7, frame + 25, 5, 65535, tlvs, count, faults, count, room, 1500, &length);
         for (size_t at = 0; at < count; at++) {
             put += faults[at] == LLDPA_OK;
             full += faults[at] == LLDPA_FULL;
@@ -130,7 +140,38 @@ static void try_many_tlvs(void)
         /* 22 octets without these TLVs, and 3 for each of them. */
         holds(answer == LLDPA_OK && length == 22 + 3 * put && put == (count < 492 ? count : 492), "many TLVs");
         holds(put + full == count, "a number for each of many TLVs");
+        try_many_told(put);
     }
+}
+
+/* Checks what is told of a port with more neighbors than it may hold, and of a host without a management address. */
+static void try_many_neighbors(void)
+{
+    lldpa_options options = options_of(names, 1);
+    lldpa_agent full = {0};
+    lldpa_statistics_told told;
+    lldpa_chassis_told host;
+    static const uint8_t zeros[4];
+    uint8_t other[sizeof frame - 1];
+    uint32_t count = 0;
+    options.max_neighbors = 100;
+    holds(lldpa_open(&options, &full) == LLDPA_OK, "an agent for 100 neighbors");
+    memcpy(other, frame, sizeof other);
+    for (uint32_t at = 0; at < 103; at++) {
+        other[22] = (uint8_t)at;
+        holds(lldpa_frame(&full, 0, other, sizeof other, &marks, NULL) == LLDPA_OK, "a frame of another neighbor");
+    }
+    holds(lldpa_neighbor_count(&full, 0, &count) == LLDPA_OK && count == 100, "how many of them are held");
+    for (uint32_t at = 0; at < count; at++) {
+        lldpa_held held = {.left = 0};
+        holds(lldpa_neighbor(&full, 0, at, room, sizeof room, &held) == LLDPA_OK && held.left == 120 && held.pdu.ttl == 120,
+              "a neighbor that was heard now");
+    }
+    holds(lldpa_statistics(&full, 0, &told) == LLDPA_OK && told.received == 103 && told.drops == 3, "frames and drops");
+    memset(&host, 0x5a, sizeof host);
+    holds(lldpa_chassis(&full, &host) == LLDPA_OK && !host.managed && memcmp(host.management, zeros, 4) == 0,
+          "zeros for no management address");
+    lldpa_close(&full);
 }
 
 /* Checks that seconds are neither lost nor counted twice, and that a setting has no show. */
@@ -202,6 +243,7 @@ int main(void)
     try_two_wrong();
     try_texts();
     try_many_tlvs();
+    try_many_neighbors();
     try_many_seconds();
     try_aged();
     lldpa_close(&agent);

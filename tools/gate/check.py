@@ -1,0 +1,237 @@
+"""Runs the parts of the gate (plan.py) in lanes. tools/gate/check.sh says what the options do.
+
+The output of a part is printed in one piece when it ends. While rt ci works, the program that it has
+linked is tested in a copy of the repository, since rt lets nobody else prove in the same folders.
+"""
+from __future__ import annotations
+
+import argparse
+import os
+import pathlib
+import shlex
+import shutil
+import signal
+import subprocess
+import sys
+import tempfile
+import threading
+import time
+from collections.abc import Iterable
+
+import ledger
+from part import FEATURE, PACKAGE, TOP, Ended, judged, settings_for
+from plan import ALONE, CHANGED, CHEAP, HOST, LIBRARY, PARTS, PROOFS, Part
+
+PROGRAM = "crates/lldpa/out/lldpa"
+OF_ONE_PART = "crates library host audit release".split()
+
+
+class Gate:
+    """The parts that run, and how those that ended did. `top` is where the programs are tested."""
+
+    def __init__(self, room: pathlib.Path, program: pathlib.Path, is_whole: bool) -> None:
+        self.room, self.program, self.is_whole = room, program, is_whole
+        self.top = TOP
+        self.ended: dict[str, Ended] = {}
+        self.changed = threading.Condition()
+        self.running: set[subprocess.Popen[bytes]] = set()
+        self.planned: set[str] = set()
+
+    def run(self, part: Part) -> None:
+        """Runs a part, prints what it wrote, and notes how it ended."""
+        top = TOP if part.lane in (CHEAP, CHANGED, PROOFS) else self.top
+        words = shlex.split(part.command.format(program=shlex.quote(str(self.program))))
+        output = self.room / "output" / part.name.replace("/", "-")
+        output.parent.mkdir(exist_ok=True)
+        began = time.monotonic()
+        with output.open("wb") as file:
+            process = subprocess.Popen(words, cwd=top, stdin=subprocess.DEVNULL, stdout=file,
+                                       stderr=subprocess.STDOUT, start_new_session=True,
+                                       env=settings_for(self.room, part.name))
+            self.running.add(process)
+            self.say(f"-- {part.name} begins; its lines so far are in {output}")
+            status = process.wait()
+            self.running.discard(process)
+        text = output.read_text(errors="replace")
+        ended = judged(part.name, status, text, self.is_whole)
+        ended.seconds = time.monotonic() - began
+        self.note(ended, text)
+
+    def say(self, text: str) -> None:
+        with self.changed:
+            print(text, flush=True)
+
+    def note(self, ended: Ended, text: str = "") -> None:
+        """Prints a part's output and what is wrong with it, and lets those go on that wait for it."""
+        faults = "".join(f"FAILED: {ended.name}: {fault}\n" for fault in ended.faults)
+        with self.changed:
+            print(f"== {ended.name}\n{text}{faults}   {ended.seconds:.0f} s", flush=True)
+            self.ended[ended.name] = ended
+            self.changed.notify_all()
+
+    def run_lane(self, parts: Iterable[Part]) -> None:
+        for part in parts:
+            with self.changed:
+                self.changed.wait_for(
+                    lambda: all(name in self.ended for name in part.after if name in self.planned))
+            self.run(part)
+
+    def run_lanes(self, lanes: Iterable[list[Part]]) -> None:
+        """Runs lanes at the same time, and waits until all have ended."""
+        threads = [threading.Thread(target=self.run_lane, args=[lane], daemon=True)
+                   for lane in lanes]
+        for thread in threads:
+            thread.start()
+        for thread in threads:
+            thread.join()
+
+    def stop(self) -> None:
+        for process in list(self.running):
+            try:
+                os.killpg(process.pid, signal.SIGTERM)
+            except ProcessLookupError:
+                pass
+
+    def failed(self) -> int:
+        return sum(one.failed for one in self.ended.values())
+
+
+def chosen(gate: Gate, stage: str) -> list[Part]:
+    """Returns the parts that an option of check.sh runs."""
+    lanes = {"cheap": [CHEAP], "built": [HOST, LIBRARY, ALONE], "gate": [],
+             "all": [CHEAP, HOST, LIBRARY, ALONE]}
+    if stage in OF_ONE_PART:
+        return [part for part in PARTS if stage in part.by.split()]
+    wanted = lanes[stage] or [CHEAP, PROOFS, HOST, LIBRARY, ALONE]
+    return [part for part in PARTS if part.lane in wanted]
+
+
+def lane_of(parts: list[Part], lane: str) -> list[Part]:
+    return [part for part in parts if part.lane == lane]
+
+
+def answers(program: pathlib.Path) -> bool:
+    """Returns whether there is a program that runs."""
+    try:
+        asked = subprocess.run([program, "--version"], capture_output=True, check=False)
+    except OSError:
+        return False
+    return asked.returncode == 0
+
+
+def copied(room: pathlib.Path) -> pathlib.Path:
+    """Copies the repository, with what is proved and linked so far, and returns the copy."""
+    copy = room / "beside"
+    subprocess.run(["git", "clone", "--quiet", "--shared", TOP, copy], check=True)
+    listed = subprocess.run(["git", "ls-files", "-coz", "--exclude-standard"], cwd=TOP, check=True,
+                            stdout=subprocess.PIPE, text=True).stdout
+    for name in filter(None, listed.split("\0")):
+        (copy / name).unlink(missing_ok=True)
+        if (TOP / name).is_symlink() or (TOP / name).exists():
+            (copy / name).parent.mkdir(parents=True, exist_ok=True)
+            shutil.copy2(TOP / name, copy / name, follow_symlinks=False)
+    for out in sorted(TOP.glob("crates/*/out")):
+        if out.parent.name not in ("lldpa_c", "lldp_tests"):  # rt ci may still write to these
+            subprocess.run(["cp", "-a", out, copy / out.parent.relative_to(TOP)], check=True)
+    return copy
+
+
+def await_program(gate: Gate) -> bool:
+    """Waits until rt ci has linked the program or has ended. Returns whether there is a program."""
+    name = next(part.name for part in PARTS if "proofs.sh" in part.command)
+    while not answers(TOP / PROGRAM):
+        if name in gate.ended or name not in gate.planned:
+            return answers(TOP / PROGRAM)
+        time.sleep(2)
+    return True
+
+
+def prove_and_test(gate: Gate, parts: list[Part]) -> None:
+    """Runs rt ci, and tests the program in a copy once it is linked."""
+    (TOP / PROGRAM).unlink(missing_ok=True)
+    proofs = threading.Thread(target=gate.run_lane, args=[lane_of(parts, PROOFS)], daemon=True)
+    proofs.start()
+    if await_program(gate):
+        gate.top = copied(gate.room)
+        gate.program = gate.top / PROGRAM
+        gate.run_lanes([lane_of(parts, HOST), lane_of(parts, LIBRARY)])
+        proofs.join()
+        gate.run_lane(lane_of(parts, ALONE))
+        same = Ended("the program that was tested", passed=1)
+        if (TOP / PROGRAM).read_bytes() != gate.program.read_bytes():
+            same.passed = 0
+            same.fail("it is not the one that rt ci left")
+        gate.note(same)
+    else:
+        gate.note(Ended("the program", failed=1, faults=["rt ci links none"]))
+        proofs.join()
+
+
+def run_all(gate: Gate, stage: str, parts: list[Part]) -> None:
+    gate.planned = {part.name for part in parts}
+    gate.run_lane(lane_of(parts, CHEAP) + lane_of(parts, CHANGED))
+    others = [part for part in parts if part.lane not in (CHEAP, CHANGED)]
+    if stage == "gate":
+        if gate.failed():
+            print("nothing is proved or built, since a cheap part failed")
+            return
+        prove_and_test(gate, parts)
+    elif others and not answers(gate.program):
+        gate.note(Ended("the program", failed=1, faults=[
+            f"{gate.program} does not run: rt run in crates/lldpa builds it"]))
+    elif others:
+        gate.run_lanes([lane_of(parts, HOST), lane_of(parts, LIBRARY)])
+        gate.run_lane(lane_of(parts, ALONE))
+
+
+def finish(gate: Gate) -> int:
+    """Prints the seconds of the parts, what was skipped, and the counts in the last line."""
+    parts = list(gate.ended.values())
+    print("== seconds of each part")
+    for one in sorted(parts, key=lambda one: -one.seconds):
+        print(f"{one.seconds:6.0f} s  {one.name}{'' if not one.failed else ': FAILED'}")
+    passed = sum(one.passed for one in parts)
+    print(f"kept from an earlier run: {sum(one.passed for one in parts if one.is_kept)} of {passed}")
+    print(f"tests that ran again, since the machine stood still: {sum(one.again for one in parts)}")
+    for kind, said in ((PACKAGE, "skipped, since these tools are missing"),
+                       (FEATURE, "not tried, since this host lacks these features")):
+        names = sorted({name for one in parts for name, of in one.lacking.items() if of == kind})
+        print(f"{said}: {', '.join(names) or 'nothing'}")
+    print(f"{passed} passed, {gate.failed()} failed")
+    return 1 if gate.failed() or not passed else 0
+
+
+def may_install() -> bool:
+    return bool(os.environ.get("CI")) and os.geteuid() == 0 and shutil.which("apt-get") is not None
+
+
+def main() -> int:
+    parser = argparse.ArgumentParser(prog="tools/gate/check.sh", allow_abbrev=False)
+    stages = parser.add_mutually_exclusive_group()
+    for stage in ("cheap", "built", "gate", *OF_ONE_PART):
+        stages.add_argument(f"--{stage}", dest="stage", action="store_const", const=stage)
+    parser.add_argument("--whole", action="store_true")
+    parser.add_argument("program", nargs="?", default=str(TOP / PROGRAM))
+    given = parser.parse_args()
+    stage = given.stage or "all"
+    if given.whole:
+        os.environ["GATE_WHOLE"] = "1"
+    with tempfile.TemporaryDirectory(prefix="gate-") as folder:
+        os.chmod(folder, 0o755)  # some tests run a program as another user
+        gate = Gate(pathlib.Path(folder), pathlib.Path(given.program).absolute(),
+                    given.whole or may_install())
+        signal.signal(signal.SIGTERM, signal.default_int_handler)
+        parts = chosen(gate, stage)
+        try:
+            run_all(gate, stage, parts)
+            if stage != "release":  # whose parts were compared when it was made
+                gate.note(ledger.judge(gate.room, gate.ended, parts))
+        except KeyboardInterrupt:
+            gate.stop()
+            print("it was stopped\n0 passed, 1 failed")
+            return 1
+        return finish(gate)
+
+
+if __name__ == "__main__":
+    sys.exit(main())

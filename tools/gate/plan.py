@@ -1,0 +1,99 @@
+"""The parts of the gate: their names, their commands, and when they run."""
+from __future__ import annotations
+
+from typing import NamedTuple
+
+CHEAP, CHANGED, PROOFS, HOST, LIBRARY, ALONE = "cheap", "changed", "proofs", "host", "library", "alone"
+
+
+class Part(NamedTuple):
+    """A part of the gate. `{program}` in the command stands for the program that is tested.
+
+    The parts of a lane run one after the other, in this order. CHEAP comes first. Then the lanes
+    PROOFS, HOST and LIBRARY run at the same time, and at the end those that must run ALONE. CHANGED
+    proves what has changed, before HOST and LIBRARY, if there is no rt ci. A part waits until the
+    parts `after` have ended. `by` says which options of check.sh run it, besides those that run all of
+    its lane. `names` is a command that prints the names of what it runs, if
+    the sources list them; a part without it may note them when it runs (ledger.py).
+    """
+    lane: str
+    name: str
+    command: str
+    by: str = ""
+    after: tuple[str, ...] = ()
+    names: str = ""
+
+
+LIVE = "lldpa-live"
+PARTS = (
+    Part(CHEAP, "imports of the Python packages", "python3 tools/gate/imports.py"),
+    Part(CHEAP, "names of the ledger", "python3 tools/gate/ledger.py"),
+    Part(CHEAP, "generated files", "python3 tools/write/check.py"),
+    Part(CHEAP, "numbers of docs/TESTING.md", "python3 tools/write/numbers.py --check"),
+    Part(CHEAP, "mutants of docs/TESTING.md", "python3 tools/write/mutants.py --check"),
+    Part(CHEAP, "what is claimed for each program", "python3 tools/gate/artefacts.py --check"),
+    Part(CHEAP, "links of the pages", "python3 tools/gate/check-links.py"),
+    Part(CHEAP, "statements of the pages", "python3 tools/gate/statements.py",
+         names="python3 tools/gate/statements.py --names"),
+    Part(CHEAP, "pictures of the pages", "python3 tools/gate/pictures.py"),
+    Part(CHEAP, "names of tools/named.txt", "python3 tools/gate/check-named.py",
+         names="python3 tools/gate/check-named.py --names"),
+    Part(CHEAP, "definitions that a second statement reaches", "python3 tools/gate/reach.py"),
+    Part(CHEAP, "manual pages and units", "tools/gate/manuals-and-units.sh"),
+    Part(CHEAP, "rights of the service", "python3 tools/gate/unit.py",
+         names="python3 tools/gate/unit.py --names"),
+    Part(CHEAP, "memory and accesses, in the sources", "python3 tools/gate/check-memory.py"),
+    Part(CHEAP, "types of the Python packages", "tools/gate/types.sh"),
+
+    Part(CHANGED, "what changed in the crates", "tools/gate/check-crates.sh", by="crates"),
+
+    Part(PROOFS, "logic of the kit", "tools/gate/kit.sh"),
+    Part(PROOFS, "proofs, mutants and tests (rt ci)", "tools/gate/proofs.sh",
+         names="tools/gate/proofs.sh --names"),
+    Part(PROOFS, "axioms", "python3 tools/gate/artefacts.py --axioms"),
+    # This begins with the proofs that the part before leaves.
+    Part(PROOFS, "wrong bodies", "python3 tools/gate/wrong_bodies.py",
+         names="python3 tools/gate/wrong_bodies.py --names"),
+
+    Part(HOST, LIVE, "tools/gate/check-live.sh", by="host release"),
+    Part(HOST, "rust/people", "tools/gate/check-people.sh", by="host release"),
+    Part(HOST, "completions", "python3 tools/gate/completions.py", by="host release"),
+    Part(HOST, "statements of the pages, by the programs",
+         "python3 tools/gate/statements.py --built {program}", by="host release"),
+    Part(HOST, "tests of the audit", "python3 tools/gate/test-python.py {program} audit",
+         by="audit release", names="python3 tools/gate/test-python.py --names audit"),
+    Part(HOST, "tests of the Python package", "python3 tools/gate/test-python.py {program} python",
+         by="host release", names="python3 tools/gate/test-python.py --names python"),
+
+    Part(LIBRARY, "transcripts, and examples of the pages",
+         "python3 tools/gate/examples.py {program}", by="crates release"),
+    Part(LIBRARY, "arguments and streams", "tools/gate/words.sh {program}", by="crates release"),
+    Part(LIBRARY, "audit of eight ports", "python3 audit/tools/check.py --program {program}",
+         by="audit release", after=(LIVE,)),
+    # The first of these proves the crates of the library; the second uses these proofs.
+    Part(LIBRARY, "arm64, by qemu",
+         "tools/gate/kept.py arm64 python3 tools/library/check-arm64.py", by="library",
+         after=(LIVE,)),
+    Part(LIBRARY, "the library", "tools/gate/kept.py library python3 tools/library/check-library.py",
+         by="library release"),
+    Part(LIBRARY, "the package", "tools/gate/check-package.sh {program}", by="library",
+         after=(LIVE,)),
+    Part(LIBRARY, "a release, where there is no kit", "tools/gate/check-dist.sh", by="library",
+         after=(LIVE,)),
+    Part(LIBRARY, "cut and altered frames, and full tables",
+         "python3 tools/model/check-frames.py {program}", by="crates release"),
+    Part(LIBRARY, "refused memory", "tools/gate/refuse-memory.sh {program}", by="crates release"),
+    Part(LIBRARY, "answers over a connection", "python3 tools/model/check-listen.py {program}",
+         by="crates release"),
+    Part(LIBRARY, "traces of fixed seeds",
+         "python3 tools/model/fuzz.py --program {program} --seed 1 --traces 4000", by="crates release"),
+    Part(LIBRARY, "random traces", "python3 tools/model/fuzz.py --program {program} --seconds 20",
+         by="crates"),
+    Part(LIBRARY, "instructions", "python3 tools/bench/bench_counts.py --program {program}",
+         by="crates library"),
+
+    Part(ALONE, "processor time beside plain C",
+         "python3 tools/bench/bench.py --program {program} --check", by="crates"),
+    Part(ALONE, "tests under load", "python3 tools/gate/test-python.py {program} alone", by="host",
+         names="python3 tools/gate/test-python.py --names alone"),
+)

@@ -1,0 +1,51 @@
+#!/bin/sh
+# Makes a release: lldpa-VERSION.tar.xz, which builds on amd64 and arm64 without the kit.
+#     tools/release/dist.sh [FOLDER]           writes it to FOLDER, by default the current one
+#     tools/release/dist.sh --check ARCHIVE    makes it again, and compares each octet
+# It has the files that git tracks here, as they are now, the proved crates as assembly
+# (tools/release/assembly.sh), and tools/release/release.mk as its Makefile. The same commit and the
+# same kit give the same octets. Needs the kit, git, GNU tar and xz. Prints the name of the archive.
+set -eu
+archive=
+folder=$PWD
+case ${1-} in
+    --check) archive=$(realpath -- "$2") ;;
+    -*) echo "usage: tools/release/dist.sh [FOLDER | --check ARCHIVE]" >&2 && exit 2 ;;
+    ?*) folder=$(realpath -- "$1") ;;
+esac
+[ -d "$folder" ] || { echo "tools/release/dist.sh: there is no folder $folder" >&2 && exit 1; }
+cd "$(dirname "$0")/../.."
+git rev-parse --is-inside-work-tree > /dev/null 2>&1 ||
+    { echo "tools/release/dist.sh: only a clone makes a release, and this is none" >&2 && exit 1; }
+version=$(sed -n 's/^## \([0-9][0-9.]*\)$/\1/p' CHANGELOG.md | head -n 1)
+name=lldpa-$version
+umask 022
+room=$(mktemp -d)
+trap 'rm -rf "$room"' EXIT
+tree=$room/$name
+
+mkdir "$tree"
+git ls-files -z | xargs -0 cp -P --parents -t "$tree"
+cp tools/release/release.mk "$tree/Makefile"
+for made in amd64/lldpa amd64/lldpa_c amd64-v3/lldpa_c arm64/lldpa arm64/lldpa_c; do
+    assembly=$(tools/release/assembly.sh "${made%/*}" "${made#*/}")
+    install -D -m 644 "$assembly" "$tree/assembly/$made.s"
+done
+# Neither who packs nor where and when shows.
+tar -C "$room" --format=ustar --sort=name --owner=0 --group=0 --numeric-owner --mode=u=rwX,go=rX \
+    --mtime="@$(git log -1 --format=%ct)" -cf "$room/made.tar" "$name"
+if [ -z "$archive" ]; then
+    xz -9 -T1 -c "$room/made.tar" > "$room/made.tar.xz"
+    mv "$room/made.tar.xz" "$folder/$name.tar.xz"
+    echo "$folder/$name.tar.xz"
+    exit
+fi
+xz -dc "$archive" > "$room/given.tar"
+if ! cmp "$room/given.tar" "$room/made.tar"; then
+    mkdir "$room/given"
+    tar -C "$room/given" -xf "$room/given.tar"
+    diff -rq "$room/given/$name" "$tree" || true
+    echo "tools/release/dist.sh: $archive is not what this clone and this kit make" >&2
+    exit 1
+fi
+echo "$archive is what this clone and this kit make"
