@@ -35,14 +35,25 @@ def stolen() -> float:
     return int(ticks) / os.sysconf("SC_CLK_TCK")
 
 
+def waited() -> float:
+    """Returns for how many seconds some program has waited for a processor. 0 if the kernel does not
+    count this."""
+    try:
+        some = Path("/proc/pressure/cpu").read_text().split("\n", 1)[0]
+    except OSError:
+        return 0.0
+    return int(some.rpartition("total=")[2]) / 1_000_000
+
+
 class Standstill:
-    """Measures how long the machine stands still: adds the stolen processor time and the time that
-    a thread oversleeps its naps. A nap that takes up to twice its length is normal."""
+    """Measures how long the machine stands still: adds the stolen processor time, the time in which
+    programs wait for a processor, and the time that a thread oversleeps its naps. A nap that takes up
+    to twice its length is normal."""
 
     def __enter__(self) -> Standstill:
         self.is_over = threading.Event()
         self.overslept = 0.0
-        self.stolen_before = stolen()
+        self.before = stolen() + waited()
         self.thread = threading.Thread(target=self.nap, daemon=True)
         self.thread.start()
         return self
@@ -56,7 +67,7 @@ class Standstill:
 
     def seconds(self) -> float:
         """Returns for how long the machine has stood still so far."""
-        return self.overslept + stolen() - self.stolen_before
+        return self.overslept + stolen() + waited() - self.before
 
     def __exit__(self, *_: object) -> None:
         self.is_over.set()

@@ -3,6 +3,7 @@
 import re
 import shlex
 import subprocess
+import time
 from pathlib import Path
 from typing import Optional
 
@@ -20,14 +21,21 @@ class Moments:
         self.live = live
         self.answers: dict[str, list[str]] = {}
         self.count = 0
+        self.slowest = 0.0  # seconds until an answer
+
+    def ask(self, line: str) -> "list[str]":
+        began = time.monotonic()
+        lines = self.live.ask(line)
+        self.slowest = max(self.slowest, time.monotonic() - began)
+        return lines
 
     def take(self) -> None:
         """Marks a moment, and notes the tables. If these change meanwhile, marks another."""
         self.count += 1
         line = f"update{' ' * self.count}"
-        before = self.live.ask("show neighbors")
-        self.live.ask(line)
-        if self.live.ask("show neighbors") == before:
+        before = self.ask("show neighbors")
+        self.ask(line)
+        if self.ask("show neighbors") == before:
             self.answers[line] = before
         else:
             self.take()

@@ -16,7 +16,7 @@ from wires import ip
 
 SPAN, MOMENTS = 20, 10  # seconds, and moments in them
 QUIET = 5  # neighbors of the quiet port
-LATE = 1.0  # seconds, of an answer
+LATE = 1.0  # seconds, of one answer
 MOST, KEEP = 2, 20  # megabytes of a log file, and of all
 LONG = [numbered(number, 600, tlv(5, b"n%d" % number)).ljust(1514, b"\0") for number in range(200)]
 ROUNDS, SETTLED = 40, 10  # rounds of unrest, and after how many of them the growth is measured
@@ -59,7 +59,7 @@ class Quiet(OnLinks):
         live = self.live("--log", str(self.log), "--log-most", str(MOST), "--log-keep", str(KEEP),
                          "eth0", "eth1", "--", "--receive-only", "--max-neighbors", "128")
         sender = Sender(self, self.wires, ["peer0"], LONG)
-        quiet, moments, sent, late = self.peer("peer1"), Moments(live), 0, []
+        quiet, moments, sent = self.peer("peer1"), Moments(live), 0
         for moment in range(MOMENTS):
             for number in range(QUIET):
                 if number != moment % QUIET:
@@ -67,13 +67,12 @@ class Quiet(OnLinks):
                     sent += 1
             began = time.monotonic()
             moments.take()
-            late.append(time.monotonic() - began)
-            time.sleep(max(0.0, SPAN / MOMENTS - late[-1]))
-        figure(self, f"{sender.rate():,.0f} frames a second, answers within {max(late):.3f} s")
+            time.sleep(max(0.0, SPAN / MOMENTS - (time.monotonic() - began)))
+        figure(self, f"{sender.rate():,.0f} frames a second, answers within {moments.slowest:.3f} s")
         self.assertIsNone(sender.process.poll())
         sender.process.kill()
         self.assertEqual(self.lost(live, "eth1", sent), [])
-        self.assertLess(max(late), LATE)
+        self.assertLess(moments.slowest, LATE)
         self.assertEqual(live.number("log-lines-lost"), 0)
         self.assertLessEqual(sum(path.stat().st_size for path in self.log.iterdir()),
                              KEEP * 1_000_000)

@@ -3,10 +3,12 @@
 import contextlib
 import io
 import unittest
+from pathlib import Path
 from typing import Sequence
 from unittest import mock
 
-from patience import TRIES, Standstill, by_the_clock, eventually, mostly, stolen
+from loads import full_load
+from patience import NOTICEABLE, TRIES, Standstill, by_the_clock, eventually, mostly, stolen, waited
 
 
 class Tried(unittest.TestCase):
@@ -62,18 +64,32 @@ class Tried(unittest.TestCase):
 class Measured(unittest.TestCase):
     def test_naps_count_that_take_more_than_twice_their_time(self) -> None:
         standstill = Standstill()
-        standstill.overslept, standstill.stolen_before = 0.0, 5.0
+        standstill.overslept, standstill.before = 0.0, 5.0
         standstill.is_over = mock.Mock(is_set=mock.Mock(side_effect=[False, False, False, True]))
         moments = (0.0, 0.015, 1.0, 1.03, 2.0, 3.01)
         with mock.patch("time.monotonic", side_effect=moments), mock.patch("time.sleep"):
             standstill.nap()
-        with mock.patch("patience.stolen", return_value=5.5):
-            self.assertAlmostEqual(standstill.seconds(), 0.02 + 1.0 + 0.5)
+        with mock.patch("patience.stolen", return_value=4.5), \
+                mock.patch("patience.waited", return_value=1.25):
+            self.assertAlmostEqual(standstill.seconds(), 0.02 + 1.0 + 0.75)
 
     def test_what_is_stolen_only_grows(self) -> None:
         with Standstill() as standstill:
-            self.assertGreaterEqual(stolen(), standstill.stolen_before)
-            self.assertGreaterEqual(standstill.stolen_before, 0)
+            self.assertGreaterEqual(stolen() + waited(), standstill.before)
+            self.assertGreaterEqual(standstill.before, 0)
+
+    def test_programs_that_wait_for_a_processor_count(self) -> None:
+        text = "some avg10=0.67 avg60=1.59 avg300=0.86 total=4221325\nfull avg10=0.00 total=7\n"
+        with mock.patch.object(Path, "read_text", return_value=text):
+            self.assertEqual(waited(), 4.221325)
+        with mock.patch.object(Path, "read_text", side_effect=FileNotFoundError):
+            self.assertEqual(waited(), 0.0)
+
+    def test_a_busy_processor_is_noticed(self) -> None:
+        before = waited()
+        with full_load(1):
+            found = eventually(lambda: waited() - before > NOTICEABLE, 10 if before else 0)
+        self.assertTrue(found or not before)
 
 
 class Mostly(unittest.TestCase):

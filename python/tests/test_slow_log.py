@@ -131,10 +131,9 @@ class Slow(OnLinks):
                 self.holds(live, delay, RATES)
                 if delay == DELAYS[-1]:
                     live.comes_to("live.log=on")
-                    began = time.time()
                     moments = Moments(live)
                     moments.take()
-                    self.assertLess(time.time() - began, 3 * LATE)
+                    self.assertLess(moments.slowest, LATE)
                     for peer in self.peers:
                         silence(peer, 0)  # makes room for the shutdown frames
                     began = time.time()
