@@ -55,8 +55,10 @@ PARTS = (
     Part(PROOFS, "wrong bodies", "python3 tools/gate/wrong_bodies.py",
          names="python3 tools/gate/wrong_bodies.py --names"),
 
-    Part(HOST, LIVE, "tools/gate/check-live.sh", by="host release"),
-    Part(HOST, "rust/people", "tools/gate/check-people.sh", by="host release"),
+    Part(HOST, LIVE, "tools/gate/check-live.sh", by="host release",
+         names="python3 tools/gate/tests_of_rust.py rust/live"),
+    Part(HOST, "rust/people", "tools/gate/check-people.sh", by="host release",
+         names="python3 tools/gate/tests_of_rust.py rust/people"),
     Part(HOST, "completions", "python3 tools/gate/completions.py", by="host release"),
     Part(HOST, "statements of the pages, by the programs",
          "python3 tools/gate/statements.py --built {program}", by="host release"),
