@@ -50,11 +50,13 @@ class Gate:
                                        env=settings_for(self.room, part.name))
             self.running.add(process)
             self.say(f"-- {part.name} begins; its lines so far are in {output}")
-            status = process.wait()
+            _, status, used = os.wait4(process.pid, 0)
+            process.returncode = os.waitstatus_to_exitcode(status)
             self.running.discard(process)
         text = output.read_text(errors="replace")
-        ended = judged(part.name, status, text, self.is_whole)
+        ended = judged(part.name, process.returncode, text, self.is_whole)
         ended.seconds = time.monotonic() - began
+        ended.processor = used.ru_utime + used.ru_stime
         self.note(ended, text)
 
     def say(self, text: str) -> None:
@@ -185,11 +187,13 @@ def run_all(gate: Gate, stage: str, parts: list[Part]) -> None:
 
 
 def finish(gate: Gate) -> int:
-    """Prints the seconds of the parts, what was skipped, and the counts in the last line."""
+    """Prints what the parts took, what was skipped, and the counts in the last line."""
     parts = list(gate.ended.values())
-    print("== seconds of each part")
+    print("== seconds of each part, and those of a processor")
     for one in sorted(parts, key=lambda one: -one.seconds):
-        print(f"{one.seconds:6.0f} s  {one.name}{'' if not one.failed else ': FAILED'}")
+        print(f"{one.seconds:6.0f} s {one.processor:6.0f} s  {one.name}"
+              f"{'' if not one.failed else ': FAILED'}")
+    print(f"{'':9}{sum(one.processor for one in parts):6.0f} s  all of them")
     passed = sum(one.passed for one in parts)
     print(f"kept from an earlier run: {sum(one.passed for one in parts if one.is_kept)} of {passed}")
     print(f"tests that ran again, since the machine stood still: {sum(one.again for one in parts)}")

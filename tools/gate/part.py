@@ -28,6 +28,7 @@ class Ended:
     passed: int = 0
     failed: int = 0
     seconds: float = 0.0
+    processor: float = 0.0  # seconds of processor time, with those of the programs that it runs
     faults: list[str] = dataclasses.field(default_factory=list)
     lacking: dict[str, str] = dataclasses.field(default_factory=dict)  # name, package or feature
     skips: int = 0
