@@ -1,4 +1,4 @@
-use Rattle.std.proofs.Common.{◌≡◌, ◌≤◌, ◌-◌, [], length, take}
+use Rattle.std.proofs.Common.{◌≡◌, ◌≤◌, ◌-◌, [], take}
 use Rattle.std.specs.Prelude.{Ok}
 use Rattle.lldp_program.specs.Trace.Lines.{ended_lines, unfinished}
 use Rattle.lldp_program.specs.Trace.Items.{items_of_lines}
