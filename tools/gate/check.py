@@ -1,7 +1,8 @@
 """Runs the parts of the gate (plan.py) in lanes. tools/gate/check.sh says what the options do.
 
-The output of a part is printed in one piece when it ends. While rt ci works, the program that it has
-linked is tested in a copy of the repository, since rt lets nobody else prove in the same folders.
+The output of a part is printed in one piece when it ends. The program and the library are proved,
+linked and tested in a copy of the repository. rt ci proves all from nothing at the same time, and rt
+lets nobody else prove in its folders. Edits are tried in a third copy, which nobody else changes.
 """
 from __future__ import annotations
 
@@ -20,18 +21,19 @@ from collections.abc import Iterable
 
 import ledger
 from part import FEATURE, PACKAGE, TOP, Ended, judged, settings_for
-from plan import ALONE, CHANGED, CHEAP, HOST, LIBRARY, PARTS, PROOFS, Part
+from plan import ALONE, BUILT, CHANGED, CHEAP, EDITS, HOST, LIBRARY, PARTS, PROOFS, Part
 
 PROGRAM = "crates/lldpa/out/lldpa"
 OF_ONE_PART = "crates library host audit release".split()
 
 
 class Gate:
-    """The parts that run, and how those that ended did. `top` is where the programs are tested."""
+    """The parts that run, and how those that ended did. `tops` has the folder of each lane that does
+    not run in the repository itself."""
 
     def __init__(self, room: pathlib.Path, program: pathlib.Path, is_whole: bool) -> None:
         self.room, self.program, self.is_whole = room, program, is_whole
-        self.top = TOP
+        self.tops: dict[str, pathlib.Path] = {}
         self.ended: dict[str, Ended] = {}
         self.changed = threading.Condition()
         self.running: set[subprocess.Popen[bytes]] = set()
@@ -39,13 +41,13 @@ class Gate:
 
     def run(self, part: Part) -> None:
         """Runs a part, prints what it wrote, and notes how it ended."""
-        top = TOP if part.lane in (CHEAP, CHANGED, PROOFS) else self.top
         words = shlex.split(part.command.format(program=shlex.quote(str(self.program))))
         output = self.room / "output" / part.name.replace("/", "-")
         output.parent.mkdir(exist_ok=True)
         began = time.monotonic()
         with output.open("wb") as file:
-            process = subprocess.Popen(words, cwd=top, stdin=subprocess.DEVNULL, stdout=file,
+            process = subprocess.Popen(words, cwd=self.tops.get(part.lane, TOP),
+                                       stdin=subprocess.DEVNULL, stdout=file,
                                        stderr=subprocess.STDOUT, start_new_session=True,
                                        env=settings_for(self.room, part.name))
             self.running.add(process)
@@ -104,7 +106,7 @@ def chosen(gate: Gate, stage: str) -> list[Part]:
              "all": [CHEAP, HOST, LIBRARY, ALONE]}
     if stage in OF_ONE_PART:
         return [part for part in PARTS if stage in part.by.split()]
-    wanted = lanes[stage] or [CHEAP, PROOFS, HOST, LIBRARY, ALONE]
+    wanted = lanes[stage] or [CHEAP, BUILT, PROOFS, EDITS, HOST, LIBRARY, ALONE]
     return [part for part in PARTS if part.lane in wanted]
 
 
@@ -121,9 +123,8 @@ def answers(program: pathlib.Path) -> bool:
     return asked.returncode == 0
 
 
-def copied(room: pathlib.Path) -> pathlib.Path:
+def copied(top: pathlib.Path, copy: pathlib.Path) -> pathlib.Path:
     """Copies the repository, with what is proved and linked so far, and returns the copy."""
-    copy = room / "beside"
     subprocess.run(["git", "clone", "--quiet", "--shared", TOP, copy], check=True)
     listed = subprocess.run(["git", "ls-files", "-coz", "--exclude-standard"], cwd=TOP, check=True,
                             stdout=subprocess.PIPE, text=True).stdout
@@ -132,41 +133,30 @@ def copied(room: pathlib.Path) -> pathlib.Path:
         if (TOP / name).is_symlink() or (TOP / name).exists():
             (copy / name).parent.mkdir(parents=True, exist_ok=True)
             shutil.copy2(TOP / name, copy / name, follow_symlinks=False)
-    for out in sorted(TOP.glob("crates/*/out")):
-        if out.parent.name not in ("lldpa_c", "lldp_tests"):  # rt ci may still write to these
-            subprocess.run(["cp", "-a", out, copy / out.parent.relative_to(TOP)], check=True)
+    for out in sorted(top.glob("crates/*/out")):
+        subprocess.run(["cp", "-a", out, copy / out.parent.relative_to(top)], check=True)
     return copy
 
 
-def await_program(gate: Gate) -> bool:
-    """Waits until rt ci has linked the program or has ended. Returns whether there is a program."""
-    name = next(part.name for part in PARTS if "proofs.sh" in part.command)
-    while not answers(TOP / PROGRAM):
-        if name in gate.ended or name not in gate.planned:
-            return answers(TOP / PROGRAM)
-        time.sleep(2)
-    return True
-
-
 def prove_and_test(gate: Gate, parts: list[Part]) -> None:
-    """Runs rt ci, and tests the program in a copy once it is linked."""
+    """Proves and links the program, and tests it while rt ci works."""
+    beside = copied(TOP, gate.room / "beside")
+    gate.tops = dict.fromkeys((BUILT, HOST, LIBRARY, ALONE), beside)
+    gate.run_lane(lane_of(parts, BUILT))
+    gate.program = beside / PROGRAM
+    if gate.failed():
+        print("nothing is tested, since the program or the library is not proved")
+        return
+    gate.tops[EDITS] = copied(beside, gate.room / "edits")
     (TOP / PROGRAM).unlink(missing_ok=True)
-    proofs = threading.Thread(target=gate.run_lane, args=[lane_of(parts, PROOFS)], daemon=True)
-    proofs.start()
-    if await_program(gate):
-        gate.top = copied(gate.room)
-        gate.program = gate.top / PROGRAM
-        gate.run_lanes([lane_of(parts, HOST), lane_of(parts, LIBRARY)])
-        proofs.join()
-        gate.run_lane(lane_of(parts, ALONE))
-        same = Ended("the program that was tested", passed=1)
-        if (TOP / PROGRAM).read_bytes() != gate.program.read_bytes():
-            same.passed = 0
-            same.fail("it is not the one that rt ci left")
-        gate.note(same)
-    else:
-        gate.note(Ended("the program", failed=1, faults=["rt ci links none"]))
-        proofs.join()
+    gate.run_lanes([lane_of(parts, PROOFS) + lane_of(parts, EDITS), lane_of(parts, HOST),
+                    lane_of(parts, LIBRARY)])
+    gate.run_lane(lane_of(parts, ALONE))
+    same = Ended("the program that was tested", passed=1)
+    if not answers(TOP / PROGRAM) or (TOP / PROGRAM).read_bytes() != gate.program.read_bytes():
+        same.passed = 0
+        same.fail("it is not the one that rt ci links")
+    gate.note(same)
 
 
 def run_all(gate: Gate, stage: str, parts: list[Part]) -> None:

@@ -12,7 +12,8 @@
 # Needs sh, bash, python3 and a C compiler. What lacks another tool or a feature of the host that
 # tools/gate/install.sh --list names is skipped. With --whole, for releases, a tool that is missing is
 # a failure, and the packages for arm64 are built too; it is also a failure if CI is set and
-# tools/gate/install.sh may install. The last lines are the seconds of each part, and the counts.
+# tools/gate/install.sh may install. The last lines are the seconds of each part, by the
+# clock and of a processor, and the counts.
 set -u
 cd "$(dirname "$0")/../.." || exit 2
 if ! python3 -c 'import sys; sys.exit(sys.version_info < (3, 9))'; then

@@ -3,17 +3,18 @@ from __future__ import annotations
 
 from typing import NamedTuple
 
-CHEAP, CHANGED, PROOFS, HOST, LIBRARY, ALONE = "cheap", "changed", "proofs", "host", "library", "alone"
+CHEAP, CHANGED, BUILT, PROOFS = "cheap", "changed", "built", "proofs"
+EDITS, HOST, LIBRARY, ALONE = "edits", "host", "library", "alone"
 
 
 class Part(NamedTuple):
     """A part of the gate. `{program}` in the command stands for the program that is tested.
 
-    The parts of a lane run one after the other, in this order. CHEAP comes first. Then the lanes
-    PROOFS, HOST and LIBRARY run at the same time, and at the end those that must run ALONE. CHANGED
-    proves what has changed, before HOST and LIBRARY, if there is no rt ci. A part waits until the
-    parts `after` have ended. `by` says which options of check.sh run it, besides those that run all of
-    its lane. `names` is a command that prints the names of what it runs, if
+    The parts of a lane run one after the other, in this order. CHEAP comes first. Then BUILT makes
+    what is tested. PROOFS with EDITS, HOST, and LIBRARY run at the same time, and at the end those that
+    must run ALONE. CHANGED proves what has changed, before HOST and LIBRARY, if there is no rt ci. A
+    part waits until the parts `after` have ended. `by` says which options of check.sh run it, besides
+    those that run all of its lane. `names` is a command that prints the names of what it runs, if
     the sources list them; a part without it may note them when it runs (ledger.py).
     """
     lane: str
@@ -47,12 +48,13 @@ PARTS = (
 
     Part(CHANGED, "what changed in the crates", "tools/gate/check-crates.sh", by="crates"),
 
-    Part(PROOFS, "logic of the kit", "tools/gate/kit.sh"),
+    Part(BUILT, "logic of the kit", "tools/gate/kit.sh"),
+    Part(BUILT, "the program and the library, proved and linked", "tools/gate/program.sh"),
+
     Part(PROOFS, "proofs, mutants and tests (rt ci)", "tools/gate/proofs.sh",
          names="tools/gate/proofs.sh --names"),
     Part(PROOFS, "axioms", "python3 tools/gate/artefacts.py --axioms"),
-    # This begins with the proofs that the part before leaves.
-    Part(PROOFS, "wrong bodies", "python3 tools/gate/wrong_bodies.py",
+    Part(EDITS, "wrong bodies", "python3 tools/gate/wrong_bodies.py",
          names="python3 tools/gate/wrong_bodies.py --names"),
 
     Part(HOST, LIVE, "tools/gate/check-live.sh", by="host release",
@@ -72,7 +74,6 @@ PARTS = (
     Part(LIBRARY, "arguments and streams", "tools/gate/words.sh {program}", by="crates release"),
     Part(LIBRARY, "audit of eight ports", "python3 audit/tools/check.py --program {program}",
          by="audit release", after=(LIVE,)),
-    # The first of these proves the crates of the library; the second uses these proofs.
     Part(LIBRARY, "arm64, by qemu",
          "tools/gate/kept.py arm64 python3 tools/library/check-arm64.py", by="library",
          after=(LIVE,)),
