@@ -97,6 +97,9 @@ check_build() {
     look_at_processor
     began=$(date +%s) used_before=$used
     check "tar" inside tar -xf "$archive"
+    refused "lldpa-ctl runs before make" inside "$tree/bin/lldpa-ctl" --version
+    grep -q "lldpa-ctl is not built: run make in $tree" "$room/out"
+    judge $? "before make lldpa-ctl says: $(cat "$room/out")"
     check "make" inside make -C "$tree"
     check "lldpa-ctl --version" inside "$tree/rust/live/out/lldpa-ctl" --version
     grep -qx "lldpa-ctl $version" "$room/out"
