@@ -18,6 +18,8 @@ from .what import What
 
 NAME = "lldpa-audit"
 PROGRAM = "lldpa"  # the agent that reads captures
+NOBODY_ANSWERS = ("nobody answers at {}: is lldpa-live running? "
+                  "(sudo systemctl start lldpa starts the service)")
 
 
 class Run:
@@ -53,6 +55,8 @@ class Run:
         if given.live and is_now:
             try:
                 gathering.add_live(given.host, given.live, plan, given.wait)
+            except (FileNotFoundError, ConnectionRefusedError):
+                raise ValueError(NOBODY_ANSWERS.format(given.live)) from None
             except OSError as fault:
                 raise ValueError(f"{given.live}: {fault.strerror or fault}") from None
         tables.discard_forgotten()

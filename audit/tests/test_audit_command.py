@@ -2,6 +2,7 @@
 import gzip
 import json
 import os
+import socket
 import subprocess
 import sys
 import threading
@@ -17,6 +18,7 @@ from lldpa_audit.what import What, placed
 from served import REPOSITORY, Served
 
 RIGHT = "1 cable: 1 right, 0 wrong\n"
+STARTS = "is lldpa-live running? (sudo systemctl start lldpa starts the service)"
 
 
 class Audits(InAFolder):
@@ -91,7 +93,9 @@ class Forms(Audits):
 
 class Words(Audits):
     def test_what_is_refused(self) -> None:
-        none = f"{self.folder}/none"
+        none, left = f"{self.folder}/none", f"{self.folder}/left"
+        with socket.socket(socket.AF_UNIX) as ended:
+            ended.bind(left)
         bad = self.file("bad", f"{HEAD}a,1,b\n")
         capture = self.capture("a")
         for words, said in (
@@ -100,8 +104,9 @@ class Words(Audits):
                 (f"swp1={self.folder}", "Is a directory"),
                 ("--wait x swp1=a", "'x' is not a time such as 90, 15m, 12h or 1d"),
                 ("--columns from swp1=a", "'from' is not like host=NAME,port=NAME"),
-                (f"--live={none}", "none: No such file or directory"),
-                ("--live", "lldpa-audit: /run/lldpa/control: "),
+                (f"--live={none}", f"lldpa-audit: nobody answers at {none}: {STARTS}\n"),
+                (f"--live={left}", f"lldpa-audit: nobody answers at {left}: {STARTS}\n"),
+                ("--live", "/run/lldpa/control: "),
                 ("--live=", "the name of a file is missing"),
                 ("--liv", "unrecognized arguments: --liv"),
                 (capture[5:], "it does not name the port of its frames: write PORT="),

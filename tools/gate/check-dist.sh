@@ -97,6 +97,9 @@ check_build() {
     look_at_processor
     began=$(date +%s) used_before=$used
     check "tar" inside tar -xf "$archive"
+    refused "lldpa-ctl runs before make" inside "$tree/bin/lldpa-ctl" --version
+    grep -q "lldpa-ctl is not built: run make in $tree" "$room/out"
+    judge $? "before make lldpa-ctl says: $(cat "$room/out")"
     check "make" inside make -C "$tree"
     check "lldpa-ctl --version" inside "$tree/rust/live/out/lldpa-ctl" --version
     grep -qx "lldpa-ctl $version" "$room/out"
@@ -161,6 +164,18 @@ check_installing() {
     check "DESTDIR is not of the folder where install.sh was called" ls "$place/near/usr/bin/lldpa"
 }
 
+# same_packages WITH WITHOUT: checks that two folders have the same packages, made with and without the
+# kit, and none more.
+same_packages() {
+    names_with=$(cd "$1" && ls ./*.deb)
+    names_without=$(cd "$2" && ls ./*.deb)
+    [ -n "$names_with" ] && [ "$names_with" = "$names_without" ]
+    judge $? "with the kit these packages are made: $names_with; and without it these: $names_without"
+    for package in "$1"/*.deb; do
+        check "${package##*/} is another with the kit" cmp "$package" "$2/${package##*/}"
+    done
+}
+
 # The Debian packages from the source package have the octets of those that are built with the kit.
 check_packages() {
     for needed in dpkg-buildpackage dh dh_python3; do
@@ -179,9 +194,7 @@ check_packages() {
     rm -r "$room/without/lldpa-$version/assembly"
     check "tools/release/package.sh" env "PATH=$system_path" "LLDPA_BUILT=$room/with-kit" \
         "$room/without/lldpa-$version/tools/release/package.sh" "$room/packages"
-    for package in "$room"/packages/*.deb; do
-        check "${package##*/} is another with the kit" cmp "$package" "$debian/${package##*/}"
-    done
+    same_packages "$room/packages" "$debian"
 }
 
 check_archive
