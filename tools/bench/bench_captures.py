@@ -177,8 +177,10 @@ def program_of(tree: str, room: Path) -> str:
         folder = room / "trees" / tree
         folder.mkdir(parents=True, exist_ok=True)
         words = ["git", "-C", str(TOP), "archive", tree, "bin", "audit", "python"]
-        octets = subprocess.run(words, stdout=subprocess.PIPE, check=True).stdout
-        subprocess.run(["tar", "-x", "-C", str(folder)], input=octets, check=True)
+        archive = subprocess.run(words, stdout=subprocess.PIPE, check=False)
+        if archive.returncode:
+            sys.exit(f"{tree} is neither a folder nor a commit")
+        subprocess.run(["tar", "-x", "-C", str(folder)], input=archive.stdout, check=True)
     return str(folder / "bin" / "lldpa-audit")
 
 
