@@ -2,6 +2,7 @@
 source that its name has: a YANG model, or a page of the vendor. All have the neighbors of WANTED.
 """
 import json
+import re
 from typing import Any, Mapping, Sequence, Tuple
 
 import vendors
@@ -54,10 +55,13 @@ def updates(values: Sequence[Tuple[str, Any]], source: str = "leaf1:57400") -> A
 
 
 def by_interface(ports: vendors.Ports, end: str = "") -> Sequence[Tuple[str, Any]]:
+    """Writes an update for each interface. A path has backslashes before each `]` and each
+    backslash of a name (gNMI, Schema path encoding conventions)."""
     found = vendors.openconfig(ports)["openconfig-lldp:interface"]
-    return [(f"openconfig-lldp:lldp/interfaces/interface[name={one['name']}]{end}",
-             {f"openconfig-lldp:{name}": part for name, part in (
-                 one["neighbors"] if end else one).items()}) for one in found]
+    names = [re.sub(r"([]\\])", r"\\\1", one["name"]) for one in found]
+    return [(f"openconfig-lldp:lldp/interfaces/interface[name={name}]{end}",
+             {f"openconfig-lldp:{key}": part for key, part in (
+                 one["neighbors"] if end else one).items()}) for name, one in zip(names, found)]
 
 
 OF_SR_LINUX = {"system": {"lldp": {"interface": srlinux(PORTS)}}}
@@ -91,6 +95,8 @@ OF_SOME_PORTS: Mapping[str, Any] = {
         (f"system/lldp/interface[name={one['name']}]", one) for one in srlinux(PORTS)]),
 }
 OTHER = {"swp9": [("host09", "eth9")]}
+# interfaces whose names have backslashes before some letters in the paths of gnmic
+ESCAPED = {"a]1": [("host01", "eth0")], "a\\2": [("host02", "eth0")], "\\]": [], "]/b": []}
 # files of several hosts, each of which has PORTS and leaf2 OTHER
 MANY: Mapping[str, Any] = {
     "Suzieq, `lldp show --format=json` (suzieq.readthedocs.io, schema lldp)": [
@@ -116,6 +122,8 @@ REFUSED: Sequence[Tuple[Any, str]] = (
     (updates([("a/interface[name=x]/state/name", "x")]),
      f"it is an answer of gnmic, but not to a request for neighbors: {GNMIC}"),
     (updates([*by_interface(PORTS), ("lldp/config", {"enabled": True})]), "not to a request for"),
+    (updates([("a/interface[name=swp1]/b[c=d]", by_interface(PORTS)[0][1])]),
+     "not to a request for"),
     (updates([*by_interface(PORTS), *by_interface(OTHER), *by_interface(PORTS)]),
      "the port 'swp1' is in it twice: as entries 1 and 4"),
     ([{"source": "x", "updates": [{"Path": "a"}]}],

@@ -8,7 +8,7 @@ import lldpd_heard
 import table_forms
 import vendors
 from lldpa_audit.seen.listing import SeenFault
-from table_forms import OTHER, WANTED
+from table_forms import ESCAPED, OTHER, WANTED
 from test_vendors import names_of, read
 from vendors import PORTS
 
@@ -43,6 +43,11 @@ class Tables(unittest.TestCase):
                 found = {host: names_of(one) for host, one in read(tree).hosts.items()}
                 wanted = {"leaf1": WANTED, "leaf2": {port: [*some] for port, some in OTHER.items()}}
                 self.assertEqual(found, wanted)
+
+    def test_escapes_in_names_of_gnmic(self) -> None:
+        for end in ("", "/neighbors"):
+            listing = read(table_forms.updates(table_forms.by_interface(ESCAPED, end)))
+            self.assertEqual(names_of(listing), ESCAPED, end)
 
     def test_refused(self) -> None:
         for tree, why in table_forms.REFUSED:

@@ -17,8 +17,8 @@ import shapes  # noqa: E402
 from fabric import Fabric  # noqa: E402
 
 
-def write(folder, pods, form="show"):
-    """Writes the plan of the pods and a list of each switch. Returns the arguments of an audit."""
+def write(folder, pods, form="show", hosts=("leaf", "spine")):
+    """Writes the plan of the pods and a list of each host whose name begins so. Returns the arguments of an audit."""
     (folder / "seen").mkdir(exist_ok=True)
     with open(folder / "plan.csv", "w") as plan:
         plan.write("host,port,peer,peer_port\n")
@@ -26,7 +26,7 @@ def write(folder, pods, form="show"):
             fabric, front = Fabric(number, 1), f"p{number}-"
             plan.writelines(f"{front}{a},{b},{front}{c},{d}\n" for (a, b), (c, d) in fabric.links)
             for host, ports in fabric.hosts().items():
-                if host.startswith(("leaf", "spine")):
+                if host.startswith(hosts):
                     heard = {port: [(front + name, its) for name, its in some] for port, some in ports.items()}
                     (folder / "seen" / f"{front}{host}").write_text(FORMS[form](heard))
     return [str(folder / "plan.csv"), str(folder / "seen")]

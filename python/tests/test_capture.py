@@ -110,6 +110,9 @@ class Compressed(unittest.TestCase):
         broken = bytearray(packed)
         broken[60] ^= 255
         self.assertRegex(fault_of(bytes(broken)), "its gzip data is damaged|it ")
+        for at, octet in ((10, 0x07), (len(packed) - 5, packed[-5] ^ 255)):
+            wrong = packed[:at] + bytes([octet]) + packed[at + 1:]  # a kind of block, and the sum
+            self.assertEqual(fault_of(wrong), "its gzip data is damaged")
         self.assertEqual(fault_of(gzip.compress(b"")), "it is empty")
         self.assertIn("it is not a capture", fault_of(gzip.compress(b"#!/bin/sh")))
 

@@ -18,6 +18,7 @@ class Refused(unittest.TestCase):
     def test_lines_out_of_place(self) -> None:
         changes = [
             ("lldp.eth0.octets=120", ["lldp.eth0.octets=0120"]),
+            ("lldp.eth0.octets=120", [f"lldp.eth0.octets={10**19}"]),  # the first of 20 digits
             ("lldp.eth0.octets=120", ["lldp.eth1.octets=120"]),
             ("lldp.eth0.too-many=yes", ["lldp.eth0.too-many=maybe"]),
             ("lldp.eth0.1.ttl=120", []),

@@ -16,11 +16,11 @@ SHOWN = ("a", "é", "ß", "Ω", "ж", "א", "ع", "京", "한", "€", "→", "�
 # characters that are never shown: controls, breaks, spaces, marks that change the writing
 # direction, joiners, fillers, selectors, private use and unassigned letters
 NEVER = ("\x00", "\x07", "\x1b", "\x7f", "\x80", "\x9b", "\x85", "\xa0", "\xad", "\u034f", "\u061c",
-         "\u115f", "\u1160", "\u17b4", "\u180e", "\u2000", "\u200b", "\u200c", "\u200d", "\u200e",
-         "\u200f", "\u2028", "\u2029", "\u202a", "\u202b", "\u202c", "\u202d", "\u202e", "\u2060",
-         "\u2066", "\u2067", "\u2068", "\u2069", "\u206f", "\u2800", "\u3000", "\u3164", "\ue000",
-         "\ufe0f", "\ufeff", "\uffa0", "\ufff9", "\uffff", "\U000e0001", "\U000e0041", "\U000e0100",
-         "\U0010ffff")
+         "\u115f", "\u1160", "\u17b4", "\u17b5", "\u180b", "\u180e", "\u180f", "\u2000", "\u200b",
+         "\u200c", "\u200d", "\u200e", "\u200f", "\u2028", "\u2029", "\u202a", "\u202b", "\u202c",
+         "\u202d", "\u202e", "\u2060", "\u2066", "\u2067", "\u2068", "\u2069", "\u206f", "\u2800",
+         "\u3000", "\u3164", "\ue000", "\ufe00", "\ufe0f", "\ufeff", "\uffa0", "\ufff9", "\uffff",
+         "\U000e0001", "\U000e0041", "\U000e0100", "\U000e01ef", "\U0010ffff")
 
 
 class ForPeople(unittest.TestCase):

@@ -1,10 +1,12 @@
 """Measures other programs that read frames and captures, and lldpa's Python programs.
 
-    python3 tools/bench/bench_captures.py [AUDIT ..]
+    python3 tools/bench/bench_captures.py [--times 3] [--all] [TREE ..]
 
-Measures audits of networks of 100,000 and 200,000 links by each AUDIT in turn, a path of lldpa-audit."""
+Measures audits of 100,000 and of 200,000 links by NAPALM's lists of 10,000 switches, and an audit by the
+files of 47,600 hosts. Each source tree is measured in turn: a folder, or a commit of this repository."""
 from __future__ import annotations
 
+import argparse
 import os
 import random
 import re
@@ -15,7 +17,7 @@ import sys
 import tempfile
 import time
 from pathlib import Path
-from typing import Callable, Iterator, Tuple
+from typing import Callable, Iterator, Sequence, Tuple
 
 TOP = Path(__file__).resolve().parents[2]
 sys.path.append(str(TOP / "audit" / "tools"))
@@ -27,6 +29,8 @@ AUDIT = "an audit of 100,000 links from neighbor lists of 2,000 hosts"
 # the forms of the lists of larger networks, and what their audits write
 FORMS = {"show": cabling.show_of, "napalm": vendors.FORMS["napalm"]}
 OUTPUTS = ([], ["--json"], ["--junit"], ["--html"])
+LINKS = (100_000, 200_000)
+PODS = 100  # of 476 hosts each
 SWITCHES = 10_000
 Packets = Iterator[Tuple[bytes, int]]  # each with its time in milliseconds
 PCAP = bytes.fromhex("d4c3b2a1020004000000000000000000ffff000001000000")
@@ -141,22 +145,62 @@ def write_network(room: Path, links: int, form: str) -> list[str]:
     return [str(plan), str(seen)]
 
 
-def audits_of_networks(room: Path, programs: list[str], times: int) -> Iterator[str]:
-    """Audits networks by each program in turn. Yields a line for each network and output, with the
-    least time and the greatest memory of each program."""
-    for links in (100_000, 200_000):
-        for form in FORMS:
-            network = write_network(room, links, form)
-            for output in OUTPUTS:
-                file = [str(room / "file")] if output not in ([], ["--json"]) else []
-                words = [*output, *file, *network]  # an audit that finds faults ends with 1
-                runs = [[spent([sys.executable, program, *words], status=1) for program in programs]
-                        for _ in range(times)]
-                told = [f"{min(ran)[0]:.1f} s and {max(mb for _, mb in ran):.0f} MB" for ran in zip(*runs)]
-                yield f"an audit of {links:,} links, {' '.join([form, *output])}: {', '.join(told)}"
+def write_fabric(room: Path, pods: int) -> list[str]:
+    """Writes the plan of a fabric, and a list of each switch and server, in a folder. Returns the arguments of an
+    audit."""
+    folder = room / "fabric"
+    folder.mkdir()
+    return cabling.write(folder, pods, hosts="")
 
 
-if __name__ == "__main__":  # the paths of lldpa-audit programs, such as one of an earlier version
+def networks(room: Path, sizes: Sequence[int], forms: Sequence[str], pods: int) -> Iterator[tuple[str, list[str]]]:
+    """Yields networks, each as its name and as the arguments of an audit."""
+    for links in sizes:
+        for form in forms:
+            yield f"{links:,} links, {form}", write_network(room, links, form)
+    words = write_fabric(room, pods)
+    yield f"{len(os.listdir(words[-1])):,} files of hosts, show", words
+
+
+def audits(room: Path, words: list[str], output: list[str], programs: list[str], times: int) -> str:
+    """Audits a network by each program in turn. Returns each one's least time and greatest memory."""
+    file = [str(room / "file")] if output not in ([], ["--json"]) else []
+    runs = [[spent([sys.executable, program, *output, *file, *words], status=1) for program in programs]
+            for _ in range(times)]  # an audit that finds faults ends with 1
+    return ", ".join(f"{min(ran)[0]:.2f} s and {max(mb for _, mb in ran):.0f} MB" for ran in zip(*runs))
+
+
+def program_of(tree: str, room: Path) -> str:
+    """Returns the path of lldpa-audit in a source tree, which is a folder or a commit of this repository."""
+    folder = Path(tree)
+    if not folder.is_dir():
+        folder = room / "trees" / tree
+        folder.mkdir(parents=True, exist_ok=True)
+        words = ["git", "-C", str(TOP), "archive", tree, "bin", "audit", "python"]
+        archive = subprocess.run(words, stdout=subprocess.PIPE, check=False)
+        if archive.returncode:
+            sys.exit(f"{tree} is neither a folder nor a commit")
+        subprocess.run(["tar", "-x", "-C", str(folder)], input=archive.stdout, check=True)
+    return str(folder / "bin" / "lldpa-audit")
+
+
+def main() -> None:
+    parser = argparse.ArgumentParser(description="Measures audits of large networks.")
+    parser.add_argument("trees", metavar="TREE", nargs="*", default=[str(TOP)])
+    parser.add_argument("--times", type=int, default=3, help="how many times each audit runs (default: 3)")
+    parser.add_argument("--all", action="store_true", help="also lists of our own form, and each kind of output")
+    parser.add_argument("--links", type=int, nargs="+", default=LINKS, help="how many links (multiples of 5,000)")
+    parser.add_argument("--pods", type=int, default=PODS, help="how many pods the hosts are in (default: 100)")
+    given = parser.parse_args()
+    forms, outputs = (tuple(FORMS), OUTPUTS) if given.all else (("napalm",), OUTPUTS[:1])
     with tempfile.TemporaryDirectory() as folder:
-        for line in audits_of_networks(Path(folder), sys.argv[1:] or [str(TOP / "bin" / "lldpa-audit")], 3):
-            print(line, flush=True)
+        room = Path(folder)
+        programs = [program_of(tree, room) for tree in given.trees]
+        for name, words in networks(room, given.links, forms, given.pods):
+            for output in outputs:
+                told = audits(room, words, output, programs, given.times)
+                print(f"an audit of {' '.join([name, *output])}: {told}", flush=True)
+
+
+if __name__ == "__main__":
+    main()
