@@ -41,6 +41,8 @@ pub struct Server {
     tables: Option<Weak<Tables>>,
     /// How often neighbors have come, changed or left.
     pub changes: u64,
+    /// How many of these clients were told.
+    told: u64,
     /// Those of which clients that watch were not told yet.
     changed: Changed,
 }
@@ -48,7 +50,7 @@ pub struct Server {
 impl Server {
     pub fn new(control: Option<Control>) -> Server {
         let (asked_at, next_look, tables) = (None, Moment::default(), None);
-        Server { control, asked_at, next_look, tables, changes: 0, changed: Changed::default() }
+        Server { control, asked_at, next_look, tables, changes: 0, told: 0, changed: Changed::default() }
     }
 
     /// Counts what happened to a neighbor of a port. Costs nothing more if nobody watches.
@@ -106,11 +108,13 @@ impl Server {
         self.tables = None;
     }
 
-    /// Returns when a client is too slow, or when a question has waited long enough.
+    /// Returns when a client is too slow or must be told something, or when a question has waited long
+    /// enough.
     pub fn deadline(&self, now: Moment) -> Option<Moment> {
         let of_clients = self.control.as_ref().and_then(|control| control.deadline(now));
         let of_question = self.asked_at.map(|asked_at| asked_at + MOST_TO_CATCH_UP);
-        of_clients.into_iter().chain(of_question).min()
+        let of_changes = (self.told != self.changes).then_some(now); // after signals and commands
+        of_clients.into_iter().chain(of_question).chain(of_changes).min()
     }
 }
 
@@ -126,6 +130,7 @@ impl Live {
         if let Some(control) = &mut self.server.control {
             control.tell_changes(self.server.changes, Moment::now());
         }
+        self.server.told = self.server.changes;
         self.serve_watches();
         self.ports.share.leave_out(processor_time().saturating_sub(before));
     }
@@ -250,12 +255,12 @@ impl Live {
     /// Returns the lines that tell a change. None if the neighbor is no longer as it was noted.
     fn lines_of(&self, key: &Key, kind: Kind) -> Option<String> {
         let (port, msap) = (&key.port, key.msap());
-        let mut lines = format!("live.{port}.change={} {}\n", kind.word(), identifiers::id(&msap)).into_bytes();
+        let mut lines =
+            format!("live.{port}.change={} {}\n", kind.word(), identifiers::id(&msap)).into_bytes();
         let number = self.ports.all.iter().position(|one| one.name == *port)?;
         let found = self.ports.all[number].neighbors.iter().enumerate().find(|(_, one)| one.msap() == msap);
         let agent = &self.running.as_ref()?.agent;
-        let is_present =
-            found.map_or(false, |found| put_one(&mut lines, agent, number as u8, port, found));
+        let is_present = found.map_or(false, |found| put_one(&mut lines, agent, number as u8, port, found));
         let is_right = is_present == (kind != Kind::Gone);
         String::from_utf8(lines).ok().filter(|_| is_right)
     }

@@ -188,7 +188,13 @@ impl Control {
     }
 
     /// Lets a client watch ports (all if empty), of which there are these. False if it has no place.
-    pub fn let_watch(&mut self, question: &Question, ports: Vec<String>, all: Vec<String>, now: Moment) -> bool {
+    pub fn let_watch(
+        &mut self,
+        question: &Question,
+        ports: Vec<String>,
+        all: Vec<String>,
+        now: Moment,
+    ) -> bool {
         let has_place = self.take_place(question);
         if has_place {
             let client = &mut self.clients[question.client];

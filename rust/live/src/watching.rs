@@ -286,3 +286,130 @@ impl Watch {
         counted(&format!("live.lost={}\n", std::mem::take(&mut self.lost)), 0).into_bytes()
     }
 }
+
+#[cfg(test)]
+mod tests {
+    use super::*;
+
+    fn at(milliseconds: u64) -> Moment {
+        Moment::after_boot(Duration::from_millis(100_000 + milliseconds))
+    }
+
+    fn names(text: &str) -> Vec<String> {
+        text.split_whitespace().map(String::from).collect()
+    }
+
+    /// Returns what a client is sent at a moment, in short: names of ports, and lines.
+    fn sent(watch: &mut Watch, told: &Told, now: Moment) -> Vec<String> {
+        let next = || watch.take(told, now);
+        let text = |next| match next {
+            Next::Table(port) => port,
+            Next::Text(text) => String::from_utf8(text).expect("ASCII"),
+        };
+        std::iter::from_fn(next).map(text).collect()
+    }
+
+    fn tell(told: &mut Told, watch: &mut Watch, port: &str, text: &str, now: Moment) {
+        told.add(port, text.into(), [watch].into_iter(), now);
+    }
+
+    #[test]
+    fn changes_of_one_turn_are_one() {
+        let msap = Msap { chassis: b"\x07a", port: b"\x07b" };
+        for (kinds, wanted) in [
+            (&[Kind::Came][..], Some(Kind::Came)),
+            (&[Kind::Came, Kind::Changed], Some(Kind::Came)),
+            (&[Kind::Came, Kind::Gone], None),
+            (&[Kind::Came, Kind::Gone, Kind::Came], Some(Kind::Came)),
+            (&[Kind::Changed, Kind::Changed], Some(Kind::Changed)),
+            (&[Kind::Changed, Kind::Gone], Some(Kind::Gone)),
+            (&[Kind::Gone, Kind::Came], Some(Kind::Changed)),
+            (&[Kind::Gone, Kind::Came, Kind::Gone], Some(Kind::Gone)),
+        ] {
+            let mut changed = Changed::default();
+            kinds.iter().for_each(|kind| changed.note("eth0", &msap, *kind));
+            let (neighbors, further) = changed.take();
+            let found: Vec<Kind> = neighbors.map(|(_, kind)| kind).collect();
+            assert_eq!(found, Vec::from_iter(wanted), "{kinds:?}");
+            assert!(further.is_empty());
+        }
+    }
+
+    #[test]
+    fn not_all_changes_of_a_turn_are_kept() {
+        let mut changed = Changed::default();
+        for number in 0..MOST_CHANGED as u16 + 7 {
+            let msap = Msap { chassis: &number.to_be_bytes(), port: b"\x07b" };
+            changed.note("eth0", &msap, Kind::Gone);
+            changed.note("eth0", &msap, Kind::Came);
+        }
+        let (neighbors, further) = changed.take();
+        assert_eq!(neighbors.count(), MOST_CHANGED);
+        assert_eq!(further, BTreeMap::from([("eth0".to_string(), 14)]));
+        assert_eq!(changed.take().0.count(), 0);
+    }
+
+    #[test]
+    fn tables_come_first_and_changes_after_them() {
+        let (mut told, all) = (Told::default(), names("eth1 eth0"));
+        let mut watch = Watch::new(Vec::new(), all, &told, at(0));
+        assert_eq!(watch.take(&told, at(0)), Some(Next::Table("eth0".into())));
+        tell(&mut told, &mut watch, "eth1", "in the table;", at(0));
+        tell(&mut told, &mut watch, "eth0", "later;", at(0));
+        assert_eq!(sent(&mut watch, &told, at(0)), ["eth1", "=1\nlive.lost=0\n", "later;"]);
+        assert_eq!((watch.due(&told), watch.next), (None, told.end()));
+        tell(&mut told, &mut watch, "eth1", "one;", at(0));
+        tell(&mut told, &mut watch, "eth2", "two;", at(0));
+        assert_eq!(watch.due(&told), Some(Moment::default()));
+        assert_eq!(sent(&mut watch, &told, at(0)), ["one;two;"]);
+        told.forget(watch.next);
+        assert_eq!((told.memory(), told.messages.len()), (0, 0));
+    }
+
+    #[test]
+    fn only_changes_of_its_ports_are_sent() {
+        let mut told = Told::default();
+        let mut watch = Watch::new(names("eth1"), names("eth0 eth1"), &told, at(0));
+        assert_eq!(sent(&mut watch, &told, at(0)), ["eth1", "=1\nlive.lost=0\n"]);
+        ["eth0", "eth1"].iter().for_each(|port| tell(&mut told, &mut watch, port, port, at(0)));
+        watch.lose("eth0", 9, at(0));
+        assert!(watch.is_told("eth1") && !watch.is_told("eth0"));
+        assert_eq!(sent(&mut watch, &told, at(0)), ["eth1"]);
+        assert_eq!(watch.due(&told), None);
+    }
+
+    #[test]
+    fn tables_stand_for_changes_that_are_lost() {
+        let mut told = Told::default();
+        let mut watch = Watch::new(Vec::new(), names("eth0 eth1"), &told, at(0));
+        sent(&mut watch, &told, at(0));
+        let large = "x".repeat(MOST_TOLD / 4);
+        (0..5).for_each(|_| tell(&mut told, &mut watch, "eth1", &large, at(10)));
+        assert_eq!(told.messages.len(), 4, "{}", told.memory());
+        assert_eq!(watch.due(&told), Some(at(0) + BETWEEN_TABLES), "a pause follows the first tables");
+        assert!(sent(&mut watch, &told, at(499)).is_empty());
+        tell(&mut told, &mut watch, "eth0", "of another port;", at(499));
+        assert_eq!(sent(&mut watch, &told, at(499)), ["of another port;"]);
+        tell(&mut told, &mut watch, "eth1", "in the table;", at(499));
+        assert_eq!(sent(&mut watch, &told, at(500)), ["eth1", "=1\nlive.lost=1\n"]);
+        tell(&mut told, &mut watch, "eth1", "later;", at(500));
+        assert_eq!(sent(&mut watch, &told, at(500)), ["later;"]);
+    }
+
+    #[test]
+    fn a_client_that_never_has_all_gets_all_tables_before_one_again() {
+        let mut told = Told::default();
+        let mut watch = Watch::new(Vec::new(), names("eth0 eth1 eth2"), &told, at(0));
+        for (now, wanted) in [(0, "eth0"), (400, "eth1"), (800, "eth2")] {
+            assert_eq!(watch.take(&told, at(now)), Some(Next::Table(wanted.into())));
+            watch.lose("eth0", 1, at(now));
+        }
+        assert_eq!(sent(&mut watch, &told, at(900)), ["=1\nlive.lost=3\n"]);
+        assert_eq!(watch.due(&told), Some(at(1800)), "a pause as long as the tables took");
+        watch.lose("eth0", 2, at(1000));
+        tell(&mut told, &mut watch, "eth1", "one;", at(1000));
+        assert_eq!(sent(&mut watch, &told, at(1000)), ["one;"]);
+        assert_eq!(sent(&mut watch, &told, at(1800)), ["eth0", "=1\nlive.lost=2\n"]);
+        assert_eq!(watch.due(&told), None);
+    }
+}

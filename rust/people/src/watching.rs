@@ -38,7 +38,8 @@ fn read(answer: &Answer) -> Done<(Message<'_>, Since)> {
     let mut since = Since::default();
     told.iter().try_for_each(|line| since.add(line)).map_err(not_an_answer)?;
     let first = told.first().and_then(|line| line.strip_prefix("live.")?.split_once('='));
-    let change = first.and_then(|(front, value)| Some((front.strip_suffix(".change")?, value.split_once(' ')?)));
+    let change =
+        first.and_then(|(front, value)| Some((front.strip_suffix(".change")?, value.split_once(' ')?)));
     let message = match (first, change) {
         (Some(("lost", _)), _) => Message::Complete,
         (_, Some((port, ("gone", id)))) => Message::Gone(port, id),
@@ -53,7 +54,9 @@ fn table_in(lines: Vec<&str>) -> Done<Port<'_>> {
     let mut show = Show::read(lines).map_err(not_an_answer)?;
     match (show.ports.pop(), show.ports.len()) {
         (Some(port), 0) => Ok(port),
-        (_, rest) => Err(not_an_answer(format!("{} tables in one answer", if rest > 0 { "several" } else { "no" }))),
+        (_, rest) => {
+            Err(not_an_answer(format!("{} tables in one answer", if rest > 0 { "several" } else { "no" })))
+        }
     }
 }
 
@@ -121,7 +124,11 @@ impl Client<'_> {
             let answer = connection.next_message(|connection| {
                 let is_read = self.host.wait(connection.stream())?;
                 connection.renew();
-                if is_read { Ok(()) } else { Err(Failure::Output(None)) }
+                if is_read {
+                    Ok(())
+                } else {
+                    Err(Failure::Output(None))
+                }
             })?;
             let (message, since) = read(&answer)?;
             let news = watching.take(&message)?;
