@@ -149,21 +149,23 @@ class WatchStream(OnLinks):
         self.addCleanup(child.wait)
         self.addCleanup(child.kill)
         self.assertTrue(eventually(lambda: "no neighbors" in quick.read_text()))
-        self.sends_many(live, peer)
+        self.sends(live, peer, range(OF_PORT))
+        self.assertTrue(eventually(lambda: quick.read_text().count(" eth0 came: ") == OF_PORT))
+        self.sends(live, peer, range(OF_PORT, MANY))
         self.assertTrue(eventually(lambda: peer.send(numbered(3, 0)) or live.neighbors() == OF_PORT - 1))
         self.ends_right(slow, live)
         self.assertGreater(slow.lost, 0)
         self.assertTrue(eventually(lambda: " eth0 gone: " in quick.read_text()))
-        told = quick.read_text().splitlines()
-        self.assertEqual(sum(" eth0 came: " in line for line in told), OF_PORT)
-        self.assertGreater(sum(" eth0 changed: " in line for line in told), OF_PORT)
+        text = quick.read_text()
+        self.assertEqual(text.count(" eth0 came: "), OF_PORT)
+        self.assertGreaterEqual(text.count(" eth0 changed: "), OF_PORT - 1)
 
     def with_room(self) -> Live:
         return self.live("eth0", "--", "--receive-only", "--max-neighbors", "128")
 
-    def sends_many(self, live: Live, peer: Peer) -> None:
+    def sends(self, live: Live, peer: Peer, steps: range) -> None:
         """Sends changes in parts that all arrive."""
-        for step in range(MANY):
+        for step in steps:
             peer.send(large(step % OF_PORT, step))
             if step % 100 == 99:
                 line = f"lldp.eth0.{step % OF_PORT + 1}.unknown.9={step % 256:02x}"
@@ -174,7 +176,7 @@ class WatchStream(OnLinks):
         before = live.resident()
         watches = [self.watched(live) for _ in range(MOST_WATCHING)]
         self.assertTrue(eventually(lambda: live.ask_refused("watch")))
-        self.sends_many(live, peer)
+        self.sends(live, peer, range(MANY))
         live.spend(11)  # those who ask and do not read are disconnected after 10 seconds
         self.assertLess(live.resident() - before, 16_000)
         for watch in watches[:2]:

@@ -21,8 +21,8 @@ use std::time::Duration;
 
 /// The longest time in which clients are answered before other work continues.
 const MOST_AT_ONCE: Duration = Duration::from_millis(50);
-/// The longest time in which the lines of changes are made in a turn. Tables stand for the others.
-const LONGEST_MAKING: Duration = Duration::from_millis(10);
+/// The processor time in which the lines of changes are made in a turn. Tables stand for the others.
+const LONGEST_MAKING: Duration = Duration::from_millis(20);
 /// The longest time in which frames that arrived before a question are read before its answer.
 const MOST_TO_CATCH_UP: Duration = Duration::from_millis(250);
 /// The time between checks of the host's name and the socket: some systems report no changes.
@@ -235,9 +235,9 @@ impl Live {
             None => return,
         };
         let (changed, further) = self.server.changed.take();
-        let begin = Moment::now();
+        let (begin, last) = (Moment::now(), processor_time() + LONGEST_MAKING);
         for (key, kind) in changed {
-            let is_told = control.is_told(&key.port) && Moment::now().since(begin) < LONGEST_MAKING;
+            let is_told = control.is_told(&key.port) && processor_time() < last;
             match if is_told { self.lines_of(&key, kind) } else { None } {
                 Some(lines) => control.tell(&key.port, &lines, begin),
                 None => control.lose(&key.port, 1, begin),
