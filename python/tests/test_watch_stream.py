@@ -152,7 +152,8 @@ class WatchStream(OnLinks):
         self.sends(live, peer, range(OF_PORT))
         self.assertTrue(eventually(lambda: quick.read_text().count(" eth0 came: ") == OF_PORT))
         self.sends(live, peer, range(OF_PORT, MANY))
-        self.assertTrue(eventually(lambda: peer.send(numbered(3, 0)) or live.neighbors() == OF_PORT - 1))
+        is_gone = lambda: peer.send(numbered(3, 0)) or live.neighbors() == OF_PORT - 1
+        self.assertTrue(eventually(is_gone))
         self.ends_right(slow, live)
         self.assertGreater(slow.lost, 0)
         self.assertTrue(eventually(lambda: " eth0 gone: " in quick.read_text()))
