@@ -4,7 +4,6 @@ import json
 import os
 import pty
 import subprocess
-import time
 import unittest
 
 from patience import SECONDS, eventually
