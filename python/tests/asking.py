@@ -38,6 +38,10 @@ class Client:
         self.connection.settimeout(self.seconds)
         with suppress(BrokenPipeError, ConnectionResetError):  # an answer may say why
             self.connection.sendall(checked(line) + b"\n")
+        return self.answer()
+
+    def answer(self) -> List[str]:
+        """Returns the lines of the next answer. Raises Refused if it is a refusal."""
         head = self.line()
         if not (head.startswith("=") and head[1:].isdecimal()):
             raise Gone(f"not an answer of lldpa-live: {head!r}")

@@ -56,6 +56,11 @@ def frame(chassis: bytes, port: bytes, ttl: int, *further: bytes) -> bytes:
     return head + pdu + tlv(0, b"")
 
 
+def counted(lines: Sequence[bytes]) -> bytes:
+    """Returns lines of an answer, with their number before them."""
+    return b"".join(one + b"\n" for one in [b"=%d" % len(lines), *lines])
+
+
 def numbered(number: int, ttl: int = 120, *further: bytes) -> bytes:
     """Returns a frame of the neighbor with this number."""
     return frame(b"\x04\x02\0\0\0\0" + bytes([number]), b"\x05p%d" % number, ttl, *further)
@@ -72,10 +77,11 @@ class Served:
         self.asked: list[bytes] = []
         self.hidden: set[bytes] = set()  # questions whose answers are empty
         self.refused = ""  # the reason for which all but shows are refused
-        self.counts = False  # whether it answers `changes`
         self.changed = threading.Condition()
         self.changes = 0
+        self.watched = 0  # how often a client that watches was sent all tables
         self.live_lines = LIVE_LINES
+        self.ports = [port.encode() for port in ports]
         self.agent = Agent.start(ports, PROGRAM, receive_only=True, **options)
         self.asking = threading.Lock()
         self.start()
@@ -99,7 +105,22 @@ class Served:
         with suppress(OSError, Ended), client, client.makefile("rb") as lines:
             for line in lines:
                 answer = self.answer(line.rstrip(b"\n"))
-                client.sendall(b"".join(one + b"\n" for one in [b"=%d" % len(answer), *answer]))
+                if line.startswith(b"watch") and not answer:
+                    self.watch(client, line.split()[1:])
+                client.sendall(counted(answer))
+
+    def watch(self, client: socket.socket, ports: "list[bytes]") -> None:
+        """Sends the tables of ports at each change, as lldpa-live does if a client is too slow."""
+        known = -1
+        while True:
+            with self.changed:
+                self.changed.wait_for(lambda: known != self.changes)
+                known = self.changes
+            lines = [line.encode() for line in self.ask(b"show neighbors")]
+            for port in ports or self.ports:
+                client.sendall(counted([line for line in lines if line.split(b".")[1] == port]))
+            client.sendall(counted([b"live.lost=0"]))
+            self.watched += 1
 
     def answer(self, line: bytes) -> list[bytes]:
         """Answers a line as lldpa-live does."""
@@ -110,15 +131,13 @@ class Served:
             return [b"error: for lldpa-live alone"]
         if self.refused and not line.startswith(b"show"):
             return [b"error: " + self.refused.encode()]
-        if self.counts and line.startswith(b"changes"):
-            with self.changed:
-                self.changed.wait_for(lambda: line != b"changes %d" % self.changes)
-                return [b"live.changes=%d" % self.changes]
-        if self.waits and line.startswith(b"show"):
+        if self.waits and line.startswith((b"show", b"watch")):
             self.live_lines = [*LIVE_LINES, b"live.agent=waiting"]
             return [b"error: waiting for an interface: eth0"]
         if line == b"live":
             return self.live_lines
+        if line.startswith(b"watch"):
+            return []
         try:
             return [text.encode() for text in self.ask(line)]
         except Refused as refused:
@@ -131,13 +150,17 @@ class Served:
     def frame(self, port: str, octets: bytes) -> None:
         with self.asking:
             self.agent.frame(port, octets)
-        with self.changed:
-            self.changes += 1
-            self.changed.notify_all()
+        self.change()
 
     def tick(self, seconds: int) -> None:
         with self.asking:
             self.agent.tick(seconds)
+        self.change()
+
+    def change(self) -> None:
+        with self.changed:
+            self.changes += 1
+            self.changed.notify_all()
 
     def client(self) -> Client:
         return Client(self.path)

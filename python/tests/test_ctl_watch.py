@@ -24,8 +24,9 @@ class Watching(Program):
     def watch(self, *words: str, ports: Sequence[str] = ()) -> subprocess.Popen[str]:
         """Starts `lldpa-ctl watch`, and waits until it watches.
 
-        That is when it has printed the table or, with --json, when it waits for changes.
+        That is when it has printed the table or, with --json, when it was sent the tables.
         """
+        watched = self.served.watched
         named = [port for port in ports if port in PORTS]
         table = "" if words else self.run_ctl("neighbors", *named)
         words = (CTL, "--control", self.served.path, *words, "watch", *ports)
@@ -36,8 +37,7 @@ class Watching(Program):
         self.addCleanup(child.kill)
         assert child.stdout is not None
         self.assertEqual("".join(child.stdout.readline() for _ in table.splitlines()), table)
-        while not table and b"changes" not in self.served.asked:
-            time.sleep(0.01)
+        self.assertTrue(eventually(lambda: self.served.watched > watched))
         return child
 
     def line(self, child: subprocess.Popen[str]) -> str:
@@ -82,14 +82,10 @@ class Watching(Program):
         self.assertEqual((told["what"], told["changes"]), ("came", []))
         self.assertEqual(told["neighbor"]["id"], "mac=02:00:00:00:00:02 ifname=p2")
 
-    def test_it_goes_on_after_a_silence(self) -> None:
-        child = self.watch()
+    def test_while_the_agent_waits_for_an_interface(self) -> None:
         self.served.waits = True
-        self.served.asked.clear()
-        self.assertTrue(eventually(lambda: self.served.asked.count(b"show neighbors") > 1))
-        self.served.waits = False
-        self.served.frame("eth0", numbered(2))
-        self.assertRegex(self.line(child), r" eth0 came: [ -~]* p2\n$")
+        for front in ([], ["--json"]):
+            self.run_ctl(*front, "watch", status=1, said="waiting for an interface: eth0")
 
     def test_a_limit(self) -> None:
         for front, ports in (([], ["limit", "2"]), ([], ["ports", "eth0", "lim", "2"]),
@@ -102,7 +98,6 @@ class Watching(Program):
                 self.assertRegex(lines[-1], f" eth0 came: [ -~]* p{number}$"
                                             f'|"came".* ifname=p{number}"')
             self.assertEqual((child.wait(SECONDS), child.communicate()), (0, ("", "")))
-            self.served.asked.clear()
             self.served.tick(120)
         for words, said in ((["limit"], "a word is missing after limit"),
                             (["limit", "0"], "not a number from 1 to 999999999: 0"),
@@ -111,15 +106,14 @@ class Watching(Program):
                 self.run_ctl(*front, "watch", *words, status=1, said=said)
 
     def test_it_ends_with_its_reader(self) -> None:
-        self.served.counts = True
         for words in ([CTL, "--control", self.served.path, "watch"],
                       [CTL, "--control", self.served.path, "--json", "watch"],
                       [LLDPCTL, "-u", self.served.path, "watch"]):
-            self.served.asked.clear()
+            watched = self.served.watched
             child = subprocess.Popen(words, stdout=subprocess.PIPE, stderr=subprocess.PIPE)
             self.addCleanup(child.communicate)
             self.addCleanup(child.kill)
-            self.assertTrue(eventually(lambda: b"changes" in self.served.asked))
+            self.assertTrue(eventually(lambda: self.served.watched > watched))
             assert child.stdout is not None
             child.stdout.close()
             self.assertEqual((child.wait(SECONDS), child.stderr and child.stderr.read()), (1, b""))
@@ -128,7 +122,6 @@ class Watching(Program):
         child = self.watch()
         child.send_signal(signal.SIGINT)
         self.assertEqual((child.communicate(), child.returncode), (("", ""), 130))
-        self.served.asked.clear()
         child = self.watch()
         self.served.stop()
         said = child.communicate(timeout=SECONDS)

@@ -20,6 +20,7 @@ MOST_SECONDS = 30.0
 FOR_A_LOADED_MACHINE = 10.0  # seconds more
 NUMBERS = {b"tx-interval": 30, b"tx-hold": 4, b"ttl": 121, b"reinit-delay": 2, b"tx-fast-init": 4,
            b"tx-credit-max": 5, b"max-neighbors": 128, b"ports": 64}
+OF_PORT = 129  # pieces of its table: the beginning, and each neighbor
 PORTS = [b"interface-%05d" % number for number in range(64)]
 Answers = Dict[bytes, List[bytes]]
 ASK, CLI = f"{CTL} --control PATH", f"{LLDPCTL} -u PATH"
@@ -81,7 +82,8 @@ def live() -> Iterator[bytes]:
 
 def of_agent(shown: Iterable[bytes]) -> Answers:
     """Returns the answers of an agent with these neighbors."""
-    return {b"show neighbors": list(shown), b"live": list(live()), b"show chassis": chassis(),
+    shown = list(shown)
+    return {b"show neighbors": shown, b"watch": shown, b"live": list(live()), b"show chassis": chassis(),
             b"show configuration": settings(), b"show statistics": list(statistics())}
 
 
@@ -102,9 +104,12 @@ class Evil(FilesCase):
             connection, _ = listening.accept()
             with connection, suppress(OSError), connection.makefile("rb") as lines:
                 for line in lines:
-                    for piece in answer(answers.get(line.strip(), answers.get(b"", []))):
-                        connection.sendall(piece)
-                        time.sleep(pause)
+                    pieces = answers.get(line.strip(), answers.get(b"", []))
+                    size = OF_PORT if line.startswith(b"watch") else len(pieces) or 1
+                    for begin in range(0, len(pieces) or 1, size):
+                        for piece in answer(pieces[begin:begin + size]):
+                            connection.sendall(piece)
+                            time.sleep(pause)
         threading.Thread(target=serve, daemon=True).start()
         return path
 

@@ -4,7 +4,6 @@ import json
 import os
 import pty
 import subprocess
-import time
 import unittest
 
 from patience import SECONDS, eventually
@@ -108,16 +107,13 @@ class Handed(Program):
             "tx-delay=20", "tx-delay-ms=20000", "tx-hold=3", "max-neighbors=32", "rx-only=yes"])
 
     def test_watch(self) -> None:
-        self.served.counts = True
         self.served.frame("eth0", numbered(3))
         words = [LLDPCLI, "-u", self.served.path, "-f", "keyvalue", "watch", "limit", "3", "ports",
                  "eth1"]
         with subprocess.Popen(words, stdout=subprocess.PIPE, text=True) as watch:
             assert watch.stdout is not None
-            self.assertTrue(eventually(lambda: b"changes 2" in self.served.asked))
-            asked = self.served.asked.count(b"show neighbors")
-            time.sleep(1.2)
-            self.assertEqual(self.served.asked.count(b"show neighbors"), asked)
+            self.assertTrue(eventually(lambda: self.served.watched > 0))
+            self.assertEqual(self.served.asked[-1], b"watch eth1")
             self.served.frame("eth0", numbered(3, 0))
             for name, ttl in (b"new", 120), (b"other", 120), (b"other", 0):
                 self.served.frame("eth1", numbered(8, ttl, tlv(5, name)))

@@ -80,14 +80,13 @@ class Waiting(OnLinks):
         places = [self.asking(live.control, "changes 0") for _ in range(MOST_WATCHING)]
         self.assertTrue(eventually(lambda: self.is_refused(live.control, 0)))
         asks = [CTL, "--control", live.control]
-        programs = (("lldpa-ctl", [*asks, "watch"], "no neighbors on 1 port.\n"),
-                    ("lldpa-ctl", [*asks, "--json", "watch"], ""),
-                    ("lldpctl", [LLDPCTL, "-u", live.control, "watch"], ""))
-        for name, words, shown in programs:
+        programs = (("lldpa-ctl", [*asks, "watch"]), ("lldpa-ctl", [*asks, "--json", "watch"]),
+                    ("lldpctl", [LLDPCTL, "-u", live.control, "watch"]))
+        for name, words in programs:
             ran = subprocess.run(words, capture_output=True, text=True, check=False,
                                  timeout=SECONDS)
             self.assertEqual((ran.returncode, ran.stdout, ran.stderr),
-                             (1, shown, f"{name}: {NO_PLACE}\n"))
+                             (1, "", f"{name}: {NO_PLACE}\n"))
         places.pop().close()
         watch = subprocess.Popen([CTL, "--control", live.control, "watch"], stdout=subprocess.PIPE)
         self.addCleanup(watch.communicate)

@@ -1,24 +1,28 @@
 //! Answers clients' questions.
 
 use crate::agent::Running;
-use crate::client::Answer;
+use crate::client::{Answer, LONGEST_SENDING};
 use crate::control::{Control, Question};
 use crate::counters::Totals;
+use crate::identifiers;
 use crate::live::{Live, Turn};
 use crate::port::Port;
 use crate::queries::{LineFault, Query};
 use crate::reports::{notice, warn};
 use crate::rights::text_of;
 use crate::status::Status;
-use crate::tables::{Lines, Tables, Writer};
+use crate::tables::{put_one, Lines, Tables, Writer};
 use crate::time::{processor_time, Moment, INEXACT};
-use lldpa::Show;
+use crate::watching::{Changed, Key, Kind};
+use lldpa::{Msap, Show};
 use lldpa_people::connection::NO_PLACE;
 use std::sync::{Arc, Weak};
 use std::time::Duration;
 
 /// The longest time in which clients are answered before other work continues.
 const MOST_AT_ONCE: Duration = Duration::from_millis(50);
+/// The processor time in which the lines of changes are made in a turn. Tables stand for the others.
+const LONGEST_MAKING: Duration = Duration::from_millis(20);
 /// The longest time in which frames that arrived before a question are read before its answer.
 const MOST_TO_CATCH_UP: Duration = Duration::from_millis(250);
 /// The time between checks of the host's name and the socket: some systems report no changes.
@@ -37,11 +41,31 @@ pub struct Server {
     tables: Option<Weak<Tables>>,
     /// How often neighbors have come, changed or left.
     pub changes: u64,
+    /// How many of these clients were told.
+    told: u64,
+    /// Those of which clients that watch were not told yet.
+    changed: Changed,
 }
 
 impl Server {
     pub fn new(control: Option<Control>) -> Server {
-        Server { control, asked_at: None, next_look: Moment::default(), tables: None, changes: 0 }
+        let (asked_at, next_look, tables) = (None, Moment::default(), None);
+        Server { control, asked_at, next_look, tables, changes: 0, told: 0, changed: Changed::default() }
+    }
+
+    /// Counts what happened to a neighbor of a port. Costs nothing more if nobody watches.
+    pub fn note(&mut self, port: &str, msap: &Msap<'_>, kind: Kind) {
+        self.changes += 1;
+        if self.control.as_ref().map_or(false, Control::is_watched) {
+            self.changed.note(port, msap, kind);
+        }
+    }
+
+    /// Lets clients that watch be sent the table of a port that is removed with so many neighbors.
+    pub fn note_removed(&mut self, port: &str, neighbors: usize) {
+        let count = neighbors as u64;
+        self.changes += count;
+        self.control.iter_mut().for_each(|control| control.lose(port, count, Moment::now()));
     }
 
     /// True if a question waits for the frames that arrived before it.
@@ -61,9 +85,20 @@ impl Server {
 
     /// Lets a client wait for the next change of a neighbor, unless many watch.
     fn let_wait(&mut self, question: &Question) {
-        let is_waiting =
-            self.control.as_mut().map_or(false, |control| control.let_wait(question, self.changes));
-        if !is_waiting {
+        let changes = self.changes;
+        let is_waiting = self.control.as_mut().map_or(false, |control| control.let_wait(question, changes));
+        self.refuse_unless(is_waiting, question);
+    }
+
+    /// Lets a client watch these ports (all if empty), unless many watch.
+    fn let_watch(&mut self, question: &Question, ports: Vec<String>, all: Vec<String>) {
+        let let_in = |control: &mut Control| control.let_watch(question, ports, all, Moment::now());
+        let is_watching = self.control.as_mut().map_or(false, let_in);
+        self.refuse_unless(is_watching, question);
+    }
+
+    fn refuse_unless(&mut self, has_place: bool, question: &Question) {
+        if !has_place {
             self.reply(question, Answer::of(&format!("error: {NO_PLACE}\n")));
         }
     }
@@ -73,11 +108,13 @@ impl Server {
         self.tables = None;
     }
 
-    /// Returns when a client is too slow, or when a question has waited long enough.
+    /// Returns when a client is too slow or must be told something, or when a question has waited long
+    /// enough.
     pub fn deadline(&self, now: Moment) -> Option<Moment> {
         let of_clients = self.control.as_ref().and_then(|control| control.deadline(now));
         let of_question = self.asked_at.map(|asked_at| asked_at + MOST_TO_CATCH_UP);
-        of_clients.into_iter().chain(of_question).min()
+        let of_changes = (self.told != self.changes).then_some(now); // after signals and commands
+        of_clients.into_iter().chain(of_question).chain(of_changes).min()
     }
 }
 
@@ -93,6 +130,8 @@ impl Live {
         if let Some(control) = &mut self.server.control {
             control.tell_changes(self.server.changes, Moment::now());
         }
+        self.server.told = self.server.changes;
+        self.serve_watches();
         self.ports.share.leave_out(processor_time().saturating_sub(before));
     }
 
@@ -142,11 +181,18 @@ impl Live {
         let begin = Moment::now();
         while let Some(question) = self.server.control.as_mut().and_then(Control::question) {
             let query = Query::read(&question.line, question.may_change);
-            if query == Ok(Query::Changes(Some(self.server.changes))) {
-                self.server.let_wait(&question);
-            } else {
-                let answer = self.answer(&question.line, query);
-                self.server.reply(&question, answer);
+            match query {
+                Ok(Query::Changes(Some(known))) if known == self.server.changes => {
+                    self.server.let_wait(&question);
+                }
+                Ok(Query::Watch(ports)) if self.may_watch(&ports) => {
+                    let ports = ports.iter().map(|port| port.to_string()).collect();
+                    self.server.let_watch(&question, ports, self.ports.names());
+                }
+                query => {
+                    let answer = self.answer(&question.line, query);
+                    self.server.reply(&question, answer);
+                }
             }
             if Moment::now().since(begin) > MOST_AT_ONCE {
                 return;
@@ -168,11 +214,69 @@ impl Live {
         match query {
             Query::Neighbors(port) => self.for_port(port, Live::neighbors),
             Query::Statistics(port) => self.for_port(port, Live::statistics),
+            Query::Watch(_) => Answer::of("error: no such port\n"),
             _ => match self.command(line) {
                 Ok(lines) => Answer::of(&lines),
                 Err(refusal) => Answer::of(&format!("error: {refusal}\n")),
             },
         }
+    }
+
+    /// True if the agent runs and has these ports.
+    fn may_watch(&self, ports: &[&str]) -> bool {
+        let is_there = |name: &&str| self.ports.all.iter().any(|port| port.name == *name);
+        self.running.is_some() && ports.iter().all(is_there)
+    }
+
+    /// Tells clients that watch what has changed, and sends the tables that they need.
+    fn serve_watches(&mut self) {
+        let mut control = match self.server.control.take() {
+            Some(control) => control,
+            None => return,
+        };
+        let (changed, further) = self.server.changed.take();
+        let (begin, last) = (Moment::now(), processor_time() + LONGEST_MAKING);
+        for (key, kind) in changed {
+            let is_told = control.is_told(&key.port) && processor_time() < last;
+            match if is_told { self.lines_of(&key, kind) } else { None } {
+                Some(lines) => control.tell(&key.port, &lines, begin),
+                None => control.lose(&key.port, 1, begin),
+            }
+        }
+        further.iter().for_each(|(port, count)| control.lose(port, *count, begin));
+        let begin = Moment::now();
+        while Moment::now().since(begin) < LONGEST_SENDING
+            && control.send_next(Moment::now(), |port| self.watched_table(port))
+        {}
+        control.note_next_telling();
+        self.server.control = Some(control);
+    }
+
+    /// Returns the lines that tell a change. None if the neighbor is no longer as it was noted.
+    fn lines_of(&self, key: &Key, kind: Kind) -> Option<String> {
+        let (port, msap) = (&key.port, key.msap());
+        let mut lines =
+            format!("live.{port}.change={} {}\n", kind.word(), identifiers::id(&msap)).into_bytes();
+        let number = self.ports.all.iter().position(|one| one.name == *port)?;
+        let found = self.ports.all[number].neighbors.iter().enumerate().find(|(_, one)| one.msap() == msap);
+        let agent = &self.running.as_ref()?.agent;
+        let is_present = found.map_or(false, |found| put_one(&mut lines, agent, number as u8, port, found));
+        let is_right = is_present == (kind != Kind::Gone);
+        String::from_utf8(lines).ok().filter(|_| is_right)
+    }
+
+    /// Returns the table of the port of this name, which may not exist any more.
+    fn watched_table(&self, name: &str) -> Answer {
+        let mut tables = Tables::new();
+        match (&self.running, self.ports.all.iter().position(|port| port.name == name)) {
+            (Some(running), Some(number)) => {
+                let port = &self.ports.all[number];
+                let has_too_many = port.full_until > self.clock.given;
+                tables.add(&running.agent, number as u8, name, has_too_many, &port.neighbors);
+            }
+            _ => tables.add_empty(name),
+        }
+        Answer::new("", Some(Writer::new(Arc::new(tables), Lines::Watched)))
     }
 
     /// Returns the answer for the port of this name, or for all ports.

@@ -8,5 +8,7 @@ pub const MOST_WAITING: usize = 4_000_000;
 pub const MOST_HEADS: usize = 2;
 /// Octets of all unread answers together.
 pub const MOST_UNREAD: usize = 32 << 20;
+/// Octets of changes that clients that watch were not sent yet. They count among the unread answers.
+pub const MOST_TOLD: usize = 2 << 20;
 /// Octets of the metrics of ports and neighbors.
 pub use lldpa_people::metrics::MOST_METRICS;

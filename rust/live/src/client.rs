@@ -5,6 +5,7 @@ use crate::settings::LONGEST_LINE;
 use crate::tables::Writer;
 use crate::time::Moment;
 use crate::waiting::Awaited;
+use crate::watching::Watch;
 use std::collections::VecDeque;
 use std::io::{ErrorKind, Read, Write};
 use std::os::unix::net::UnixStream;
@@ -17,6 +18,12 @@ const MOST_READS: usize = 64; // from one client in one turn
 const PIECE: usize = 1 << 16; // octets of an answer that are written at once
 pub const LONGEST_SENDING: Duration = Duration::from_millis(20); // to all clients in one turn
 
+/// Returns lines with the number of them and of those that follow.
+pub fn counted(lines: &str, further: usize) -> String {
+    let count = further + lines.bytes().filter(|octet| *octet == b'\n').count();
+    format!("={count}\n{lines}")
+}
+
 /// An answer: lines, and then those of a writer, which are made as the client reads.
 #[derive(Default)]
 pub struct Answer {
@@ -27,9 +34,8 @@ pub struct Answer {
 impl Answer {
     /// Makes an answer of these lines and those of a writer. A line with their number comes first.
     pub fn new(text: &str, rest: Option<Writer>) -> Answer {
-        let lines = text.bytes().filter(|octet| *octet == b'\n').count();
-        let count = lines + rest.as_ref().map_or(0, Writer::count);
-        Answer { text: format!("={count}\n{text}").into_bytes().into(), rest }
+        let text = counted(text, rest.as_ref().map_or(0, Writer::count));
+        Answer { text: text.into_bytes().into(), rest }
     }
 
     /// Makes the answer to `changes`.
@@ -40,6 +46,11 @@ impl Answer {
     /// Makes an answer of these lines.
     pub fn of(text: &str) -> Answer {
         Answer::new(text, None)
+    }
+
+    /// Makes an answer of lines that begin with their number.
+    pub fn counted(text: Vec<u8>) -> Answer {
+        Answer { text: text.into(), rest: None }
     }
 
     pub fn is_empty(&self) -> bool {
@@ -101,6 +112,8 @@ pub struct Client {
     pub known: Option<u64>,
     /// True once the client has waited: it keeps its place for the next time.
     pub watches: bool,
+    /// What a client that is told each change was told.
+    pub watch: Option<Watch>,
 }
 
 impl Client {
@@ -116,18 +129,28 @@ impl Client {
             is_over: false,
             known: None,
             watches: false,
+            watch: None,
         }
     }
 
     /// True if a line can be answered. At the end of input a line may lack its line feed.
     pub fn has_line(&self) -> bool {
         let is_whole = self.input.contains(&b'\n') || self.is_at_end && !self.input.is_empty();
-        self.answer.is_empty() && is_whole && !self.is_over && self.known.is_none()
+        self.answer.is_empty() && is_whole && !self.is_over && !self.awaits_changes()
+    }
+
+    fn awaits_changes(&self) -> bool {
+        self.known.is_some() || self.watch.is_some()
     }
 
     /// True if the client sends something although it waits for a change.
     pub fn is_impatient(&self) -> bool {
-        self.known.is_some() && !self.input.is_empty()
+        self.awaits_changes() && !self.input.is_empty()
+    }
+
+    /// True if the client has read all, or watches: then it loses changes if it does not read.
+    pub fn may_rest(&self) -> bool {
+        self.answer.is_empty() || self.watch.is_some()
     }
 
     pub fn reply(&mut self, answer: Answer, now: Moment) {
@@ -142,9 +165,9 @@ impl Client {
         self.is_at_end && self.input.is_empty() && self.answer.is_empty()
     }
 
-    /// Returns when the client is too slow. None if it has read all.
+    /// Returns when the client is too slow. None if it may rest.
     pub fn deadline(&self) -> Option<Moment> {
-        (!self.answer.is_empty()).then(|| (self.active_at + TO_READ).min(self.answered_at + TO_READ_ALL))
+        (!self.may_rest()).then(|| (self.active_at + TO_READ).min(self.answered_at + TO_READ_ALL))
     }
 
     /// Removes and returns the next line. Only the first 4,097 octets of a longer line were kept.

@@ -3,12 +3,13 @@
 //! everybody may ask, but only root, owner and group may `configure` and `update`.
 
 use crate::budget::MOST_UNREAD;
-use crate::client::{Answer, Client, LONGEST_SENDING};
+use crate::client::{counted, Answer, Client, LONGEST_SENDING};
 use crate::listening::Listening;
 use crate::reports::warn;
 use crate::rights::text_of;
 use crate::time::{Moment, SECOND};
 use crate::waiting::{IN, OUT};
+use crate::watching::{Next, Told, Watch};
 use std::fs::File;
 use std::io::{ErrorKind, Read, Result, Write};
 use std::os::unix::net::UnixStream;
@@ -39,6 +40,12 @@ pub struct Control {
     pause: Moment,
     /// True if the socket was removed and could not be made again.
     is_lost: bool,
+    /// The changes that clients that watch are told.
+    told: Told,
+    /// The index of the client that watches and was sent something last.
+    last_told: usize,
+    /// When something more may be sent to a client that watches.
+    next_telling: Option<Moment>,
 }
 
 impl Control {
@@ -52,6 +59,9 @@ impl Control {
             first: 0,
             pause: Moment::default(),
             is_lost: false,
+            told: Told::default(),
+            last_told: 0,
+            next_telling: None,
         })
     }
 
@@ -65,7 +75,8 @@ impl Control {
 
     pub fn deadline(&self, now: Moment) -> Option<Moment> {
         let pause = Some(self.pause).filter(|pause| *pause > now);
-        self.clients.iter().filter_map(Client::deadline).chain(pause).min()
+        let watches = self.next_telling;
+        self.clients.iter().filter_map(Client::deadline).chain(pause).chain(watches).min()
     }
 
     /// True if a client was too slow, and has to go.
@@ -136,7 +147,7 @@ impl Control {
         if self.clients.iter().filter(|client| !client.is_over).count() >= most {
             let gives_way = |client: &Client| is_preferred || !client.peer.is_preferred(&self.listening.path);
             let is_idle = |client: &Client| {
-                client.answer.is_empty() && now.since(client.active_at) >= IDLENESS && gives_way(client)
+                client.may_rest() && now.since(client.active_at) >= IDLENESS && gives_way(client)
             };
             let idle = (0..self.clients.len()).filter(|index| is_idle(&self.clients[*index]));
             match idle.min_by_key(|index| self.clients[*index].active_at) {
@@ -171,14 +182,92 @@ impl Control {
 
     /// Lets a client wait until the count of changes is another one. False if it has no place.
     pub fn let_wait(&mut self, question: &Question, count: u64) -> bool {
+        let has_place = self.take_place(question);
+        self.clients[question.client].known = Some(count).filter(|_| has_place);
+        has_place
+    }
+
+    /// Lets a client watch ports (all if empty), of which there are these. False if it has no place.
+    pub fn let_watch(
+        &mut self,
+        question: &Question,
+        ports: Vec<String>,
+        all: Vec<String>,
+        now: Moment,
+    ) -> bool {
+        let has_place = self.take_place(question);
+        if has_place {
+            let client = &mut self.clients[question.client];
+            client.watch = Some(Watch::new(ports, all, &self.told, now));
+            client.active_at = now;
+        }
+        has_place
+    }
+
+    /// Gives a client one of the places of those that watch, if one is left.
+    fn take_place(&mut self, question: &Question) -> bool {
         let is_preferred = |client: &Client| client.peer.is_preferred(&self.listening.path);
         let of_ours = is_preferred(&self.clients[question.client]);
         let watching = self.clients.iter().filter(|client| client.watches);
         let taken = watching.filter(|client| is_preferred(client) == of_ours).count();
         let client = &mut self.clients[question.client];
         client.watches |= taken < MOST_WATCHING;
-        client.known = Some(count).filter(|_| client.watches);
         client.watches
+    }
+
+    /// True if a client is told each change.
+    pub fn is_watched(&self) -> bool {
+        self.clients.iter().any(|client| client.watch.is_some())
+    }
+
+    /// True if a client is told each change of a port.
+    pub fn is_told(&self, port: &str) -> bool {
+        self.clients.iter().filter_map(|client| client.watch.as_ref()).any(|watch| watch.is_told(port))
+    }
+
+    /// Tells clients a change of a port by these lines.
+    pub fn tell(&mut self, port: &str, lines: &str, now: Moment) {
+        let watches = self.clients.iter_mut().filter_map(|client| client.watch.as_mut());
+        self.told.add(port, counted(lines, 0).into_bytes(), watches, now);
+    }
+
+    /// Lets the table of a port stand for changes that are not told.
+    pub fn lose(&mut self, port: &str, count: u64, now: Moment) {
+        let watches = self.clients.iter_mut().filter_map(|client| client.watch.as_mut());
+        watches.for_each(|watch| watch.lose(port, count, now));
+    }
+
+    /// Notes when something may be sent to a client that watches and has read all. Forgets the changes
+    /// that all were sent.
+    pub fn note_next_telling(&mut self) {
+        let told = &self.told;
+        let resting = self.clients.iter_mut().filter(|client| client.answer.is_empty() && !client.is_over);
+        self.next_telling = resting.filter_map(|client| client.watch.as_mut()?.due(told)).min();
+        let watches = self.clients.iter().filter_map(|client| client.watch.as_ref());
+        let needed = watches.map(|watch| watch.next).min();
+        self.told.forget(needed.unwrap_or(u64::MAX));
+    }
+
+    /// Sends the next client that watches, and has read all, what comes next. `table` makes the table of
+    /// a port. False if there is nothing to send.
+    pub fn send_next(&mut self, now: Moment, table: impl FnOnce(&str) -> Answer) -> bool {
+        let count = self.clients.len();
+        for step in 1..=count {
+            let index = (self.last_told + step) % count;
+            let client = &mut self.clients[index];
+            let watch = client.watch.as_mut().filter(|_| client.answer.is_empty() && !client.is_over);
+            if let Some(next) = watch.and_then(|watch| watch.take(&self.told, now)) {
+                let answer = match next {
+                    Next::Table(port) => table(&port),
+                    Next::Text(text) => Answer::counted(text),
+                };
+                client.reply(answer, now);
+                self.last_told = index;
+                self.end_slowest();
+                return true;
+            }
+        }
+        false
     }
 
     /// Answers the clients that wait for another count of changes than the one that they know.
@@ -202,7 +291,7 @@ impl Control {
             self.clients.iter().filter_map(|client| Some(client.answer.rest.as_ref()?.tables())).collect();
         tables.sort_by_key(|one| Arc::as_ptr(one));
         tables.dedup_by_key(|one| Arc::as_ptr(one));
-        own + tables.iter().map(|one| one.memory()).sum::<usize>()
+        own + self.told.memory() + tables.iter().map(|one| one.memory()).sum::<usize>()
     }
 
     /// While too many octets are unread, ends the connection with the oldest unread answer.

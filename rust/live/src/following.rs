@@ -184,6 +184,7 @@ impl Live {
         self.following.look_again(); // now there may be room for another port
         self.following.replaced_at = Some(now);
         self.following.new_since = None;
+        self.note_removed(&gone);
         self.ports.remove(&gone);
         if names.is_empty() {
             self.running = None;
@@ -192,6 +193,12 @@ impl Live {
             return;
         }
         self.add_ports(&new);
+    }
+
+    fn note_removed(&mut self, names: &[String]) {
+        for port in self.ports.all.iter().filter(|port| names.contains(&port.name)) {
+            self.server.note_removed(&port.name, port.neighbors.len());
+        }
     }
 
     /// Adds ports that the agent has already.

@@ -58,6 +58,7 @@ mod tables;
 mod time;
 mod told;
 mod waiting;
+mod watching;
 
 use arguments::{ArgumentFault, Request};
 use reports::{report, ERROR};

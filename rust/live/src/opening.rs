@@ -13,6 +13,7 @@ use crate::options::is_text;
 use crate::reports::notice;
 use crate::state::Saved;
 use crate::time::Clock;
+use crate::watching::Kind;
 use lldpa::{OpenFault, Status};
 
 impl Live {
@@ -130,8 +131,8 @@ impl Live {
             let port = &mut self.ports.all[number];
             let name = (port.name.clone(), identifiers::id(&msap));
             neighbor.came = saved.arrivals.get(&name).copied().unwrap_or(neighbor.came);
+            self.server.note(&port.name, &msap, Kind::Came);
             port.neighbors.push(neighbor);
-            self.server.changes += 1;
         }
     }
 }

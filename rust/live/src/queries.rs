@@ -35,6 +35,8 @@ pub enum Query<'a> {
     Changes(Option<u64>),
     Neighbors(Option<&'a str>),
     Statistics(Option<&'a str>),
+    /// The tables of some ports (of all if empty), and then each change.
+    Watch(Vec<&'a str>),
     /// A line for the agent.
     Command,
 }
@@ -50,6 +52,7 @@ impl Query<'_> {
             ["live", port] => Query::Live(Some(port)),
             ["changes"] => Query::Changes(None),
             ["changes", count] => count.parse().map_or(Query::Command, |count| Query::Changes(Some(count))),
+            ["watch", ref ports @ ..] => Query::Watch(ports.to_vec()),
             ["show", "neighbors"] => Query::Neighbors(None),
             ["show", "neighbors", port] => Query::Neighbors(Some(port)),
             ["show", "statistics"] => Query::Statistics(None),
@@ -70,7 +73,7 @@ fn check(line: &[u8], may_change: bool) -> Result<(), LineFault> {
         "tick" | "rx" | "up" | "down" => Err(LineFault::ForLldpaLive),
         _ if matches!(first, None | Some(b'#')) => Err(LineFault::Blank),
         "configure" | "update" if !may_change => Err(LineFault::NoPermission),
-        "live" | "changes" | "show" | "configure" | "update" => Ok(()),
+        "live" | "changes" | "watch" | "show" | "configure" | "update" => Ok(()),
         _ => Err(LineFault::Unknown),
     }
 }
@@ -118,6 +121,9 @@ mod tests {
             (b"changes 17", Query::Changes(Some(17))),
             (b"changes x", Query::Command),
             (b"changes 1 2", Query::Command),
+            (b"watch", Query::Watch(vec![])),
+            (b" watch\teth1  eth0 ", Query::Watch(vec!["eth1", "eth0"])),
+            (b"watch \xff", Query::Command),
             (b"show\tneighbors  eth0", Query::Neighbors(Some("eth0"))),
             (b"show neighbors eth0 x", Query::Command),
             (b"show statistics", Query::Statistics(None)),

@@ -4,6 +4,7 @@ use crate::changes;
 use crate::live::Live;
 use crate::neighbors::{self, Neighbor};
 use crate::reading::Frame;
+use crate::watching::Kind;
 use lldpa::{Examined, Info, Msap, News};
 
 /// Returns the LLDPDU of a frame, unless it is refused or a shutdown LLDPDU.
@@ -63,12 +64,12 @@ impl Live {
         before: Option<&[u8]>,
     ) {
         let summary = if self.arguments.events { changes::summary(info) } else { String::new() };
-        self.server.changes += u64::from(matches!(news, News::New(_) | News::Changed(_) | News::Same(_)));
+        let msap = info.msap();
         match news {
             News::New(_) => self.record_new(frame.port, lldpdu, info, summary),
             News::Changed(_) | News::Same(_) => {
                 let port = &mut self.ports.all[frame.port];
-                let msap = info.msap();
+                self.server.note(&port.name, &msap, Kind::Changed);
                 if let Some(one) = port.neighbors.iter_mut().find(|one| one.msap() == msap) {
                     one.lldpdu = lldpdu;
                     one.summary = summary.clone();
@@ -83,6 +84,7 @@ impl Live {
     fn record_new(&mut self, port: usize, lldpdu: u64, info: &Info<'_>, summary: String) {
         let msap = info.msap();
         let name = self.ports.all[port].name.clone();
+        self.server.note(&name, &msap, Kind::Came);
         self.events.report(&name, &format!("{name} came: {summary}"));
         let chassis_number = self.chassis_number(msap.chassis);
         let neighbor = Neighbor::new(&msap, &self.ports.digests, chassis_number, lldpdu, summary);
@@ -126,7 +128,7 @@ impl Live {
             let digests = &self.ports.digests;
             for gone in neighbors::remove_gone(&mut port.neighbors, agent, number as u8, digests) {
                 self.events.report(&port.name, &format!("{} gone: {}", port.name, gone.summary));
-                self.server.changes += 1;
+                self.server.note(&port.name, &gone.msap(), Kind::Gone);
             }
         }
     }

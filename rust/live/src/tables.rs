@@ -28,6 +28,15 @@ struct Neighbor {
 }
 
 impl Neighbor {
+    fn of(one: &lldpa::Neighbor, known: &neighbors::Neighbor) -> Neighbor {
+        Neighbor {
+            octets: one.octets().into(),
+            left: one.left(),
+            came: known.came,
+            chassis_number: known.chassis_number,
+        }
+    }
+
     fn info(&self) -> Option<Info<'_>> {
         match examine(&self.octets) {
             Ok(Examined::Info(info)) => Some(info),
@@ -63,16 +72,14 @@ impl Tables {
         known: &[neighbors::Neighbor],
     ) {
         let all = agent.neighbors(number).into_iter().flatten().zip(known);
-        let neighbors: Vec<Neighbor> = all
-            .map(|(one, known)| Neighbor {
-                octets: one.octets().into(),
-                left: one.left(),
-                came: known.came,
-                chassis_number: known.chassis_number,
-            })
-            .collect();
+        let neighbors: Vec<Neighbor> = all.map(|(one, known)| Neighbor::of(&one, known)).collect();
         self.octets += neighbors.iter().map(|one| one.octets.len()).sum::<usize>();
         self.ports.push(Table { port: port.into(), has_too_many, neighbors });
+    }
+
+    /// Adds the table of a port that does not exist any more.
+    pub fn add_empty(&mut self, port: &str) {
+        self.ports.push(Table { port: port.into(), has_too_many: false, neighbors: Vec::new() });
     }
 
     /// Adds each port and its neighbors to metrics.
@@ -96,6 +103,26 @@ impl Tables {
     }
 }
 
+/// Adds all lines about the neighbor at a place of a port, and returns true. Returns false if the place
+/// is empty.
+pub fn put_one(
+    out: &mut Vec<u8>,
+    agent: &Agent,
+    number: u8,
+    port: &str,
+    (place, known): (usize, &neighbors::Neighbor),
+) -> bool {
+    match agent.neighbors(number).ok().and_then(|mut all| all.nth(place)) {
+        Some(one) => {
+            let one = Neighbor::of(&one, known);
+            put_lines(out, Lines::Watched, port, place + 1, &one);
+            put_chassis(out, one.chassis_number, &one);
+            true
+        }
+        None => false,
+    }
+}
+
 /// Which lines an answer has.
 #[derive(Clone, Copy, PartialEq, Eq)]
 pub enum Lines {
@@ -103,6 +130,18 @@ pub enum Lines {
     Neighbors,
     /// When each neighbor came, and the number of each chassis.
     Since,
+    /// All of these: what a client that watches is sent.
+    Watched,
+}
+
+impl Lines {
+    fn has_neighbors(self) -> bool {
+        self != Lines::Since
+    }
+
+    fn has_since(self) -> bool {
+        self != Lines::Neighbors
+    }
 }
 
 /// An answer that is written piece by piece.
@@ -119,7 +158,7 @@ pub struct Writer {
 impl Writer {
     pub fn new(tables: Arc<Tables>, lines: Lines) -> Writer {
         let mut chassis = Vec::new();
-        if lines == Lines::Since {
+        if lines.has_since() {
             for (port, table) in tables.ports.iter().enumerate() {
                 let numbers = table.neighbors.iter().enumerate();
                 chassis.extend(numbers.map(|(place, one)| (one.chassis_number, port, place)));
@@ -143,14 +182,15 @@ impl Writer {
     /// Returns how many lines the whole answer has.
     pub fn count(&self) -> usize {
         let neighbors = || self.tables.ports.iter().flat_map(|table| &table.neighbors);
-        match self.lines {
-            Lines::Since => neighbors().count() + self.chassis.len(),
-            Lines::Neighbors => {
-                let kept =
-                    |one: &Neighbor| one.info().map_or(0, |info| SHOWN_IDENTIFIERS + info.kept().count());
-                LINES_OF_PORT * self.tables.ports.len() + neighbors().map(kept).sum::<usize>()
-            }
+        let kept = |one: &Neighbor| one.info().map_or(0, |info| SHOWN_IDENTIFIERS + info.kept().count());
+        let mut count = 0;
+        if self.lines.has_neighbors() {
+            count += LINES_OF_PORT * self.tables.ports.len() + neighbors().map(kept).sum::<usize>();
         }
+        if self.lines.has_since() {
+            count += neighbors().count() + self.chassis.len();
+        }
+        count
     }
 
     /// Adds the lines of the next neighbor, or of a port. False if no line was left.
@@ -159,15 +199,12 @@ impl Writer {
             Some(table) => table,
             None => return self.write_chassis(out),
         };
-        if self.neighbor == 0 && self.lines == Lines::Neighbors {
+        if self.neighbor == 0 && self.lines.has_neighbors() {
             put_port(out, table);
         }
         if let Some(one) = table.neighbors.get(self.neighbor) {
-            match self.lines {
-                Lines::Neighbors => put_neighbor(out, &table.port, self.neighbor + 1, one),
-                Lines::Since => put_since(out, &table.port, self.neighbor + 1, one),
-            }
             self.neighbor += 1;
+            put_lines(out, self.lines, &table.port, self.neighbor, one);
         }
         if self.neighbor >= table.neighbors.len() {
             self.port += 1;
@@ -182,9 +219,7 @@ impl Writer {
             None => return false,
         };
         let neighbor = self.tables.ports.get(port).and_then(|table| table.neighbors.get(place));
-        if let Some(info) = neighbor.and_then(Neighbor::info) {
-            put(out, &format!("live.chassis.{number}={}", identifiers::chassis_id(info.msap().chassis)));
-        }
+        neighbor.into_iter().for_each(|one| put_chassis(out, number, one));
         true
     }
 }
@@ -214,6 +249,21 @@ fn put_neighbor(out: &mut Vec<u8>, port: &str, number: usize, one: &Neighbor) {
     line(&format!("expires={}", one.left));
     for tlv in info.kept() {
         line(&tlv_text(tlv.kind, tlv.body).unwrap_or_default());
+    }
+}
+
+fn put_lines(out: &mut Vec<u8>, lines: Lines, port: &str, number: usize, one: &Neighbor) {
+    if lines.has_neighbors() {
+        put_neighbor(out, port, number, one);
+    }
+    if lines.has_since() {
+        put_since(out, port, number, one);
+    }
+}
+
+fn put_chassis(out: &mut Vec<u8>, number: u32, one: &Neighbor) {
+    if let Some(info) = one.info() {
+        put(out, &format!("live.chassis.{number}={}", identifiers::chassis_id(info.msap().chassis)));
     }
 }
 

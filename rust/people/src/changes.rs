@@ -154,18 +154,43 @@ impl Watch {
         self.known.entries.iter().map(of).sum()
     }
 
+    pub fn count(&self) -> usize {
+        self.known.entries.len()
+    }
+
+    /// Takes what a neighbor says now. Returns what has changed, if anything.
+    pub fn learn(&mut self, neighbor: &Neighbor<'_>) -> Option<News> {
+        let kept = Kept::of(neighbor);
+        let news = news_of(self.known.get(&kept.name), &kept);
+        let name = kept.name.clone();
+        *self.known.value(name) = kept;
+        news
+    }
+
+    /// Forgets the neighbor with this MSAP identifier. Returns that it is gone, if it was there.
+    pub fn forget(&mut self, id: &str) -> Option<News> {
+        let known = std::mem::take(&mut self.known).entries;
+        let (gone, kept): (Vec<_>, Vec<_>) =
+            known.into_iter().partition(|(_, kept)| kept.neighbor().id() == id);
+        kept.into_iter().for_each(|(name, kept)| *self.known.value(name) = kept);
+        gone.first().map(|(_, kept)| News::of("gone", kept, Vec::new()))
+    }
+
     /// Returns each change since the last answer, beginning with neighbors that left.
     pub fn news(&mut self, port: &Port<'_>) -> Vec<News> {
         let before = std::mem::replace(self, Watch::of(port)).known;
         let gone = before.entries.iter().filter(|(name, _)| self.known.get(name).is_none());
         let mut news: Vec<News> = gone.map(|(_, kept)| News::of("gone", kept, Vec::new())).collect();
-        for (name, kept) in &self.known.entries {
-            match before.get(name).map(|before| before.said.changes(&kept.said)) {
-                None => news.push(News::of("came", kept, Vec::new())),
-                Some(changes) if changes.is_empty() => (),
-                Some(changes) => news.push(News::of("changed", kept, changes)),
-            }
-        }
+        news.extend(self.known.entries.iter().filter_map(|(name, kept)| news_of(before.get(name), kept)));
         news
+    }
+}
+
+/// Returns what happened to a neighbor that was known so before. None if nothing has changed.
+fn news_of(before: Option<&Kept>, kept: &Kept) -> Option<News> {
+    match before.map(|before| before.said.changes(&kept.said)) {
+        None => Some(News::of("came", kept, Vec::new())),
+        Some(changes) if changes.is_empty() => None,
+        Some(changes) => Some(News::of("changed", kept, changes)),
     }
 }

@@ -1,13 +1,12 @@
 //! The program lldpa-ctl: asks a running lldpa-live, and prints its answers.
 
-use crate::answers::since_of;
+use crate::answers::check_known;
 use crate::arguments::{all_commands, completed, Given, DEFAULT_PATH};
-use crate::changes::News;
 use crate::columns::NOT_CUT;
 use crate::connection::{replace, Answer, Connection};
 use crate::counters::{counter_lines, Counters};
 use crate::interfaces::{interfaces, Held};
-use crate::live_lines::{is_read, LiveLines, Since};
+use crate::live_lines::{is_read, LiveLines};
 use crate::lldpd::{instead, same};
 use crate::metrics::{service_of, up, Metrics, MOST_METRICS};
 use crate::neighbors::{each_port, lines_of};
@@ -16,7 +15,7 @@ use crate::refused::{explained, in_full};
 use crate::show::{check_ports, Show};
 use crate::table::Table;
 use crate::texts::printable;
-use crate::watching::Watching;
+use crate::watching::begin;
 use std::io::{BufWriter, Error, ErrorKind, Write};
 use std::os::unix::net::UnixStream;
 use std::time::{Duration, SystemTime, UNIX_EPOCH};
@@ -263,7 +262,7 @@ impl<'a> Client<'a> {
         self.print_all(std::iter::once(text))
     }
 
-    fn print_lines(&self, lines: impl IntoIterator<Item = String>) -> Done<()> {
+    pub fn print_lines(&self, lines: impl IntoIterator<Item = String>) -> Done<()> {
         self.print_all(lines.into_iter().flat_map(|line| [line, "\n".into()]))
     }
 
@@ -356,66 +355,23 @@ impl<'a> Client<'a> {
     fn watch(&self, words: &[&str]) -> Done<()> {
         let (limit, ports) = limited(words)?;
         let mut connection = self.connect(PATIENCE)?;
-        let mut watching = Watching::default();
-        if self.given.json {
-            each_port(&mut connection, &ports, |port| watching.begin(port))?;
-        } else {
-            let [live, configuration] =
-                [connection.ask_for("live", is_read)?, connection.ask(CONFIGURATION)?];
-            let mut table = Table::default();
-            each_port(&mut connection, &ports, |port| {
-                table.add(port);
-                watching.begin(port)
-            })?;
+        let (live, configuration) = match self.given.json {
+            true => (Answer::default(), Answer::default()),
+            false => (connection.ask_for("live", is_read)?, connection.ask(CONFIGURATION)?),
+        };
+        check_known(&mut connection, &ports)?;
+        let mut table = Table::default();
+        let watching = begin(&mut connection, &ports, |port| table.add(port))?;
+        if !self.given.json {
             self.print_table(&mut table, &live, &configuration)?;
         }
-        self.tell(&mut connection, watching, limit, &ports)
-    }
-
-    fn tell(
-        &self,
-        connection: &mut Connection,
-        mut watching: Watching,
-        limit: usize,
-        ports: &[String],
-    ) -> Done<()> {
-        self.each_look(connection, limit, |connection| {
-            let news = watching.news(connection, ports)?;
+        self.follow(&mut connection, watching, limit, |one, since| {
             let now = self.host.local_time(now());
-            let since = match self.given.json && !news.is_empty() {
-                true => since_of(connection)?,
-                false => Since::default(),
-            };
-            let line = |one: &News| match self.given.json {
-                true => news_object(one, &now, &since),
+            Ok(match self.given.json {
+                true => news_object(one, &now, since),
                 false => format!("{now} {}", one.line()),
-            };
-            Ok(news.iter().map(line).collect())
+            })
         })
-    }
-
-    /// Prints the texts that are made each time that lldpa-live has counted changes, up to a limit.
-    pub fn each_look(
-        &self,
-        connection: &mut Connection,
-        mut left: usize,
-        mut look: impl FnMut(&mut Connection) -> Done<Vec<String>>,
-    ) -> Done<()> {
-        let mut changes = None;
-        while left > 0 {
-            changes = connection.next_changes(changes, |stream| match self.host.wait(stream)? {
-                true => Ok(()),
-                false => Err(Failure::Output(None)),
-            })?;
-            let texts = match look(connection) {
-                Err(Failure::Refused(_)) => continue, // the agent waits for an interface
-                looked => looked?,
-            };
-            let told = texts.len().min(left);
-            self.print_lines(texts.into_iter().take(told))?;
-            left -= told;
-        }
-        Ok(())
     }
 
     /// Prints the metrics, or writes them to a file. If lldpa-live does not answer, `lldpa_up` is 0.

@@ -14,10 +14,9 @@ const LONGEST_LINE: usize = 8 << 10; // of a line in an answer, in octets
 /// What is kept of an answer at once. What 128 neighbors of one port can say is far less.
 const MOST_OCTETS: usize = 25 << 20;
 const MOST_LINES: usize = 200_000;
-const BETWEEN_LOOKS: Duration = Duration::from_millis(500);
 const MOST_DIGITS: usize = 11; // of the number of lines
 const PIECE: usize = 64 << 10; // octets that are read at once
-/// Why a client may not wait for changes.
+/// Why a client may not watch.
 pub const NO_PLACE: &str = "16 clients watch already";
 const REFUSAL: &str = "error: ";
 
@@ -70,6 +69,10 @@ impl Connection {
         Connection { stream, patience, last: Instant::now() + patience, octets: Vec::new(), begin: 0 }
     }
 
+    pub fn stream(&self) -> &UnixStream {
+        &self.stream
+    }
+
     /// Begins the time anew in which all answers must be complete.
     pub fn renew(&mut self) {
         self.last = Instant::now() + self.patience;
@@ -109,31 +112,25 @@ impl Connection {
         Ok(())
     }
 
-    /// Waits until lldpa-live has counted other changes of neighbors than these, and returns how many
-    /// it has counted. Looks again soon if lldpa-live does not count them. Fails if too many watch, or
-    /// when `wait` fails, which waits for the answer.
-    pub fn next_changes(
+    /// Asks for the tables of these ports (of all if empty) and for each change from then on: see
+    /// `next_message`.
+    pub fn watch(&mut self, ports: &[String]) -> Result<(), Failure> {
+        let words: Vec<&str> = std::iter::once("watch").chain(ports.iter().map(|port| &port[..])).collect();
+        self.send(&octets_of(&words.join(" "))?)
+    }
+
+    /// Returns the next answer to `watch`. Fails when `wait` fails, which waits until there is more to
+    /// receive.
+    pub fn next_message(
         &mut self,
-        known: Option<String>,
-        wait: impl FnOnce(&UnixStream) -> Result<(), Failure>,
-    ) -> Result<Option<String>, Failure> {
-        if known.is_some() {
-            std::thread::sleep(BETWEEN_LOOKS); // so that many changes are told together
+        wait: impl FnOnce(&mut Connection) -> Result<(), Failure>,
+    ) -> Result<Answer, Failure> {
+        if self.begin == self.octets.len() {
+            wait(self)?;
         }
-        let line = format!("changes {}", known.unwrap_or_default());
-        self.renew();
-        self.send(&octets_of(line.trim_end())?)?;
-        wait(&self.stream)?;
-        self.renew();
         let mut answer = Answer::default();
-        match self.receive_each(|one| answer.push(one)) {
-            Ok(()) => Ok(answer.text.trim_end().strip_prefix("live.changes=").map(String::from)),
-            Err(Failure::Refused(text)) if text != NO_PLACE => {
-                std::thread::sleep(BETWEEN_LOOKS);
-                Ok(None)
-            }
-            Err(failure) => Err(failure),
-        }
+        self.receive_each(|one| answer.push(one))?;
+        Ok(answer)
     }
 
     /// Sends a line, and gives each line of the answer to `take`.

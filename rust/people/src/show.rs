@@ -34,6 +34,11 @@ pub struct Neighbor<'a> {
 }
 
 impl<'a> Neighbor<'a> {
+    /// Reads the lines of one neighbor of a port.
+    pub fn read(port: &'a str, lines: Vec<&'a str>) -> Read<Neighbor<'a>> {
+        Reader::of(lines).one_neighbor(port)
+    }
+
     pub fn first(&self, key: &str) -> Option<&'a str> {
         self.said.iter().find(|(name, _)| *name == key).map(|(_, value)| *value)
     }

@@ -136,6 +136,20 @@ impl<'a> Reader<'a> {
         Ok(neighbor)
     }
 
+    /// Reads the lines of one neighbor of a port.
+    pub fn one_neighbor(mut self, port: &'a str) -> Read<Neighbor<'a>> {
+        let rest = self.next().strip_prefix("lldp.").and_then(|rest| rest.strip_prefix(port));
+        let place = rest.and_then(|rest| number_of(rest.strip_prefix('.')?.split_once('.')?.0));
+        let neighbor = match place {
+            Some(place) => self.neighbor(port, place)?,
+            None => return self.fault(&format!("a neighbor of {port}")),
+        };
+        if self.at < self.lines.len() {
+            return self.fault("one neighbor");
+        }
+        Ok(neighbor)
+    }
+
     fn identifier(&mut self, front: &str, kinds: &[&str]) -> Read<Identifier<'a>> {
         let found = self.next().strip_prefix(front).and_then(|rest| rest.split_once('='));
         match found.filter(|(kind, _)| kinds.contains(kind)) {

@@ -5,7 +5,7 @@ use lldpa_people::counters::{counter_lines, Counters, COUNTERS};
 use lldpa_people::interfaces::interfaces;
 use lldpa_people::live_lines::LiveLines;
 use lldpa_people::metrics::{up, Metrics, MOST_METRICS};
-use lldpa_people::show::{Port, Read, Show};
+use lldpa_people::show::{Neighbor, Port, Read, Show};
 use lldpa_people::table::Table;
 use lldpa_people::texts::width_of;
 use std::collections::BTreeMap;
@@ -311,6 +311,50 @@ fn changes_are_told_once() {
         let answer = state(&neighbors);
         let news = watch.news(&Show::read(answer.lines().collect()).expect("a port").ports[0]);
         assert_eq!(lines_of(&news), lines);
+    }
+}
+
+#[test]
+fn neighbors_are_told_one_by_one() {
+    let first = named("chassis.name=a b", "port.ifname=p 1", &[]);
+    let second = named("chassis.name=b", "port.ifname=p 1", &[]);
+    let mut watch = Watch::default();
+    let id = "mac=02:00:00:00:00:01 ifname=p\\x201";
+    for (said, wanted) in [
+        (Some(&first), Some("eth0 came: a b p 1")),
+        (Some(&first), None),
+        (Some(&second), Some("eth0 changed: b p 1; chassis.name: a b -> b")),
+        (None, Some("eth0 gone: b p 1")),
+        (None, None),
+    ] {
+        let text = said.map_or(String::new(), |said| port("eth0", false, &[said]));
+        let lines: Vec<&str> = text.lines().skip(3).collect();
+        let news = match said {
+            Some(_) => watch.learn(&Neighbor::read("eth0", lines).expect("a neighbor")),
+            None => watch.forget(id),
+        };
+        assert_eq!(news.map(|news| news.line()), wanted.map(String::from));
+    }
+    assert_eq!(watch.count(), 0);
+}
+
+#[test]
+fn lines_that_are_not_one_neighbor_are_refused() {
+    let neighbors = [&named("chassis.name=a", "port.ifname=p1", &[])[..], &[MAC, "port.ifname=p2"]];
+    let text = port("eth0", false, &neighbors);
+    let lines: Vec<&str> = text.lines().collect();
+    assert!(Neighbor::read("eth0", lines[3..8].to_vec()).is_ok());
+    for (port, lines) in [
+        ("eth0", &lines[..]),
+        ("eth0", &lines[3..]),
+        ("eth1", &lines[3..8]),
+        ("eth", &lines[3..8]),
+        ("", &lines[3..8]),
+        ("eth0", &lines[4..8]),
+        ("eth0", &[][..]),
+        ("eth0", &["lldp.eth0.x.chassis.mac=1"][..]),
+    ] {
+        assert!(Neighbor::read(port, lines.to_vec()).is_err(), "{port} {lines:?}");
     }
 }
 

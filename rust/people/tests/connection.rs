@@ -125,7 +125,8 @@ fn an_answer_comes_in_parts() {
 #[test]
 fn a_watch_ends_when_nobody_reads_it() {
     let mut connection = served(|_| Vec::new(), PATIENCE);
-    let waited = connection.next_changes(None, |_| Err(Failure::Output(None)));
+    connection.watch(&[]).expect("room");
+    let waited = connection.next_message(|_| Err(Failure::Output(None)));
     assert!(matches!(waited, Err(Failure::Output(None))));
 }
 

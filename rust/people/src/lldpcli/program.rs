@@ -11,11 +11,10 @@ use crate::client::{
     complain, not_an_answer, now, show_of, Client, Done, Failure, Host, CONFIGURATION, PATIENCE,
 };
 use crate::connection::Connection;
-use crate::live_lines::Since;
 use crate::neighbors::each_port;
 use crate::node::Node;
 use crate::show::Show;
-use crate::watching::Watching;
+use crate::watching::begin;
 use std::io::{BufRead, Write};
 use std::os::unix::process::CommandExt;
 
@@ -214,22 +213,12 @@ impl Program<'_> {
         ports: Vec<String>,
         limit: usize,
     ) -> Done<()> {
-        let (mut watching, mut known) = (Watching::default(), Vec::new());
-        each_port(connection, &[], |port| {
-            known.push(port.name.to_string());
-            let is_wanted = ports.is_empty() || ports.iter().any(|name| name == port.name);
-            if is_wanted {
-                watching.begin(port)
-            } else {
-                Ok(())
-            }
-        })?;
-        check(Some(&ports), &known.iter().map(|name| &name[..]).collect::<Vec<_>>())?;
-        client.each_look(connection, limit, |connection| {
-            let news = watching.news(connection, &ports)?;
-            let since = if news.is_empty() { Since::default() } else { since_of(connection)? };
-            let told = Told { show: Show::default(), since: &since, now: now() };
-            news.iter().map(|one| self.text_of(one, &told, depth)).collect()
+        let configuration = connection.ask(CONFIGURATION)?;
+        check(Some(&ports), &show_of(&[&configuration])?.configured())?;
+        let watching = begin(connection, &ports, |_| ())?;
+        client.follow(connection, watching, limit, |one, since| {
+            let told = Told { show: Show::default(), since, now: now() };
+            self.text_of(one, &told, depth)
         })
     }
 
