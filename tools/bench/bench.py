@@ -46,7 +46,8 @@ from counts import Counts, ran  # noqa: E402
 
 SAVED, PICTURE = TOP / "docs" / "bench.json", TOP / "docs" / "bench.svg"
 HEADS = ["lldpa", "C", "ratio", "vectors", "# lldpa"]
-MOST_OFF, MOST_OFF_OF_VECTORS, TRIES = 1.25, 1.6, 3
+MOST_OFF, MOST_OFF_OF_VECTORS = 1.25, 1.6
+PAUSES = (0, 2, 10, 30)  # seconds before each try of a row: other machines may use the same host for a while
 
 
 def resident(words: list[str]) -> int:
@@ -143,7 +144,8 @@ def check(options: argparse.Namespace, room: Path) -> int:
         sides, told = row.sides(options.program, yardstick), saved.pop(row.title, [])
         ran(row.title)
         now: list[float] = []
-        for _ in range(TRIES if row.yardsticks else 0):
+        for pause in PAUSES if row.yardsticks else ():
+            time.sleep(pause)
             now = beside_c(by_turns(row, room, sides, options.times))
             if is_near(now, told):
                 break
