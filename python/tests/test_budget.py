@@ -74,6 +74,7 @@ class Budget(OnLinks):
     def reader(self, live: Live, number: int) -> socket.socket:
         """Opens a client that watches or asks for everything, and reads nothing."""
         client = socket.socket(socket.AF_UNIX)
+        client.settimeout(30)
         client.connect(live.control)
         line = b"show neighbors\n" if number % 3 else b"live\n"
         client.sendall(b"watch\n" if number < MOST_WATCHING else line)

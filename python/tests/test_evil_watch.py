@@ -1,5 +1,5 @@
-"""Tests what a client that watches costs whose lldpa-live was taken over: at most 100 MB, and it ends
-as soon as it is sent what no lldpa-live sends."""
+"""Tests what a client that watches costs whose lldpa-live was taken over: at most 100 MB. It ends as
+soon as it is sent what no lldpa-live sends."""
 
 import os
 import socket
@@ -7,13 +7,14 @@ import threading
 import unittest
 from contextlib import suppress
 from itertools import chain, count, repeat
-from typing import Callable, Iterable, List
+from typing import Callable, Iterable, List, Sequence
 
 from served import CTL, counted
 from test_evil import MOST_MEMORY, Cost, Evil, settings
 
 Messages = Callable[[], Iterable[bytes]]
 LOST = counted([b"live.lost=0"])
+LIVE = [b"live.agent=running"]
 SETTINGS = [line.strip() for line in settings()]
 MANY = 20_000_000  # octets
 OF_LOSSES = 20_000  # kB of memory
@@ -21,11 +22,11 @@ LONG = [b"unknown.9=" + b"0" * 500] * 16  # what a neighbor says in 8 kB
 SHORT = [b"unknown.9=00"] * 740
 
 
-def neighbor(number: int, said: List[bytes]) -> List[bytes]:
+def neighbor(number: int, said: Sequence[bytes]) -> List[bytes]:
     return [b"chassis.local=%d" % number, b"port.local=1", b"ttl=120", b"expires=100", *said]
 
 
-def table(port: bytes, neighbors: int = 1, said: List[bytes] = []) -> bytes:
+def table(port: bytes, neighbors: int = 1, said: Sequence[bytes] = ()) -> bytes:
     """Returns the table of a port whose neighbors all say the same."""
     front = b"lldp.%b." % port
     lines = [front + line for line in (b"neighbors=%d" % neighbors, b"octets=1", b"too-many=no")]
@@ -34,7 +35,7 @@ def table(port: bytes, neighbors: int = 1, said: List[bytes] = []) -> bytes:
     return counted(lines)
 
 
-def came(port: bytes, number: int = 1, said: List[bytes] = []) -> bytes:
+def came(port: bytes, number: int = 1, said: Sequence[bytes] = ()) -> bytes:
     front = b"lldp.%b.1." % port
     return counted([b"live.%b.change=came local=%d local=1" % (port, number),
                     *[front + line for line in neighbor(number, said)]])
@@ -77,7 +78,7 @@ class Watching(Evil):
                         for message in messages():
                             connection.sendall(message)
                         return
-                    connection.sendall(counted([b"live.agent=running"] if line == b"live\n" else SETTINGS))
+                    connection.sendall(counted(LIVE if line == b"live\n" else SETTINGS))
         threading.Thread(target=serve, daemon=True).start()
         return path
 
