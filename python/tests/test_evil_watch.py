@@ -1,5 +1,5 @@
-"""Tests what a client that watches costs whose lldpa-live was taken over: at most 100 MB. It ends as
-soon as it is sent what no lldpa-live sends."""
+"""Tests what a client that watches costs whose lldpa-live was taken over: at most 100 MB. It ends
+as soon as it is sent what no lldpa-live sends."""
 
 import os
 import socket
@@ -98,8 +98,9 @@ class Watching(Evil):
 
     def test_only_ports_that_it_asked_for(self) -> None:
         port, other = b"interface-00000", b"interface-00001"
+        gone = counted([b"live.%b.change=gone a b" % other])
         for messages in (lambda: [table(other)], lambda: [LOST, came(other)],
-                         lambda: [table(port), LOST, counted([b"live.%b.change=gone a b" % other])]):
+                         lambda: [table(port), LOST, gone]):
             said = self.watched(messages, "watch", port.decode()).said
             self.assertIn("'interface-00001' was not asked for", said)
 
