@@ -1,6 +1,7 @@
 """Tests the memory of lldpa-live at its worst, in a control group with the limit of the unit: 64
 ports of 128 hostile neighbors that change all the time, a log, a state, metrics on a tmpfs, and 60
-readers that never read. LLDPA_SECONDS=600 tests ten minutes; in the gate it is one."""
+clients that read nothing, of which 16 watch, but for two of these that read slowly.
+LLDPA_SECONDS=600 tests ten minutes; in the gate it is one."""
 
 import os
 import socket
@@ -19,6 +20,8 @@ LIMIT = 256 << 20
 MOST = 200 * 10 ** 6
 MOST_OF_METRICS = 17 * 10 ** 6
 READERS = 60
+MOST_WATCHING = 16
+SLOW = 2  # of those that watch: they read an octet after another
 A_SECOND = 20  # frames on each port, after the first ones of all neighbors
 FILL = 400  # frames a second on each port until all neighbors are there
 CONTROL = b"\x1b"
@@ -69,23 +72,26 @@ class Budget(OnLinks):
         time.sleep(0.5)
         return sum(".since." in line for line in live.ask("live"))
 
-    def reader(self, live: Live) -> socket.socket:
-        """Opens a client that asks for everything and reads nothing."""
+    def reader(self, live: Live, number: int) -> socket.socket:
+        """Opens a client that watches or asks for everything, and reads nothing."""
         client = socket.socket(socket.AF_UNIX)
+        client.settimeout(30)
         client.connect(live.control)
-        client.sendall(b"show neighbors\n" if id(client) % 3 else b"live\n")
+        line = b"show neighbors\n" if number % 3 else b"live\n"
+        client.sendall(b"watch\n" if number < MOST_WATCHING else line)
         return client
 
     def watched(self, live: Live) -> "tuple[int, int]":
         """Returns how many octets are used at most while 60 clients read nothing, and how large the
         file of metrics is at most."""
         most, metrics = 0, 0
-        readers = [self.reader(live) for _ in range(READERS)]
+        readers = [self.reader(live, number) for number in range(READERS)]
         for _ in range(110):  # lldpa-live ends a client that has read nothing for 10 seconds
             self.assertIsNone(live.process.poll(), live.errors()[-500:])
             most = max(most, self.group.used())
             files = self.collected.glob("lldpa.prom")
             metrics = max([metrics, *(path.stat().st_size for path in files)])
+            self.assertTrue(all(slow.recv(1) for slow in readers[:SLOW]))
             time.sleep(0.1)
         for reader in readers:
             reader.close()

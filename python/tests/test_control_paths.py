@@ -13,6 +13,7 @@ from asking import Client, Gone
 from lldpa import Refused
 from patience import eventually
 from running_live import Live, OnLinks
+from served import numbered
 
 IN_USE = "another lldpa-live answers at this control path"
 ASKER = """
@@ -176,6 +177,25 @@ class Permission(Asking):
             self.assertRaises(TimeoutError, one.ask, "changes 0")
         with self.assertRaisesRegex(Refused, "^16 clients watch already$"):
             last.ask("changes 0")
+
+    def test_32_clients_watch_and_are_told_the_same(self) -> None:
+        self.at_path()
+        os.chmod(self.path, 0o666)
+        os.seteuid(STRANGER)
+        self.addCleanup(os.seteuid, 0)
+        strangers = [self.client() for _ in range(17)]
+        os.seteuid(0)
+        ours = [self.client() for _ in range(17)]
+        for *watching, last in (strangers, ours):
+            for one in watching:
+                self.assertEqual(one.ask("watch")[0], "lldp.eth0.neighbors=0")
+                self.assertEqual(one.answer(), ["live.lost=0"])
+            with self.assertRaisesRegex(Refused, "^16 clients watch already$"):
+                last.ask("watch")
+        self.peer().send(numbered(1))
+        told = [one.answer() for one in strangers[:-1] + ours[:-1]]
+        self.assertRegex(told[0][0], "^live.eth0.change=came .* ifname=p1$")
+        self.assertEqual(told, [told[0]] * 32)
 
     def client(self) -> Client:
         client = Client(self.path)

@@ -17,7 +17,8 @@ from served import CTL, HOSTILE, LIVE_LINES, Program, frame, numbered, tlv
 
 class Answers(Program):
     def test_alone_it_prints_the_table(self) -> None:
-        self.assertEqual(self.run_ctl(), "no neighbors on 2 ports.\neth1: no such interface\n")
+        self.assertEqual(self.run_ctl(), "no neighbors on 2 ports.\n"
+                                         "eth1: no interface that can be used\n")
         name = tlv(5, b"n" * 255)
         self.served.frame("eth1", numbered(7, 120, name))
         lines = self.run_ctl().splitlines()

@@ -69,7 +69,7 @@ class OnARealLink(OnLinks):
         self.wires.set_link("peer0", "down")
         self.assertTrue(says("1 neighbor on 2 ports.", "eth0, eth1 have no link"))
         self.wires.remove_link("peer0")
-        self.assertTrue(says("1 neighbor on 2 ports.", "eth0: no such interface",
+        self.assertTrue(says("1 neighbor on 2 ports.", "eth0: no interface that can be used",
                              "eth1 has no link"))
 
     def test_what_is_configured_goes_out(self) -> None:

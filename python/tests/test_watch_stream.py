@@ -186,14 +186,17 @@ class WatchStream(OnLinks):
         live.spend(2)
         self.assertLess(live.used() - used, 0.2)
 
-    def test_a_client_that_reads_one_octet_after_another_ends_with_the_right_tables(self) -> None:
+    def test_a_client_that_reads_one_octet_after_another_is_sent_each_change(self) -> None:
         live, peer = self.live("eth0", "--", "--receive-only"), self.peer("peer0")
         slow, octets = self.watched(live), b""
+        while not octets.endswith(b"live.lost=0\n"):
+            octets += slow.client.connection.recv(1)
         for number in range(20):
             peer.send(numbered(number))
         self.assertTrue(eventually(lambda: live.neighbors() == 20))
         while b"live.eth0.change=came mac=02:00:00:00:00:13 " not in octets:
             octets += slow.client.connection.recv(1)
+        self.assertEqual(octets.count(b"live.eth0.change=came "), 20)
         self.assertEqual(live.ask("changes"), ["live.changes=20"])
 
     def test_an_interface_that_goes(self) -> None:

@@ -360,11 +360,16 @@ impl<'a> Client<'a> {
             false => (connection.ask_for("live", is_read)?, connection.ask(CONFIGURATION)?),
         };
         check_known(&mut connection, &ports)?;
-        let mut table = Table::default();
-        let watching = begin(&mut connection, &ports, |port| table.add(port))?;
-        if !self.given.json {
+        let (mut table, is_shown) = (Table::default(), !self.given.json);
+        let watching = begin(&mut connection, &ports, |port| {
+            if is_shown {
+                table.add(port);
+            }
+        })?;
+        if is_shown {
             self.print_table(&mut table, &live, &configuration)?;
         }
+        drop(table); // its memory is free for changes
         self.follow(&mut connection, watching, limit, |one, since| {
             let now = self.host.local_time(now());
             Ok(match self.given.json {

@@ -14,6 +14,8 @@ const LONGEST_LINE: usize = 8 << 10; // of a line in an answer, in octets
 /// What is kept of an answer at once. What 128 neighbors of one port can say is far less.
 const MOST_OCTETS: usize = 25 << 20;
 const MOST_LINES: usize = 200_000;
+/// Octets of a message to a client that watches. 128 neighbors of one port can say 3.7 MB.
+const MOST_OF_MESSAGE: usize = 5 << 20;
 const MOST_DIGITS: usize = 11; // of the number of lines
 const PIECE: usize = 64 << 10; // octets that are read at once
 /// Why a client may not watch.
@@ -129,7 +131,12 @@ impl Connection {
             wait(self)?;
         }
         let mut answer = Answer::default();
-        self.receive_each(|one| answer.push(one))?;
+        self.receive_each(|one| {
+            if answer.text.len() + one.len() >= MOST_OF_MESSAGE {
+                return gone("not an answer of lldpa-live: a table of more than 5 MB");
+            }
+            answer.push(one)
+        })?;
         Ok(answer)
     }
 

@@ -42,7 +42,7 @@ pub fn each_port(
 }
 
 /// Adds the name of a port, which must be another one than those before.
-fn add(names: &mut Ordered<String, ()>, name: &str) -> Done<()> {
+pub fn add(names: &mut Ordered<String, ()>, name: &str) -> Done<()> {
     if names.get(&name.into()).is_some() || names.entries.len() == MOST_PORTS {
         return gone("a port twice, or more than 64 ports");
     }

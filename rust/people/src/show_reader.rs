@@ -138,11 +138,12 @@ impl<'a> Reader<'a> {
 
     /// Reads the lines of one neighbor of a port.
     pub fn one_neighbor(mut self, port: &'a str) -> Read<Neighbor<'a>> {
-        let rest = self.next().strip_prefix("lldp.").and_then(|rest| rest.strip_prefix(port));
+        let rest = self.next().strip_prefix("lldp.").filter(|_| is_port_name(port));
+        let rest = rest.and_then(|rest| rest.strip_prefix(port));
         let place = rest.and_then(|rest| number_of(rest.strip_prefix('.')?.split_once('.')?.0));
         let neighbor = match place {
             Some(place) => self.neighbor(port, place)?,
-            None => return self.fault(&format!("a neighbor of {port}")),
+            None => return self.fault(&format!("a neighbor of {}", quoted(port))),
         };
         if self.at < self.lines.len() {
             return self.fault("one neighbor");

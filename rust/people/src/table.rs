@@ -38,7 +38,7 @@ impl Reason {
     /// Returns the reason in words, for one port and for several.
     fn words(self) -> [&'static str; 2] {
         match self {
-            Reason::Awaited => [": no such interface", ": no such interfaces"],
+            Reason::Awaited => [": no interface that can be used", ": no interfaces that can be used"],
             Reason::Disabled => [" is disabled", " are disabled"],
             Reason::OnlySends => [" only sends", " only send"],
             Reason::NoLink => [" has no link", " have no link"],

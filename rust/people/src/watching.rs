@@ -1,21 +1,32 @@
 //! What `watch` keeps of its ports: the table of each. Reads what lldpa-live sends to clients that watch:
 //! first these tables, then each neighbor that changes. If changes come faster than this program reads,
-//! lldpa-live sends tables again in place of the changes.
+//! lldpa-live sends tables again in place of the changes. Even a service that was taken over can fill no
+//! memory.
 
 use crate::changes::{News, Watch};
 use crate::client::{not_an_answer, Client, Done, Failure};
 use crate::connection::{Answer, Connection};
 use crate::live_lines::Since;
-use crate::show::{Neighbor, Port, Show, MOST_NEIGHBORS};
+use crate::neighbors::add;
+use crate::ordered::Ordered;
+use crate::show::{Neighbor, Port, Show, MOST_NEIGHBORS, MOST_PORTS};
+use crate::texts::quoted;
 use std::collections::BTreeMap;
+use std::fmt::Display;
 
 /// Octets of all that the neighbors say.
 const MOST_KEPT: usize = 40 << 20;
 /// Some that came may be told before others that are gone.
 const MOST_OF_PORT: usize = 2 * MOST_NEIGHBORS as usize;
+/// Some may get neighbors before others are told to be without.
+const MOST_WITH_NEIGHBORS: usize = 2 * MOST_PORTS;
+/// Further lines of a neighbor: an LLDPDU of 1,500 octets has no more TLVs.
+const MOST_SAID: usize = 750;
 
 #[derive(Default)]
 pub struct Watching {
+    /// The ports that are watched. All if empty.
+    asked: Vec<String>,
     ports: BTreeMap<String, Watch>,
     kept: usize,
 }
@@ -53,6 +64,7 @@ fn read(answer: &Answer) -> Done<(Message<'_>, Since)> {
 fn table_in(lines: Vec<&str>) -> Done<Port<'_>> {
     let mut show = Show::read(lines).map_err(not_an_answer)?;
     match (show.ports.pop(), show.ports.len()) {
+        (Some(port), 0) if port.held > MOST_NEIGHBORS => Err(too_many(port.held)),
         (Some(port), 0) => Ok(port),
         (_, rest) => {
             Err(not_an_answer(format!("{} tables in one answer", if rest > 0 { "several" } else { "no" })))
@@ -60,9 +72,31 @@ fn table_in(lines: Vec<&str>) -> Done<Port<'_>> {
     }
 }
 
+fn too_many(neighbors: impl Display) -> Failure {
+    not_an_answer(format!("{neighbors} neighbors of one port"))
+}
+
+impl Message<'_> {
+    /// Fails if a neighbor says more than an LLDPDU can.
+    fn check(&self) -> Done<()> {
+        let neighbors = match self {
+            Message::Table(port) => &port.neighbors[..],
+            Message::Present(one) => std::slice::from_ref(one),
+            Message::Gone(..) | Message::Complete => &[],
+        };
+        match neighbors.iter().map(|one| one.said.len()).max() {
+            Some(most) if most > MOST_SAID => {
+                Err(not_an_answer(format!("a neighbor that says {most} lines")))
+            }
+            _ => Ok(()),
+        }
+    }
+}
+
 impl Watching {
     /// Takes what lldpa-live sends. Returns what has changed.
     fn take(&mut self, message: &Message<'_>) -> Done<Vec<News>> {
+        message.check()?;
         match message {
             Message::Table(port) => self.change(port.name, |watch| watch.news(port)),
             Message::Present(one) => self.change(one.port, |watch| watch.learn(one).into_iter().collect()),
@@ -72,12 +106,15 @@ impl Watching {
     }
 
     fn change(&mut self, port: &str, change: impl FnOnce(&mut Watch) -> Vec<News>) -> Done<Vec<News>> {
+        if !self.asked.is_empty() && !self.asked.iter().any(|name| name == port) {
+            return Err(not_an_answer(format!("{} was not asked for", quoted(port))));
+        }
         let mut watch = self.ports.remove(port).unwrap_or_default();
         self.kept -= watch.memory();
         let news = change(&mut watch);
         self.kept += watch.memory();
         if watch.count() > MOST_OF_PORT {
-            return Err(not_an_answer(format!("{} neighbors of one port", watch.count())));
+            return Err(too_many(watch.count()));
         }
         if self.kept > MOST_KEPT {
             let why = "the neighbors say more than 40 MB: watch fewer ports";
@@ -85,6 +122,9 @@ impl Watching {
         }
         if watch.count() > 0 {
             self.ports.insert(port.into(), watch);
+        }
+        if self.ports.len() > MOST_WITH_NEIGHBORS {
+            return Err(not_an_answer(format!("{} ports with neighbors", self.ports.len())));
         }
         Ok(news)
     }
@@ -96,16 +136,20 @@ pub fn begin(
     ports: &[String],
     mut begin: impl FnMut(&Port<'_>),
 ) -> Done<Watching> {
-    let mut watching = Watching::default();
+    let (mut watching, mut names) = (Watching::default(), Ordered::<String, ()>::default());
+    watching.asked = ports.to_vec();
     connection.watch(ports)?;
     loop {
         let answer = connection.next_message(|_| Ok(()))?;
         let (message, _) = read(&answer)?;
         watching.take(&message)?;
         match message {
-            Message::Table(port) => begin(&port),
+            Message::Table(port) => {
+                add(&mut names, port.name)?;
+                begin(&port);
+            }
             Message::Complete => return Ok(watching),
-            _ => (),
+            _ => return Err(not_an_answer("a change before the tables".into())),
         }
     }
 }
@@ -132,9 +176,10 @@ impl Client<'_> {
             })?;
             let (message, since) = read(&answer)?;
             let news = watching.take(&message)?;
-            let texts = news.iter().take(left).map(|one| text(one, &since)).collect::<Done<Vec<_>>>()?;
-            left -= texts.len();
-            self.print_lines(texts)?;
+            for one in news.iter().take(left) {
+                self.print_lines([text(one, &since)?])?;
+            }
+            left = left.saturating_sub(news.len());
         }
         Ok(())
     }

@@ -202,11 +202,11 @@ fn full_ports_and_silent_ones_are_told() {
     let live = LiveLines::read(&["live.eth0.link=down"]);
     assert_eq!(reasons(&show, &live, 80), ["eth0 has no link", "eth1, p2 are disabled"]);
     let live = LiveLines::read(&["live.eth1.interface=awaited"]);
-    let why = ["eth1: no such interface", "p2 is disabled"];
+    let why = ["eth1: no interface that can be used", "p2 is disabled"];
     assert_eq!(reasons(&show, &live, 80), why);
     let live = LiveLines::read(&["live.eth0.interface=awaited", "live.eth1.interface=awaited"]);
     let sending = settings.replace("p2.status=disabled", "p2.status=tx-only");
-    let why = ["eth0, eth1: no such interfaces", "p2 only sends"];
+    let why = ["eth0, eth1: no interfaces that can be used", "p2 only sends"];
     assert_eq!(reasons_of(&answer, &sending, &live), why);
     let sending = sending.replace("eth1.status=disabled", "eth1.status=tx-only");
     let live = LiveLines::read(&["live.eth0.link=down", "live.eth2.link=down"]);
