@@ -10,12 +10,12 @@ from typing import Iterator
 from .netbox import Cable
 from .plan import Faults
 
-LETTER = r"A-Za-z_\u0080-\U0010ffff"
-NAME = rf'(?:"[^"\\]*(?:\\.[^"\\]*)*"|(?:[{LETTER}][{LETTER}0-9]*|[0-9]+)(?![{LETTER}0-9.]))'
+# all but letters, digits and `_`; to list the letters of all alphabets takes a tenth of a second
+SIGNS = r"\x00-/:-@\[-^`{-\x7f"
+NAME = rf'(?:"[^"\\]*(?:\\.[^"\\]*)*"|(?:(?![0-9])[^{SIGNS}]+|[0-9]+)(?![.]|[^{SIGNS}]))'
 ATTRIBUTES = r'\[[^]"]*(?:"[^"\\]*(?:\\.[^"\\]*)*"[^]"]*)*\]'
 END = rf"({NAME})\s*:\s*({NAME})"
 SKIPPED = re.compile(r"(?:\s+|//[^\n]*|#[^\n]*|/\*.*?\*/)*", re.S)
-# only the words ignore case, since to ignore that of all letters takes a tenth of a second
 HEAD = re.compile(rf"(?i:(?:strict\s+)?(?:di)?graph)\b\s*(?:{NAME}\s*)?\{{")
 EDGE = re.compile(rf"{END}\s*(?:--|->)\s*{END}\s*(?:{ATTRIBUTES})?\s*;?", re.S)
 OTHER = re.compile(rf"{NAME}\s*(?:=\s*{NAME}|{ATTRIBUTES}|(?=;))\s*;?", re.S)

@@ -50,7 +50,8 @@ def joined_to(host: str, plan: Plan, tables: Tables) -> set[str]:
 
 def is_unheard(host: str, plan: Plan, tables: Tables) -> bool:
     """Returns whether a host has no list, and is heard by no end that is planned at it."""
+    if host in tables.hosts:
+        return False
     fars = [tables.ends.get(plan.ends[key].peer) for key in plan.ends_of_hosts[host]]
-    return host not in tables.hosts and not any(
-        host in tables.names.hosts_of(seen) for far in fars if far is not None
-        for seen in far.neighbors)
+    return not any(host in tables.names.hosts_of(seen) for far in fars if far is not None
+                   for seen in far.neighbors)

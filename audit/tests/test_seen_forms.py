@@ -30,6 +30,8 @@ TREES = [*(write(PORTS) for write in vendors.OF_JSON), *table_forms.READ.values(
          *table_forms.OF_SOME_PORTS.values(), *table_forms.MANY.values(),
          json.loads(lldpd_heard.sample("clean", "json0")),
          json.loads(vendors.PROMETHEUS.read_bytes())]
+if IS_LONG:
+    WHOLE.update({f"tree {at}": json.dumps(tree).encode() for at, tree in enumerate(TREES)})
 # what each neighbor must have: names in JSON, and lines in other forms
 NEEDED = {"chassisId", "chassis_id", "port_id", "l_port_id", "lldp-local-port-id",
           "lldp-remote-chassis-id", "lldp-remote-port-id", "chassis-id", "neighborInterfaceInfo", "chassis", "port", "lldpNeighborInfo",

@@ -181,6 +181,8 @@ def program_of(tree: str, room: Path) -> str:
         if archive.returncode:
             sys.exit(f"{tree} is neither a folder nor a commit")
         subprocess.run(["tar", "-x", "-C", str(folder)], input=archive.stdout, check=True)
+    for part in ("audit", "python"):  # no run shall compile, which takes as long as 1,000 files
+        subprocess.run([sys.executable, "-I", "-m", "compileall", "-q", str(folder / part)], check=True)
     return str(folder / "bin" / "lldpa-audit")
 
 
