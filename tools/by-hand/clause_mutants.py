@@ -28,6 +28,7 @@ FIELD = re.compile(r"(?m)^    pub (\w+): (.*),$")
 NAME = re.compile(r"[\w◌<>=&|+%≡≤-]+")
 NUMBERS = ("u8", "u16", "u32", "u64", "usize")
 OPERATORS = (words, operands, values, fields)
+ROWS = dict(re.findall(r"(?m)^(\w+)(?: staticlib)?: *(.*)$", (TOP / "crates.txt").read_text()))
 
 
 class Contract(NamedTuple):
@@ -85,9 +86,9 @@ def contracts_of(crate: str) -> list[Contract]:
 
 
 def structs_of(crate: str) -> dict[str, dict[str, str]]:
-    """Returns the public fields of each struct of a crate, with their types."""
-    text = "\n".join(path.read_text() for path in sorted((CRATES / crate / "src").rglob("*.rt")))
-    return {name: dict(FIELD.findall(inside)) for name, inside in STRUCT.findall(text)}
+    """Returns the public fields of each struct of a crate and of those below it, with their types."""
+    texts = [path.read_text() for one in (*ROWS[crate].split(), crate) for path in sources(one)]
+    return {name: dict(FIELD.findall(inside)) for name, inside in STRUCT.findall("\n".join(texts))}
 
 
 def places(contract: Contract) -> list[tuple[str, str]]:
@@ -147,28 +148,48 @@ def wrapped(contract: Contract, structs: dict[str, dict[str, str]]) -> Iterator[
             yield f"{place}: {what}", new
 
 
-def importing(contract: Contract, text: str, new: str) -> str:
-    """Returns a file with wrong clauses, which also imports what only they need."""
-    begin, end = contract.begin, contract.begin + len(contract.text)
+def importing(text: str, wrong: list[tuple[Contract, str]]) -> str:
+    """Returns a file with wrong clauses of some functions, which also imports what only they need."""
+    changed = text
+    for contract, new in sorted(wrong, key=lambda one: -one[0].begin):
+        changed = changed[:contract.begin] + new + changed[contract.begin + len(contract.text):]
+    return with_imports(changed, text, wrong)
+
+
+def with_imports(changed: str, text: str, wrong: list[tuple[Contract, str]]) -> str:
+    """Returns a changed file that also imports what wrong clauses need and the file `text` lacks."""
+    needed = [lacking(contract, text, new) for contract, new in wrong]
+    prelude: set[str] = set().union(*(names for names, _ in needed))
+    lines: set[str] = set().union(*(structs for _, structs in needed))
+    if prelude:
+        lines.add(f"Rattle.std.specs.Prelude.{{{', '.join(sorted(prelude))}}}")
+    at = changed.index("\nghost use ") + 1
+    return changed[:at] + "".join(f"ghost use {line};\n" for line in sorted(lines)) + changed[at:]
+
+
+def lacking(contract: Contract, text: str, new: str) -> tuple[set[str], set[str]]:
+    """Returns the words of the Prelude, and the imports of structs, that only wrong clauses need."""
     imported = " ".join(re.findall(r"(?m)^ *ghost use .*$", text))
-    added = {token for token in TOKEN.findall(new) if token not in TOKEN.findall(contract.text)}
+    added = set(TOKEN.findall(new)) - set(TOKEN.findall(contract.text))
     names = {"ℕ": "ℕ", "+": "◌+◌", **PRELUDE}
-    prelude = sorted({names[word] for word in added & set(names)} - set(NAME.findall(imported)))
-    lines = [f"Rattle.std.specs.Prelude.{{{', '.join(prelude)}}}"] if prelude else []
-    for name, module in structs_at(contract.crate).items():
-        if name in added and f".{name}.{{{name}" not in imported:
-            lines.append(f"Rattle.{contract.crate}.specs.declared.{module}.{name}.{{{name}}}")
-    at = text.index("\nghost use ") + 1
-    uses = "".join(f"ghost use {line};\n" for line in lines)
-    return text[:at] + uses + text[at:begin] + new + text[end:]
+    prelude = {names[word] for word in added & set(names)} - set(NAME.findall(imported))
+    structs = {f"Rattle.{crate}.specs.declared.{module}.{name}.{{{name}}}"
+               for name, (crate, module) in structs_at(contract.crate).items()
+               if name in added and not re.search(rf"\.{name}\.\{{{name}\b", imported)}
+    return prelude, structs
 
 
-def structs_at(crate: str) -> dict[str, str]:
-    """Returns the module of each public struct of a crate."""
+def sources(crate: str) -> list[pathlib.Path]:
+    return sorted((CRATES / crate / "src").rglob("*.rt"))
+
+
+def structs_at(crate: str) -> dict[str, tuple[str, str]]:
+    """Returns the crate and the module of each public struct of a crate and of those below it."""
     found = {}
-    for path in sorted((CRATES / crate / "src").rglob("*.rt")):
-        module = ".".join(module_of(str(path.relative_to(CRATES / crate))))
-        found.update({name: module for name, _ in STRUCT.findall(path.read_text())})
+    for one in (*ROWS[crate].split(), crate):
+        for path in sources(one):
+            module = ".".join(module_of(str(path.relative_to(CRATES / one))))
+            found.update({name: (one, module) for name, _ in STRUCT.findall(path.read_text())})
     return found
 
 

@@ -37,15 +37,16 @@ import sys
 from typing import NamedTuple
 
 from clause_mutants import Contract, changes_of as wrong_clauses_of, contracts_of
-from clause_rooms import PROVED, ClauseRoom
+from clause_rooms import PROVED, ClauseRoom, Wrong
 from spec_mutants import changes_of, importing
-from spec_rooms import ROWS, below
+from spec_rooms import ROWS, Room, below
 
 TOP = pathlib.Path(__file__).resolve().parents[2]
 sys.path.append(str(TOP / "tools" / "gate"))
 from reach import (CRATES, NOT_DEFINITIONS, VERDICTS, Definition, Specification,  # noqa: E402
                    verdicts, without_comments)
 
+MOST = 300  # how many wrong clauses share a check
 KINDS = ("ill-typed", "refused", "above", "timeout", "survived")
 
 
@@ -122,25 +123,34 @@ def all_mutants() -> dict[str, Mutant]:
     return {mutant.name(): mutant for mutant in found}
 
 
-def verdict_on(mutant: Mutant | WrongClauses, room: ClauseRoom) -> tuple[str, str]:
-    """Returns the verdict on a mutant, and what the checker said."""
-    if isinstance(mutant, WrongClauses):
-        return room.verdict_on(mutant.of, mutant.new, "dropped" in mutant.what)
-    verdict, said = room.verdict(mutant, mutant.of.crate)
-    return room.verdict(mutant, "above") if verdict == "survived" else (verdict, said)
-
-
-def try_all(folder: pathlib.Path, job: int, mutants: list[Mutant | WrongClauses]) -> None:
-    """Tries mutants in a room of their own, and keeps each verdict as soon as it is there."""
-    room = ClauseRoom(folder / f"job-{job}")
+def keep(folder: pathlib.Path, mutant: Mutant | WrongClauses, verdict: str, said: str) -> None:
+    """Writes a verdict to the file that keeps them, and what the checker said to the room."""
+    with open(VERDICTS, "a", encoding="utf-8") as file:
+        file.write(f"{mutant.name()} {verdict}\n")
+    told = f"{mutant.name()} {verdict} {mutant.shown()}\n"
+    print(told, flush=True)
     (folder / "said").mkdir(exist_ok=True)
+    (folder / "said" / mutant.name().replace(" ", "-")).write_text(told + said)
+
+
+def try_all(folder: pathlib.Path, job: int, mutants: list[Mutant]) -> None:
+    """Tries mutants in a room of their own, and keeps each verdict as soon as it is there."""
+    room = Room(folder / f"job-{job}")
     for mutant in mutants:
-        verdict, said = verdict_on(mutant, room)
-        with open(VERDICTS, "a", encoding="utf-8") as file:
-            file.write(f"{mutant.name()} {verdict}\n")
-        told = f"{mutant.name()} {verdict} {mutant.shown()}\n"
-        print(told, flush=True)
-        (folder / "said" / mutant.name().replace(" ", "-")).write_text(told + said)
+        verdict, said = room.verdict(mutant, mutant.of.crate)
+        if verdict == "survived":
+            verdict, said = room.verdict(mutant, "above")
+        keep(folder, mutant, verdict, said)
+
+
+def try_clauses(folder: pathlib.Path, job: int, mutants: list[Wrong]) -> None:
+    """Tries wrong clauses in a room of their own, some of a crate at a time, and keeps the verdicts."""
+    room = ClauseRoom(folder / f"job-{job}")
+    for crate in dict.fromkeys(mutant.of.crate for mutant in mutants):
+        of_crate = [mutant for mutant in mutants if mutant.of.crate == crate]
+        for at in range(0, len(of_crate), MOST):
+            for verdict in room.verdicts_on(of_crate[at:at + MOST]):
+                keep(folder, verdict.mutant, verdict.kind, verdict.said)
 
 
 def read_options() -> argparse.Namespace:
@@ -175,7 +185,8 @@ def try_in_jobs(options: argparse.Namespace, left: list[Mutant | WrongClauses]) 
     for crate in below("lldpa_c"):
         subprocess.run(["rt", "lib"], cwd=CRATES / crate, stdout=subprocess.DEVNULL, check=True)
     jobs = [(options.room, job, left[job::options.jobs]) for job in range(options.jobs)]
-    running = [multiprocessing.Process(target=try_all, args=job) for job in jobs]
+    task = try_clauses if options.clauses else try_all
+    running = [multiprocessing.Process(target=task, args=job) for job in jobs]
     for process in running:
         process.start()
     for process in running:
