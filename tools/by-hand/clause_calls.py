@@ -23,11 +23,12 @@ import sys
 import tempfile
 
 from clause_mutants import Contract
-from mutate_specs import TOP, VERDICTS, WrongClauses, all_wrong_clauses, verdicts
+from mutate_specs import TOP, WrongClauses, all_wrong_clauses
 
-sys.path.append(str(TOP / "tools" / "library"))
+sys.path += [str(TOP / "tools" / "library"), str(TOP / "tools" / "gate")]
 from library_parts import Counts, Library, fault_of  # noqa: E402
 from library_transcripts import check_rows, check_transcripts  # noqa: E402
+from reach import VERDICTS, verdicts  # noqa: E402
 
 C = TOP / "tools" / "library" / "c"
 FRONT = TOP / "crates" / "lldpa_c" / "front" / "lldpa.c"
@@ -187,11 +188,12 @@ def chosen_by(pattern: str) -> dict[str, list[tuple[str, str]]]:
 def holders(chosen: dict[str, list[tuple[str, str]]], folder: pathlib.Path) -> dict[str, str]:
     """Returns the holder of each mutant of which each statement is noticed, and prints them all."""
     planted = list(dict.fromkeys(one for some in chosen.values() for one in some))
+    found: dict[tuple[str, str], str | None] = {}
     with tempfile.TemporaryDirectory() as room, concurrent.futures.ThreadPoolExecutor(2) as pool:
         programs = Programs(folder.resolve(), pathlib.Path(room))
-        found = dict(zip(planted, pool.map(lambda one: programs.noticed(*one), planted)))
-    for one, holder in found.items():
-        print(*one, "=", holder or "NOT NOTICED", flush=True)
+        for one, holder in zip(planted, pool.map(lambda one: programs.noticed(*one), planted)):
+            print(*one, "=", holder or "NOT NOTICED", flush=True)
+            found[one] = holder
     said = {name: [found[one] for one in some] for name, some in chosen.items()}
     return {name: some[0] for name, some in said.items() if some and some[0] and all(some)}
 

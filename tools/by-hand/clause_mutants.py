@@ -19,6 +19,7 @@ from spec_mutants import PRELUDE, TOKEN, Body, fields, operands, values, words
 TOP = pathlib.Path(__file__).resolve().parents[2]
 sys.path.append(str(TOP / "tools" / "gate"))
 from edits import CRATES, IMPL, module_of, type_of  # noqa: E402
+from rooms import ROWS  # noqa: E402
 
 HEAD = re.compile(r"(?m)^( *)pub (?:const )?(?:unsafe )?(?:extern \"C\" )?fn (\w+)")
 CLAUSE = re.compile(r"(?m)^ *ensures\*?( \w+)? \{")
@@ -28,7 +29,6 @@ FIELD = re.compile(r"(?m)^    pub (\w+): (.*),$")
 NAME = re.compile(r"[\w◌<>=&|+%≡≤-]+")
 NUMBERS = ("u8", "u16", "u32", "u64", "usize")
 OPERATORS = (words, operands, values, fields)
-ROWS = dict(re.findall(r"(?m)^(\w+)(?: staticlib)?: *(.*)$", (TOP / "crates.txt").read_text()))
 
 
 class Contract(NamedTuple):

@@ -168,11 +168,11 @@ class ClauseRoom(Room):
 
     def verdicts_on(self, some: Sequence[Wrong]) -> Iterator[Verdict]:
         """Yields the verdict on each mutant of a crate."""
+        yield from [Verdict(mutant, "survived", "nothing calls it") for mutant in some if is_free(mutant)]
         asked = [mutant for mutant in some if not is_free(mutant)]
-        told = [Verdict(mutant, "survived", "nothing calls it") for mutant in some if is_free(mutant)]
-        told += self.told_by_twins(asked) if asked else []
+        told = self.told_by_twins(asked) if asked else []
         yield from told
-        left = [mutant for mutant in some if mutant not in [verdict.mutant for verdict in told]]
+        left = [mutant for mutant in asked if mutant not in [verdict.mutant for verdict in told]]
         for group in groups_of(left):
             try:
                 yield from self.asked_of_callers(group)

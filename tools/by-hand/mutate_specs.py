@@ -11,6 +11,10 @@ tried. The seed orders all mutants, and of the first `count` those are tried tha
 has a copy of the crates for each job, and what the checker said; the crates below are as `rt lib`
 builds them.
 
+With --clauses a mutant is one change of the clauses of a public function (clause_mutants.py). All
+those of the library's functions are drawn, and `count` of the others. clause_rooms.py tries them, and
+clause_calls.py plants in C what no proof needs of the library.
+
 A mutant is `ill-typed`, `refused` by its crate, refused `above` by transcripts and examples, or
 `survived`. The law that reaches the fewest definitions, this one among them, is checked first, and
 the others only if it stands. A refusal can mean only that a line of a proof no longer fits.
@@ -34,7 +38,7 @@ import pathlib
 import re
 import subprocess
 import sys
-from typing import NamedTuple
+from typing import Iterable, NamedTuple
 
 from clause_mutants import Contract, changes_of as wrong_clauses_of, contracts_of
 from clause_rooms import PROVED, ClauseRoom, Wrong
@@ -99,6 +103,14 @@ def all_wrong_clauses() -> dict[str, WrongClauses]:
     return {mutant.name(): mutant for mutant in found}
 
 
+def drawn_from(names: Iterable[str], seed: str, count: int) -> list[str]:
+    """Returns all mutants of clauses of the library's functions, and of the others as many as are
+    drawn, in the order of a seed."""
+    ordered = sorted(names, key=lambda name: hashed(seed, name))
+    of_library = [name for name in ordered if name.startswith("lldpa_c src.")]
+    return of_library + [name for name in ordered if name not in set(of_library)][:count]
+
+
 def said_by_laws_alone(crate: str) -> set[str]:
     """Returns the words that only laws use: a record among them is a second statement itself."""
     of_laws: set[str] = set()
@@ -123,7 +135,7 @@ def all_mutants() -> dict[str, Mutant]:
     return {mutant.name(): mutant for mutant in found}
 
 
-def keep(folder: pathlib.Path, mutant: Mutant | WrongClauses, verdict: str, said: str) -> None:
+def keep(folder: pathlib.Path, mutant: Mutant | Wrong, verdict: str, said: str) -> None:
     """Writes a verdict to the file that keeps them, and what the checker said to the room."""
     with open(VERDICTS, "a", encoding="utf-8") as file:
         file.write(f"{mutant.name()} {verdict}\n")
@@ -195,10 +207,9 @@ def try_in_jobs(options: argparse.Namespace, left: list[Mutant | WrongClauses]) 
 
 def main() -> None:
     options = read_options()
-    mutants: dict[str, Mutant | WrongClauses] = {}
-    mutants.update(all_wrong_clauses() if options.clauses else all_mutants())
+    mutants: dict[str, Mutant] | dict[str, WrongClauses] = all_wrong_clauses() if options.clauses else all_mutants()
     kept = tidy()
-    drawn = sorted(mutants, key=lambda name: hashed(options.seed, name))[:options.count]
+    drawn = drawn_from(mutants, options.seed, options.count)
     chosen = [name for name in drawn if re.search(options.only, name)]
     print(f"seed {options.seed}: {len(chosen)} of {len(mutants)} mutants")
     if options.list:

@@ -18,7 +18,7 @@ TOP = pathlib.Path(__file__).resolve().parents[2]
 sys.path += [str(TOP / "tools" / "gate"), str(TOP / "tools" / "by-hand")]
 from counts import Counts  # noqa: E402
 from clause_mutants import contracts_of  # noqa: E402
-from mutate_specs import ROWS, all_mutants, all_wrong_clauses, hashed, said_by_laws_alone  # noqa: E402
+from mutate_specs import ROWS, all_mutants, all_wrong_clauses, drawn_from, said_by_laws_alone  # noqa: E402
 from reach import NOT_DEFINITIONS, Specification, verdicts  # noqa: E402
 
 PAGE = TOP / "docs" / "TESTING.md"
@@ -51,7 +51,7 @@ def told(page: str, option: str) -> str:
     assert command is not None, f"the page has no command with {option or 'no option'}"
     mutants, known = list(all_wrong_clauses() if option else all_mutants()), verdicts()
     whole, part = clauses() if option else definitions()
-    drawn = sorted(mutants, key=lambda name: hashed(command[1], name))[:int(command[2])]
+    drawn = drawn_from(mutants, command[1], int(command[2]))
     kinds = collections.Counter((name.split(" ")[0], known[name].split(" ")[0]) for name in drawn if name in known)
     rows, checked = [], 0
     for crate in (crate for crate in ROWS if whole[crate]):

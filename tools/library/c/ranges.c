@@ -241,6 +241,13 @@ static void try_rest(void)
     holds(lldpa_fault_text(LLDPA_MEMORY, room, 3, &length) == LLDPA_NO_ROOM && is_kept(0), "a fault's text that does not fit");
     holds(lldpa_fault_text(LLDPA_MEMORY, room, sizeof room, &length) == LLDPA_OK && is_kept(length), "after a fault's text");
     memset(room, 0x5a, sizeof room);
+    length = 77;
+    holds(lldpa_escape(frame, 8, room, 9, &length) == LLDPA_NO_ROOM && is_kept(0) && length == 77, "a text that does not fit");
+    holds(lldpa_tlv_text(5, frame, 8, room, 9, &length) == LLDPA_NO_ROOM && is_kept(0) && length == 77, "a TLV that does not fit");
+    holds(lldpa_escape(frame, 8, room, sizeof room, &length) == LLDPA_OK && is_kept(length), "after a text");
+    memset(room, 0x5a, sizeof room);
+    holds(lldpa_tlv_text(5, frame, 8, room, sizeof room, &length) == LLDPA_OK && is_kept(length), "after a TLV");
+    memset(room, 0x5a, sizeof room);
     holds(lldpa_frame_of(&agent, 0, LLDPA_ORDINARY, room, 9, &length) == LLDPA_NO_ROOM && is_kept(0), "a frame that does not fit");
     holds(lldpa_frame_of(&agent, 0, LLDPA_ORDINARY, room, sizeof room, &length) == LLDPA_OK && is_kept(length), "after a frame");
     memset(room, 0x5a, sizeof room);
