@@ -18,6 +18,7 @@ TOP = pathlib.Path(__file__).resolve().parents[2]
 sys.path += [str(TOP / "tools" / "gate"), str(TOP / "tools" / "by-hand")]
 from counts import Counts  # noqa: E402
 from clause_mutants import contracts_of  # noqa: E402
+from clause_rooms import is_free  # noqa: E402
 from mutate_specs import ROWS, all_mutants, all_wrong_clauses, drawn_from, said_by_laws_alone  # noqa: E402
 from reach import NOT_DEFINITIONS, Specification, verdicts  # noqa: E402
 
@@ -49,15 +50,17 @@ def told(page: str, option: str) -> str:
     """Returns the table and the sentence below it, for the command with this option that the page has."""
     command = re.search(COMMAND.format(option), page)
     assert command is not None, f"the page has no command with {option or 'no option'}"
-    mutants, known = list(all_wrong_clauses() if option else all_mutants()), verdicts()
+    mutants, known = all_wrong_clauses() if option else all_mutants(), verdicts()
     whole, part = clauses() if option else definitions()
     drawn = drawn_from(mutants, command[1], int(command[2]))
     kinds = collections.Counter((name.split(" ")[0], known[name].split(" ")[0]) for name in drawn if name in known)
-    rows, checked = [], 0
+    # what a call gives to nobody is not shown to the prover
+    shown = [name for name in drawn if name in known and not (option and is_free(mutants[name]))]
+    checked = sum(known[name].split(" ")[0] not in ("ill-typed", "timeout") for name in shown)
+    rows = []
     for crate in (crate for crate in ROWS if whole[crate]):
         of = collections.Counter({kind: number for (one, kind), number in kinds.items() if one == crate})
         refused, tried = of["refused"] + of["above"], sum(of.values())
-        checked += tried - of["ill-typed"] - of["timeout"]
         cells = [whole[crate], part[crate], sum(name.startswith(f"{crate} ") for name in mutants),
                  sum(name.startswith(f"{crate} ") for name in drawn), tried, of["ill-typed"], refused, of["survived"]]
         rows.append(f"| `{crate}` | {' | '.join(f'{cell:,}' for cell in cells)} |\n")
