@@ -138,7 +138,7 @@ class Programs:
         if fault:
             sys.exit(f"{program} with a wrong {name}: {fault}")
         if program in ("vectors", "transcript"):
-            return f"lldpa_{name.partition('_')[2].replace('frame_news', 'frame')}(" if fails(built, program, room) else None
+            return f"{name.replace('frame_news', 'frame')}(" if fails(built, program, room) else None
         try:
             ran = subprocess.run([built], stdout=subprocess.PIPE, text=True, timeout=SECONDS, check=False)
         except subprocess.TimeoutExpired:
@@ -171,9 +171,9 @@ def fails(built: pathlib.Path, program: str, room: pathlib.Path) -> bool:
 def written(held: dict[str, str]) -> None:
     """Writes the holders behind the verdicts of these mutants."""
     lines = VERDICTS.read_text().splitlines()
-    VERDICTS.write_text("".join(f"{line} {held[line.rpartition(' ')[0]]}\n"
-                                if line.rpartition(" ")[0] in held and line.endswith(" survived") else f"{line}\n"
-                                for line in lines))
+    names = [re.sub(" survived$", "", line) for line in lines]
+    VERDICTS.write_text("".join(f"{line} {held[name]}\n" if name in held else f"{line}\n"
+                                for line, name in zip(lines, names)))
 
 
 def chosen_by(pattern: str) -> dict[str, list[tuple[str, str]]]:

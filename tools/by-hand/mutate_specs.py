@@ -207,7 +207,9 @@ def try_in_jobs(options: argparse.Namespace, left: list[Mutant | WrongClauses]) 
 
 def main() -> None:
     options = read_options()
-    mutants: dict[str, Mutant] | dict[str, WrongClauses] = all_wrong_clauses() if options.clauses else all_mutants()
+    mutants: dict[str, Mutant] | dict[str, WrongClauses] = all_mutants()
+    if options.clauses:
+        mutants = all_wrong_clauses()
     kept = tidy()
     drawn = drawn_from(mutants, options.seed, options.count)
     chosen = [name for name in drawn if re.search(options.only, name)]
