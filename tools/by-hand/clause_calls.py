@@ -75,7 +75,8 @@ def statement(contract: Contract, what: str) -> str:
         one, two = f"{value}.{found[3]}", f"{value}.{found[4]}"
         return f"__typeof__({one}) it = {one}; {one} = {two}; {two} = it;"
     field = f"{value}.{found[1]}" if found[1] else value
-    return {"modulo 64": f"{field} %= 64;", "one more": f"{field} += 1;", "a constant": f"{field} = 0;"}[found[2]]
+    change = {"modulo 64": "%= 64", "one more": "+= 1", "a constant": "= 0"}[found[2]]
+    return f"{field} {change};"
 
 
 def statements_of(mutant: WrongClauses) -> list[str]:
@@ -112,7 +113,8 @@ class Programs:
             self.compile(source, room / f"{source.stem}.o")
 
     def compile(self, source: pathlib.Path, made: pathlib.Path) -> None:
-        words = ["cc", "-std=gnu99", "-O1", f"-I{self.library.folder}", f"-I{C}", "-c", source, "-o", made]
+        folders = [f"-I{self.library.folder}", f"-I{C}"]
+        words = ["cc", "-std=gnu99", "-O1", *folders, "-c", source, "-o", made]
         fault = fault_of(words)
         if fault:
             sys.exit(f"{source}: {fault}")
@@ -140,7 +142,8 @@ class Programs:
         if program in ("vectors", "transcript"):
             return f"{name.replace('frame_news', 'frame')}(" if fails(built, program, room) else None
         try:
-            ran = subprocess.run([built], stdout=subprocess.PIPE, text=True, timeout=SECONDS, check=False)
+            ran = subprocess.run([built], stdout=subprocess.PIPE, text=True, timeout=SECONDS,
+                                 check=False)
         except subprocess.TimeoutExpired:
             return "int main(void)"
         said = re.search(r"(?m)^FAILED: (.*)$", ran.stdout)
@@ -180,7 +183,8 @@ def chosen_by(pattern: str) -> dict[str, list[tuple[str, str]]]:
     """Returns the calls and statements for each mutant that survived and has no holder yet."""
     known, found = verdicts(), {}
     for name, mutant in all_wrong_clauses().items():
-        if name.startswith("lldpa_c ") and known.get(name) == "survived" and re.search(pattern, name):
+        is_left = name.startswith("lldpa_c ") and known.get(name) == "survived"
+        if is_left and re.search(pattern, name):
             found[name] = [(mutant.of.name(), words) for words in statements_of(mutant)]
     return found
 

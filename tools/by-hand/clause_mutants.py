@@ -72,7 +72,8 @@ def contracts_in(crate: str, path: str, text: str) -> Iterator[Contract]:
             impl = [line for line in text[:found.start()].split("\n") if line == "}" or IMPL.match(line)]
             inside = [type_of(impl[-1])] if found[1] and impl and impl[-1] != "}" else []
             name = "::".join([*module_of(path), *inside, found[2]])
-            yield Contract(crate, path, name, text[found.start():begin], begin + 1, text[begin + 1:body.start()])
+            head, clauses = text[found.start():begin], text[begin + 1:body.start()]
+            yield Contract(crate, path, name, head, begin + 1, clauses)
 
 
 def contracts_of(crate: str) -> list[Contract]:
@@ -114,7 +115,8 @@ def others(kind: str, structs: dict[str, dict[str, str]]) -> Iterator[tuple[str,
 
 def left_out(contract: Contract) -> Iterator[tuple[str, str]]:
     for name, begin, end in contract.clauses():
-        yield f"clause {name or 'alone'} dropped", contract.text[:begin] + contract.text[end:].lstrip("\n")
+        rest = contract.text[end:].lstrip("\n")
+        yield f"clause {name or 'alone'} dropped", contract.text[:begin] + rest
 
 
 def one_way(contract: Contract) -> Iterator[tuple[str, str]]:
@@ -141,7 +143,8 @@ def wrapped(contract: Contract, structs: dict[str, dict[str, str]]) -> Iterator[
                 text = contract.text[begin:end]
                 inside = text[text.index("{") + 1:-1]
                 if word.search(inside):
-                    held = f"(it : {type_}) × ({word.sub('it', inside).strip()}) × ({place} ≡ {other})"
+                    of_it = word.sub("it", inside).strip()
+                    held = f"(it : {type_}) × ({of_it}) × ({place} ≡ {other})"
                     text = f"{text[:text.index('{')]}{{ {held} }}"
                 new = new[:begin + shift] + text + new[end + shift:]
                 shift += len(text) - (end - begin)

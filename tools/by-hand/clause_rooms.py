@@ -16,18 +16,19 @@ import sys
 from typing import Iterator, NamedTuple, Protocol, Sequence
 
 from clause_mutants import Contract, importing
-from clause_twins import Twin, lay_proofs, with_twins
+from clause_twins import Twin, lay_proofs, twins_of, with_twins
 from spec_rooms import ROWS, Room, below
 
 TOP = pathlib.Path(__file__).resolve().parents[2]
 sys.path.append(str(TOP / "tools" / "gate"))
-from edits import CRATES, Edit, Unfit, edits_of, function_at  # noqa: E402
+from edits import CRATES, function_at  # noqa: E402
 from rooms import Said, refused_in_source  # noqa: E402
 
 VERDICT = re.compile(r"(?m)^fn (\w+)::(\S+): (.*)$")
 # the crates that are proved, each after those below it, without the crate of tests and the program
 PROVED = [crate for crate in ROWS if crate not in ("lldp_tests", "above")]
 SECONDS = 300, 10  # of processor, for a check and for each function of it
+TYPED, SEARCHED = 60, 8  # how many twins share a check: without a search, and with one
 
 
 class Wrong(Protocol):
@@ -55,7 +56,7 @@ class Verdict(NamedTuple):
 
 @functools.lru_cache(None)
 def callers_in(crate: str, contract: Contract) -> tuple[str, ...]:
-    """Returns the functions of a crate whose bodies have the name of a function, without its own."""
+    """Returns the functions of a crate whose bodies name a function, without the function itself."""
     found = []
     for path in sorted((CRATES / crate / "src").rglob("*.rt")):
         text, name = path.read_text(), str(path.relative_to(CRATES / crate))
@@ -74,20 +75,6 @@ def touched_by(contract: Contract) -> frozenset[tuple[str, str]]:
     return frozenset(callers | {(contract.crate, contract.function)})
 
 
-@functools.lru_cache(None)
-def edits_on(contract: Contract) -> tuple[Edit, ...]:
-    """Returns the wrong bodies that change this function alone."""
-    found = []
-    for edit in (*edits_of(contract.crate, "wrong"), *edits_of(contract.crate, "must-fail")):
-        try:
-            changed = edit.functions(CRATES / contract.crate)
-        except Unfit:
-            continue
-        if {name.rpartition("::")[2] for name in changed} == {contract.name()} and not edit.goals:
-            found.append(edit)
-    return tuple(found)
-
-
 def groups_of(mutants: Sequence[Wrong]) -> list[list[Wrong]]:
     """Puts each mutant of a crate into the first group whose mutants have no function in common with
     it, neither their own nor a caller."""
@@ -104,10 +91,25 @@ def groups_of(mutants: Sequence[Wrong]) -> list[list[Wrong]]:
     return [group for group, _ in groups]
 
 
+@functools.lru_cache(None)
+def is_spoken_of(contract: Contract) -> bool:
+    """Returns whether a statement or proof of a crate, outside the function's own folder, or another
+    function has the name of a function. A law that spoke of its contract would need the name."""
+    own = f"/proofs/{contract.function.replace('::', '/')}/"
+    name = re.compile(rf"(?<![\w-]){contract.name()}(?![\w-])")
+    for crate in [crate for crate in ROWS if contract.crate in (crate, *below(crate))]:
+        for path in sorted((CRATES / crate).glob("[ps]*/**/*.*t*")):
+            text = re.sub(r"(?m)(--|//).*$", "", path.read_text()) if own not in str(path) else ""
+            here = (crate, str(path.relative_to(CRATES / crate))) == (contract.crate, contract.path)
+            if len(name.findall(text)) > here:
+                return True
+    return False
+
+
 def is_free(mutant: Wrong) -> bool:
-    """Returns whether clauses hold for another value than the call gives, and nothing calls it. Then
-    no proof can need what they said, and C programs show who does."""
-    return ": " in mutant.what and len(touched_by(mutant.of)) == 1
+    """Returns whether clauses hold for another value than the call gives, and nothing calls or names
+    it. Then no proof can need what they said, and C programs show who does."""
+    return ": " in mutant.what and len(touched_by(mutant.of)) == 1 and not is_spoken_of(mutant.of)
 
 
 class ClauseRoom(Room):
@@ -147,14 +149,22 @@ class ClauseRoom(Room):
         self.restore(crate)
         for path in {twin.of.path for twin in twins}:
             here = [twin for twin in twins if twin.of.path == path]
-            (self.crates / crate / path).write_text(with_twins((CRATES / crate / path).read_text(), here))
-        for twin in twins:
+            text = (CRATES / crate / path).read_text()
+            (self.crates / crate / path).write_text(with_twins(text, here))
+        for twin in (twin for twin in twins if twin.edit):
             lay_proofs(twin, self.crates)
 
-    def said_of_twins(self, twins: Sequence[Twin]) -> Said:
-        self.lay_twins(twins)
-        said = self.said_of(twins[0].of.crate, [twin.function() for twin in twins])
-        return said or sys.exit(f"{len(twins)} twins take too long")
+    def said_of_twins(self, twins: Sequence[Twin], most: int) -> Iterator[tuple[Twin, Said | None]]:
+        """Yields what a check said of each twin. At most `most` share a check, and half of them if it
+        did not end. Of a twin whose check does not end alone, nothing is said."""
+        for at in range(0, len(twins), most):
+            some = twins[at:at + most]
+            self.lay_twins(some)
+            said = self.said_of(some[0].of.crate, [twin.function() for twin in some])
+            if said is None and len(some) > 1:
+                yield from self.said_of_twins(some, (len(some) + 1) // 2)
+            else:
+                yield from ((twin, said and judged(twin, said)) for twin in some)
 
     def is_read(self, twin: Twin, said: Said) -> bool:
         """Returns whether what was said has no error in the text of the contract itself."""
@@ -166,37 +176,37 @@ class ClauseRoom(Room):
 
     def verdicts_on(self, some: Sequence[Wrong]) -> Iterator[Verdict]:
         """Yields the verdict on each mutant of a crate."""
-        yield from [Verdict(mutant, "survived", "nothing calls it") for mutant in some if is_free(mutant)]
-        asked = [mutant for mutant in some if not is_free(mutant)]
-        told = self.told_by_twins(asked) if asked else []
-        yield from told
-        left = [mutant for mutant in asked if mutant not in [verdict.mutant for verdict in told]]
-        for group in groups_of(left):
+        free = [mutant for mutant in some if is_free(mutant)]
+        yield from (Verdict(mutant, "survived", "nothing calls it") for mutant in free)
+        asked = [mutant for mutant in some if mutant not in free]
+        told = self.told_by_twins(asked)
+        yield from told.values()
+        for group in groups_of([mutant for mutant in asked if mutant not in told]):
             try:
                 yield from self.asked_of_callers(group)
             finally:
                 self.restore(group[0].of.crate)
 
-    def told_by_twins(self, some: Sequence[Wrong]) -> list[Verdict]:
+    def told_by_twins(self, some: Sequence[Wrong]) -> dict[Wrong, Verdict]:
         """Returns a verdict for each mutant that is ill-typed, or with which a wrong body is proved."""
-        twins = [twin_of(mutant, at) for at, mutant in enumerate(some)]
-        said = self.said_of_twins(twins)
-        told = [Verdict(mutant, "ill-typed", said.text) for mutant, twin in zip(some, twins)
-                if not self.is_read(twin, said)]
-        unread = [verdict.mutant for verdict in told]
-        return told + self.needed_by_edits([mutant for mutant in some if mutant not in unread])
+        twins = {twin: mutant for at, mutant in enumerate(some) for twin in twins_of(mutant.of, mutant.new, f"twin{at}")}
+        told: dict[Wrong, Verdict] = {}
+        for searched, most in ((False, TYPED), (True, SEARCHED)):
+            these = [twin for twin in twins if bool(twin.edit) == searched]
+            for twin, said in self.said_of_twins(these, most):
+                verdict = self.told_by(twin, said, twins[twin])
+                told.update({twins[twin]: verdict} if verdict else {})
+        return told
 
-    def needed_by_edits(self, some: Sequence[Wrong]) -> list[Verdict]:
-        """Returns a verdict for each mutant that leaves something out, if a wrong body of its function
-        is proved with it."""
-        pairs = [(mutant, edit) for mutant in some if "dropped" in mutant.what for edit in edits_on(mutant.of)]
-        found = [(mutant, twin_of(mutant, at, edit)) for at, (mutant, edit) in enumerate(pairs)]
-        kept = [(mutant, twin) for mutant, twin in found
-                if twin.text((CRATES / twin.of.crate / twin.of.path).read_text())]
-        said = self.said_of_twins([twin for _, twin in kept]) if kept else None
-        told = {mutant: f"with it {twin.edit.name} is proved" for mutant, twin in kept
-                if said and twin.edit and is_proved(twin.function(), said)}
-        return [Verdict(mutant, "refused", words) for mutant, words in told.items()]
+    def told_by(self, twin: Twin, said: Said | None, mutant: Wrong) -> Verdict | None:
+        """Returns the verdict that a twin gives of its mutant, if it gives one."""
+        if said is None:
+            return None if twin.edit else Verdict(mutant, "timeout", "")
+        if not self.is_read(twin, said):
+            return Verdict(mutant, "ill-typed", said.text)
+        if twin.edit and is_proved(twin.function(), said):
+            return Verdict(mutant, "refused", f"with it {twin.edit.name} is proved")
+        return None
 
     def asked_of_callers(self, some: Sequence[Wrong]) -> list[Verdict]:
         """Returns the verdicts of callers, in the crate itself and then in those above it."""
@@ -210,12 +220,16 @@ class ClauseRoom(Room):
                 kind = "timeout" if said is None else "refused" if crate == own else "above"
                 found += [Verdict(mutant, kind, said.text if said else "") for mutant in left
                           if said is None or refusing(callers_in(crate, mutant.of), said)]
-                left = [mutant for mutant in left if mutant not in [verdict.mutant for verdict in found]]
+                told = [verdict.mutant for verdict in found]
+                left = [mutant for mutant in left if mutant not in told]
         return found + [Verdict(mutant, "survived", "") for mutant in left]
 
 
-def twin_of(mutant: Wrong, at: int, edit: Edit | None = None) -> Twin:
-    return Twin(mutant.of, mutant.new, f"{mutant.of.name()}_twin{at}", edit)
+def judged(twin: Twin, said: Said) -> Said:
+    """Returns what was said, if it has a verdict on the twin."""
+    if twin.function() not in said.verdicts:
+        sys.exit(f"no verdict on {twin.name}: {said.text[-2000:]}")
+    return said
 
 
 def refusing(callers: Sequence[str], said: Said) -> bool:

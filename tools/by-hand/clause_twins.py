@@ -5,12 +5,13 @@ then whether a wrong body of the function is proved with them. Only the second n
 """
 from __future__ import annotations
 
+import functools
 import pathlib
 import re
 from typing import NamedTuple, Optional
 
 from clause_mutants import CRATES, Contract, with_imports
-from edits import Edit
+from edits import Edit, Unfit, edits_of
 
 
 class Twin(NamedTuple):
@@ -24,18 +25,48 @@ class Twin(NamedTuple):
     def function(self) -> str:
         return f"{self.of.function.rpartition('::')[0]}::{self.name}"
 
+    def source(self) -> str:
+        """Returns the file in which the function stands."""
+        return (CRATES / self.of.crate / self.of.path).read_text()
+
     def text(self, source: str) -> str | None:
         """Returns the copy, or None if the edit changes no text of this function."""
         begin, end = item_of(self.of, source)
         head = source[begin:self.of.begin].replace(f"fn {self.of.name()}", f"fn {self.name}")
         if not self.edit:
             head = "#[tactic(none)]\n" + re.sub(r"(?m)^ *#\[tactic.*\n", "", head)
+            indent = re.match(" *", self.of.head)[0]
+            return f"{head}{self.new}{indent}{{\n{indent}    unreachable!()\n{indent}}}\n"
         body = source[self.of.begin + len(self.of.text):end]
-        for change in self.edit.changes if self.edit else ():
+        for change in self.edit.changes:
             if change.path != self.of.path or body.count(change.old) != 1:
                 return None
             body = body.replace(change.old, change.new)
         return f"{head}{self.new}{body}\n"
+
+
+@functools.lru_cache(None)
+def edits_on(contract: Contract) -> tuple[Edit, ...]:
+    """Returns the wrong bodies that change this function alone."""
+    found = []
+    for edit in (*edits_of(contract.crate, "wrong"), *edits_of(contract.crate, "must-fail")):
+        try:
+            changed = edit.functions(CRATES / contract.crate)
+        except Unfit:
+            continue
+        if {name.rpartition("::")[2] for name in changed} == {contract.name()} and not edit.goals:
+            found.append(edit)
+    return tuple(found)
+
+
+def twins_of(contract: Contract, new: str, name: str) -> list[Twin]:
+    """Returns a twin with each wrong body of the function, if the new clauses leave something out, or
+    one that nothing tries to prove."""
+    is_less = len(new.split()) < len(contract.text.split())
+    found = [Twin(contract, new, f"{contract.name()}_{name}_{number}", edit)
+             for number, edit in enumerate(edits_on(contract) if is_less else ())]
+    fit = [twin for twin in found if twin.text(twin.source())]
+    return fit or [Twin(contract, new, f"{contract.name()}_{name}")]
 
 
 def item_of(contract: Contract, source: str) -> tuple[int, int]:
@@ -62,8 +93,10 @@ def lay_proofs(twin: Twin, crates: pathlib.Path) -> None:
     """Copies the proofs of a function for its twin, without those of clauses that the twin lacks."""
     parts = twin.of.function.split("::")
     for file in CRATES.joinpath(twin.of.crate, "proofs", *parts).glob("*.antt"):
-        text = file.read_text().replace(f"{'.'.join(parts)}.", f"{'.'.join([*parts[:-1], twin.name])}.")
-        for name in {name for name, _, _ in twin.of.clauses() if f" {name} {{" not in twin.new and name}:
+        path, new = (".".join([*parts[:-1], name]) for name in (parts[-1], twin.name))
+        text = file.read_text().replace(f"{path}.", f"{new}.")
+        clauses = {name for name, _, _ in twin.of.clauses() if name}
+        for name in {name for name in clauses if f" {name} {{" not in twin.new}:
             text = re.sub(rf"(?ms)^pub [\w+-]*clause-{name} : .*?(?=^\S*pub |\Z)", "", text)
         folder = crates.joinpath(twin.of.crate, "proofs", *parts[:-1], twin.name)
         folder.mkdir(parents=True, exist_ok=True)

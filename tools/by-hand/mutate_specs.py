@@ -3,6 +3,7 @@
 
     tools/by-hand/mutate_specs.py --room DIR [--seed N] [--count N] [--only PATTERN] [--jobs N]
                                   [--list]
+    tools/by-hand/mutate_specs.py --clauses [--batch N] ..
 
 A mutant is one small change (spec_mutants.py) of one definition in `specs`, outside specs/Laws and
 specs/Code. Only laws, worked examples, vectors and transcripts are checked, and no function: so a
@@ -25,13 +26,14 @@ mutants.txt beside this script keeps the verdicts, so that a later call goes on.
 The key stands for the texts of the definition and of its change: once a definition changes, its
 mutants are new. To try a mutant again, remove its line. Behind a survivor people write what holds
 it: tools/gate/reach.txt says the kinds, and reach.py checks them. --list prints the changes and
-what is known of them. The last lines count the verdicts of each crate.
+what is known of them. The last lines count the verdicts of each crate, and what was not tried.
 """
 from __future__ import annotations
 
 import argparse
 import collections
 import difflib
+import functools
 import hashlib
 import multiprocessing
 import pathlib
@@ -50,7 +52,6 @@ sys.path.append(str(TOP / "tools" / "gate"))
 from reach import (CRATES, NOT_DEFINITIONS, VERDICTS, Definition, Specification,  # noqa: E402
                    verdicts, without_comments)
 
-MOST = 300  # how many wrong clauses share a check
 KINDS = ("ill-typed", "refused", "above", "timeout", "survived")
 
 
@@ -155,13 +156,13 @@ def try_all(folder: pathlib.Path, job: int, mutants: list[Mutant]) -> None:
         keep(folder, mutant, verdict, said)
 
 
-def try_clauses(folder: pathlib.Path, job: int, mutants: list[Wrong]) -> None:
+def try_clauses(folder: pathlib.Path, job: int, batch: int, mutants: list[Wrong]) -> None:
     """Tries wrong clauses in a room of their own, some of a crate at a time, and keeps the verdicts."""
     room = ClauseRoom(folder / f"job-{job}")
     for crate in dict.fromkeys(mutant.of.crate for mutant in mutants):
         of_crate = [mutant for mutant in mutants if mutant.of.crate == crate]
-        for at in range(0, len(of_crate), MOST):
-            for verdict in room.verdicts_on(of_crate[at:at + MOST]):
+        for at in range(0, len(of_crate), batch):
+            for verdict in room.verdicts_on(of_crate[at:at + batch]):
                 keep(folder, verdict.mutant, verdict.kind, verdict.said)
 
 
@@ -173,6 +174,7 @@ def read_options() -> argparse.Namespace:
     parser.add_argument("--only", default="", help="a pattern of `CRATE MODULE.NAME KEY`")
     parser.add_argument("--jobs", type=int, default=2)
     parser.add_argument("--clauses", action="store_true", help="change clauses of public functions")
+    parser.add_argument("--batch", type=int, default=300, help="how many wrong clauses share checks")
     parser.add_argument("--list", action="store_true", help="print the mutants, and try none")
     return parser.parse_args()
 
@@ -185,20 +187,22 @@ def tidy() -> dict[str, str]:
     return kept
 
 
-def print_sums(kept: dict[str, str]) -> None:
+def print_sums(kept: dict[str, str], chosen: list[str]) -> None:
     for crate in dict.fromkeys(name.split(" ")[0] for name in kept):
         of_crate = [verdict for name, verdict in kept.items() if name.startswith(f"{crate} ")]
         counted = collections.Counter(verdict.split(" ")[0] for verdict in of_crate)
         told = ", ".join(f"{counted[kind]} {kind}" for kind in KINDS)
         print(f"{crate}: {len(of_crate)} tried, {told}, {of_crate.count('survived')} unexplained")
+    print(f"not tried: {sum(name not in kept for name in chosen)} of {len(chosen)}")
 
 
 def try_in_jobs(options: argparse.Namespace, left: list[Mutant | WrongClauses]) -> None:
     for crate in below("lldpa_c"):
         subprocess.run(["rt", "lib"], cwd=CRATES / crate, stdout=subprocess.DEVNULL, check=True)
-    jobs = [(options.room, job, left[job::options.jobs]) for job in range(options.jobs)]
-    task = try_clauses if options.clauses else try_all
-    running = [multiprocessing.Process(target=task, args=job) for job in jobs]
+    task = functools.partial(try_clauses, batch=options.batch) if options.clauses else try_all
+    jobs = [{"folder": options.room, "job": job, "mutants": left[job::options.jobs]}
+            for job in range(options.jobs)]
+    running = [multiprocessing.Process(target=task, kwargs=job) for job in jobs]
     for process in running:
         process.start()
     for process in running:
@@ -216,10 +220,10 @@ def main() -> None:
     print(f"seed {options.seed}: {len(chosen)} of {len(mutants)} mutants")
     if options.list:
         for name in chosen:
-            print(name, kept.get(name, "new"), mutants[name].shown())
+            print(name, kept.get(name, "not tried"), mutants[name].shown())
     else:
         try_in_jobs(options, [mutants[name] for name in chosen if name not in kept])
-    print_sums(tidy())
+    print_sums(tidy(), chosen)
 
 
 if __name__ == "__main__":
