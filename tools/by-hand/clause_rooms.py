@@ -169,7 +169,8 @@ class ClauseRoom(Room):
     def is_read(self, twin: Twin, said: Said) -> bool:
         """Returns whether what was said has no error in the text of the contract itself."""
         text = (self.crates / twin.of.crate / twin.of.path).read_text()
-        first = text[:text.index(f"fn {twin.name}(")].count("\n") + twin.of.head.count("\n") + 1
+        begin = re.search(rf"\bfn {twin.name}\b", text).start()
+        first = text[:begin].count("\n") + twin.of.head.count("\n") + 1
         lines = range(first, first + twin.new.count("\n") + 2)
         places = re.findall(rf"(?m)^\S*{re.escape(twin.of.path)}:(\d+):\d+: (.*)$", said.text)
         return not any(int(line) in lines and words.startswith("error") for line, words in places)
