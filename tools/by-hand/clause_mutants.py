@@ -19,6 +19,7 @@ from spec_mutants import PRELUDE, TOKEN, Body, fields, operands, values, words
 TOP = pathlib.Path(__file__).resolve().parents[2]
 sys.path.append(str(TOP / "tools" / "gate"))
 from edits import CRATES, IMPL, module_of, type_of  # noqa: E402
+from rooms import ROWS  # noqa: E402
 
 HEAD = re.compile(r"(?m)^( *)pub (?:const )?(?:unsafe )?(?:extern \"C\" )?fn (\w+)")
 CLAUSE = re.compile(r"(?m)^ *ensures\*?( \w+)? \{")
@@ -71,7 +72,8 @@ def contracts_in(crate: str, path: str, text: str) -> Iterator[Contract]:
             impl = [line for line in text[:found.start()].split("\n") if line == "}" or IMPL.match(line)]
             inside = [type_of(impl[-1])] if found[1] and impl and impl[-1] != "}" else []
             name = "::".join([*module_of(path), *inside, found[2]])
-            yield Contract(crate, path, name, text[found.start():begin], begin + 1, text[begin + 1:body.start()])
+            head, clauses = text[found.start():begin], text[begin + 1:body.start()]
+            yield Contract(crate, path, name, head, begin + 1, clauses)
 
 
 def contracts_of(crate: str) -> list[Contract]:
@@ -85,9 +87,9 @@ def contracts_of(crate: str) -> list[Contract]:
 
 
 def structs_of(crate: str) -> dict[str, dict[str, str]]:
-    """Returns the public fields of each struct of a crate, with their types."""
-    text = "\n".join(path.read_text() for path in sorted((CRATES / crate / "src").rglob("*.rt")))
-    return {name: dict(FIELD.findall(inside)) for name, inside in STRUCT.findall(text)}
+    """Returns the public fields of each struct of a crate and of those below it, with their types."""
+    texts = [path.read_text() for one in (*ROWS[crate].split(), crate) for path in sources(one)]
+    return {name: dict(FIELD.findall(inside)) for name, inside in STRUCT.findall("\n".join(texts))}
 
 
 def places(contract: Contract) -> list[tuple[str, str]]:
@@ -113,7 +115,8 @@ def others(kind: str, structs: dict[str, dict[str, str]]) -> Iterator[tuple[str,
 
 def left_out(contract: Contract) -> Iterator[tuple[str, str]]:
     for name, begin, end in contract.clauses():
-        yield f"clause {name or 'alone'} dropped", contract.text[:begin] + contract.text[end:].lstrip("\n")
+        rest = contract.text[end:].lstrip("\n")
+        yield f"clause {name or 'alone'} dropped", contract.text[:begin] + rest
 
 
 def one_way(contract: Contract) -> Iterator[tuple[str, str]]:
@@ -140,35 +143,56 @@ def wrapped(contract: Contract, structs: dict[str, dict[str, str]]) -> Iterator[
                 text = contract.text[begin:end]
                 inside = text[text.index("{") + 1:-1]
                 if word.search(inside):
-                    held = f"(it : {type_}) × ({word.sub('it', inside).strip()}) × ({place} ≡ {other})"
+                    of_it = word.sub("it", inside).strip()
+                    held = f"(it : {type_}) × ({of_it}) × ({place} ≡ {other})"
                     text = f"{text[:text.index('{')]}{{ {held} }}"
                 new = new[:begin + shift] + text + new[end + shift:]
                 shift += len(text) - (end - begin)
             yield f"{place}: {what}", new
 
 
-def importing(contract: Contract, text: str, new: str) -> str:
-    """Returns a file with wrong clauses, which also imports what only they need."""
-    begin, end = contract.begin, contract.begin + len(contract.text)
+def importing(text: str, wrong: list[tuple[Contract, str]]) -> str:
+    """Returns a file with wrong clauses of some functions, which also imports what only they need."""
+    changed = text
+    for contract, new in sorted(wrong, key=lambda one: -one[0].begin):
+        changed = changed[:contract.begin] + new + changed[contract.begin + len(contract.text):]
+    return with_imports(changed, text, wrong)
+
+
+def with_imports(changed: str, text: str, wrong: list[tuple[Contract, str]]) -> str:
+    """Returns a changed file that also imports what wrong clauses need and the file `text` lacks."""
+    needed = [lacking(contract, text, new) for contract, new in wrong]
+    prelude: set[str] = set().union(*(names for names, _ in needed))
+    lines: set[str] = set().union(*(structs for _, structs in needed))
+    if prelude:
+        lines.add(f"Rattle.std.specs.Prelude.{{{', '.join(sorted(prelude))}}}")
+    at = changed.index("\nghost use ") + 1
+    return changed[:at] + "".join(f"ghost use {line};\n" for line in sorted(lines)) + changed[at:]
+
+
+def lacking(contract: Contract, text: str, new: str) -> tuple[set[str], set[str]]:
+    """Returns the words of the Prelude, and the imports of structs, that only wrong clauses need."""
     imported = " ".join(re.findall(r"(?m)^ *ghost use .*$", text))
-    added = {token for token in TOKEN.findall(new) if token not in TOKEN.findall(contract.text)}
+    added = set(TOKEN.findall(new)) - set(TOKEN.findall(contract.text))
     names = {"ℕ": "ℕ", "+": "◌+◌", **PRELUDE}
-    prelude = sorted({names[word] for word in added & set(names)} - set(NAME.findall(imported)))
-    lines = [f"Rattle.std.specs.Prelude.{{{', '.join(prelude)}}}"] if prelude else []
-    for name, module in structs_at(contract.crate).items():
-        if name in added and f".{name}.{{{name}" not in imported:
-            lines.append(f"Rattle.{contract.crate}.specs.declared.{module}.{name}.{{{name}}}")
-    at = text.index("\nghost use ") + 1
-    uses = "".join(f"ghost use {line};\n" for line in lines)
-    return text[:at] + uses + text[at:begin] + new + text[end:]
+    prelude = {names[word] for word in added & set(names)} - set(NAME.findall(imported))
+    structs = {f"Rattle.{crate}.specs.declared.{module}.{name}.{{{name}}}"
+               for name, (crate, module) in structs_at(contract.crate).items()
+               if name in added and not re.search(rf"\.{name}\.\{{{name}\b", imported)}
+    return prelude, structs
 
 
-def structs_at(crate: str) -> dict[str, str]:
-    """Returns the module of each public struct of a crate."""
+def sources(crate: str) -> list[pathlib.Path]:
+    return sorted((CRATES / crate / "src").rglob("*.rt"))
+
+
+def structs_at(crate: str) -> dict[str, tuple[str, str]]:
+    """Returns the crate and the module of each public struct of a crate and of those below it."""
     found = {}
-    for path in sorted((CRATES / crate / "src").rglob("*.rt")):
-        module = ".".join(module_of(str(path.relative_to(CRATES / crate))))
-        found.update({name: module for name, _ in STRUCT.findall(path.read_text())})
+    for one in (*ROWS[crate].split(), crate):
+        for path in sources(one):
+            module = ".".join(module_of(str(path.relative_to(CRATES / one))))
+            found.update({name: (one, module) for name, _ in STRUCT.findall(path.read_text())})
     return found
 
 

@@ -198,6 +198,84 @@ static void try_many_seconds(void)
     lldpa_close(&quiet);
 }
 
+/* Checks the ends of a machine's settings, and a machine with numbers that only lldpa_transmit_event allows. */
+static void try_machines(void)
+{
+    static const uint32_t ends[][4] = {{0, 1, 10, 11}, {0, 1, 8, 9}, {0, 1, 10, 11}};
+    static const lldpa_machine before = {3000, 200, 100, 90, 150, 80, 70, false, true, true, true};
+    for (size_t at = 0; at < 64; at++) {
+        uint32_t credit = ends[0][at % 4], fast = ends[1][at / 4 % 4], reinit = ends[2][at / 16];
+        int is_so = at % 4 % 3 > 0 && at / 4 % 4 % 3 > 0 && at / 16 % 3 > 0;
+        lldpa_machine machine = before, made = before;
+        if (is_so) {
+            made = (lldpa_machine){.credit_max = (uint8_t)credit, .fast_init = (uint8_t)fast, .reinit = (uint8_t)reinit,
+                                   .credit = (uint8_t)credit, .allowed = true, .up = true};
+        }
+        holds(lldpa_transmit_new(&machine, credit, fast, reinit, true) == (is_so ? LLDPA_OK : LLDPA_OUT_OF_RANGE),
+              "the settings of a machine");
+        holds(memcmp(&machine, &made, sizeof made) == 0, "a new machine");
+    }
+    lldpa_machine large = before;
+    uint8_t mark = 9;
+    holds(lldpa_transmit_event(&large, LLDPA_CAUSE_NOTHING, 3600, &mark) == LLDPA_OK && mark == LLDPA_QUIET,
+          "an event that changes nothing, and the greatest interval");
+    holds(memcmp(&large, &before, sizeof large) == 0, "a machine with large numbers");
+}
+
+/* Returns whether no octet of a buffer that was filled with 0x5a is written from here on. */
+static int is_kept(size_t from)
+{
+    for (size_t at = from; at < sizeof room; at++) {
+        if (room[at] != 0x5a) {
+            return 0;
+        }
+    }
+    return from < sizeof room;
+}
+
+/* Checks that calls write no octet after their result, and none if they are refused. */
+static void try_rest(void)
+{
+    lldpa_lines lines;
+    memset(room, 0x5a, sizeof room);
+    holds(lldpa_fault_text(LLDPA_MEMORY, room, 3, &length) == LLDPA_NO_ROOM && is_kept(0), "a fault's text that does not fit");
+    holds(lldpa_fault_text(LLDPA_MEMORY, room, sizeof room, &length) == LLDPA_OK && is_kept(length), "after a fault's text");
+    memset(room, 0x5a, sizeof room);
+    length = 77;
+    holds(lldpa_escape(frame, 8, room, 9, &length) == LLDPA_NO_ROOM && is_kept(0) && length == 77, "a text that does not fit");
+    holds(lldpa_tlv_text(5, frame, 8, room, 9, &length) == LLDPA_NO_ROOM && is_kept(0) && length == 77, "a TLV that does not fit");
+    holds(lldpa_escape(frame, 8, room, sizeof room, &length) == LLDPA_OK && is_kept(length), "after a text");
+    memset(room, 0x5a, sizeof room);
+    holds(lldpa_tlv_text(5, frame, 8, room, sizeof room, &length) == LLDPA_OK && is_kept(length), "after a TLV");
+    memset(room, 0x5a, sizeof room);
+    holds(lldpa_frame_of(&agent, 0, LLDPA_ORDINARY, room, 9, &length) == LLDPA_NO_ROOM && is_kept(0), "a frame that does not fit");
+    holds(lldpa_frame_of(&agent, 0, LLDPA_ORDINARY, room, sizeof room, &length) == LLDPA_OK && is_kept(length), "after a frame");
+    memset(room, 0x5a, sizeof room);
+    holds(lldpa_show_lines(&agent, LLDPA_SHOW_CONFIGURATION, 0, room, sizeof room, &lines) == LLDPA_OK &&
+              is_kept(lines.length), "after the lines of a show");
+}
+
+/* Checks what is told of a frame that is refused, and that the frames to send do not depend on who asks for news. */
+static void try_news(void)
+{
+    lldpa_options options = options_of(names, 1);
+    lldpa_agent one = {0}, other = {0};
+    lldpa_marks wanted = {.count = 9}, found = {.count = 9};
+    lldpa_news news = {.fault = 9};
+    uint8_t refused[sizeof frame - 1];
+    memcpy(refused, frame, sizeof refused);
+    refused[14] = 4;
+    holds(lldpa_open(&options, &one) == LLDPA_OK && lldpa_open(&options, &other) == LLDPA_OK, "two agents");
+    holds(lldpa_frame(&one, 0, frame, sizeof frame - 1, &wanted, &news) == LLDPA_OK && news.what == LLDPA_NEWS_NEW &&
+              news.fault == 0, "news of a new neighbor");
+    holds(lldpa_frame(&other, 0, frame, sizeof frame - 1, &found, NULL) == LLDPA_OK && found.count == wanted.count &&
+              memcmp(found.items, wanted.items, wanted.count * sizeof *wanted.items) == 0, "the frames to send without news");
+    holds(lldpa_frame(&one, 0, refused, sizeof refused, &wanted, &news) == LLDPA_OK && news.what == LLDPA_NEWS_REFUSED &&
+              news.fault == LLDPA_NO_CHASSIS && news.chassis.length == 0, "news of a frame that is refused");
+    lldpa_close(&one);
+    lldpa_close(&other);
+}
+
 static uint32_t aged_on(uint32_t port)
 {
     uint32_t count = 9;
@@ -241,6 +319,9 @@ int main(void)
     holds(lldpa_neighbor_count(&agent, 1, &counts[1]) == LLDPA_OK && counts[1] == 1, "a neighbor on the second port");
     try_options();
     try_two_wrong();
+    try_machines();
+    try_rest();
+    try_news();
     try_texts();
     try_many_tlvs();
     try_many_neighbors();
