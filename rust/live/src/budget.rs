@@ -2,6 +2,8 @@
 //! the tables of the agent. With all of them at their limits, beside hostile neighbors on each port,
 //! the service stays below 200 MB; the unit allows 256.
 
+/// Pieces of memory of so many octets go back to the kernel at once.
+pub const LARGE_PIECE: i32 = 1 << 18;
 /// Octets of lines that wait for the log's thread. Heads of files do not count.
 pub const MOST_WAITING: usize = 4_000_000;
 /// Heads of log files that wait, each with a copy of all tables.

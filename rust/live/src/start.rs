@@ -1,6 +1,7 @@
 //! Opens sockets and files, gives up rights, runs, and sends shutdown frames at the end.
 
 use crate::arguments::Arguments;
+use crate::budget::LARGE_PIECE;
 use crate::control::Control;
 use crate::files;
 use crate::lines::set_status;
@@ -12,8 +13,8 @@ use crate::ports::{Ports, MOST_PORTS};
 use crate::reports::{self, report, warn, ERROR};
 use crate::rights::{self, give_up, text_of, user_to_be};
 use crate::state::{self, Saved, StateFault};
-use crate::sys::seccomp;
 use crate::sys::signals::{self, Signal};
+use crate::sys::{self, seccomp};
 use crate::time::Moment;
 use crate::wrong_arguments;
 use lldpa::{OpenFault, Show, Status};
@@ -67,6 +68,7 @@ impl From<OpenFault> for StartFault {
 
 /// Does what the command line says. Returns the exit status.
 pub fn run(arguments: Arguments) -> i32 {
+    sys::give_back_pieces_of(LARGE_PIECE);
     std::panic::set_hook(Box::new(|panic| report(ERROR, &panic.to_string())));
     match user_to_be(arguments.user.as_deref()) {
         Err(fault) => wrong_arguments(&fault),

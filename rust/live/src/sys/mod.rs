@@ -64,6 +64,16 @@ pub fn read_clock(clock: Clock) -> Duration {
     Duration::new(time.tv_sec as u64, time.tv_nsec as u32)
 }
 
+/// Lets the kernel have back each freed piece of memory that has so many octets or more. By itself the C
+/// library soon keeps larger ones, too, and then what the log and the metrics no longer need stays.
+pub fn give_back_pieces_of(octets: c_int) {
+    // SAFETY: the call takes only numbers, and leaves the memory that is in use as it is.
+    #[cfg(target_env = "gnu")]
+    unsafe {
+        libc::mallopt(libc::M_MMAP_THRESHOLD, octets)
+    };
+}
+
 /// Ends this process with status 1. Waits for no thread, also if one of them holds a lock.
 pub fn end_at_once() -> ! {
     // SAFETY: the call takes a number, and does not return.
