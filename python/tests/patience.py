@@ -6,6 +6,7 @@ import functools
 import os
 import threading
 import time
+import unittest
 from pathlib import Path
 from typing import Any, Callable, Sequence
 
@@ -89,6 +90,8 @@ def by_the_clock(test: Callable[[Any], None]) -> Callable[[Any], None]:
             with Standstill() as standstill:
                 try:
                     return test(case)
+                except unittest.SkipTest:
+                    raise
                 except Exception as fault:  # pylint: disable=broad-except
                     stood = standstill.seconds()
                     if not left or stood < NOTICEABLE and not is_overloaded():

@@ -107,11 +107,17 @@ class Live:
         return "".join(line for line in self.said().splitlines(True) if NO_ADDRESS not in line)
 
     def has_reported(self) -> bool:
-        """Returns whether the thread that writes reports, if there is one, waits for the next."""
+        """Returns whether the thread that writes reports, if there is one, waits for the next. A
+        thread has the program's name until it has begun."""
+        process = Path(f"/proc/{self.process.pid}")
         try:
-            for task in Path(f"/proc/{self.process.pid}/task").iterdir():
-                if (task / "comm").read_text() == "reports\n":
-                    return (task / "stat").read_text().rpartition(")")[2].split()[0] != "R"
+            of_program = (process / "comm").read_text()
+            for task in (process / "task").iterdir():
+                name = (task / "comm").read_text()
+                is_begun = name != of_program or task.name == process.name
+                state = (task / "stat").read_text().rpartition(")")[2].split()[0]
+                if not is_begun or name == "reports\n" and state == "R":
+                    return False
         except FileNotFoundError:
             pass  # it has ended
         return True

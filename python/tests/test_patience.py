@@ -55,6 +55,18 @@ class Tried(unittest.TestCase):
         self.assertEqual((is_passed, done), (True, ["begin", "end"] * 2))
         self.assertIn("(load 2.1)", said)
 
+    def test_a_skip_is_none_to_run_again(self) -> None:
+        class Case(unittest.TestCase):
+            @by_the_clock
+            def test(self) -> None:
+                self.skipTest("a tool: it is missing")
+
+        with mock.patch.object(Standstill, "seconds", return_value=9.0), \
+                contextlib.redirect_stdout(io.StringIO()) as said:
+            result = Case("test").run()
+        assert result is not None
+        self.assertEqual((len(result.skipped), said.getvalue()), (1, ""))
+
     def test_what_always_fails_fails(self) -> None:
         is_passed, done, said = self.ran([9.0] * TRIES, TRIES)
         self.assertEqual((is_passed, done), (False, ["begin", "end"] * TRIES))
