@@ -2,7 +2,8 @@
 
 The output of a part is printed in one piece when it ends. The program and the library are proved,
 linked and tested in a copy of the repository. rt ci proves all from nothing at the same time, and rt
-lets nobody else prove in its folders. Edits are tried in a third copy, which nobody else changes.
+lets nobody else prove in its folders. Edits are tried after it, in a third copy, which nobody else
+changes.
 """
 from __future__ import annotations
 
@@ -17,7 +18,8 @@ import sys
 import tempfile
 import threading
 import time
-from collections.abc import Iterable
+from collections.abc import Callable, Iterable
+from typing import Any
 
 import ledger
 from part import FEATURE, PACKAGE, TOP, Ended, judged, settings_for
@@ -82,11 +84,7 @@ class Gate:
 
     def run_lanes(self, lanes: Iterable[list[Part]]) -> None:
         """Runs lanes at the same time, and waits until all have ended."""
-        threads = [threading.Thread(target=self.run_lane, args=[lane], daemon=True)
-                   for lane in lanes]
-        for thread in threads:
-            thread.start()
-        for thread in threads:
+        for thread in [started(self.run_lane, lane) for lane in lanes]:
             thread.join()
 
     def stop(self) -> None:
@@ -98,6 +96,13 @@ class Gate:
 
     def failed(self) -> int:
         return sum(one.failed for one in self.ended.values())
+
+
+def started(run: Callable[[Any], None], what: Any) -> threading.Thread:
+    """Runs parts in a thread of their own, and returns the thread."""
+    thread = threading.Thread(target=run, args=[what], daemon=True)
+    thread.start()
+    return thread
 
 
 def chosen(gate: Gate, stage: str) -> list[Part]:
@@ -139,18 +144,23 @@ def copied(top: pathlib.Path, copy: pathlib.Path) -> pathlib.Path:
 
 
 def prove_and_test(gate: Gate, parts: list[Part]) -> None:
-    """Proves and links the program, and tests it while rt ci works."""
+    """Proves and links the program, and tests it, while rt ci works."""
     beside = copied(TOP, gate.room / "beside")
     gate.tops = dict.fromkeys((BUILT, HOST, LIBRARY, ALONE), beside)
-    gate.run_lane(lane_of(parts, BUILT))
+    (TOP / PROGRAM).unlink(missing_ok=True)
+    proofs = started(gate.run_lane, lane_of(parts, PROOFS))
+    built = lane_of(parts, BUILT)
+    gate.run_lane(built)
     gate.program = beside / PROGRAM
-    if gate.failed():
+    if any(gate.ended[part.name].failed for part in built):
         print("nothing is tested, since the program or the library is not proved")
+        proofs.join()
         return
     gate.tops[EDITS] = copied(beside, gate.room / "edits")
-    (TOP / PROGRAM).unlink(missing_ok=True)
-    gate.run_lanes([lane_of(parts, PROOFS) + lane_of(parts, EDITS), lane_of(parts, HOST),
-                    lane_of(parts, LIBRARY)])
+    tests = started(gate.run_lanes, [lane_of(parts, HOST), lane_of(parts, LIBRARY)])
+    proofs.join()
+    gate.run_lane(lane_of(parts, EDITS))
+    tests.join()
     gate.run_lane(lane_of(parts, ALONE))
     same = Ended("the program that was tested", passed=1)
     if not answers(TOP / PROGRAM) or (TOP / PROGRAM).read_bytes() != gate.program.read_bytes():

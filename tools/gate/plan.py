@@ -11,11 +11,11 @@ class Part(NamedTuple):
     """A part of the gate. `{program}` in the command stands for the program that is tested.
 
     The parts of a lane run one after the other, in this order. CHEAP comes first. Then BUILT makes
-    what is tested. PROOFS with EDITS, HOST, and LIBRARY run at the same time, and at the end those that
-    must run ALONE. CHANGED proves what has changed, before HOST and LIBRARY, if there is no rt ci. A
-    part waits until the parts `after` have ended. `by` says which options of check.sh run it, besides
-    those that run all of its lane. `names` is a command that prints the names of what it runs, if
-    the sources list them; a part without it may note them when it runs (ledger.py).
+    what HOST and LIBRARY test at the same time. PROOFS and after it EDITS run beside these three, and
+    at the end those that must run ALONE. CHANGED proves what has changed, before HOST and LIBRARY, if
+    there is no rt ci. A part waits until the parts `after` have ended. `by` says which options of
+    check.sh run it, besides those that run all of its lane. `names` is a command that prints the names
+    of what it runs, if the sources list them; a part without it may note them when it runs (ledger.py).
     """
     lane: str
     name: str
