@@ -24,7 +24,7 @@ sys.path.append(str(TOP / "tools" / "gate"))
 from counts import Counts  # noqa: E402
 from plan import PARTS as PARTS_OF_GATE  # noqa: E402
 
-WRITTEN = ("*/Transcripts.antt", "*/Vectors/Rows.antt", "*/rows.rt", "*/bench.json", "*.svg",
+WRITTEN = ("*/Transcripts.antt", "*/Vectors/Rows.antt", "*/rows.rt", "*/bench.json", "*/bench-elsewhere.json", "*.svg",
            "*.expect", "*.pcap", "*/calls.json", "*/Cargo.lock", "*/judged.json", "*/tests/lldpd/*", "*/tests/expected/*", "*/leaf1.json",
            "*/host01.json", "*.walk", "docs/LAWS.md", "*/ledger.txt", "*/mutants.txt", "rust/lldpa/src/sys.rs",
            "rust/people/src/letters.rs", "*/organizational/mau.rs")
