@@ -31,6 +31,7 @@ import argparse
 import json
 import platform
 import re
+import statistics
 import subprocess
 import sys
 import tempfile
@@ -51,6 +52,7 @@ SAVED, PICTURE = TOP / "docs" / "bench.json", TOP / "docs" / "bench.svg"
 ELSEWHERE = TOP / "docs" / "bench-elsewhere.json"  # times beside plain C, by the names of processors
 HEADS = ["lldpa", "C", "ratio", "vectors", "# lldpa"]
 MOST_OFF, MOST_OFF_OF_VECTORS = 1.25, 1.6
+MEASURED = 5  # how often --save-elsewhere measures
 PAUSES = (0, 2, 10, 30)  # seconds before each try of a row: other machines may use the same host for a while
 
 
@@ -175,9 +177,13 @@ def check(options: argparse.Namespace, room: Path) -> int:
 
 
 def save_elsewhere(options: argparse.Namespace, room: Path) -> None:
-    """Measures the times beside plain C, and saves them as those of this processor."""
+    """Measures the times beside plain C several times, and saves the medians as those of this processor."""
+    found = [table(options, room) for _ in range(MEASURED)]
     times = json.loads(ELSEWHERE.read_text())
-    times[processor()] = {row["title"]: row["beside_c"] for row in table(options, room)}
+    times[processor()] = {}
+    for of_row in zip(*found):
+        columns = zip(*(row["beside_c"] for row in of_row))
+        times[processor()][of_row[0]["title"]] = [statistics.median(one) for one in columns]
     ELSEWHERE.write_text(json.dumps(times, indent=1) + "\n")
 
 
