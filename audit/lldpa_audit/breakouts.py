@@ -160,8 +160,8 @@ class Lanes:
         yield from (end for end in self._heard[far] if end not in self._planned)
 
     def _may_be_lane(self, key: End) -> bool:
-        """Returns whether a port that is no known lane may be one: its name has the whole port's
-        number with more behind it, or is that of a lane by another scheme."""
+        """Returns whether an unknown port may be a lane. Its name then has the whole port's number
+        with more behind it, or another scheme gives this name to a lane."""
         name = canonical(key.port)
         is_longer = re.search(rf"(?<![0-9]){re.escape(self._number)}[^0-9]", name)
         return name in self._doubtful or is_longer is not None and name not in self._names

@@ -37,8 +37,8 @@ def stolen() -> float:
 
 
 def waited() -> float:
-    """Returns for how many seconds some program has waited for a processor. 0 if the kernel does not
-    count this."""
+    """Returns for how many seconds some program has waited for a processor. 0 if the kernel does
+    not count this."""
     try:
         some = Path("/proc/pressure/cpu").read_text().split("\n", 1)[0]
     except OSError:
@@ -47,9 +47,9 @@ def waited() -> float:
 
 
 class Standstill:
-    """Measures how long the machine stands still: adds the stolen processor time, the time in which
-    programs wait for a processor, and the time that a thread oversleeps its naps. A nap that takes up
-    to twice its length is normal."""
+    """Measures how long the machine stands still: adds the stolen processor time, the time in
+    which programs wait for a processor, and the time that a thread oversleeps its naps. A nap that
+    takes up to twice its length is normal."""
 
     def __enter__(self) -> Standstill:
         self.is_over = threading.Event()

@@ -181,7 +181,8 @@ class OnLinks(unittest.TestCase):
         self.log = self.folder / "log"
 
     def keep_log_in_memory(self) -> None:
-        """Moves the log to a folder in memory, where no slow disk makes lldpa-live lose lines."""
+        """Moves the log to a folder in memory, so that a slow disk can't make lldpa-live lose
+        lines."""
         folder = tempfile.TemporaryDirectory(dir="/dev/shm")
         self.addCleanup(folder.cleanup)
         os.chmod(folder.name, 0o755)

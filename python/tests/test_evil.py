@@ -83,8 +83,9 @@ def live() -> Iterator[bytes]:
 def of_agent(shown: Iterable[bytes]) -> Answers:
     """Returns the answers of an agent with these neighbors."""
     shown = list(shown)
-    return {b"show neighbors": shown, b"watch": shown, b"live": list(live()), b"show chassis": chassis(),
-            b"show configuration": settings(), b"show statistics": list(statistics())}
+    return {b"show neighbors": shown, b"watch": shown, b"live": list(live()),
+            b"show chassis": chassis(), b"show configuration": settings(),
+            b"show statistics": list(statistics())}
 
 
 class Evil(FilesCase):

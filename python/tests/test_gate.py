@@ -3,17 +3,14 @@
 import os
 import shutil
 import subprocess
-import sys
 import tempfile
 import unittest
 from pathlib import Path
 from typing import Any
 from unittest import mock
 
+from gates import GateOfParts
 from served import REPOSITORY
-
-GATE = REPOSITORY / "tools" / "gate"
-sys.path.append(str(GATE))
 import check  # noqa: E402
 import ledger  # noqa: E402
 import part  # noqa: E402
@@ -22,8 +19,6 @@ import unit  # noqa: E402
 
 FEATURES = {"python3-textfsm": "package", "link-team": "feature"}
 COUNTED = "2 passed, 0 failed\n"
-PROGRAM = check.PROGRAM
-OUT = os.path.dirname(PROGRAM)
 
 
 def shell(text: str, **more: Any) -> "subprocess.CompletedProcess[str]":
@@ -133,38 +128,8 @@ class Install(unittest.TestCase):
                     self.assertEqual(self.lacks(name, env={"PATH": folder}), (0, f"{kind}\n"))
 
 
-class Lanes(unittest.TestCase):
-    """Tests the gate with parts of its own."""
-
-    def setUp(self) -> None:
-        folder = tempfile.TemporaryDirectory()
-        self.addCleanup(folder.cleanup)
-        self.folder = Path(folder.name)
-        (self.folder / "ledger.txt").write_text("== one\na\nb\n== two\n")
-        self.parts = [
-            plan.Part(plan.CHEAP, "one",
-                      "sh -c 'printf \"a\\nb\\n\" > $GATE_NAMES; echo 2 passed, 0 failed'"),
-            plan.Part(plan.HOST, "two", "sh -c 'echo 3 passed, 0 failed'")]
-
-    def gate(self, *words: str, top: "Path | None" = None) -> "tuple[int, str]":
-        """Runs the gate's main in another process, with these parts and this ledger, in a repository
-        at `top` or in this one."""
-        parts = [tuple(one) for one in self.parts]
-        script = (f"import sys; sys.path.insert(0, {str(GATE)!r})\n"
-                  "import check, ledger, pathlib, plan\n"
-                  f"check.TOP = pathlib.Path({str(top)!r}) if {bool(top)} else check.TOP\n"
-                  f"check.PARTS = ledger.PARTS = [plan.Part(*one) for one in {parts!r}]\n"
-                  f"ledger.LEDGER = pathlib.Path({str(self.folder / 'ledger.txt')!r})\n"
-                  f"ledger.KEPT = pathlib.Path({str(self.folder / 'kept')!r})\n"
-                  "sys.exit(check.main())\n")
-        program = self.folder / "program"
-        program.write_text("#!/bin/sh\nexit 0\n")
-        program.chmod(0o755)
-        without = {name: value for name, value in os.environ.items() if name != "CI"}
-        ended = subprocess.run([sys.executable, "-c", script, *words, str(program)], check=False,
-                               text=True, stdout=subprocess.PIPE, stderr=subprocess.STDOUT,
-                               env=without)
-        return ended.returncode, ended.stdout
+class Lanes(GateOfParts):
+    """Tests lanes, the ledger and what a failure makes of the gate."""
 
     def test_all_passes(self) -> None:
         status, said = self.gate()
@@ -207,43 +172,6 @@ class Lanes(unittest.TestCase):
                       plan.Part(plan.LIBRARY, "second", second, "", ("first",))]
         (self.folder / "ledger.txt").write_text("== first\n== second\n")
         self.assertEqual(self.gate("--built")[1].splitlines()[-1], "5 passed, 0 failed")
-
-    def whole(self, built: str, linked: str) -> "tuple[str, dict[str, str]]":
-        """Runs a whole gate whose first part builds a program of these lines (if any), and whose rt ci
-        links another one. Returns what is printed, and the folder of each lane's part."""
-        top = self.folder / "top"
-        subprocess.run(["git", "init", "--quiet", top], check=True)
-        (top / OUT).parent.mkdir(parents=True)
-        (top / OUT).with_name("src").touch()
-        lanes = (plan.BUILT, plan.PROOFS, plan.EDITS, plan.HOST, plan.LIBRARY, plan.ALONE)
-        text = {plan.BUILT: built, plan.PROOFS: linked}
-        for lane in lanes:
-            write = f"printf '{text.get(lane)}' > {PROGRAM}; chmod +x {PROGRAM}"
-            step = f"mkdir -p {OUT}; {write}" if text.get(lane) else f"test -x {PROGRAM}"
-            (self.folder / lane).write_text(f"pwd > $0.at\n{step} || exit 1\n"
-                                            "echo 1 passed, 0 failed\n")
-        self.parts = [plan.Part(lane, lane, f"sh {self.folder / lane}") for lane in lanes]
-        (self.folder / "ledger.txt").write_text("".join(f"== {lane}\n" for lane in lanes))
-        said = self.gate("--gate", top=top)[1]
-        at = {path.stem: path.read_text().strip() for path in self.folder.glob("*.at")}
-        return said, {lane: folder.replace(str(top), "top") for lane, folder in at.items()}
-
-    def test_a_whole_gate_tests_what_it_has_built_in_a_copy(self) -> None:
-        said, at = self.whole("#!/bin/sh\\n", "#!/bin/sh\\n")
-        self.assertEqual(said.splitlines()[-1], "14 passed, 0 failed", said)
-        self.assertEqual(at.pop(plan.PROOFS), "top")
-        self.assertEqual({Path(folder).name for folder in at.values()}, {"beside", "edits"})
-        self.assertEqual([lane for lane in at if at[lane].endswith("edits")], [plan.EDITS])
-
-    def test_a_whole_gate_tests_the_program_that_rt_ci_links(self) -> None:
-        said = self.whole("#!/bin/sh\\n", "#!/bin/sh\\nexit\\n")[0]
-        self.assertIn("it is not the one that rt ci links", said)
-        self.assertEqual(said.splitlines()[-1], "13 passed, 1 failed", said)
-
-    def test_a_whole_gate_ends_if_nothing_can_be_built(self) -> None:
-        said, at = self.whole("", "#!/bin/sh\\n")
-        self.assertIn("nothing is tested", said)
-        self.assertEqual(set(at), {plan.BUILT, plan.PROOFS})
 
 
 class Plan(unittest.TestCase):

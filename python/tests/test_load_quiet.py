@@ -68,7 +68,8 @@ class Quiet(OnLinks):
             began = time.monotonic()
             moments.take()
             time.sleep(max(0.0, SPAN / MOMENTS - (time.monotonic() - began)))
-        figure(self, f"{sender.rate():,.0f} frames a second, answers within {moments.slowest:.3f} s")
+        figure(self, f"{sender.rate():,.0f} frames a second, "
+                     f"answers within {moments.slowest:.3f} s")
         self.assertIsNone(sender.process.poll())
         sender.process.kill()
         self.assertEqual(self.lost(live, "eth1", sent), [])

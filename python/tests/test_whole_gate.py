@@ -1,0 +1,51 @@
+"""Tests the order of a whole gate: it tests what it has built, which must be what rt ci links."""
+
+import os
+import subprocess
+from pathlib import Path
+
+from gates import GateOfParts
+import check  # noqa: E402
+import plan  # noqa: E402
+
+PROGRAM = check.PROGRAM
+OUT = os.path.dirname(PROGRAM)
+
+
+class Whole(GateOfParts):
+    def whole(self, built: str, linked: str) -> "tuple[str, dict[str, str]]":
+        """Runs a whole gate whose first part builds a program of these lines (if any), and whose
+        rt ci links another one. Returns what is printed, and the folder of each lane's part."""
+        top = self.folder / "top"
+        subprocess.run(["git", "init", "--quiet", top], check=True)
+        (top / OUT).parent.mkdir(parents=True)
+        (top / OUT).with_name("src").touch()
+        lanes = (plan.BUILT, plan.PROOFS, plan.EDITS, plan.HOST, plan.LIBRARY, plan.ALONE)
+        text = {plan.BUILT: built, plan.PROOFS: linked}
+        for lane in lanes:
+            write = f"printf '{text.get(lane)}' > {PROGRAM}; chmod +x {PROGRAM}"
+            step = f"mkdir -p {OUT}; {write}" if text.get(lane) else f"test -x {PROGRAM}"
+            (self.folder / lane).write_text(f"pwd > $0.at\n{step} || exit 1\n"
+                                            "echo 1 passed, 0 failed\n")
+        self.parts = [plan.Part(lane, lane, f"sh {self.folder / lane}") for lane in lanes]
+        (self.folder / "ledger.txt").write_text("".join(f"== {lane}\n" for lane in lanes))
+        said = self.gate("--gate", top=top)[1]
+        at = {path.stem: path.read_text().strip() for path in self.folder.glob("*.at")}
+        return said, {lane: folder.replace(str(top), "top") for lane, folder in at.items()}
+
+    def test_a_whole_gate_tests_what_it_has_built_in_a_copy(self) -> None:
+        said, at = self.whole("#!/bin/sh\\n", "#!/bin/sh\\n")
+        self.assertEqual(said.splitlines()[-1], "14 passed, 0 failed", said)
+        self.assertEqual(at.pop(plan.PROOFS), "top")
+        self.assertEqual({Path(folder).name for folder in at.values()}, {"beside", "edits"})
+        self.assertEqual([lane for lane in at if at[lane].endswith("edits")], [plan.EDITS])
+
+    def test_a_whole_gate_tests_the_program_that_rt_ci_links(self) -> None:
+        said = self.whole("#!/bin/sh\\n", "#!/bin/sh\\nexit\\n")[0]
+        self.assertIn("it is not the one that rt ci links", said)
+        self.assertEqual(said.splitlines()[-1], "13 passed, 1 failed", said)
+
+    def test_a_whole_gate_ends_if_nothing_can_be_built(self) -> None:
+        said, at = self.whole("", "#!/bin/sh\\n")
+        self.assertIn("nothing is tested", said)
+        self.assertEqual(set(at), {plan.BUILT, plan.PROOFS})
