@@ -1,6 +1,6 @@
 """Tests the memory of lldpa-live at its worst, in a control group with the limit of the unit: 64
 ports of 128 hostile neighbors that change all the time, a log, a state, metrics on a tmpfs, and 60
-clients that read nothing, of which 16 watch, but for two of these that read slowly.
+clients, 16 of which watch. Two of these read slowly, and all others read nothing.
 LLDPA_SECONDS=600 tests ten minutes; in the gate it is one."""
 
 import os
