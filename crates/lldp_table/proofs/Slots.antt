@@ -1,5 +1,7 @@
 -- Slots, and the order of those in use.
 pub mod Tags
+pub mod Names
+pub mod Blocks
 pub mod Places
 pub mod Layout
 pub mod Search

@@ -203,8 +203,7 @@ pub fn purges_end_timers_too()
 {}
 
 /// A limit applies from the call that sets it until the next such call. The limit given at opening
-/// applies until the first one. A frame whose MSAP identifier is not live is dropped exactly if at
-/// least as many neighbors as the limit are held. Setting a limit changes nothing else.
+/// applies until the first one. Setting a limit changes nothing else.
 pub fn limits_last_until_the_next()
     ensures set { (opened limit : ℕ) (later calls : List Call) →
         AllByRecursion (λ call. sets_limit call ≡ false) later →
@@ -212,10 +211,6 @@ pub fn limits_last_until_the_next()
     ensures opened { (opened : ℕ) (calls : List Call) →
         AllByRecursion (λ call. sets_limit call ≡ false) calls →
         (table_of opened calls).limit ≡ opened }
-    ensures dropped { (opened : ℕ) (calls : List Call) (name : MsapId) →
-        (answer opened name (events_of opened calls) ≡ Dropped)
-        ↔ ((¬ (IsLive (events_of opened calls) name))
-        × ((table_of opened calls).limit ≤ length (table_of opened calls).neighbors)) }
     ensures others { (opened limit : ℕ) (calls : List Call) →
         table_of opened (set_limit limit ∷ calls) ≡ record (table_of opened calls) { limit = limit; gone = [] } }
 {}

@@ -1,13 +1,14 @@
 //! The memory for one neighbor.
-ghost use Rattle.std.specs.Prelude.{◌≡◌, ◌+◌, ◌*◌, ◌%◌, ◌≤◌, ◌<◌, ◌^◌, true, length};
+ghost use Rattle.std.specs.Prelude.{◌≡◌, ◌+◌, ◌*◌, ◌%◌, ◌≤◌, ◌<◌, ◌^◌, true, false, length};
 ghost use Rattle.std.specs.Str.{bytes_eq};
 ghost use Rattle.lldp_pdu.specs.Cut.{cut};
 ghost use Rattle.lldp_pdu.specs.Lldpdu.{msap_of, tlv_at};
 ghost use Rattle.lldp_pdu.specs.View.{msap_view};
 ghost use Rattle.lldp_table.specs.Msap.{same_msap};
 ghost use Rattle.lldp_table.specs.Code.Layout.{blank};
-ghost use Rattle.lldp_table.specs.Code.Stored.{mixed, tag_of};
+ghost use Rattle.lldp_table.specs.Code.Stored.{mixed, tag_of, IsName, BeginsWithName};
 
+use crate::prefix::{begins, may_begin};
 use lldp_pdu::{MOST_OCTETS, Msap, Tlvs};
 use std::marker::Model;
 
@@ -110,19 +111,6 @@ pub(crate) fn mix_name(name: &Msap<'_>) -> u16
     mix_octets(mix_octets(0, name.chassis), name.port)
 }
 
-/// Returns whether the octets may be equal: false if their lengths or last eight octets differ.
-fn may_be_same(one: &[u8], other: &[u8]) -> bool
-    ensures { bytes_eq one.now other.now ≡ true → result ≡ true }
-{
-    if one.len() != other.len() {
-        return false;
-    }
-    match (one.last_chunk::<8>(), other.last_chunk::<8>()) {
-        (Some(end), Some(other_end)) => end == other_end,
-        _ => true,
-    }
-}
-
 impl Slot {
     pub(crate) fn blank() -> Slot
         ensures { result ≡ blank }
@@ -154,18 +142,27 @@ impl Slot {
         msap_in(self.octets())
     }
 
-    /// Returns whether the stored frame has the MSAP identifier `name`.
-    pub(crate) fn is_named(&self, name: &Msap<'_>) -> bool
-        ensures { result ≡ same_msap (msap_view name.now) (msap_of self.now.octets) }
+    /// Returns false if a few octets show that the stored frame does not have the MSAP identifier whose
+    /// two TLVs these are. `second` and `places` say which octets (`may_begin`).
+    #[inline(always)]
+    pub(crate) fn may_be_named(&self, name: &[u8], second: usize, places: &[u16; 3]) -> bool
+        requires { IsName name.now }
+        ensures { result ≡ false → BeginsWithName self.now.octets →
+            same_msap (msap_of name.now) (msap_of self.now.octets) ≡ false }
     {
-        let held = self.msap();
-        if !may_be_same(name.chassis, held.chassis) {
-            return false;
-        }
-        if !may_be_same(name.port, held.port) {
-            return false;
-        }
-        name.port == held.port && name.chassis == held.chassis
+        may_begin(self.octets(), name, second, places)
+    }
+
+    /// Returns whether the stored frame has the MSAP identifier whose two TLVs these are. Says nothing
+    /// of a slot that never stored an extent.
+    #[inline(always)]
+    pub(crate) fn is_named(&self, name: &[u8]) -> bool
+        requires { IsName name.now }
+        ensures same { result ≡ true → same_msap (msap_of name.now) (msap_of self.now.octets) ≡ true }
+        ensures other { result ≡ false → BeginsWithName self.now.octets →
+            same_msap (msap_of name.now) (msap_of self.now.octets) ≡ false }
+    {
+        begins(self.octets(), name)
     }
 
     /// Stores a frame in place of the previous one. Returns whether the octets are the same as before.

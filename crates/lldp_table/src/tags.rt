@@ -5,6 +5,8 @@ ghost use Rattle.std.specs.Simd.Lanes.{chunk, mask_l};
 ghost use Rattle.memchr.specs.Find.{IsFirst};
 
 use crate::limits::MOST_NEIGHBORS;
+use crate::prefix::first_apart;
+use crate::slot::Slot;
 use std::marker::Model;
 use std::simd::prelude::*;
 
@@ -13,6 +15,9 @@ const BLOCK: usize = 16;
 
 /// The number of tags: one for each slot, and as many more as a block from the last slot on reads.
 const ROOM: usize = MOST_NEIGHBORS + BLOCK;
+
+/// Slots stand in fours: 0 to 3, 4 to 7 and so on.
+const FOUR: usize = 4;
 
 /// Returns a bit for each of the sixteen tags from place `at` on: 1 if it equals `tag`.
 #[inline(always)]
@@ -42,6 +47,11 @@ fn before_first(tag: u16, tags: &[u16], at: usize) -> usize
 #[derive(Drop)]
 pub(crate) struct Tags {
     tags: [u16; ROOM],
+    /// For each slot, where its name first differs from the names in the other three slots of its four,
+    /// if these have its tag: that of the next slot first, and so on round the four. A name that agrees
+    /// with one of the four at these places differs from the others there, so at most one of them is
+    /// compared as a whole.
+    apart: [[u16; 3]; MOST_NEIGHBORS],
 }
 
 impl Model for Tags {
@@ -60,15 +70,56 @@ impl Tags {
     pub(crate) fn new() -> Tags
         ensures { length result ≡ ROOM }
     {
-        Tags { tags: [0; ROOM] }
+        Tags {
+            tags: [0; ROOM],
+            apart: [[0; 3]; MOST_NEIGHBORS],
+        }
     }
 
-    /// Sets the tag of a slot.
-    pub(crate) fn set(&mut self, slot: u8, tag: u16)
-        requires { slot < MOST_NEIGHBORS }
+    /// Sets the tag of a slot, which has the extent that it is to have.
+    pub(crate) fn set(&mut self, slot: u8, tag: u16, slots: &[Slot])
+        requires slot { slot < MOST_NEIGHBORS }
+        requires there { slot < length slots.now }
         ensures { self.new ≡ slice_set self.old slot tag }
     {
         self.tags[slot as usize] = tag;
+        self.part(slot as usize, 1, slots);
+        self.part(slot as usize, 2, slots);
+        self.part(slot as usize, 3, slots);
+    }
+
+    /// Finds out where the names in this slot and in the one so many places later in its four differ, if
+    /// they have one tag.
+    fn part(&mut self, slot: usize, later: usize, slots: &[Slot])
+        requires slot { slot < MOST_NEIGHBORS }
+        requires least { 1 ≤ later }
+        requires greatest { later ≤ 3 }
+        requires there { slot < length slots.now }
+        ensures { self.new ≡ self.old }
+    {
+        let other = slot / FOUR * FOUR + (slot + later) % FOUR;
+        if other < slots.len() && self.tags[other] == self.tags[slot] {
+            let place = first_apart(slots[slot].octets(), slots[other].octets());
+            self.apart[slot][later - 1] = place;
+            self.apart[other][3 - later] = place;
+        }
+    }
+
+    /// Returns where the name in this slot first differs from those of its four with the same tag.
+    #[inline(always)]
+    pub(crate) fn apart(&self, slot: usize) -> &[u16; 3]
+        requires { slot < MOST_NEIGHBORS }
+    {
+        &self.apart[slot]
+    }
+
+    /// Returns whether a slot has this tag.
+    #[inline(always)]
+    pub(crate) fn is(&self, slot: usize, tag: u16) -> bool
+        requires { slot < MOST_NEIGHBORS }
+        ensures { result ≡ (slice_index self.now slot == tag) }
+    {
+        self.tags[slot] == tag
     }
 
     /// Returns the first slot with this tag, from `from` on and before `end`.

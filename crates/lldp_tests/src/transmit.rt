@@ -1,6 +1,6 @@
-//! Tests the examples of causes and their marks in examples/vectors.rows.
+//! Tests the examples of causes and their marks in examples/vectors.rows, and what a machine tells.
 use crate::row::rows_of;
-use lldp_transmit::{Cause, Mark, Transmit};
+use lldp_transmit::{Cause, Mark, Parts, Transmit};
 use std::test::Fail;
 
 /// The causes and the marks, in the order of their numbers in the rows.
@@ -45,6 +45,49 @@ fn machine(rt: HostRuntime) -> Result<(), Fail> {
                 );
             }
         }
+    }
+    Ok(())
+}
+
+/// Returns fields that no two readers tell alike, with this credit of at most 8.
+fn parts_with([active, allowed, up]: [bool; 3], credit: u8) -> Parts {
+    Parts {
+        timer: 300,
+        credit_max: 8,
+        fast_init: 3,
+        reinit: 2,
+        credit,
+        wait: 1,
+        left: 4,
+        waiting: true,
+        active,
+        allowed,
+        up,
+    }
+}
+
+#[test]
+fn machines_of_parts(rt: HostRuntime) -> Result<(), Fail> {
+    for flags in [
+        [true, false, false],
+        [false, true, false],
+        [false, false, true],
+    ] {
+        for credit in 0..9 {
+            let parts = parts_with(flags, credit);
+            let Some(machine) = Transmit::of_parts(&parts) else {
+                panic!(rt; "no machine has credit {credit}");
+            };
+            assert_eq!(rt; machine.parts(), parts);
+            assert_eq!(rt; machine.credit(), credit);
+            let told = [machine.is_active(), machine.is_allowed(), machine.is_up()];
+            assert_eq!(rt;
+                told,
+                flags,
+                "what a machine with one of its three flags tells"
+            );
+        }
+        assert!(rt; Transmit::of_parts(&parts_with(flags, 9)).is_none());
     }
     Ok(())
 }

@@ -1,5 +1,5 @@
 -- What the values that callers pass and get mean.
-use Rattle.std.proofs.Common.{◌≡◌, ◌≢◌, ℕ, ◌<◌, ◌≤◌, ◌&&◌, Bool, true, false, List, [], Option, Some, None, Ok, Err, is_some, refl, sym, ap, ◌∙◌, subst, arith}
+use Rattle.std.proofs.Common.{◌≡◌, ℕ, ◌<◌, ◌≤◌, ◌&&◌, Bool, true, false, List, [], Option, Some, None, Ok, Err, is_some, refl, sym, ap, ◌∙◌, subst, arith}
 use Rattle.std.specs.Prelude.{◌==◌, if◌then◌else◌, nat_le, slice_get}
 use Rattle.std.specs.Str.{bytes_eq}
 use Rattle.std.proofs.lemmas.Bool.Decides.{nat_tests}
@@ -13,8 +13,6 @@ use Rattle.lldp_pdu.specs.declared.fault.PduFault.{PduFault}
 use Rattle.lldp_text.specs.declared.fault.CommandFault.TheVariants.{Number, Range}
 use Rattle.lldp_text.specs.Number.{is_number, in_range, number_of}
 use Rattle.std.specs.Str.Parse.{digits_value}
-use Rattle.lldp_transmit.specs.declared.event.Mark.{Mark}
-use Rattle.lldp_transmit.specs.declared.event.Mark.TheVariants.{Quiet, Ordinary, Shutdown}
 use Rattle.lldp_table.specs.declared.learned.Outcome.TheVariants.{Changed, Repeated}
 use Rattle.lldp_table.specs.Contents.{Contents}
 use Rattle.lldp_table.specs.Outcomes.{octets_held, outcome_between}
@@ -35,7 +33,6 @@ use Rattle.lldp_engine.specs.AgentState.{AgentState, PortState, Allows, names_of
 use Rattle.lldp_engine.specs.Port.Event.{whose, for_port}
 use Rattle.lldp_engine.specs.Command.{command_of}
 use Rattle.lldp_engine.specs.Given.{said_by, command_said}
-use Rattle.lldp_engine.specs.Frames.{IsSent}
 use Rattle.lldp_engine.specs.Told.{stored, left, told_of, told_of_pdu, told_of_frame, Tells}
 use Rattle.lldp_engine.specs.Laws.OnlyForms.{AreWordsOf, IsNotInUse}
 use Rattle.lldp_engine.specs.Laws.Calls.{set_by, comes_to, words_for, Holds, IsOutcome, IsTrueOf}
@@ -175,10 +172,3 @@ pub told_is_true : (before after : AgentState) (number : ℕ) (octets : List ℕ
     → slice_get before.ports number ≡ Some port → slice_get after.ports number ≡ Some next → IsTrueOf (receives port.status && port.machine.up) (lldpdu_of octets) port.table next.table given
 told_is_true before after number octets port next given tells here there =
     true_of (receives port.status && port.machine.up) (lldpdu_of octets) port.table next.table given (tells port next here there).is
-
--- ## Marks
-
-pub sent_or_quiet : (mark : Mark) → (IsSent mark → mark ≢ Quiet) × (mark ≢ Quiet → IsSent mark)
-sent_or_quiet Quiet = (λ h. absurd h, λ h. absurd (h refl))
-sent_or_quiet Ordinary = (λ h e. absurd cc, λ h. tt)
-sent_or_quiet Shutdown = (λ h e. absurd cc, λ h. tt)

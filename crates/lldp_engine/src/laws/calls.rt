@@ -1,8 +1,6 @@
 //! Laws of the values that callers pass and get.
-ghost use Rattle.std.specs.Prelude.{◌≡◌, ◌≢◌, ◌↔◌, ◌&&◌, ℕ, List, Some, Ok, slice_get};
+ghost use Rattle.std.specs.Prelude.{◌≡◌, ◌&&◌, ℕ, List, Some, Ok, slice_get};
 ghost use Rattle.lldp_pdu.specs.Frame.{lldpdu_of};
-ghost use Rattle.lldp_transmit.specs.declared.event.Mark.{Mark};
-ghost use Rattle.lldp_transmit.specs.declared.event.Mark.TheVariants.{Quiet};
 ghost use Rattle.lldp_engine.specs.declared.agent.event.Event.{Event};
 ghost use Rattle.lldp_engine.specs.declared.agent.event.Event.TheVariants.{Frame, Set};
 ghost use Rattle.lldp_engine.specs.declared.agent.event.Setting.{Setting};
@@ -16,7 +14,6 @@ ghost use Rattle.lldp_engine.specs.AgentState.{AgentState, PortState, Allows};
 ghost use Rattle.lldp_engine.specs.Port.Event.{whose, for_port};
 ghost use Rattle.lldp_engine.specs.Command.{command_of};
 ghost use Rattle.lldp_engine.specs.Given.{said_by, command_said};
-ghost use Rattle.lldp_engine.specs.Frames.{IsSent};
 ghost use Rattle.lldp_engine.specs.Told.{told_of, Tells};
 ghost use Rattle.lldp_engine.specs.Laws.Calls.{set_by, comes_to, words_for, IsTrueOf};
 
@@ -49,10 +46,4 @@ pub fn steps_tell_what_frames_did()
         slice_get before.ports number ≡ Some port → slice_get after.ports number ≡ Some next →
         IsTrueOf (receives port.status && port.machine.up) (lldpdu_of octets) port.table
         next.table told }
-{}
-
-/// A frame is sent for each mark except Quiet.
-#[tactic(auto, using(crate::proofs::ForLaws::Calls::sent_or_quiet))]
-pub fn quiet_sends_nothing()
-    ensures { (mark : Mark) → IsSent mark ↔ (mark ≢ Quiet) }
 {}

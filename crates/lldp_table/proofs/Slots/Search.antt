@@ -32,7 +32,7 @@ module _ (tags : List ℕ) (tag at : ℕ) (room : at + 16 ≤ length tags) (r : 
 
 -- a slot whose tag differs from that of a name has another name
 module _ (tags : List ℕ) (slots : List Stored) (t : IsTagged tags slots) (name : MsapId) where
-  differs : (i : ℕ) → i < length slots → (get_or tags i 0 ≡ tag_of name → ⊥) → same_msap name (msap_at slots i) ≡ false
+  pub differs : (i : ℕ) → i < length slots → (get_or tags i 0 ≡ tag_of name → ⊥) → same_msap name (msap_at slots i) ≡ false
   differs i l d = elim (cases_Bool (same_msap name (msap_at slots i))) [
     | inl e ↦ absurd (d (t.each i l ∙ ap tag_of (sym (same_msap-true name (msap_at slots i) e))))
     | inr f ↦ f

@@ -1,6 +1,6 @@
 -- The table that the definitions give for a list of calls.
 use Rattle.std.proofs.Common.{◌≡◌, ℕ, ◌<◌, ◌≤◌, Bool, true, nat_lt, List, [], ◌∷◌, length, refl, ap, ◌∙◌, sym, subst, is_some, ◌↔◌, arith}
-use Rattle.std.proofs.lemmas.Bool.{ltb-true, ltb-false, lt-ltb, le-ltb, false_from_ne_true, false≢true}
+use Rattle.std.proofs.lemmas.Bool.{ltb-true, lt-ltb, false_from_ne_true, false≢true}
 use Rattle.lldp_pdu.specs.Msap.{MsapId}
 use Rattle.lldp_table.specs.declared.learned.Learned.TheVariants.{New, Refreshed, Dropped}
 use Rattle.lldp_table.specs.Events.{Call, TableEvent, live, neighbors, limit_after, answer, events_of}
@@ -55,7 +55,3 @@ module _ (opened : ℕ) (calls : List Call) (name : MsapId) where
 
   pub dropped_is : (answer opened name past ≡ Dropped) ↔ ((¬ (IsLive past name)) × (¬ (HasRoom opened past)))
   dropped_is = grind (arith, common_steps, by_dropped, last_is_live, false≢true, lt-ltb, answer_by, live_is_last, false_from_ne_true, ltb-true)
-
-  -- `Dropped` exactly if the MSAP identifier is not live and the table is full
-  pub dropped_where_full : (answer opened name past ≡ Dropped) ↔ ((¬ (IsLive past name)) × (limit_after opened past ≤ length (neighbors past)))
-  dropped_where_full = grind (arith, common_steps, by_dropped, false≢true, last_is_live, ltb-false, answer_by, false_from_ne_true, live_is_last, le-ltb)

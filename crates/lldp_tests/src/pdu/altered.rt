@@ -39,9 +39,20 @@ fn altered(alloc: Global, octets: &[u8], place: usize, bits: u8) -> Result<Vec<u
     Ok(altered)
 }
 
+/// Compares both readers on an LLDPDU with 70 System Names. All but the first are discarded.
+fn compare_many(rt: &impl Abort, alloc: Global) -> Result<(), Fail> {
+    let mut pdu = octets(alloc, "0207040011223344550405056574683006020078")?;
+    for _name in 0..70 {
+        pdu.push(0x0a)?;
+        pdu.push(0)?;
+    }
+    compare(rt, alloc, &pdu)
+}
+
 /// Compares both readers on every prefix of these LLDPDUs, and on every change of one octet.
 #[test]
 fn cut_and_altered(rt: HostRuntime) -> Result<(), Fail> {
+    compare_many(&rt, rt.alloc())?;
     for digits in LLDPDUS {
         let pdu = octets(rt.alloc(), digits)?;
         for place in 0..pdu.len() {

@@ -1,14 +1,17 @@
 //! Tests runs over octets in memory, whole and in pieces.
-ghost use Rattle.std.specs.Prelude.{◌≡◌, IfOk, OnOk};
+ghost use Rattle.std.specs.Prelude.{◌≡◌, ◌<◌, length, IfOk, OnOk};
 ghost use Rattle.lldp_engine.specs.Past.{Past};
 ghost use Rattle.lldp_engine.specs.Standing.{Stands};
+ghost use Rattle.lldp_program.specs.Devices.Adapters.{source_calls, source_ends, source_failures};
+ghost use Rattle.lldp_program.specs.Devices.Counts.{ends_after, failures_after, one_more};
 ghost use Rattle.lldp_program.specs.Trace.Items.{text, after_input};
 
 use super::devices::{Drip, Fuse};
 use crate::engine::{only_receiving, open};
 use lldp_engine::{Agent, Options, Show};
-use lldp_program::device::{FromReader, Source, ToWriter};
+use lldp_program::device::{DeviceFault, FromReader, Source, ToWriter};
 use lldp_program::trace::{RunFault, run_trace};
+use std::io::Read;
 use std::process::Abort;
 use std::test::Fail;
 
@@ -129,6 +132,21 @@ fn runs_octets(rt: HostRuntime) -> Result<(), Fail> {
     Ok(())
 }
 
+/// Reads once from a new source, and returns it with the answer. Its counts begin at 0.
+pub fn read_once<'a, R: Read>(
+    reader: &'a mut R,
+    room: &mut [u8],
+) -> (FromReader<'a, R>, Result<usize, DeviceFault>)
+    requires { 0 < length room.old }
+    ensures calls { source_calls result.0 ≡ one_more 0 }
+    ensures failures { source_failures result.0 ≡ failures_after 0 result.1 }
+    ensures ends { source_ends result.0 ≡ ends_after 0 result.1 }
+{
+    let mut source = FromReader::new(reader);
+    let answer = source.read(room);
+    (source, answer)
+}
+
 /// Checks that each read of a `FromReader` makes one read of its stream and returns the answer of
 /// that read.
 #[test]
@@ -136,7 +154,7 @@ fn adapters_ask(rt: HostRuntime) -> Result<(), Fail> {
     let mut drip = Drip::new(b"abc", 2, 2, Some(2));
     let mut room = [0; 4];
     for read in [Some(2), None, Some(1), Some(0)] {
-        assert_eq!(rt; FromReader::new(&mut drip).read(&mut room).ok(), read);
+        assert_eq!(rt; read_once(&mut drip, &mut room).1.ok(), read);
     }
     assert_eq!(rt; &room[..2], b"cb".as_slice());
     assert_eq!(rt; drip.calls, 4);

@@ -1,6 +1,8 @@
 //! Tests the program with streams that fail, and with arguments that no shell can pass to it.
 use super::devices::{Burn, Drip, Fuse, Network};
 use super::runs::{INPUT, OUTPUT};
+use lldp_engine::CommandFault;
+use lldp_program::line::LineFault;
 use lldp_program::program::run_program;
 use lldp_program::serve::ServeFault;
 use lldp_program::trace::RunFault;
@@ -125,5 +127,26 @@ fn texts_of_faults(rt: HostRuntime) -> Result<(), Fail> {
         let told = format!(in rt.alloc(); "{fault}")?;
         assert_eq!(rt; told.as_str(), text);
     }
+    Ok(())
+}
+
+/// Checks the numbers of faults, which neither the program nor the library tells.
+#[test]
+fn numbers_of_faults(rt: HostRuntime) -> Result<(), Fail> {
+    for (fault, number) in [
+        (RunFault::Read, 1),
+        (RunFault::Write, 2),
+        (RunFault::InputTooLong, 3),
+    ] {
+        assert_eq!(rt; fault.number(), number);
+    }
+    for (fault, number) in [
+        (LineFault::TooLong, 1),
+        (LineFault::Hex, 2),
+        (LineFault::Command(CommandFault::Range), 3),
+    ] {
+        assert_eq!(rt; fault.number(), number);
+    }
+    assert_eq!(rt; ServeFault::Accept.number(), 1);
     Ok(())
 }

@@ -9,13 +9,11 @@ use Rattle.lldp_engine.specs.AgentState.{AgentState}
 use Rattle.lldp_engine.specs.Command.{Command, show, set}
 use Rattle.lldp_engine.specs.Event as event
 use Rattle.lldp_engine.specs.Lines.{lines_of}
-use Rattle.lldp_engine.specs.Past.{Past, with_event}
-use Rattle.lldp_engine.specs.Standing.{Stands}
 use Rattle.lldp_engine.specs.Code.Step.{agent_after, agent_marks}
 use Rattle.lldpa_c.specs.declared.holder.LldpaAgent.{LldpaAgent}
 use Rattle.lldpa_c.specs.declared.marks.LldpaMarks.{LldpaMarks}
 use Rattle.lldpa_c.specs.declared.lines.LldpaLines.{LldpaLines}
-use Rattle.lldpa_c.specs.Agent.{Takes}
+use Rattle.lldpa_c.specs.Agent.{Answers}
 use Rattle.lldpa_c.specs.Command.{Obeys, show_numbered}
 use Rattle.lldpa_c.specs.Filled.{Filled}
 use Rattle.lldpa_c.specs.Frame.{Keeps}
@@ -27,21 +25,21 @@ pub record AreItems (sent : List (ℕ × Mark)) (told : LldpaMarks) : Type 0 whe
   pub items : (i port : ℕ) (mark : Mark) → slice_get sent i ≡ Some (port, mark) →
       slice_get told.items i ≡ Some (record { port = port; mark = mark_number mark })
 
--- The agent is the one after this event, also for its past. C receives each frame to send.
+-- The agent is the one after this event. C receives each frame to send.
 pub record IsPassedOn (agent : AgentState) (event : event.Event) (after : AgentState) (told : LldpaMarks) : Type 0 where
   pub next : after ≡ agent_after event agent
   pub sent : AreItems (agent_marks event agent) told
-  pub past : (past : Past) → Stands past agent → Stands (with_event past event) after
 
 -- the show to print after a command: that of a show command, and none after a setting
 abbrev pub show_asked : Result Command CommandFault → Option Show
 show_asked (Ok (show what)) = Some what
 show_asked said = None
 
--- Frames, links and settings are passed to the engine. After a command the number of the show to
--- print means the show that the command names, and no show if it is a setting.
+-- Frames and links with the answer 0, and settings, are passed to the engine. After a command the
+-- number of the show to print means the show that the command names, and no show if it is a setting.
 pub record ArePassedOn : Type 0 where
-  pub events : (before after : LldpaAgent) (event : event.Event) (told : LldpaMarks) → Takes before event after told →
+  pub events : (before after : LldpaAgent) (event : event.Event) (told_before told : LldpaMarks) →
+      Answers before event told_before 0 after told →
       (after.is_open ≡ true) × IsPassedOn before.held.agent event after.held.agent told
   pub settings : (agent after : AgentState) (setting : event.Setting) (number told : ℕ) (marks_before marks : LldpaMarks) →
       Obeys (Ok (set setting)) agent number marks_before 0 after told marks → IsPassedOn agent (event.set setting) after marks

@@ -34,7 +34,7 @@ pub record AreSeconds : Type 0 where
       (agent_marks tick agent ≡ []) × (neighbors_held (ticked 1 agent) ≡ neighbors_held agent)
 
 -- `lldpa_ticks` takes every second that is asked for, or stops after the first second at which a
--- port sends or a neighbor ages out: the one that `lldpa_due` announced. The headline holds then.
+-- port sends or a neighbor ages out: the one that `lldpa_due` announced.
 pub record AreTaken (asked taken : ℕ) (before after : AgentState) (sent : List (ℕ × Mark)) (gone : ℕ) : Type 0 where
   pub next : after ≡ ticked taken before
   pub all : sent ≡ [] → gone ≡ 0 → taken ≡ asked
@@ -42,7 +42,6 @@ pub record AreTaken (asked taken : ℕ) (before after : AgentState) (sent : List
   pub fewer : gone + neighbors_held after ≤ neighbors_held before
   pub due : (seconds : ℕ) (past : Past) → IsDue before seconds → seconds < NEVER → Stands past before → taken ≡ min asked seconds
   pub never : IsDue before NEVER → (taken ≡ asked) × (sent ≡ []) × (gone ≡ 0)
-  pub past : (past : Past) → Stands past before → Stands (with_ticks taken past) after
 
 -- Two agents that differ in clocks alone show the same settings, and hold the same octets.
 pub record LookTheSame (agent other : AgentState) : Type 0 where

@@ -13,7 +13,7 @@ use Rattle.lldpa_c.specs.declared.holder.LldpaAgent.{LldpaAgent}
 use Rattle.lldpa_c.specs.declared.marks.LldpaMarks.{LldpaMarks}
 use Rattle.lldpa_c.specs.declared.settings.LldpaConfiguration.{LldpaConfiguration}
 use Rattle.lldpa_c.specs.declared.ticks.LldpaTicks.{LldpaTicks}
-use Rattle.lldpa_c.specs.Agent.{Answers, Takes}
+use Rattle.lldpa_c.specs.Agent.{Answers}
 use Rattle.lldpa_c.specs.Building.{Builds}
 use Rattle.lldpa_c.specs.Command.{Obeyed}
 use Rattle.lldpa_c.specs.Frame.{Keeps}
@@ -24,12 +24,13 @@ use Rattle.lldpa_c.specs.Values.{tlv_value}
 use Rattle.lldpa_c.specs.Laws.Order.{IsClosed, HasNoPort, IsNoIdentifier}
 use Rattle.lldpa_c.specs.Laws.Passed.{AreItems}
 
--- A call that answers another number than 0 changes nothing. One that answers 0 does what it is for,
--- and the agent stays open. A command that shows changes no agent, and sends nothing.
+-- A call that answers another number than 0 changes nothing. One that answers 0 does what it is for
+-- (`ArePassedOn` says this of events), and the agent stays open. A command that shows changes no
+-- agent, and sends nothing.
 pub record AreAllOrNothing : Type 0 where
   pub events : (before after : LldpaAgent) (event : event.Event) (answer : ℕ) (told_before told : LldpaMarks) →
       Answers before event told_before answer after told →
-      (answer ≡ 0 → Takes before event after told) × (¬ (answer ≡ 0) → Keeps before after × (told ≡ told_before))
+      ¬ (answer ≡ 0) → Keeps before after × (told ≡ told_before)
   pub commands : (before after : LldpaAgent) (line : List ℕ) (show_before show answer : ℕ) (told_before told : LldpaMarks) →
       Obeyed before line show_before told_before answer after show told →
       (answer ≡ 0 → after.is_open ≡ true)

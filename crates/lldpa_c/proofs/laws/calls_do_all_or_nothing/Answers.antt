@@ -80,7 +80,7 @@ not_left before after answer marks_before marks l differs false is = let r = l.c
 
 pub returns : goal.returns
 returns c = record {
-  events = λ before after event answer told_before told a. (a.taken, λ differs. refused before after event answer told_before told a differs _ refl);
+  events = λ before after event answer told_before told a differs. refused before after event answer told_before told a differs _ refl;
   commands = λ before after line show_before asked answer told_before told o. (
     λ e. stays_open before after line show_before asked answer told_before told o e _ refl,
     λ differs. keeps_all before after line show_before asked answer told_before told o differs _ refl,

@@ -31,7 +31,6 @@ passed : (agent after : AgentState) (event : event.Event) (sent : List (ℕ × M
 passed agent after event sent told steps tells = record {
   next = steps.next;
   sent = are_items (agent_marks event agent) told (subst (λ (marks : List (ℕ × Mark)). TellsMarks marks told) steps.marks tells);
-  past = steps.stands;
 }
 
 -- ---- the show to print
@@ -60,7 +59,7 @@ shows (Ok (set setting)) agent after number told marks_before marks o = ap show_
 
 pub returns-clause-passed : goal.returns-clause-passed
 returns-clause-passed c = record {
-  events = λ before after event told t. (t.open_after, passed _ _ event t.sent told t.steps t.told_are);
+  events = λ before after event told_before told a. let t = a.taken refl in (t.open_after, passed _ _ event t.sent told t.steps t.told_are);
   settings = λ agent after setting number told marks_before marks o.
       passed agent after (event.set setting) o.2.sent marks o.2.steps o.2.told_are;
   shows = shows;

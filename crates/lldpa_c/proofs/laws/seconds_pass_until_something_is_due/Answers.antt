@@ -113,7 +113,6 @@ module _ (asked taken : ℕ) (before after : AgentState) (sent : List (ℕ × Ma
     fewer = omega (arith, few taken before sent gone t.last, ap neighbors_held t.is);
     due = due_taken;
     never = never_taken;
-    past = t.stands;
   }
 
 -- ---- agents that differ in clocks alone
