@@ -8,6 +8,7 @@ import socket
 import subprocess
 import sys
 from pathlib import Path
+from typing import Any
 
 from asking import Client, Gone
 from lldpa import Refused
@@ -37,8 +38,8 @@ class AtAPath(OnLinks):
         super().setUp()
         self.path = str(self.folder / "control")
 
-    def at_path(self, *words: str) -> Live:
-        live = self.live("--control", self.path, *words, "eth0", awaits=False)
+    def at_path(self, *words: str, **options: Any) -> Live:
+        live = self.live("--control", self.path, *words, "eth0", awaits=False, **options)
         live.control = self.path
         self.assertTrue(eventually(live.answers))
         return live
@@ -133,7 +134,7 @@ class Permission(Asking):
     """Tests what the owner, members of the group, and other users may do."""
 
     def test_only_root_and_the_owner_connect_without_a_group(self) -> None:
-        self.at_path()
+        self.at_path(umask=0)
         self.assertEqual(os.stat(self.path).st_mode & 0o777, 0o600)
         self.assertEqual(self.ask(self.asker(), "show chassis"), "")
 

@@ -14,7 +14,6 @@ use std::thread;
 use std::time::{Duration, Instant};
 
 const BETWEEN_TRIES: Duration = Duration::from_millis(10);
-const ONLY_OWNER: u32 = 0o177; // as a umask
 
 /// A listening socket. Until it is dropped or the process ends, no other lldpa-live uses its path.
 pub struct Listening {
@@ -121,11 +120,7 @@ pub fn connect(path: &str, patience: Duration) -> Result<UnixStream> {
 
 /// Returns a listening socket. Its mode is 0600 at first, then 0660 if a group is given.
 fn listener(path: &str, group: Option<u32>) -> Result<UnixListener> {
-    let mask = files::set_umask(ONLY_OWNER);
-    let bound = UnixListener::bind(path);
-    files::set_umask(mask);
-    let socket = bound?;
-    socket.set_nonblocking(true)?;
+    let socket = sockets::listen_stream(path)?;
     match group.map(|group| hand_over(path, group)) {
         // A group never decides whether the agent runs.
         Some(Err(fault)) if [ErrorKind::PermissionDenied, ErrorKind::Unsupported].contains(&fault.kind()) => {

@@ -23,12 +23,6 @@ pub fn change_folder(folder: &File) -> Result<()> {
     checked(unsafe { libc::fchdir(folder.as_raw_fd()) }).map(drop)
 }
 
-/// Sets the bits that new files lack. Returns the former ones.
-pub fn set_umask(mask: u32) -> u32 {
-    // SAFETY: the call takes only a number, and cannot fail.
-    unsafe { libc::umask(mask) }
-}
-
 /// Returns a file that becomes ready when the file at a path is removed, renamed or has a new mode.
 pub fn watch(path: &str) -> Result<File> {
     let path = CString::new(path)?;

@@ -56,7 +56,6 @@ const ALLOWED: &[c_long] = &[
     libc::SYS_renameat2,
     libc::SYS_setxattr,
     libc::SYS_statx,
-    libc::SYS_umask,
     libc::SYS_unlinkat,
     libc::SYS_writev,
     // waiting
@@ -272,7 +271,6 @@ mod tests {
         (90, "chmod"),
         (91, "fchmod"),
         (92, "chown"),
-        (95, "umask"),
         (96, "gettimeofday"),
         (107, "geteuid"),
         (131, "sigaltstack"),

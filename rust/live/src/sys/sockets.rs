@@ -3,11 +3,12 @@
 use super::{checked, opened};
 use crate::time::WallTime;
 use libc::{c_int, c_void, socklen_t};
-use std::fs::File;
+use std::fs::{File, Permissions};
 use std::io::{Error, ErrorKind, Result};
 use std::mem::{size_of, zeroed};
-use std::os::unix::io::AsRawFd;
-use std::os::unix::net::UnixStream;
+use std::os::unix::fs::PermissionsExt;
+use std::os::unix::io::{AsRawFd, OwnedFd};
+use std::os::unix::net::{UnixListener, UnixStream};
 use std::ptr::{null_mut, NonNull};
 use std::time::Duration;
 
@@ -21,6 +22,8 @@ pub type GroupAddress = [u8; 6];
 const PACKET_STATISTICS: c_int = 6;
 const PACKET_IGNORE_OUTGOING: c_int = 23;
 const MOST_GROUPS: usize = 256;
+const ONLY_OWNER: u32 = 0o600;
+const WAITING: c_int = 128; // clients that the kernel lets wait to be accepted
 
 #[repr(C)]
 #[derive(Clone, Copy)]
@@ -215,24 +218,40 @@ pub fn open_datagrams() -> Result<File> {
 
 /// Connects a socket to a Unix address: a path, or octets that begin with a zero.
 pub fn connect_datagrams(file: &File, name: &[u8]) -> Result<()> {
+    unix_address(file, name, true)
+}
+
+/// Binds a socket to a Unix address, or connects it.
+fn unix_address(file: &File, name: &[u8], is_peer: bool) -> Result<()> {
     // SAFETY: this struct of numbers may be all zero.
     let mut place: libc::sockaddr_un = unsafe { zeroed() };
     if name.len() >= place.sun_path.len() {
-        return Err(ErrorKind::InvalidInput.into());
+        return Err(Error::new(ErrorKind::InvalidInput, "the path is too long for a socket"));
     }
     place.sun_family = libc::AF_UNIX as u16;
     for (room, octet) in place.sun_path.iter_mut().zip(name) {
         *room = *octet as _;
     }
     let front = size_of::<libc::sockaddr_un>() - place.sun_path.len();
-    address(file, &place, front + name.len(), true)
+    address(file, &place, front + name.len(), is_peer)
+}
+
+/// Listens at a path. Only the owner may use the socket, whatever the umask says: Linux gives the file
+/// that it makes the mode of the socket, and no other thread's files are concerned.
+pub fn listen_stream(path: &str) -> Result<UnixListener> {
+    let file = socket(libc::AF_UNIX, libc::SOCK_STREAM)?;
+    file.set_permissions(Permissions::from_mode(ONLY_OWNER))?;
+    unix_address(&file, path.as_bytes(), false)?;
+    // SAFETY: the call takes only numbers.
+    checked(unsafe { libc::listen(file.as_raw_fd(), WAITING) })?;
+    Ok(UnixListener::from(OwnedFd::from(file)))
 }
 
 /// Connects to a Unix socket at a path. Fails with `WouldBlock` if its queue is full.
 pub fn connect_stream(path: &str) -> Result<UnixStream> {
     let file = socket(libc::AF_UNIX, libc::SOCK_STREAM)?;
     connect_datagrams(&file, path.as_bytes())?;
-    Ok(UnixStream::from(std::os::unix::io::OwnedFd::from(file)))
+    Ok(UnixStream::from(OwnedFd::from(file)))
 }
 
 /// Returns the user and the groups that a client's process had when it connected.
@@ -253,7 +272,6 @@ pub fn peer_of(stream: &UnixStream) -> (u32, Vec<u32>) {
 #[cfg(test)]
 mod tests {
     use super::*;
-    use std::os::unix::io::OwnedFd;
     use std::os::unix::net::UnixDatagram;
 
     #[test]
