@@ -92,8 +92,7 @@ class Lanes:
         names, beside = [{lane for scheme, number in schemes if scheme.is_beside is is_beside
                           for lane in scheme.lanes_of(number, count if is_beside else 2 * MANY)}
                          for is_beside in (False, True)]
-        more = {lane for scheme, number in schemes if scheme.is_beside
-                for lane in scheme.lanes_of(number, MANY)}
+        more = {lane for scheme, number in schemes for lane in scheme.lanes_of(number, MANY)}
         seen = {canonical(end.port) for some in self._heard.values() for end in some}
         if names & (seen | self._ports.keys()):
             return names, set()
@@ -134,7 +133,7 @@ class Lanes:
             self.unclear += left.values()
             self.places += [place for far in left for place in self._places_of(far)]
             return
-        heard = {lane: [far for far in left if self._hears(lane, far)] for lane in self.free}
+        heard = {lane: [far for far in left if self._tables.heard(lane, far)] for lane in self.free}
         for lane in sorted(self.free, key=lambda lane: len(heard[lane])):
             far = next((one for one in heard[lane] if one in left), None)
             if far is not None:
@@ -155,7 +154,7 @@ class Lanes:
     def _places_of(self, far: End) -> Iterator[End]:
         """Yields the unplanned ports that hear an end, and those that it hears."""
         for key in self._ports.values():
-            if key not in self._planned and key in self._tables.ends and self._hears(key, far):
+            if key not in self._planned and self._tables.heard(key, far):
                 yield key
         yield from (end for end in self._heard[far] if end not in self._planned)
 
@@ -167,34 +166,26 @@ class Lanes:
         return name in self._doubtful or is_longer is not None and name not in self._names
 
     def _take(self, lane: End) -> End:
-        """Takes a free lane. Returns it as its list writes it."""
-        self.free.remove(lane)
+        """Takes a lane. Returns it as its list writes it."""
         self._taken.add(lane)
-        return self._tables.ends[lane].end
-
-    def _hears(self, lane: End, far: End) -> bool:
-        """Returns whether a lane has a neighbor that may be this end."""
-        names = self._tables.names
-        return any(names.answers(one, far) for one in self._tables.ends[lane].neighbors)
+        if lane in self.free:
+            self.free.remove(lane)
+        known = self._tables.ends.get(lane)
+        return known.end if known is not None else lane
 
     def _ports_heard_by(self, far: End) -> Iterator[End]:
         """Yields the ports of this host that an end hears."""
-        known, names = self._tables.ends.get(far), self._tables.names
-        for neighbor in known.neighbors if known is not None else ():
+        names = self._tables.names
+        for neighbor in self._tables.neighbors(far):
             if self._whole.host in names.hosts_of(neighbor):
                 yield from (names.end(End(self._whole.host, port))
                             for port in names.heeded(neighbor))
 
     def _heard_by(self, far: End) -> Optional[End]:
         """Takes the lane that an end hears, unless it is taken already."""
-        for key in self._heard[far]:
-            if self._is_lane(key) and key not in self._taken:
-                self._taken.add(key)
-                if key in self.free:
-                    self.free.remove(key)
-                known = self._tables.ends.get(key)
-                return known.end if known is not None else key
-        return None
+        lanes = (key for key in self._heard[far] if self._is_lane(key) and key not in self._taken)
+        lane = next(lanes, None)
+        return None if lane is None else self._take(lane)
 
     def _split(self) -> Sequence[End]:
         """Splits the whole port if it has several neighbors: each becomes that of a new lane."""

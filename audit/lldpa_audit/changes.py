@@ -52,13 +52,12 @@ class Side(NamedTuple):
         """Returns whether a link that the other side has is seen: an end of it hears the other."""
         one, far = link.keys
         return self.hears(one, far, link.seen) or self.hears(
-            far, one, other.heard(far, one) if link.is_mutual else None)
+            far, one, other.tables.heard(far, one) if link.is_mutual else None)
 
     def hears(self, end: End, far: End, announced: Optional[Seen]) -> bool:
         """Returns whether an end hears another one. If it is known what this one announced at the
         other time, its IDs are compared, else its names."""
-        known = self.tables.ends.get(end)
-        return known is not None and any(self.is_it(one, far, announced) for one in known.neighbors)
+        return any(self.is_it(one, far, announced) for one in self.tables.neighbors(end))
 
     def is_it(self, seen: Seen, far: End, announced: Optional[Seen]) -> bool:
         names = self.tables.names
@@ -68,30 +67,21 @@ class Side(NamedTuple):
         return all(same) and (names.answers(seen, far) if len(same) < 2 else
                               far.host in names.hosts_of(seen))
 
-    def heard(self, end: End, far: End) -> Optional[Seen]:
-        """Returns what an end hears of another one, or None."""
-        known = self.tables.ends.get(end)
-        return next((seen for seen in (known.neighbors if known is not None else ())
-                     if self.tables.names.answers(seen, far)), None)
-
     def covers(self, link: Link) -> bool:
         """Returns whether this side has data of an end that sees a link of the other side."""
         return any(self.tables.covers(key) for key in link.keys[:2 if link.is_mutual else 1])
 
 
-def side_of(tables: Tables) -> Side:
-    return Side(tables, {frozenset(link.keys): link for link in links_of(tables)})
-
-
 def compared(before: Tables, now: Tables) -> Changes:
     """Returns what has changed between two times."""
-    old, new = side_of(before), side_of(now)
+    old, new = (Side(tables, {frozenset(link.keys): link for link in links_of(tables)})
+                for tables in (before, now))
     went, lost = missing(old, new)
     came, added = missing(new, old)
     renames = list(renamed(went, came, old, new))
-    reported = {id(link) for rename in renames for link in (*rename.went, *rename.came)}
+    reported = {id(link) for _, pairs in renames for pair in pairs for link in pair[:2]}
     went, came = ([link for link in some if id(link) not in reported] for some in (went, came))
-    changes = [rename.change for rename in renames] + list(of_links(went, came))
+    changes = [change for change, _ in renames] + list(of_links(went, came))
     hosts = [side.tables.hosts[host] for side, other in ((old, new), (new, old))
              for host in side.tables.with_data() - other.tables.with_data()]
     return Changes(sorted(changes, key=place_of), len(old.links), len(new.links),
@@ -114,14 +104,6 @@ def place_of(change: Change) -> tuple[tuple[Key, Key, End], ...]:
     return tuple(in_turn(end) for end in (*change.now, *change.before)[0])
 
 
-class Rename(NamedTuple):
-    """A host that was renamed, with the links of both names."""
-
-    change: Change
-    went: Sequence[Link]
-    came: Sequence[Link]
-
-
 class Pair(NamedTuple):
     """A link that went and one that came, which share an end. The other ends are on hosts of
     different names, and have the same port. The hosts have the same chassis ID if `is_same`."""
@@ -131,9 +113,10 @@ class Pair(NamedTuple):
     is_same: bool
 
 
-def renamed(went: Sequence[Link], came: Sequence[Link], old: Side, new: Side) -> Iterator[Rename]:
-    """Yields the hosts that were renamed: one name is gone, another is new, and at least one link
-    has the same chassis ID or at least FEWEST links are as before."""
+def renamed(went: Sequence[Link], came: Sequence[Link], old: Side, new: Side
+            ) -> Iterator[tuple[Change, Sequence[Pair]]]:
+    """Yields the hosts that were renamed and their links: one name is gone, another is new, and at
+    least one link has the same chassis ID or at least FEWEST links are as before."""
     gone = hosts_of(old) - hosts_of(new)
     fresh = hosts_of(new) - hosts_of(old)
     reported: set[str] = set()
@@ -143,9 +126,8 @@ def renamed(went: Sequence[Link], came: Sequence[Link], old: Side, new: Side) ->
                 and (is_same or len(pairs) >= FEWEST)):
             reported.update((host, other))
             names = name_in(pairs[0].went, host), name_in(pairs[0].came, other)
-            change = Change(RENAMED, [pair.went.ends for pair in pairs],
-                            [pair.came.ends for pair in pairs], names, not is_same)
-            yield Rename(change, [pair.went for pair in pairs], [pair.came for pair in pairs])
+            yield Change(RENAMED, [pair.went.ends for pair in pairs],
+                         [pair.came.ends for pair in pairs], names, not is_same), pairs
 
 
 def hosts_of(side: Side) -> set[str]:
@@ -168,7 +150,8 @@ def pairs_of(went: Sequence[Link], came: Sequence[Link], old: Side, new: Side
                 its_far = other.keys[1 - other.keys.index(near)]
                 if far.port == its_far.port and far.host != its_far.host:
                     chassis = [plain_chassis(seen.chassis) if seen is not None else ""
-                               for seen in (old.heard(near, far), new.heard(near, its_far))]
+                               for seen in (old.tables.heard(near, far),
+                                            new.tables.heard(near, its_far))]
                     found[far.host, its_far.host].append(
                         Pair(link, other, chassis[0] == chassis[1] != ""))
     return found

@@ -3,7 +3,7 @@ import datetime
 import gc
 import os
 import sys
-from typing import Mapping, NoReturn, Optional, Sequence
+from typing import Mapping, NoReturn, Optional, Sequence, Union
 
 from lldpa import output
 from lldpa.faults import LldpaFault
@@ -12,12 +12,12 @@ from .breakouts import join_lanes
 from .comparing import audit
 from .known import NOTHING_KNOWN, Known, read_known
 from .likely_panels import advice_on_panels
-from .limits import NO_MEMORY, expect_exhaustion, limited, warranted_by
+from .limits import NO_MEMORY
 from .names import Names, shown
 from .plan import Plan, PlanFault
 from .planfile import read_plan
 from .planless import Planless
-from .report.files import write
+from .report.files import need_apart, write
 from .report.objects import json_of
 from .report.page import page_of
 from .report.pipelines import junit_of, metrics_of
@@ -36,7 +36,6 @@ KEPT: list[object] = []  # what `end` need not free
 class Audit(Run):
     def run(self) -> int:
         """Audits, prints the report and writes its files. Returns the exit status."""
-        expect_exhaustion()
         gc.disable()  # all objects live to the end; looking for garbage costs a third of the time
         given = self.given
         plan, known, tables = self.read()
@@ -56,10 +55,10 @@ class Audit(Run):
         given, names = self.given, self.names()
         whats = list(read_whats(given.what, given.host, self.say))
         hold_pipes(whats)
-        with limited(given.plan, megabytes=warranted_by(given.plan)):
-            plan = read_plan(given.plan, names, given.columns, given.panels, self.progress)
-        # not while the plan is read, whose memory is limited: what is read takes memory, too
-        files = read_files(of_hosts(whats), given.platform)
+        need_apart((given.html, given.junit, given.metrics), (
+            given.plan, given.panels, given.known, given.aliases, *(one.file for one in whats)))
+        files = read_files(of_hosts(whats), given.platform)  # begins to, while the plan is read
+        plan = read_plan(given.plan, names, given.columns, given.panels, self.progress)
         today = datetime.date.today()
         known = read_known(given.known, plan.names, today) if given.known else NOTHING_KNOWN
         self.say_all((*plan.notes, *known.notes))
@@ -121,15 +120,14 @@ def advice(like: Optional[str], file: str, plan: Plan) -> str:
 def status_of(words: Optional[Sequence[str]]) -> int:
     """Runs the program, reports its faults, and returns the exit status."""
     given = read_words(words)
-    program: Run = Planless(given) if given.plan is None else Audit(given)
+    sys.unraisablehook = lambda _: None  # to close a generator without memory would be told
+    program: Union[Audit, Planless] = Planless(given) if given.plan is None else Audit(given)
     first = given.plan or [*given.what, given.live][0]
     why: Sequence[str] = [f"{first}: {NO_MEMORY}"]
     try:
         status = program.run()
         KEPT.append(program)
         return status
-    except KeyboardInterrupt:
-        return 130
     except PlanFault as fault:
         why = fault.texts
     except OSError as fault:
@@ -155,4 +153,8 @@ def main(words: Optional[Sequence[str]] = None) -> int:
 def end() -> NoReturn:
     """Runs the program and ends the process. To free all objects one by one would take a seventh of
     the time."""
-    os._exit(main())
+    try:
+        status = main()
+    except KeyboardInterrupt:  # perhaps a second one, while the first ends the program
+        status = 130
+    os._exit(status)

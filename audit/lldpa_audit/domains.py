@@ -1,5 +1,5 @@
 """Finds devices that --short-names takes for one host, or for several hosts."""
-from collections import defaultdict
+from collections import Counter, defaultdict
 from typing import Iterator, Mapping, Sequence
 
 from .judging import Finding, Verdict
@@ -37,10 +37,7 @@ def device_of(one: Finding, names: Names) -> tuple[str, str]:
 def hosts_of_one_device(chassis: Mapping[str, set[str]]) -> Iterator[str]:
     """Yields the planned hosts, by the chassis IDs heard for each, that may be one device: they
     share a chassis ID, or one of them has none."""
-    times: dict[str, int] = defaultdict(int)
-    for some in chassis.values():
-        for one in some:
-            times[one] += 1
+    times = Counter(one for some in chassis.values() for one in some)
     for host, some in chassis.items():
         if "" in times or any(times[one] > 1 for one in some):
             yield host

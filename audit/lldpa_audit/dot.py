@@ -55,8 +55,7 @@ def edges_of(text: str, faults: Faults) -> Iterator[Cable]:
 
 def after_skipped(text: str, at: int) -> int:
     """Returns the place after blanks and comments."""
-    found = SKIPPED.match(text, at)
-    return found.end() if found else at
+    return SKIPPED.match(text, at).end()  # type: ignore[union-attr]  # it may be empty
 
 
 def refused(text: str, at: int) -> str:

@@ -1,6 +1,6 @@
 """Finds the links that neighbors show, without a plan."""
 from collections import defaultdict
-from typing import Iterable, NamedTuple, Sequence
+from typing import Iterable, Mapping, NamedTuple, Sequence
 
 from .names import End, Seen
 from .seen.tables import KnownPort, Tables
@@ -19,10 +19,12 @@ class Link(NamedTuple):
 def links_of(tables: Tables) -> list[Link]:
     """Returns a link for each two ends that hear each other, and for each other neighbor. A link is
     repeated if an end hears the other more than once."""
-    hearers = Hearers(tables)
+    names, hearers = tables.names, hearers_of(tables)
     links, alone = [], []
     for key, known in tables.ends.items():
-        mutual = [(seen, hearers.mutual(key, seen)) for seen in known.neighbors]
+        near = dict.fromkeys((*hearers.get(key, ()), *hearers.get(End(key.host, ""), ())))
+        mutual = [(seen, [far for far in near if far != key and names.answers(seen, far)])
+                  for seen in known.neighbors]
         alone += [(key, known, seen) for seen, fars in mutual if not fars]
         fars = [far for _, some in mutual for far in some]
         links += [Link((key, far), (known.end, tables.ends[far].end), seen, True)
@@ -31,25 +33,17 @@ def links_of(tables: Tables) -> list[Link]:
     return links + [shown.link(*one) for one in alone]
 
 
-class Hearers:
-    """Finds the ends that hear an end, or a host if a neighbor names an aggregate of the host."""
-
-    def __init__(self, tables: Tables) -> None:
-        self._names = tables.names
-        self._of_ends: dict[End, list[End]] = defaultdict(list)
-        self._of_hosts: dict[str, list[End]] = defaultdict(list)
-        for key, known in tables.ends.items():
-            for seen in known.neighbors:
-                for end in set(self._names.ends(seen)) & tables.ends.keys():
-                    self._of_ends[end].append(key)
-                for host in self._names.hosts_of_aggregate(seen):
-                    self._of_hosts[host].append(key)
-
-    def mutual(self, key: End, seen: Seen) -> Sequence[End]:
-        """Returns the ends that may be the neighbor `seen` of an end, and that hear this end."""
-        hearers = (*self._of_ends.get(key, ()), *self._of_hosts.get(key.host, ()))
-        return [far for far in dict.fromkeys(hearers)
-                if far != key and self._names.answers(seen, far)]
+def hearers_of(tables: Tables) -> Mapping[End, Sequence[End]]:
+    """Returns the ends that hear an end. Those that hear an aggregate of a host, and so perhaps any
+    of its ports, are at its end without a port."""
+    names = tables.names
+    found: dict[End, list[End]] = defaultdict(list)
+    for key, known in tables.ends.items():
+        for seen in known.neighbors:
+            ends = {end for end in names.ends(seen) if end in tables.ends}
+            for end in (*ends, *(End(host, "") for host in names.hosts_of_aggregate(seen))):
+                found[end].append(key)
+    return found
 
 
 class Shown:

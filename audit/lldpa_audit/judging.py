@@ -105,21 +105,16 @@ class Judge:
     def verdict(self, end: End, expected: End, neighbors: Sequence[Seen]) -> Verdict:
         """Returns the verdict on an end with data. For a swapped end, the verdict is `wrong`."""
         if not neighbors:
-            return Verdict.ONE_SIDED if self.sees(expected, end) else Verdict.SILENT
+            return Verdict.ONE_SIDED if self.tables.heard(expected, end) else Verdict.SILENT
         if len(neighbors) > 1:
             right_ones = [one for one in neighbors if self.names.answers(one, expected)]
             return Verdict.EXTRA if len(right_ones) == 1 else Verdict.DOUBLED
         if not self.names.answers(neighbors[0], expected):
             return Verdict.WRONG
         other = self.tables.ends.get(expected)
-        if other is None or self.sees(expected, end):
+        if other is None or self.tables.heard(expected, end):
             return Verdict.RIGHT
         return Verdict.DISAGREES if other.neighbors else Verdict.ONE_SIDED
-
-    def sees(self, end: End, other: End) -> bool:
-        """Returns whether one of an end's neighbors may be the other end."""
-        known = self.tables.ends.get(end)
-        return known is not None and any(self.names.answers(one, other) for one in known.neighbors)
 
     def partner(self, end: End, expected: End, neighbor: Seen) -> Optional[End]:
         """Returns the first end that `end` is swapped with, or None. Two ends are swapped if each
@@ -132,7 +127,7 @@ class Judge:
         seen = self.tables.ends
         found = [other for other in others - {end, expected}
                  if other in seen and self.has_only(seen[other], expected)
-                 and not self.sees(other, self.plan.ends[other].peer)]
+                 and not self.tables.heard(other, self.plan.ends[other].peer)]
         if len(found) > 1:
             found.sort(key=self._ranks.__getitem__)
         return self.plan.ends[found[0]].end if found else None

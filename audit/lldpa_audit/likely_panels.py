@@ -24,34 +24,18 @@ def likely_panels(plan: Plan, tables: Tables, wrong: Sequence[Finding]) -> Seque
     """Returns the hosts that nobody hears, and two of whose neighbors in the plan hear each other
     instead. One of these may be at another such host that cables join to the first."""
     names, ends = tables.names, plan.ends
-    heard = {host for one in wrong for host in names.hosts_of(one.has[0])}
+    left = plan.hosts.keys() - tables.hosts.keys() - {
+        host for known in tables.ends.values() for one in known.neighbors
+        for host in names.hosts_of(one)}
     found: set[str] = set()
     for one in wrong:
-        host = ends[names.end(one.end)].peer.host
-        others = [ends[end].peer.host for end in names.ends(one.has[0]) if end in ends]
-        if others and host not in found:
-            joined = joined_to(host, plan, tables) - heard
-            found.update(joined if not joined.isdisjoint(others) else ())
+        joined, further = set[str](), [ends[names.end(one.end)].peer.host]
+        while further:
+            host = further.pop()
+            if host in left and host not in joined:
+                joined.add(host)
+                further += [ends[key].peer.host for key in plan.ends_of_hosts[host]]
+        if any(end in ends and ends[end].peer.host in joined for end in names.ends(one.has[0])):
+            found |= joined
+            left -= joined
     return sorted(found)
-
-
-def joined_to(host: str, plan: Plan, tables: Tables) -> set[str]:
-    """Returns a host that nobody hears, with the others of this kind that planned cables join to
-    it; none if somebody hears it."""
-    found: set[str] = set()
-    left = [host]
-    while left:
-        one = left.pop()
-        if one not in found and is_unheard(one, plan, tables):
-            found.add(one)
-            left += [plan.ends[key].peer.host for key in plan.ends_of_hosts[one]]
-    return found
-
-
-def is_unheard(host: str, plan: Plan, tables: Tables) -> bool:
-    """Returns whether a host has no list, and is heard by no end that is planned at it."""
-    if host in tables.hosts:
-        return False
-    fars = [tables.ends.get(plan.ends[key].peer) for key in plan.ends_of_hosts[host]]
-    return not any(host in tables.names.hosts_of(seen) for far in fars if far is not None
-                   for seen in far.neighbors)

@@ -1,20 +1,17 @@
-"""Limits the memory and the processor time for each file, as `ulimit` does. An audit as a whole has
-no limit."""
-import os
+"""Limits the memory and the processor time for lists and captures, as `ulimit` does. An audit as a
+whole has no limit."""
 import resource
 import signal
-import stat
-import sys
 import time
-from contextlib import contextmanager, suppress
+from contextlib import contextmanager
 from resource import RLIM_INFINITY, RLIMIT_AS, RLIMIT_CPU, RLIMIT_DATA
 from typing import Iterator, Optional
 
 from lldpa.faults import LldpaFault
 
-SECONDS = 20
-# the MB of memory that a file with rows may take, such as a plan: for itself, and for each MB of it
-LEAST, TIMES = 128, 24
+# A file in gzip may unpack to so many times its size, or to so many octets if it is small: real
+# lists unpack to 10 to 100 times their size, and hostile ones to 1000 times.
+MOST_TIMES, ALWAYS = 128, 4 << 20
 NO_MEMORY = "there is not enough memory for it"
 
 
@@ -26,22 +23,13 @@ class TooSlow(Exception):
     """The processor time is up."""
 
 
-def expect_exhaustion() -> None:
-    """Prepares for the end of memory: closing a generator would then print a traceback."""
-    sys.unraisablehook = lambda _: None
-
-
-def warranted_by(file: str) -> Optional[int]:
-    """Returns how many MB of memory the size of a file with rows warrants; None for a pipe."""
-    with suppress(OSError):  # who reads the file reports it
-        found = os.stat(file)
-        return LEAST + TIMES * (found.st_size >> 20) if stat.S_ISREG(found.st_mode) else None
-    return None
+def most_unpacked(size: int) -> int:
+    """Returns to how many octets a file in gzip of this size may unpack."""
+    return max(MOST_TIMES * size, ALWAYS)
 
 
 @contextmanager
-def limited(file: str, seconds: float = SECONDS, megabytes: Optional[int] = None
-            ) -> Iterator[None]:
+def limited(seconds: float, megabytes: Optional[int] = None) -> Iterator[None]:
     """Stops the work on a file that needs too much processor time or, if `megabytes` is given, more
     memory than that beside the most that was in use. Raises LimitFault."""
     before = {limit: resource.getrlimit(limit) for limit in (RLIMIT_CPU, RLIMIT_DATA, RLIMIT_AS)}
@@ -62,7 +50,7 @@ def limited(file: str, seconds: float = SECONDS, megabytes: Optional[int] = None
         why = f"it needs more than {megabytes} MB of memory" if is_ours else NO_MEMORY
     except TooSlow:
         why = f"it needs more than {seconds:.0f} seconds of processor time"
-    raise LimitFault(f"{file}: {why}")
+    raise LimitFault(why)
 
 
 def lower(limit: int, most: int) -> bool:

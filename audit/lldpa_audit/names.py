@@ -5,7 +5,7 @@ import ipaddress
 from contextlib import suppress
 from typing import Collection, Iterable, Mapping, NamedTuple, Optional, Sequence, Set
 
-from lldpa.texts import CUT, printable
+from lldpa.texts import CUT, escaped, printable
 
 from .spelling import MAC, is_aggregate, plain, plain_port
 
@@ -252,7 +252,7 @@ def without_domain(name: str) -> str:
 def shown(name: str) -> str:
     """Returns a name as a line shows it: unprintable characters are escaped as octets, a name with
     a blank is in quotes, and a name that is too long for LLDP is cut."""
-    text = printable(text_of(name[:LONGEST])) + (CUT if len(name) > LONGEST else "")
+    text = printable(name[:LONGEST]) + (CUT if len(name) > LONGEST else "")
     return text if text and " " not in text else f'"{text}"'
 
 
@@ -260,13 +260,6 @@ def first_of(names: Sequence[str]) -> list[str]:
     """Returns the first of some names as a line shows them, and how many more there are."""
     more = len(names) - MOST_NAMED
     return [*map(shown, names[:MOST_NAMED]), *([f"{more} more"] if more > 0 else [])]
-
-
-def escaped(letter: str) -> str:
-    """Returns the octets of a letter in hexadecimal, escaped as `show neighbors` escapes them."""
-    is_octet = "\udc80" <= letter <= "\udcff"
-    octets = letter.encode(errors="surrogateescape" if is_octet else "surrogatepass")
-    return "".join(f"\\x{octet:02x}" for octet in octets)
 
 
 def text_of(name: str) -> str:

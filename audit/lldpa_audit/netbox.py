@@ -133,7 +133,8 @@ def cable_of(node: Any) -> Union[Cable, str]:
 
 def side_of(terminations: Any) -> Side:
     """Returns one side of a cable. An end that is not a port of a device has empty names."""
-    nodes = [one for one in terminations or () if isinstance(one, dict)]
+    some = terminations if isinstance(terminations, list) else ()
+    nodes = [one for one in some if isinstance(one, dict)]
     kinds = [str(node.get("object_type")).partition(".")[2] for node in nodes]
     return Side([end_of(node.get("object")) for node in nodes] or [NO_END], kinds)
 

@@ -8,7 +8,6 @@ from lldpa.faults import LldpaFault
 from .names import End, Names, shown
 
 MOST_TOLD = 20
-MOST_COUNTED = 10_000
 MOST_LANES = 16  # no port has more
 
 
@@ -29,10 +28,8 @@ class Faults:
         self._texts: list[str] = []
 
     def add(self, line: Optional[int], text: str) -> None:
-        """Adds a fault, with its line if known. Raises PlanFault after MOST_COUNTED faults."""
+        """Adds a fault, with its line if known."""
         self.count += 1
-        if self.count > MOST_COUNTED:
-            self.end()
         if self.count <= MOST_TOLD:
             place = self.file if line is None else f"{self.file}: line {line}"
             self._texts.append(f"{place}: {text}")
@@ -41,9 +38,7 @@ class Faults:
         """Raises PlanFault if there was a fault."""
         more = self.count - len(self._texts)
         if more:
-            least = "at least " if self.count > MOST_COUNTED else ""
-            self._texts.append(
-                f"{self.file}: {least}{more} more {'fault' if more == 1 else 'faults'}")
+            self._texts.append(f"{self.file}: {more} more {'fault' if more == 1 else 'faults'}")
         if self._texts:
             raise PlanFault(self._texts)
 
@@ -154,8 +149,7 @@ class Plan:
     def _add_breakout(self, link: Link, whole: Set[End], names: Names, faults: Faults) -> None:
         """Adds a link of a breakout cable: its end in `whole` has several links."""
         if link.one not in whole:
-            link = Link(link.other, link.one, link.line, link.other_line, link.detail,
-                        link.other_detail)
+            link = link._replace(one=link.other, other=link.one)
         some = self.breakouts.setdefault(names.end(link.one), [])
         if some and (some[0].line, some[0].detail) != (link.line, link.detail):
             faults.add(link.line, planned_twice(link.one, None, None))
@@ -165,15 +159,13 @@ class Plan:
 
     def _need_breakouts_apart(self, names: Names, faults: Faults) -> None:
         """Refuses ends of breakout cables that are planned twice."""
-        ends: dict[End, Optional[int]] = {}
+        lines = {key: one.line for key, one in self.ends.items()} if self.breakouts else {}
         for key, links in self.breakouts.items():
-            pairs = [(key, links[0].one), *((names.end(one.other), one.other) for one in links)]
-            for one, end in pairs:
-                before = self.ends.get(one)
-                if before is not None or one in ends:
-                    line = before.line if before is not None else ends[one]
-                    faults.add(links[0].line, planned_twice(end, line, links[0].line))
-                ends[one] = links[0].line
+            line, others = links[0].line, [(names.end(link.other), link.other) for link in links]
+            for one, end in ((key, links[0].one), *others):
+                if one in lines:
+                    faults.add(line, planned_twice(end, lines[one], line))
+                lines[one] = line
 
     def add_lane(self, lane: End, link: Link, names: Names) -> None:
         """Plans a breakout cable's link at a lane, which must not be planned."""

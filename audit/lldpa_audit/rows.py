@@ -1,30 +1,37 @@
 """Reads the rows of a CSV file, each with the number of the line in which it begins."""
 import csv
-import gzip
 import re
-import zlib
+from io import BytesIO
 from pathlib import Path
 from typing import Iterator, Optional, Sequence
 
+from lldpa.capture.unzip import MAGIC, Unzipped
+from lldpa.capture.window import AT_ONCE, BadCapture
+
+from .limits import most_unpacked
 from .plan import Faults, PlanFault
 
 LINE = re.compile(r"[^\n]*\n|[^\n]+")  # to split all lines at once would take much memory
 COMMENT = "#"
+# words for errors of csv's reader, by a part of each, after which no row can be read
+LAST = {"field larger": f"a field has over {csv.field_size_limit()} characters",
+        "end of data": "a quoted field has no closing quote",
+        "new-line": "a line ends with CR alone: save the file with LF, or with CR and LF"}
 SEPARATOR = re.compile(r"sep=(.)\r?\n", re.I)  # Excel's first line
-GZIP = b"\x1f\x8b"
 
 
 def text_of(file: str) -> str:
     """Returns the text of a file. Raises PlanFault and OSError."""
     octets = Path(file).read_bytes()
     try:
-        if octets.startswith(GZIP):
-            octets = gzip.decompress(octets)
+        if octets.startswith(MAGIC):
+            packed = Unzipped(BytesIO(octets), b"", most_unpacked(len(octets)))
+            octets = b"".join(iter(lambda: packed.read(AT_ONCE), b""))
         return octets.decode("utf-8-sig")
     except UnicodeDecodeError as fault:
         why = f"it is not text in UTF-8 (octet {fault.start})"
-    except (EOFError, gzip.BadGzipFile, zlib.error) as fault:
-        why = f"its gzip data is damaged: {fault}"
+    except BadCapture as fault:
+        why = str(fault)
     raise PlanFault([f"{file}: {why}"])
 
 
@@ -61,7 +68,8 @@ def rows_of(text: str, faults: Faults, marked: Optional[set[int]] = None
             faults.add(lines.begin, f"a quoted field in it ends in line {lines.number}, and takes "
                                     "rows with it")
             continue
-        if row[0].startswith(COMMENT) and marked is not None and lines.is_marked:
+        if (row[0].startswith(COMMENT) and marked is not None
+                and lines.raw[0].lstrip().startswith(COMMENT)):  # else it stands in quotes
             marked.add(lines.begin)
         width, lines.is_after_header = width or len(row), True
         yield lines.begin, row if len(row) >= width else row + [""] * (width - len(row))
@@ -75,20 +83,14 @@ def records_of(lines: "Lines", separator: str, faults: Faults) -> Iterator[list[
         try:
             row = next(reader, None)
         except csv.Error as fault:
-            faults.add(lines.begin, worded(str(fault)))
-            if worded(str(fault)) != str(fault):
-                return
+            why = next((words for part, words in LAST.items() if part in str(fault)), "")
+            faults.add(lines.begin, why or str(fault))
+            if why:
+                faults.end()
             continue
         if row is None:
             return
         yield row
-
-
-def worded(fault: str) -> str:
-    """Rewords an error of csv's reader. After an error that is reworded, no row can be read."""
-    if "field larger" in fault:
-        return f"a field has over {csv.field_size_limit()} characters"
-    return "a quoted field has no closing quote" if "end of data" in fault else fault
 
 
 def separator_of(text: str) -> str:
@@ -122,11 +124,6 @@ class Lines:
             else:
                 self.raw.append(line)
             yield line
-
-    @property
-    def is_marked(self) -> bool:
-        """Returns whether the latest row begins with `#`, which is not in quotes."""
-        return self.raw[0].lstrip().startswith(COMMENT)
 
     def has_row_inside(self, separator: str, width: int) -> bool:
         """Returns whether a quoted field of the latest row, which spans lines, has one with as many

@@ -4,11 +4,11 @@ from math import inf
 from typing import Iterable, Iterator, Optional, Sequence
 
 from lldpa import output
+from lldpa.ctl import CtlFault
 from lldpa.texts import printable
 
 from .aliases import read_aliases
-from .limits import limited, warranted_by
-from .names import NO_ALIASES, Names, text_of
+from .names import NO_ALIASES, Names
 from .plan import Plan
 from .progress import Progress
 from .seen.gather import Gathering
@@ -18,8 +18,7 @@ from .what import What
 
 NAME = "lldpa-audit"
 PROGRAM = "lldpa"  # the agent that reads captures
-NOBODY_ANSWERS = ("nobody answers at {}: is lldpa-live running? "
-                  "(sudo systemctl start lldpa starts the service)")
+HOW_TO_START = " (sudo systemctl start lldpa starts the service)"
 
 
 class Run:
@@ -28,16 +27,11 @@ class Run:
         self.progress = Progress(NAME)
         self.status = 0  # 1 if a source is damaged, 2 if two overlap
 
-    def run(self) -> int:
-        """Does what the arguments say. Returns the exit status."""
-        raise NotImplementedError
-
     def names(self) -> Names:
         """Returns the rules by which names are compared."""
         given = self.given
         rules = given.ignore_case, given.short_names, given.vendor_names
-        with limited(given.aliases or "", megabytes=warranted_by(given.aliases or "")):
-            aliases = read_aliases(given.aliases, Names(*rules)) if given.aliases else NO_ALIASES
+        aliases = read_aliases(given.aliases, Names(*rules)) if given.aliases else NO_ALIASES
         return Names(*rules, aliases)
 
     def gather(self, whats: Sequence[What], files: Iterator[Optional[Listing]], plan: Plan,
@@ -55,10 +49,9 @@ class Run:
         if given.live and is_now:
             try:
                 gathering.add_live(given.host, given.live, plan, given.wait)
-            except (FileNotFoundError, ConnectionRefusedError):
-                raise ValueError(NOBODY_ANSWERS.format(given.live)) from None
-            except OSError as fault:
-                raise ValueError(f"{given.live}: {fault.strerror or fault}") from None
+            except CtlFault as fault:
+                how = HOW_TO_START if fault.text.startswith("nobody answers") else ""
+                raise ValueError(f"{fault}{how}") from None
         tables.discard_forgotten()
         self.status = max(self.status, gathering.status)
         return tables
@@ -76,5 +69,5 @@ class Run:
 def harmless(line: str) -> str:
     """Escapes what is invisible, and what a pipeline's runner would take for a command, such as
     `##vso[..`."""
-    line = printable(text_of(line)).replace("##", "#\\x23")
+    line = printable(line).replace("##", "#\\x23")
     return line.replace("::", "\\x3a:", 1) if line.lstrip().startswith("::") else line

@@ -10,12 +10,10 @@ from lldpa.version import add_version
 
 from .ages import seconds_of
 from .columns import COLUMNS
-from .names import text_of
-from .seen.asking import DEFAULT_PATH
 
 # options for an audit by a plan
 OF_PLANS = ("columns", "panels", "wait", "known", "planned_only", "junit", "metrics", "html")
-LIVE = "--live"
+LIVE, DEFAULT_PATH = "--live", "/run/lldpa/control"
 WORDS = """\
 PLAN is CSV, the cables that NetBox exports or its API returns, or a topology in DOT. Each WHAT is:
   FOLDER          files of many hosts, each named after its host: leaf1.json, or files in leaf1/
@@ -46,7 +44,7 @@ class Parser(argparse.ArgumentParser):
     """Reports wrong arguments with invisible letters escaped."""
 
     def error(self, message: str) -> NoReturn:
-        super().error(printable(text_of(message)))
+        super().error(printable(message))
 
 
 def read_words(words: Optional[Sequence[str]]) -> argparse.Namespace:

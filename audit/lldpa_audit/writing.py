@@ -3,7 +3,7 @@ import csv
 import os
 from collections import Counter, defaultdict
 from contextlib import suppress
-from typing import Iterable, Iterator, NamedTuple, Optional, Sequence
+from typing import Iterable, Iterator, Mapping, NamedTuple, Optional, Sequence
 
 from lldpa.texts import printable
 
@@ -30,11 +30,12 @@ class Row(NamedTuple):
 def rows_of(links: Sequence[Link], tables: Tables) -> tuple[list[Row], list[str]]:
     """Returns a row for each link that a plan can have, sorted, and notes on what is left out."""
     links = apart(links, tables)
-    unsure = Unsure(links)
+    both = Counter(key for link in links if link.is_mutual for key in link.keys)
+    either = Counter(key for link in links for key in link.keys)
     rows: list[Row] = []
     left: list[str] = []
     for link in links:
-        why = why_not(link) or unsure.why(link)
+        why = why_not(link, both if link.is_mutual else either)
         if why:
             left.append(f"{link.ends[0]} with {link.ends[1]} is left out: {why}")
             continue
@@ -67,28 +68,16 @@ def by_chassis(link: Link, tables: Tables) -> Link:
     return link._replace(keys=(link.keys[0], key), ends=(link.ends[0], far))
 
 
-class Unsure:
-    """Finds the links whose ends have several links. A link that both ends see stays if each end
-    sees the other once; then the other links of these ends are left out."""
-
-    def __init__(self, links: Sequence[Link]) -> None:
-        self._both = Counter(key for link in links if link.is_mutual for key in link.keys)
-        self._one = Counter(key for link in links if not link.is_mutual for key in link.keys)
-
-    def why(self, link: Link) -> str:
-        """Returns why a link is left out, or an empty text."""
-        for key, end in zip(link.keys, link.ends):
-            if self._both[key] > 1 or not link.is_mutual and self._both[key] + self._one[key] > 1:
-                return f"{end} is seen in several links"
-        return ""
-
-
-def why_not(link: Link) -> str:
-    """Returns why a plan cannot have a link, or an empty text."""
+def why_not(link: Link, times: Mapping[End, int]) -> str:
+    """Returns why a plan cannot have a link, or an empty text. `times` counts the links of each
+    end: for a link that both ends see, only others of this kind, since it outweighs the rest."""
     if link.keys[0] == link.keys[1]:
         return "a port hears itself"
     bad = next((name for end in link.ends for name in end if not usable(name)), None)
-    return "" if bad is None else f"a plan cannot have the name {shown(bad)}"
+    if bad is not None:
+        return f"a plan cannot have the name {shown(bad)}"
+    several = next((end for key, end in zip(link.keys, link.ends) if times[key] > 1), None)
+    return "" if several is None else f"{several} is seen in several links"
 
 
 def usable(name: str) -> bool:

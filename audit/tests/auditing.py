@@ -18,8 +18,9 @@ from lldpa_audit.command import main  # noqa: E402
 
 HEAD = "host,port,peer,peer_port\n"
 AUDIT = os.environ.get("LLDPA_AUDIT") or str(REPOSITORY / "bin" / "lldpa-audit")
-# the agent that reads captures is found on the search path
-WITH_AGENT = {**os.environ, "PATH": f"{os.path.dirname(PROGRAM)}:{os.environ['PATH']}"}
+# the agent that reads captures, and lldpa-ctl, are found on the search path
+WITH_AGENT = {**os.environ, "PATH": f"{os.path.dirname(PROGRAM)}:{REPOSITORY}/bin:"
+              f"{os.environ['PATH']}"}
 
 
 class Row(NamedTuple):

@@ -294,8 +294,23 @@ PLANS = (
                            "leaf1": '{"swp1": [{"hostname": "srv1", "port": "eth0"}]}'},
         "plan leaf1", 0, ["1 cable: 1 right, 0 wrong"]),
     Row("one that is cut short", {"plan": gzip.compress(ONE.encode())[:-9], "leaf1": "{}"},
-        "plan leaf1", 2, ["plan: its gzip data is damaged: Compressed file ended before the "
-                          "end-of-stream marker was reached"]),
+        "plan leaf1", 2, ["plan: its gzip data is cut short"]),
+    Row("one that is damaged", {"plan": gzip.compress(ONE.encode())[:-8] + bytes(8), "leaf1": "{}"},
+        "plan leaf1", 2, ["plan: its gzip data is damaged"]),
+    Row("one that unpacks to very much", {"plan": gzip.compress(ONE.encode() + b"#" * (4 << 20)),
+                                          "leaf1": "{}"},
+        "plan leaf1", 2, ["plan: its gzip data unpacks to more than 4,194,304 octets"]),
+    *[situation(f"{what} that end with CR", plan, {"leaf1": ""}, 2, [
+        f"plan: line {line}: a line ends with CR alone: save the file with LF, or with CR and LF"])
+      for what, plan, line in (("all lines", ONE.replace("\n", "\r"), 1),
+                               ("some lines", ONE + ONE.replace("\n", "\r"), 3))],
+    *[Row(f"a {what} that a {option} would overwrite", {
+        "plan": ONE, "known": "host,port,reason,until\n",
+        "lists/leaf1": '{"swp1": [{"hostname": "srv1", "port": "eth0"}]}'},
+        f"--{option} {file} --known known plan lists", 2,
+        [f"{file}: it is read, and is not overwritten"]) for what, file, option in (
+            ("plan", "plan", "html"), ("list", "lists/leaf1", "junit"),
+            ("list of known faults", "./known", "metrics"))],
     situation("a row that is commented out", ONE + "#leaf1,swp2,srv2,eth0\n",
               {"leaf1": "swp1 srv1 eth0"}, 0, [
                   "plan: 1 cable is left out: 1 in a line that begins with #",

@@ -43,6 +43,8 @@ OTHER_DATA: Sequence[Tuple[str, Any, str]] = (
      "JSON with the names interfaces, routes, users, 1 more"),
     ("`ip -json link`", [{"ifname": "swp1"}, {"ifname": "swp2"}],
      "JSON with a list of 2 values, the first of which is JSON with the names ifname"),
+    ("a list in a list", [[]],
+     "JSON with a list of 1 value, the first of which is JSON with a list of 0 values"),
     ("rows of interfaces", {"swp1": [{"mtu": 1500}]}, "JSON with the names swp1"))
 # refused lists of leaf1's neighbors, and the cause
 REFUSED: Sequence[Tuple[str, Any, str]] = (
@@ -130,6 +132,7 @@ PARTS = (
               "3 cables: 1 right, 0 wrong, 2 not looked at (host01, host02)"])
       for text, unplanned, why in (
           (rack.section(), (), "it has no Ethernet interface"),
+          (rack.section() + rack.block(1, b"\x71" + bytes(7)), (), "it has no Ethernet interface"),
           ({"leafX": {"swp1": []}}, ("leafX",), "it has lists of other hosts only"),
           ({"swp1": {}, "swp2": {}}, ("swp1", "swp2"), "it has lists of other hosts only"))),
     Row("two lists in one file", {"l": [vendors.eos(RIGHT), vendors.eos(OF_LEAF2)]}, "leaf1:l", 1, [
@@ -183,11 +186,13 @@ PARTS = (
     Row("12: what is skipped in a folder", {
         "seen/fifo": os.mkfifo, "seen/gone.json": lambda path: path.symlink_to("nowhere"),
         "seen/leaf1.json~": "{", "seen/leaf1/list": LEAF1,
+        "seen/self": lambda path: path.symlink_to("self"),
         "seen/leaf1/latest": lambda path: path.symlink_to("..")}, "seen", 0, [
             "seen/fifo: it is not a file, and is skipped",
             "seen/gone.json: it is a link that leads nowhere, and is skipped",
             "seen/leaf1/latest: it is a link to a folder, and is skipped",
             "seen/leaf1.json~: it is named like a backup copy, and is skipped",
+            "seen/self: it is a link that leads nowhere, and is skipped",
             "3 cables: 2 right, 0 wrong, 1 not looked at (host04, leaf2.lab)"]),
     Row("12: one of two files of a host is damaged", {
         "a": vendors.napalm({"swp1": RIGHT["swp1"]}), "b": "{"}, "leaf1:a leaf1:b", 1, [

@@ -2,6 +2,8 @@
 from typing import Any, Iterator, Set, Tuple
 
 KEYWORDS = ("additionalProperties", "enum", "minimum")
+# the keyword that each schema of this type has
+NEEDED = {"object": "additionalProperties", "integer": "minimum", "number": "minimum"}
 # a place in a schema, and a keyword there
 Rule = Tuple[int, str]
 
@@ -11,6 +13,18 @@ def rules_in(schema: Any) -> Set[Rule]:
     found = {(id(schema), name) for name in KEYWORDS if is_rule(schema, name)}
     parts = schema.values() if isinstance(schema, dict) else schema
     return found.union(*(rules_in(part) for part in parts if isinstance(part, (dict, list))))
+
+
+def lacking(schema: Any, place: str = "") -> Iterator[str]:
+    """Yields each place in a schema where an object may have any names, or a number any value: the
+    rule for it was left out."""
+    kinds = schema.get("type", ()) if isinstance(schema, dict) else ()
+    for kind in [kinds] if isinstance(kinds, str) else kinds:
+        if kind in NEEDED and NEEDED[kind] not in schema:
+            yield f"{place} lacks {NEEDED[kind]}"
+    for name, part in schema.items() if isinstance(schema, dict) else enumerate(schema):
+        if isinstance(part, (dict, list)):
+            yield from lacking(part, f"{place}/{name}")
 
 
 def is_rule(schema: Any, name: str) -> bool:

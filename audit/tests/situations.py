@@ -216,6 +216,7 @@ HOSTS = (
                                                  "leaf2": "swp1 s1 e1\nswp2 s1 e3"}, 1, [
         "s2  silent at all 4 links that were looked at", "8 cables: 4 right, 4 wrong"]),
 )
+IN_JSON = '{{"ports": [{{"name": "1", "neighbors_held": 0, "neighbors": [], "too_many": {}}}]}}'
 EMPTY = "lldp.{0}.neighbors=0\nlldp.{0}.octets=0\nlldp.{0}.too-many={1}\n"
 TWO_PORTS = HEAD + "leaf1,swp1,host01,eth0\nleaf1,swp2,host01,eth1\n"
 TO_SWP2 = "swp1  wrong: wants host01 eth0, has host01 eth1 (planned at swp2)"
@@ -251,9 +252,19 @@ MORE = (
             "swp4  no data: wants host01 eth3",
             "4 cables: 1 right, 1 wrong, 2 not looked at (host01)"],
         "--vendor-names --aliases aliases", ALIASES),
-    situation("a full table that is empty", HEAD + "a,1,b,1\n", {"a": EMPTY.format(1, "yes")}, 1, [
+    situation("a bundle moved with its cables, in which the first of the plan is named", HEAD
+              + "a,1,c,1\nz,1,b,1\ny,1,b,2\n", {
+                  "a": neighbor("1", "b", "Po1", aggregate=7),
+                  **dict.fromkeys("yz", neighbor("1", "c", "Po1", aggregate=7))}, 1, [
+                      "a 1  swapped with z 1: wants c 1, has b 1",
+                      "b    is heard as c at all 2 links whose other end hears a neighbor",
+                      "3 cables: 0 right, 3 wrong"], "--vendor-names"),
+    *[situation("a full table that is empty", HEAD + "a,1,b,1\n", {"a": table}, 1, [
         "1  wrong: wants b 1, has a neighbor that did not fit in the table",
-        "1 cable: 0 right, 1 wrong"]),
+        "1 cable: 0 right, 1 wrong"])
+      for table in (EMPTY.format(1, "yes"), IN_JSON.format("true"))],
+    situation("an empty table that has room", HEAD + "a,1,b,1\n", {"a": IN_JSON.format("false")}, 1,
+              ["1  silent: wants b 1", "1 cable: 0 right, 1 wrong"]),
     situation("neither side is broken out", LANES, {
         "leaf1": neighbor("swp1", "leaf2", "swp1"),
         "leaf2": neighbor("swp1", "leaf1", "swp1")}, 1, [

@@ -36,7 +36,8 @@ def xr(ports: vendors.Ports) -> Any:
         "receiving-interface-name": port, "device-id": host, "chassis-id": chassis_of(host),
         "port-id-detail": at, "hold-time": 120, "mib": {"port-id-sub-type": 5}, "detail": {
             "system-name": host, "port-description": vendors.TO, "network-addresses": {
-                "lldp-addr-entry": [{"address": {"ipv4-address": "10.0.0.1"}}]}}}]}
+                "lldp-addr-entry": [{"address": {"ipv6-address": "2001:db8::1"}},
+                                    {"address": {"ipv4-address": "10.0.0.1"}}]}}}]}
         for port, some in ports.items() for host, at in some]
     return {"nodes": {"node": [{"node-name": "0/RP0/CPU0",
                                 "neighbors": {"details": {"detail": detail}}}]}}
@@ -64,6 +65,16 @@ def by_interface(ports: vendors.Ports, end: str = "") -> Sequence[Tuple[str, Any
                  one["neighbors"] if end else one).items()}) for name, one in zip(names, found)]
 
 
+# the names that templates of ntc-templates give to columns, with a value for each of these columns
+OF_TEMPLATES = {
+    "swp1": ("local_interface", "local_port"),
+    "02:00:5e:00:53:01": ("chassis_id", "remote_chassis_id"),
+    "eth1": ("neighbor_port_id", "neighbor_interface", "remote_port", "remote_port_id", "port_id",
+             "port_info"),
+    "host1": ("neighbor_name", "neighbor", "system_name", "remote_system_name"),
+    "uplink": ("neighbor_description", "neighbor_interface", "port_description",
+               "remote_port_desc"),
+    "10.0.0.1": ("mgmt_address", "management_ip", "mgmt_address_v6")}
 OF_SR_LINUX = {"system": {"lldp": {"interface": srlinux(PORTS)}}}
 # each form with its source
 READ: Mapping[str, Any] = {

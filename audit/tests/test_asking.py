@@ -1,79 +1,45 @@
 """Tests that a hostile lldpa-live, or another program in its place, neither blocks an audit nor
-fills its memory."""
-import socket
-import threading
+writes to its terminal: lldpa-ctl asks, and limits what an answer may be."""
 import time
-from contextlib import ExitStack
 
-from lldpa import Refused
-from lldpa_audit.seen.asking import Gone, asked
-from patience import SECONDS, by_the_clock
+from auditing import HEAD, run
+from patience import by_the_clock
+from running_live import is_built
 from support import AnsweringCase
 
 
+@is_built
 class Asking(AnsweringCase):
-    def said(self, *octets: bytes) -> str:
-        return asked(self.answers(*octets), "show neighbors")
+    def audited(self, *octets: bytes, pause: float = 0) -> "tuple[int, str, str]":
+        """Audits a port by a service with this answer. Returns the status, the lines and the
+        messages."""
+        plan = self.folder / "plan"
+        plan.write_text(f"{HEAD}leaf1,swp1,srv1,eth0\n")
+        path = self.answers(*octets, pause=pause)
+        ran = run(str(plan), "--host", "leaf1", f"--live={path}")
+        return ran.returncode, ran.stdout, ran.stderr.replace(path, "PATH")
 
-    def test_answers_in_pieces(self) -> None:
-        self.assertEqual(self.said(b"=0\n"), "")
-        self.assertEqual(self.said(b"=", b"2", b"\na", b"\nb", b"\n"), "a\nb\n")
-        self.assertEqual(self.said(b"=1\na\n=2\nb\nc\n"), "a\n")
-        self.assertEqual(self.said(b"=2\nerror: a\nb\n"), "error: a\nb\n")
-        with self.assertRaisesRegex(Refused, "^no permission$"):
-            self.said(b"=1\nerror: no permission\n")
-
-    def test_nothing_raw_is_told(self) -> None:
-        self.assertEqual(self.said(b"=2\n\x1b]0;x\x07\x9b2J\n\xe2\x80\xae\r\x0c\n"),
-                         "\\x1b]0;x\\x07\\x9b2J\n\\xe2\\x80\\xae\\x0d\\x0c\n")
-        with self.assertRaisesRegex(Refused, "^\\\\x1b$"):
-            self.said(b"=1\nerror: \x1b\n")
+    def test_an_answer_in_pieces(self) -> None:
+        silent = "swp1  silent: wants srv1 eth0\n1 cable: 0 right, 1 wrong\n"
+        self.assertEqual(self.audited(b"=", b"3", b"\nlldp.swp1.neighbors=0\n",
+                                      b"lldp.swp1.octets=0\nlldp.swp1.too-many=no\n"),
+                         (1, silent, ""))
 
     def test_what_is_no_answer(self) -> None:
-        for octets, why in ((b"hello\n", "not an answer of lldpa-live: b'hello'"),
-                            (b"=\n", "not an answer"), (b"=+1\n", "not an answer"),
-                            (b"=" + b"9" * 5000 + b"\n", "not an answer"), (b"", "has ended"),
-                            (b"=2\na\n", "has ended"), (b"=1\na", "has ended"),
-                            (b"a" * 70_000, "not an answer"),
-                            (b"=300001\n", "more than 300,000 lines"),
-                            (b"=1\n" + b"a" * 30_000_000, "more than 25 MB")):
-            with self.assertRaisesRegex(Gone, why):
-                self.said(octets)
-
-    def test_large_answers(self) -> None:
-        for line, count in ((b"a" * 999 + b"\n", 26_000), (b"\n", 300_000)):
-            told = self.said(b"=%d\n%b" % (count, line * count))
-            self.assertEqual(told, line.decode() * count)
+        for octets, why in ((b"hello\n", "not an answer of lldpa-live: 'hello'"),
+                            (b"", "lldpa-live has ended the connection"),
+                            (b"=2\na\n", "lldpa-live has ended the connection"),
+                            (b"=1\na\n", "line 1: expected shows in the order neighbors, "
+                             "statistics, chassis, configuration, but found 'a'"),
+                            (b"=1\nerror: no permission\n", "no permission"),
+                            (b"=1\nerror: \x1b]0;x\x07\n", "\\x1b]0;x\\x07")):
+            with self.subTest(octets=octets):
+                self.assertEqual(self.audited(octets), (2, "", f"lldpa-audit: {why}\n"))
 
     @by_the_clock
     def test_one_deadline_holds_for_the_whole_answer(self) -> None:
-        for octets in ([b""] * 600, [b"=1\n", *[b"a"] * 600],
-                       [b"=100000\n", *[b"a\n"] * 600]):
-            begin = time.monotonic()
-            with self.assertRaisesRegex(TimeoutError, "in time$"):
-                asked(self.answers(*octets, pause=0.1), "show neighbors", 1)
-            self.assertLess(time.monotonic() - begin, 2)
-        slow = self.answers(b"=9\n", *[b"a\n"] * 9, pause=0.1)
-        self.assertEqual(asked(slow, "show neighbors", SECONDS), "a\n" * 9)
-
-    def test_who_finds_no_room_waits_for_it(self) -> None:
-        path = str(self.folder / "full")
-        with socket.socket(socket.AF_UNIX) as full, ExitStack() as stack:
-            full.bind(path)
-            full.listen(0)
-            first = stack.enter_context(socket.socket(socket.AF_UNIX))
-            first.connect(path)
-            with self.assertRaisesRegex(TimeoutError, "^no connection within 0.2 seconds$"):
-                asked(path, "update", 0.2)
-
-            def serve() -> None:
-                stack.enter_context(full.accept()[0])
-                stack.enter_context(full.accept()[0]).sendall(b"=0\n")
-            serving = threading.Timer(0.2, serve)
-            serving.start()
-            self.assertEqual(asked(path, "update", SECONDS), "")
-            serving.join()
-
-    def test_nobody_is_there(self) -> None:
-        with self.assertRaises(FileNotFoundError):
-            asked(str(self.folder / "none"), "update")
+        began = time.monotonic()
+        status, _, said = self.audited(b"=99999\n", *[b"a\n"] * 600, pause=0.1)
+        self.assertEqual((status, said), (
+            2, "lldpa-audit: PATH: no complete answer within 30 seconds\n"))
+        self.assertLess(time.monotonic() - began, 40)

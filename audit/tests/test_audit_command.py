@@ -8,12 +8,15 @@ import sys
 import threading
 import time
 from pathlib import Path
+from unittest import mock
 
 import rack
 from auditing import (AUDIT, HEAD, WITH_AGENT, InAFolder, neighbor, run, run_whole,
                       without_ages)
 from lldpa_audit.names import End, Names
 from lldpa_audit.plan import Link, Plan
+from lldpa_audit.seen.gather import Gathering
+from lldpa_audit.seen.tables import Tables
 from lldpa_audit.what import What, placed
 from served import REPOSITORY, Served
 
@@ -61,6 +64,16 @@ class Forms(Audits):
                 self.assertEqual((status, out.splitlines(), err), (1, rack.LINES, ""))
 
     def test_wait(self) -> None:
+        """Checks that an audit asks until the port hears somebody, twice a second at most, and that
+        what it learns is as old as the audit."""
+        plan = Plan("plan", [Link(End("leaf1", "swp1"), End("host01", "eth0"), None)], Names())
+        gathering = Gathering(Tables(plan.names), "", print)
+        with mock.patch("lldpa_audit.seen.gather.Ctl") as ctl:
+            ask = ctl.return_value.text
+            ask.return_value = "lldp.swp1.neighbors=0\nlldp.swp1.octets=0\nlldp.swp1.too-many=no\n"
+            gathering.add_live("leaf1", "", plan, 0.9)
+        self.assertLess(ask.call_count, 4)
+        self.assertEqual(gathering.tables.times, [gathering.now])
         with Served(rack.PORTS) as served:
             words = [f"--live={served.path}", "--planned-only", "--wait"]
             begin = time.monotonic()
@@ -98,9 +111,11 @@ class Words(Audits):
             ended.bind(left)
         bad = self.file("bad", f"{HEAD}a,1,b\n")
         capture = self.capture("a")
+        some_named = self.file("some", rack.pcapng({"swp1": rack.frames("swp1"), "": []}))
         for words, said in (
                 ("", "nothing to audit: give captures, lists of neighbors, or --live"),
                 ("swp1=none", "none: No such file or directory"),
+                ("none", "none: No such file or directory"),
                 (f"swp1={self.folder}", "Is a directory"),
                 ("--wait x swp1=a", "'x' is not a time such as 90, 15m, 12h or 1d"),
                 ("--columns from swp1=a", "'from' is not like host=NAME,port=NAME"),
@@ -110,6 +125,7 @@ class Words(Audits):
                 ("--live=", "the name of a file is missing"),
                 ("--liv", "unrecognized arguments: --liv"),
                 (capture[5:], "it does not name the port of its frames: write PORT="),
+                (some_named, "it does not name the port of its frames: write PORT="),
                 (f"--host LEAF1.lab {capture}",
                  "no cable of the host LEAF1.lab that can be judged, but has the host leaf1: see")):
             status, out, err = self.audit(*words.split())

@@ -16,7 +16,9 @@ import shapes
 from auditing import AUDIT, HEAD, InAFolder, run
 from lldpa.capture.packets import interfaces_of, packets_of
 from lldpa.capture.pcapng import MOST_INTERFACES
+from lldpa_audit.seen.folders import read_whats
 from lldpa_audit.seen.forms import read_list
+from lldpa_audit.what import What
 from served import REPOSITORY
 from shapes import INTERFACE, SECTION
 from support import run_capture
@@ -36,7 +38,7 @@ def captures() -> Iterator[Tuple[bytes, int, int]]:
     yield SECTION + INTERFACE + rack.block(99, b"") * 300_000, 1, 0
     times_that_go_back = (struct.pack("<IIII", 10**6 - at, 0, 4, 4) for at in range(300_000))
     yield PCAP + b"".join(head + b"abcd" for head in times_that_go_back), 0, 300_000
-    yield gzip.compress(PCAP) + gzip.compress(b"\0") * 1_600_000, 0, 100_000
+    yield gzip.compress(PCAP) + gzip.compress(b"\0") * 400_000, 0, 25_000
 
 
 class Hostile(InAFolder):
@@ -88,7 +90,7 @@ class Captures(Hostile):
         """Checks that interfaces are counted over all sections, and that so many are refused."""
         named = rack.block(1, struct.pack("<HxxIHH4sI", 1, 0, 2, 4, b"swp1", 0))
         half = SECTION + named * (MOST_INTERFACES // 2)
-        for octets, lines in ((half * 2, 1), (half * 2 + SECTION + named * 10**6, 2)):
+        for octets, lines in ((half * 2, 1), (half * 2 + SECTION + named, 2)):
             path = self.file("wide", gzip.compress(octets, 1))
             ran = shapes.measured(["--host", "leaf1", self.plan, f"leaf1:{path}"])
             said = f"lldpa-audit: {path}: it describes more than 262,144 interfaces\n"
@@ -142,6 +144,16 @@ class Lists(Hostile):
         self.addCleanup(tracemalloc.stop)
         self.assertEqual(list(read_list(text.encode()).ports), ["eth0"])
         self.assertLess(tracemalloc.get_traced_memory()[1], 50_000_000)
+
+    def test_folders_in_folders(self) -> None:
+        """Checks that folders may be nested more deeply than calls of functions."""
+        inner = self.folder / "seen" / "leaf1" / "/".join("d" * 300)
+        inner.mkdir(parents=True)
+        (inner / "list").touch()
+        self.addCleanup(sys.setrecursionlimit, sys.getrecursionlimit())
+        sys.setrecursionlimit(200)
+        found = list(read_whats([f"{self.folder}/seen"], "", self.fail))
+        self.assertEqual(found, [What("leaf1", "", f"{inner}/list", True)])
 
     def test_many_unplanned_hosts(self) -> None:
         rows = "".join(f"sw{at},1,sw{at},2\n" for at in range(3000))
@@ -210,14 +222,18 @@ class Shapes(InAFolder):
                 2, f"lldpa-audit: {plan}: there is not enough memory for it\n"))
 
     def test_memory_to_start(self) -> None:
-        """Checks that a program that cannot be loaded says so in one line, with status 2."""
+        """Checks that a program that cannot be loaded says so in one line, and no traceback."""
         program = self.file("bin/lldpa-audit", (REPOSITORY / "bin" / "lldpa-audit").read_text())
-        for fault, why in (("MemoryError", "there is not enough memory to start"),
-                           ("ImportError('x.so: cannot map')", "x.so: cannot map")):
+        for fault, status, said in (
+                ("MemoryError", 2, "lldpa-audit: there is not enough memory to start\n"),
+                ("ImportError('x.so: cannot map')", 2, "lldpa-audit: x.so: cannot map\n"),
+                ("OSError(24, 'Too many open files')", 2,
+                 "lldpa-audit: [Errno 24] Too many open files\n"),
+                ("KeyboardInterrupt", 130, "")):
             self.file("audit/lldpa_audit/command.py", f"raise {fault}\n")
             ran = subprocess.run([sys.executable, "-I", program], capture_output=True, text=True,
                                  check=False)
-            self.assertEqual((ran.returncode, ran.stderr), (2, f"lldpa-audit: {why}\n"))
+            self.assertEqual((ran.returncode, ran.stderr), (status, said))
 
 
 class Texts(Hostile):

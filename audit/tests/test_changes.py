@@ -175,8 +175,8 @@ class Since(Planless):
                 # a host with data at one of the two times only
                 ({"a": a, "b": "4 z e0"}, {"a": a}, [],
                  "2 links, 3 before: no change; 1 not compared (b)"),
-                ({"a": a}, {"a": a, "b": "4 z e0"}, [],
-                 "3 links, 2 before: no change; 1 not compared (b)")):
+                ({"a": a}, {"a": a, "b": "4 z e0", "c": "5 z e1"}, [],
+                 "4 links, 2 before: no change; 2 not compared (b, c)")):
             with self.subTest(before=before, now=now):
                 status, lines, said = self.since(before, now)
                 self.assertEqual((status, [re.sub("; sources .*", "", line) for line in lines],
@@ -223,6 +223,7 @@ class Since(Planless):
             ("came", [], [[{"host": "a", "port": "4"}, end["z"]]], None, None),
             ("moved", [[end["y"], {"host": "a", "port": "2"}]],
              [[end["y"], {"host": "a", "port": "3"}]], None, None)])
+        self.assertEqual(list(schema_rules.lacking(SCHEMA)), [])
         left = schema_rules.rules_in(SCHEMA)
         for rule, tree in schema_rules.broken(told, SCHEMA, SCHEMA):
             left.discard(rule)

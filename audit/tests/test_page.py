@@ -65,6 +65,8 @@ class Content(InAFolder):
                      "Hosts that were not looked at: 2", *"  ".join(rack.LINES[:4]).split("  ")):
             self.assertIn(text, elements.texts)
         self.assertEqual((elements.tags["svg"], elements.tags["script"]), (1, 0))
+        beside = re.findall(r"</(?:h[12]|p|svg|table|tr|div|section)>([^<]*)", page.read_text())
+        self.assertEqual({text.strip() for text in beside}, {""})
         repairs = [f"#r{number}" for number in (1, 1, 2, 3, 4)]
         self.assertEqual(elements.addresses, ["#h0", *repairs])
 
@@ -118,19 +120,28 @@ class Content(InAFolder):
                 right = int(one.get("x", "")) + int(one.get("width", ""))
                 bottom = int(one.get("y", "")) + int(one.get("height", ""))
                 self.assertTrue(right <= width and bottom <= height)
+            key = [one for one in root if one.tag == "line" or one.get("class") == "note"]
+            ends = [int(one.get("x2") or one.get("x", "")) for one in key[-2:]]
+            self.assertLess(*ends)  # in the legend, a line ends before its meaning
 
     def test_names_are_whole(self) -> None:
-        """Checks that the lines of each box have the whole name, in letters that fit into it."""
+        """Checks that the lines of each box have the whole name, in letters that fit into it, and
+        that the port with its verdict is beside the middle of its neighbors."""
         ports = [f"TwentyFiveGigE1/0/{at}" for at in (1, 2)]
         page = "".join(page_of(report_of(f"leaf1 {ports[0]} - {LONG} eno12399np0",
                                          f"leaf1 {ports[0]} = {LONG} eno12399np1")))
+        picture = ElementTree.fromstring(re.findall(r"<svg.*?</svg>", page)[0])
+        groups = [one for one in picture if one.tag == "g"]
         boxes = [["".join(part for part in one.itertext()), float(one[0].get("width", "")) - 8,
                   max(len(text.text or "") for text in one if text.tag == "text")]
-                 for one in ElementTree.fromstring(re.findall(r"<svg.*?</svg>", page)[0])
-                 if one.tag == "g"]
+                 for one in groups]
         self.assertEqual([text for text, _, _ in boxes],
                          [ports[0], f"{LONG}eno12399np1", f"{LONG}eno12399np0"])
         self.assertTrue(all(letters * 6.6 <= width for _, width, letters in boxes), boxes)
+        port, first, last = (int(one[0].get("y", "")) for one in groups)
+        end, = (int(one.get("y", "")) for one in picture if one.text == "wrong")
+        above, below = port - first, last + int(groups[2][0].get("height", "")) - end
+        self.assertLessEqual(abs(above - below), 1)
 
 
 @unittest.skipUnless(BROWSER, "chromium: it is not installed")

@@ -71,6 +71,7 @@ class Outputs(InAFolder):
         told = json.loads(run(*words).stdout)
         self.assertIn("through pp1 F1, pp1 R1</small>", page.read_text())
         jsonschema.validate(told, SCHEMA)
+        self.assertEqual(list(schema_rules.lacking(SCHEMA)), [])
         left = schema_rules.rules_in(SCHEMA)
         for rule, tree in schema_rules.broken(told, SCHEMA, SCHEMA):
             if rule in left:
@@ -104,7 +105,12 @@ class Outputs(InAFolder):
         rows = ("host,port,reason,until,verdict\nleaf1,swp2,new card,9999-12-31,wrong\n"
                 "host03,,sends no LLDP,\n")
         known = self.file("known.csv", rows + "leaf1,swp4,old,2020-01-01\n")
-        ran = run(*self.words, "--known", known)
+        junit = self.folder / "junit.xml"
+        ran = run(*self.words, "--known", known, "--junit", str(junit))
+        root = ElementTree.parse(junit).getroot()
+        why = [one.get("message") for case in root.iter("testcase") for one in case]
+        self.assertEqual(why, ["new card", "sends no LLDP",
+                               "extra: x z besides host04 eth0 (repair 1)"])
         self.assertEqual(ran.stdout.splitlines()[-1],
                          "4 cables: 1 right, 1 wrong, 2 known")
         self.assertIn("line 4: leaf1 swp4 was excused until 2020-01-01, and is judged", ran.stderr)

@@ -86,6 +86,7 @@ REFUSED = (
     (HEAD, "it has no link to judge"), ("strict graph {}\n", "it has no link to judge"),
     (HEAD + 'a,1,b,"2\nc,3,d,4\n', "line 2: a quoted field has no closing quote"),
     (HEAD + 'a,1,b,"2"3\nc,3,d,4\n', "line 2: ',' expected after '\"'"),
+    ('"host"x,port,peer,peer_port\n', "line 1: ',' expected after '\"'"),
     (HEAD + f"a,1,b,{'x' * 131_073}\n", "line 2: a field has over 131072 characters"),
     (HEAD + f"a,1,b,{'x' * 256}\n", "line 2: a name in it has 256 characters, but LLDP can send"),
     ("graph G {\na:1 -- b:2\n/*\n--*/ c:3 -- a:1\n}\n", "line 4: a 1 is already planned in line 2"),
@@ -196,13 +197,14 @@ class NetBox(Plans):
                   cable_between(4, [("a", "4")], []),
                   cable_between(5, [("a", "5")], [("", "5")]),
                   cable_between(6, [("a", "6")], [("b", "6")], status="planned"),
-                  cable_between(7, [("a", "7")] * 2, [("b", "7")] * 3), None]
+                  cable_between(7, [("a", "7")] * 2, [("b", "7")] * 3), None,
+                  {"a_terminations": 5, "b_terminations": "x"}, {"a_terminations": [5]}]
         pages = [{"next": "x", "results": cables[:2]}, {"next": None, "results": cables[2:]}]
         for text in (json.dumps(pages), json.dumps({"results": cables})):
             plan = self.read(text)
             self.assertEqual(self.links(plan), ["a 1 - b 1", "a 2 - b 2", "a 3 - b 3"])
             self.assertEqual(self.notes(plan), [
-                "plan: 5 cables are left out: 3 with an end that is not a port of a device, 1 for "
+                "plan: 7 cables are left out: 5 with an end that is not a port of a device, 1 for "
                 "power or consoles, 1 with the status planned or decommissioning",
                 "plan: 1 cable cannot be judged, since the ends cannot be paired; the first ends "
                 "are a 7, a 7, b 7"])

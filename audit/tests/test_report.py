@@ -22,6 +22,10 @@ ROWS: Sequence[Tuple[str, str, Sequence[str]]] = (
      ["h9 1   silent: wants c 2", "h10 1  silent: wants b 1", "2 cables: 0 right, 2 wrong"]),
     ("a 1 - b 1", "a 1 = x y; b 1 = a 1",
      ["a 1  wrong: wants b 1, has x y; b 1 hears it", "1 cable: 0 right, 1 wrong"]),
+    # a port with two neighbors is not where the cable was moved to
+    ("a 1 - b 1", "a 1 =; a 5 = b 1, x y; b 1 = a 5",
+     ["b 1  wrong: wants a 1, has a 5; a 1 hears nobody",
+      "1 cable: 0 right, 1 wrong; 1 unplanned port"]),
     (THREE, "a 1 = b 2; a 2 =; a 3 = b 3; a 4 = b 1",
      ["1  wrong: wants b 1 (seen at 4), has b 2 (planned at 2)", "2  silent: wants b 2 (seen at 1)",
       "4  unplanned: has b 1 (planned at 1)", "3 cables: 1 right, 2 wrong; 1 unplanned port"]),
@@ -76,6 +80,10 @@ ROWS: Sequence[Tuple[str, str, Sequence[str]]] = (
      "sw Et1/1/1 = b 1; sw Et1/1/2 = c 1; sw Et1/1/3 = a 1",
      ["Et1/1/1 to Et1/1/3  turned: the lanes of one port are in the wrong order",
       "3 cables: 0 right, 3 wrong"]),
+    ("sw Et1/1/1 - a 1; sw Et1/1/2 - b 1; sw Et1/1/3 - c 1",
+     "sw Et1/1/1 = d 1; sw Et1/1/2 = e 1; sw Et1/1/3 = f 1",
+     ["Et1/1/1  wrong: wants a 1, has d 1", "Et1/1/2  wrong: wants b 1, has e 1",
+      "Et1/1/3  wrong: wants c 1, has f 1", "3 cables: 0 right, 3 wrong"]),
 )
 
 
@@ -111,9 +119,14 @@ class Lines(unittest.TestCase):
             self.assertEqual(report_of(links, known).lines(), lines)
 
     def test_empty_columns(self) -> None:
-        """Checks that a line shows the further columns of its cable, but not the empty ones."""
-        for texts, shown in ((("C1", "", "r2"), " [label C1, rack r2]"), (("", "", ""), "")):
-            link = Link(End("a", "1"), End("b", "1"), None, detail=Detail(texts))
+        """Checks that a line shows the further columns of its cable, but not empty or long ones,
+        and the panels on its way."""
+        way = (End("pp1", "F1"), End("pp1", "R1"))
+        for texts, path, shown in (
+                (("C1", "", "r2"), (), " [label C1, rack r2]"), (("", "", ""), (), ""),
+                (("C1", "x" * 41, "r2"), (), " [label C1, rack r2]"),
+                (("C1", "", ""), way, " [label C1, through pp1 F1, pp1 R1]")):
+            link = Link(End("a", "1"), End("b", "1"), None, detail=Detail(texts, path))
             plan = Plan("plan", [link], Names())
             plan.columns = ["label", "color", "rack"]
             tables = Tables(plan.names)

@@ -49,16 +49,26 @@ class Tables(unittest.TestCase):
             listing = read(table_forms.updates(table_forms.by_interface(ESCAPED, end)))
             self.assertEqual(names_of(listing), ESCAPED, end)
 
+    def test_columns_of_templates(self) -> None:
+        """Checks each name that a column may have, beside the first names of the other columns."""
+        columns = table_forms.OF_TEMPLATES
+        for wanted, names in columns.items():
+            for name in names:
+                row = {some[0]: value for value, some in columns.items() if value != wanted}
+                (port, (seen,)), = read([{**row, name: wanted}]).ports.items()
+                self.assertIn(wanted, (port, *seen.hosts, *seen.ports), name)
+
     def test_refused(self) -> None:
         for tree, why in table_forms.REFUSED:
             self.refused(tree, why)
 
     def test_addresses(self) -> None:
-        for tree in (table_forms.OF_SR_LINUX, table_forms.xr(PORTS),
-                     table_forms.suzieq(PORTS)):
+        for tree, addresses in ((table_forms.OF_SR_LINUX, {"10.0.0.1"}),
+                                (table_forms.xr(PORTS), {"10.0.0.1", "2001:db8::1"}),
+                                (table_forms.suzieq(PORTS), {"10.0.0.1"})):
             listing = read(tree)
             first = next(iter(listing.hosts.values()), listing).ports["swp1"][0]
-            self.assertEqual(first.hosts[-1], "10.0.0.1")
+            self.assertEqual(addresses - {*first.hosts}, set())
 
     def test_two_lists(self) -> None:
         """Checks that two lists are refused with their places, in the same form or in two."""

@@ -41,7 +41,9 @@ def is_shown(letter: str) -> bool:
 
 def escaped(letter: str) -> str:
     """Returns the octets of a character, escaped in hexadecimal as the agent shows them."""
-    return "".join(f"\\x{octet:02x}" for octet in letter.encode("utf-8", "surrogateescape"))
+    is_octet = "\udc80" <= letter <= "\udcff"
+    octets = letter.encode(errors="surrogateescape" if is_octet else "surrogatepass")
+    return "".join(f"\\x{octet:02x}" for octet in octets)
 
 
 def columns_of(letter: str) -> int:

@@ -1,7 +1,7 @@
 """Reports what has changed since earlier lists, as lines and as JSON."""
 from typing import Iterator
 
-from ..changes import CAME, MOVED, RENAMED, REPLACED, WENT, Change, Changes, Ends
+from ..changes import CAME, MOVED, RENAMED, REPLACED, WENT, Change, Changes
 from ..names import first_of, shown, text_of
 from .objects import Json, dumped, json_of_ages, json_of_end, listed
 
@@ -62,11 +62,7 @@ def json_of(found: Changes) -> Iterator[str]:
 def json_of_change(one: Change) -> Json:
     before, now = one.hosts if one.kind == RENAMED else (None, None)
     return {"kind": one.kind, "text": text_of(text_of_change(one)),
-            "before": [json_of_link(ends) for ends in one.before],
-            "now": [json_of_link(ends) for ends in one.now],
+            "before": [[*map(json_of_end, ends)] for ends in one.before],
+            "now": [[*map(json_of_end, ends)] for ends in one.now],
             "host_before": None if before is None else text_of(before),
             "host_now": None if now is None else text_of(now)}
-
-
-def json_of_link(ends: Ends) -> Json:
-    return [json_of_end(end) for end in ends]

@@ -2,7 +2,16 @@
 import os
 from contextlib import suppress
 from pathlib import Path
-from typing import Iterable
+from typing import Iterable, Optional
+
+
+def need_apart(written: Iterable[Optional[str]], read: Iterable[Optional[str]]) -> None:
+    """Raises ValueError if a file that is to be written is also read, so that no plan is lost."""
+    there = [file for file in written if file and os.path.isfile(file)]
+    for file in filter(os.path.exists, filter(None, read)) if there else ():
+        for one in there:
+            if os.path.samefile(one, file):
+                raise ValueError(f"{one}: it is read, and is not overwritten")
 
 
 def write(file: str, texts: Iterable[str]) -> None:

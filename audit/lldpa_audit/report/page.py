@@ -7,7 +7,7 @@ from typing import Iterator, Sequence
 from lldpa.texts import printable
 
 from ..judging import Finding
-from ..names import End, shown, text_of
+from ..names import End, shown
 from .drawing import pictures_of
 from .repairs import TO_DO
 from .report import Report
@@ -110,7 +110,7 @@ def planned(report: Report, end: End) -> str:
 
 def text(name: str) -> str:
     """Escapes a text for HTML. Words that may run from right to left are isolated by <bdi>."""
-    escaped = html.escape(printable(text_of(name)))
+    escaped = html.escape(printable(name))
     if escaped.isascii():
         return escaped
     return WORD.sub(lambda word: word[0] if word[0].isascii() else f"<bdi>{word[0]}</bdi>", escaped)

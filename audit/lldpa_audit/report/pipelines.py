@@ -7,7 +7,7 @@ from typing import Iterator, Mapping
 from lldpa.texts import printable
 
 from ..judging import Finding, Verdict
-from ..names import End, text_of
+from ..names import End
 from .count import NOT_JUDGED
 from .repairs import TO_DO
 from .report import Report
@@ -61,7 +61,7 @@ def text_of_case(report: Report, one: Finding) -> str:
 
 def quoted(text: str) -> str:
     """Returns a text as the value of an attribute."""
-    return f'"{escape(printable(text_of(text)))}"'
+    return f'"{escape(printable(text))}"'
 
 
 def metrics_of(report: Report) -> Iterator[str]:

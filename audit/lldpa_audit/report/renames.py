@@ -68,21 +68,18 @@ def has_port(faults: Faults, neighbor: Seen, expected: End) -> bool:
 
 def is_heard_rightly(faults: Faults, host: str) -> bool:
     """Returns whether a host is heard under its planned name at one of its links."""
-    ends, names = faults.tables.ends, faults.names
-    return any(names.answers(neighbor, key)
-               for key in faults.plan.ends_of_hosts.get(host, ())
-               for port in (ends.get(faults.plan.ends[key].peer),) if port is not None
-               for neighbor in port.neighbors)
+    plan = faults.plan
+    return any(faults.tables.heard(plan.ends[key].peer, key)
+               for key in plan.ends_of_hosts.get(host, ()))
 
 
 def repair(faults: Faults, host: str, some: Sequence[tuple[End, Seen]]) -> Repair:
     """Returns the repair of a host that is heard under another name at these ends."""
     name, neighbor = faults.plan.hosts[host], some[0][1]
     differs = faults.differences.of_neighbor(neighbor, some[0][0])
-    fars = [faults.tables.ends.get(faults.plan.ends[key].peer)
-            for key in faults.plan.ends_of_hosts[host]]
-    known = [port for port in fars if port is not None and port.neighbors]
-    at = f"all {len(some)}" if len(some) == len(known) else f"{len(some)} of {len(known)}"
+    count = sum(bool(faults.tables.neighbors(faults.plan.ends[key].peer))
+                for key in faults.plan.ends_of_hosts[host])
+    at = f"all {len(some)}" if len(some) == count else f"{len(some)} of {count}"
     text = f"is heard as {shown(neighbor.hosts[0])} at {at} links whose other end hears a neighbor"
     ends = faults.with_far([faults.plan.ends[end].peer for end, _ in some], [Verdict.DISAGREES])
     if differs:

@@ -4,7 +4,7 @@ from typing import Iterator, Sequence
 from lldpa.texts import printable
 
 from ..judging import Finding, Verdict
-from ..names import End, text_of
+from ..names import End
 from ..order import in_order
 from ..plan import NOT_PLANNED, Plan, PlannedEnd
 from ..seen.tables import Tables
@@ -66,7 +66,7 @@ class Report:
                  if len(value) <= LONGEST_DETAIL][:MOST_DETAILS]
         if planned.detail.path:
             texts.append(f"through {', '.join(map(str, planned.detail.path))}")
-        return f" [{printable(text_of(', '.join(texts)))}]" if texts else ""
+        return f" [{printable(', '.join(texts))}]" if texts else ""
 
     def planned(self, end: End) -> PlannedEnd:
         """Returns what the plan says of an end."""

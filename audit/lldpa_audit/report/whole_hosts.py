@@ -30,7 +30,7 @@ def silent(faults: Faults) -> Iterator[Repair]:
     """Yields a repair for each host that has several links, all of them silent. Hosts with the most
     links come first: if a switch is down, the servers at it need no line."""
     hosts = {end.host for key, fault in faults if fault.verdict is Verdict.SILENT
-             for end in (key, faults.far(key)) if end is not None}
+             for end in (key, faults.plan.ends[key].peer)}
     links = {host: silent_links(faults, host) for host in hosts}
     for host in sorted(links, key=lambda one: (-len(links[one]), one)):
         keys = [key for ends in links[host] for key in ends]

@@ -11,11 +11,12 @@ from lldpa.capture.source import Source, opened
 from lldpa.capture.trace import SILENT, Told, frames_of
 from lldpa.limits import MOST_NEIGHBORS, MOST_PORTS
 
-from ..limits import SECONDS, LimitFault, limited
+from ..limits import LimitFault, limited
 from .listing import Listing, Ports
 from .shows import read_ports
 
 LINES_AT_ONCE = 1000
+SECONDS = 20  # of processor time, for a small capture
 # a small gzip file may unpack to very much
 MOST_UNPACKED = 1 << 27
 
@@ -27,10 +28,10 @@ def read_captures(files: Sequence[str], port: str, program: str) -> Listing:
     stats = [stat_of(file) for file in files]
     seconds = max(SECONDS, sum(one.st_size for one in stats) >> 21)
     try:
-        with limited(files[0], seconds):
+        with limited(seconds):
             found = recorded(files, port, program)
     except LimitFault as fault:
-        return Listing({}, False, faults=[str(fault)])
+        return Listing({}, False, faults=[f"{files[0]}: {fault}"])
     return found if found.time else found._replace(time=stats[0].st_mtime)
 
 

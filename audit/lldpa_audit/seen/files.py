@@ -3,33 +3,31 @@ import os
 import pickle
 import signal
 from ctypes import CDLL
-from multiprocessing import get_context
-from typing import BinaryIO, Iterator, Optional, Sequence
+from typing import BinaryIO, Iterator, NoReturn, Optional, Sequence, cast
 
-from lldpa.agent.show import ShowFault
 from lldpa.capture.source import opened
 from lldpa.capture.unzip import MAGIC, Unzipped
-from lldpa.capture.window import BadCapture, Readable
+from lldpa.capture.window import Readable
+from lldpa.faults import LldpaFault
 
-from ..limits import LimitFault, limited
+from ..limits import limited, most_unpacked
 from ..names import shown
 from ..what import What, platform_of
-from .forms import is_text, read_list
+from .forms import AT_ONCE, is_text, read_list
 from .listing import Listing, SeenFault
 
 # fewer files than this are read by one process, since several processes need time to start
 MANY = 100
+# with more processes, the audit would wait no less: it also has to take what each has read
+MOST_PROCESSES = 16
 # a process returns the content of at most this many files at once, and each name in it only once
 FILES_AT_A_TIME = 100
 FRONT = 512
 MOST_OCTETS = 32 << 20
-# A file in gzip may unpack to so many times its size, or to so many octets if it is small: real
-# lists unpack to 10 to 100 times their size, and hostile ones to 1000 times.
-MOST_TIMES, ALWAYS = 128, 4 << 20
 SMALL = 1 << 20  # octets of a list that cannot need much
 PR_SET_PDEATHSIG = 1  # of prctl(2)
-# all files, and the platforms that were given; only a process that reads parts of them has this
-WORK: list[tuple[Sequence[What], Sequence[str]]] = []
+OCTETS_OF_SIZE = 8  # before what a process sends
+Parts = Sequence[Sequence[What]]
 
 
 def read_file(what: What, platforms: Sequence[str] = ()) -> Optional[Listing]:
@@ -45,21 +43,19 @@ def read_file(what: What, platforms: Sequence[str] = ()) -> Optional[Listing]:
         platform = platform_of(what.file, platforms)
         if len(octets) < SMALL and not platform:
             return placed(read_list(octets), what.file, stat.st_mtime)
-        with limited(what.file, *warranted(len(octets))):
+        with limited(*warranted(len(octets))):
             return placed(read_list(octets, platform), what.file, stat.st_mtime)
-    except LimitFault as fault:
-        return Listing({}, False, faults=[str(fault)])
-    except (BadCapture, ShowFault, SeenFault) as fault:
-        return Listing({}, False, faults=[f"{what.file}: {fault}"])
+    except LldpaFault as fault:
+        why = str(fault)
     except OSError as fault:
         if not what.is_found:
             raise
-        return Listing({}, False, faults=[f"{what.file}: {fault.strerror or fault}"])
+        why = fault.strerror or str(fault)
     except MemoryError:
         raise
     except Exception as fault:  # one file must not end the audit of all others
-        why = shown(f"{type(fault).__name__}: {fault}")
-        return Listing({}, False, faults=[f"{what.file}: it cannot be read: {why}"])
+        why = "it cannot be read: " + shown(f"{type(fault).__name__}: {fault}")
+    return Listing({}, False, faults=[f"{what.file}: {why}"])
 
 
 def warranted(octets: int) -> tuple[float, int]:
@@ -74,7 +70,7 @@ def octets_of(file: BinaryIO, size: int) -> Optional[bytes]:
     front = file.read(FRONT)
     source: Readable = file
     if front.startswith(MAGIC):
-        source = Unzipped(file, front, max(MOST_TIMES * size, ALWAYS))
+        source = Unzipped(file, front, most_unpacked(size))
         front = taken(source, FRONT)
     if not is_text(front):
         return None
@@ -85,9 +81,10 @@ def octets_of(file: BinaryIO, size: int) -> Optional[bytes]:
 
 
 def taken(source: Readable, size: int) -> bytes:
-    """Returns this many octets, or all if there are fewer."""
+    """Returns this many octets, or all if there are fewer. Python makes room for all octets that a
+    call may return, and to make room for 32 MB takes longer than to read a usual list."""
     parts: list[bytes] = []
-    while size > 0 and (part := source.read(size)):
+    while size > 0 and (part := source.read(min(size, AT_ONCE))):
         parts.append(part)
         size -= len(part)
     return b"".join(parts)
@@ -102,35 +99,87 @@ def placed(listing: Listing, file: str, written: float) -> Listing:
 
 
 def read_files(whats: Sequence[What], platforms: Sequence[str] = ()) -> Iterator[Optional[Listing]]:
-    """Yields what is in each file. Several processes read many files. Raises OSError, and
-    MemoryError if a process ends early."""
-    processors = len(os.sched_getaffinity(0))
-    if len(whats) < MANY or processors < 2:
-        yield from (read_file(what, platforms) for what in whats)
-        return
-    from concurrent.futures.process import BrokenProcessPool, ProcessPoolExecutor  # slow to load
-    at_a_time = min(FILES_AT_A_TIME, len(whats) // (4 * processors) + 1)
-    parts = [slice(at, at + at_a_time) for at in range(0, len(whats), at_a_time)]
-    with ProcessPoolExecutor(processors, get_context("fork"), begin, (whats, platforms)) as pool:
+    """Returns what is in each file. Several processes begin at once to read many files. To iterate
+    raises OSError, and MemoryError if a process ends early."""
+    count = min(len(os.sched_getaffinity(0)), MOST_PROCESSES) if len(whats) >= MANY else 1
+    at_a_time = min(FILES_AT_A_TIME, len(whats) // (4 * count) + 1)
+    parts = [whats[at:at + at_a_time] for at in range(0, len(whats), at_a_time)]
+    readers: list[Reader] = []
+    if count > 1:
+        begin(readers, count, parts, platforms)
+    return listings(readers, parts, platforms)
+
+
+def listings(readers: "list[Reader]", parts: Parts,
+             platforms: Sequence[str]) -> Iterator[Optional[Listing]]:
+    """Yields what is in each file of the parts, which processes read in turn, if there are any."""
+    try:
+        for at, part in enumerate(parts):
+            yield from (readers[at % len(readers)].next_part() if readers
+                        else (read_file(what, platforms) for what in part))
+    finally:  # also if the rest is not wanted
+        end(readers)
+
+
+def begin(readers: "list[Reader]", count: int, parts: Parts, platforms: Sequence[str]) -> None:
+    """Begins processes that read the parts in turn, or none if the system has no room for all.
+    SIGINT does not reach them, since they end with the audit."""
+    before = signal.pthread_sigmask(signal.SIG_BLOCK, [signal.SIGINT])
+    signal.signal(signal.SIGCHLD, signal.SIG_DFL)  # else nobody could wait for a process
+    try:
+        for first in range(count):
+            readers.append(Reader(parts[first::count], platforms))
+    except OSError:
+        end(readers)
+    finally:
+        signal.pthread_sigmask(signal.SIG_SETMASK, before)
+
+
+def end(readers: "list[Reader]") -> None:
+    """Ends the processes, whatever they do."""
+    while readers:
+        reader = readers.pop()
+        os.kill(reader.process, signal.SIGKILL)
+        os.waitpid(reader.process, 0)
+        reader.pipe.close()
+
+
+class Reader:
+    """A process that reads parts of the files, one after the other. A pool of `concurrent.futures`
+    may wait for ever for a killed process, and those of `multiprocessing` print tracebacks."""
+
+    def __init__(self, parts: Parts, platforms: Sequence[str]) -> None:
+        receiver, sender = os.pipe()
+        self.pipe: BinaryIO = open(receiver, "rb")
+        with open(sender, "wb") as pipe:  # which only the process keeps, and ends with it
+            audit = os.getpid()
+            self.process = os.fork()
+            if not self.process:
+                self.send(audit, pipe, parts, platforms)
+
+    def send(self, audit: int, pipe: BinaryIO, parts: Parts, platforms: Sequence[str]) -> NoReturn:
+        """Sends what is in the files of each part, or what went wrong, to the audit, which is the
+        process that forked this one. Ends the process, also if the audit ends."""
         try:
-            for octets in pool.map(read_part, parts):
-                yield from pickle.loads(octets)
-        except BrokenProcessPool:
-            raise MemoryError from None
-        finally:  # also if the rest is not wanted
-            pool.shutdown(cancel_futures=True)
+            CDLL(None).prctl(PR_SET_PDEATHSIG, signal.SIGKILL)
+            for part in parts if os.getppid() == audit else ():  # else no signal comes
+                try:
+                    octets = pickle.dumps([read_file(what, platforms) for what in part])
+                except Exception as fault:
+                    octets = pickle.dumps(fault)
+                pipe.write(len(octets).to_bytes(OCTETS_OF_SIZE, "big") + octets)
+                pipe.flush()
+        finally:
+            os._exit(0)
 
-
-def begin(whats: Sequence[What], platforms: Sequence[str]) -> None:
-    """Begins a process that reads parts of these files, which it has from the audit that it is a
-    copy of. Lets it end if the audit does, or is interrupted."""
-    CDLL(None).prctl(PR_SET_PDEATHSIG, signal.SIGKILL)
-    signal.signal(signal.SIGINT, signal.SIG_DFL)
-    WORK.append((whats, platforms))
-
-
-def read_part(part: slice) -> bytes:
-    """Returns what is in a part of the files as octets. A pool's thread would make objects of them
-    while the main thread works, and each would wait for the other."""
-    (whats, platforms), = WORK
-    return pickle.dumps([read_file(what, platforms) for what in whats[part]])
+    def next_part(self) -> list[Optional[Listing]]:
+        """Returns what is in the files of the next part. Raises OSError, and MemoryError if the
+        process ended early."""
+        size = int.from_bytes(self.pipe.read(OCTETS_OF_SIZE), "big")
+        octets = self.pipe.read(size)
+        if not octets or len(octets) < size:
+            raise MemoryError
+        read = pickle.loads(octets)
+        if isinstance(read, Exception):
+            raise read
+        return cast(list[Optional[Listing]], read)

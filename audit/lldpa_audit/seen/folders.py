@@ -1,5 +1,6 @@
 """Finds the files in a folder: HOST.json, or the files below a folder HOST."""
 import os
+from contextlib import suppress
 from typing import Callable, Iterable, Iterator, Sequence
 
 from lldpa.capture.source import hold
@@ -44,14 +45,16 @@ def of_hosts(folder: str, say: Say) -> Iterator[What]:
 
 def of_host(host: str, folder: str, say: Say) -> Iterator[What]:
     """Yields the files of a host. A capture of one port is named after the port."""
-    for entry in entries(folder, say):
-        if entry.is_dir(follow_symlinks=False):
-            yield from of_host(host, entry.path, say)
-        elif entry.is_file():
-            port = without_ending(entry.name) if is_of_one_port(entry.path) else ""
-            yield What(host, port, entry.path, True)
-        else:
-            say(f"{entry.path}: it is a link to a folder, and is skipped")
+    left = [folder]
+    while left:
+        for entry in entries(left.pop(), say):
+            if entry.is_dir(follow_symlinks=False):
+                left.append(entry.path)
+            elif entry.is_file():
+                port = without_ending(entry.name) if is_of_one_port(entry.path) else ""
+                yield What(host, port, entry.path, True)
+            else:
+                say(f"{entry.path}: it is a link to a folder, and is skipped")
 
 
 def entries(folder: str, say: Say) -> Iterator["os.DirEntry[str]"]:
@@ -71,6 +74,7 @@ def why_passed_over(entry: "os.DirEntry[str]") -> str:
     """Returns why an entry can be neither a list of neighbors nor a capture, or an empty text."""
     if entry.name.endswith(("~", ".bak", ".orig", ".swp", ".tmp")):
         return "it is named like a backup copy"
-    if entry.is_dir() or entry.is_file():
-        return ""
+    with suppress(OSError):  # of a link that leads to itself
+        if entry.is_dir() or entry.is_file():
+            return ""
     return "it is a link that leads nowhere" if entry.is_symlink() else "it is not a file"

@@ -4,12 +4,12 @@ from math import inf
 from typing import Callable, Iterator, Mapping, Optional, Sequence
 
 from lldpa.capture.source import opened
+from lldpa.ctl import Ctl
 
 from ..ages import worded
 from ..names import End, Names, shown
 from ..plan import Plan
 from ..what import What, of_hosts
-from .asking import asked
 from .captures import read_captures
 from .listing import Listing
 from .shows import read_ports
@@ -125,7 +125,7 @@ class Gathering:
         """Adds the ports of lldpa-live when each planned port has a neighbor or the time is up."""
         end = time.monotonic() + seconds
         while True:
-            ports = read_ports(asked(path, "show neighbors"))
+            ports = read_ports(Ctl(path).text("show", "neighbors"))
             silent = [port for port, neighbors in ports.items() if not neighbors]
             waits = any(self.tables.names.end(End(host, port)) in plan.ends for port in silent)
             if not waits or time.monotonic() >= end:

@@ -34,10 +34,8 @@ def tree_of(text: str, begin: int) -> Any:
 
 def decoded(text: str, begin: int) -> Any:
     """Returns the tree of JSON, with numbers as texts. Raises SeenFault and JSONDecodeError."""
-    decoder = json.JSONDecoder(strict=False, parse_int=str, parse_float=str, parse_constant=str,
-                               object_pairs_hook=each_once)
     try:
-        tree, end = decoder.raw_decode(text, begin)
+        tree, end = DECODER.raw_decode(text, begin)
     except Twice:
         raise fault_of_twice(text, begin) from None
     except RecursionError:
@@ -54,6 +52,10 @@ def each_once(pairs: list[tuple[str, Any]]) -> dict[str, Any]:
     if len(found) < len(pairs):
         raise Twice
     return found
+
+
+DECODER = json.JSONDecoder(strict=False, parse_int=str, parse_float=str, parse_constant=str,
+                           object_pairs_hook=each_once)
 
 
 def fault_of_twice(text: str, begin: int) -> SeenFault:

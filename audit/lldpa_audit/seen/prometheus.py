@@ -1,18 +1,16 @@
 """Reads an answer of Prometheus' API (https://prometheus.io/docs/prometheus/latest/querying/api/)
 with what `lldpa-ctl metrics` wrote at each host: `lldpa_neighbor_info` has the neighbors,
 `lldpa_too_many` has all ports, and `node_textfile_mtime_seconds` has the time."""
-import re
 from collections import defaultdict
 from typing import Any, Iterator
 
 from ..names import NAMELESS, Seen
+from .gnmic import host_of
 from .listing import Listing, SeenFault
 from .neighbor import neighbor
 from .shows import plain
 
 PORTS, TIMES = "lldpa_too_many", "node_textfile_mtime_seconds"
-# the host in a label `instance`, such as leaf1:9100 or [2001:db8::1]:9100
-HOST = re.compile(r"\[(.+)\](?::[0-9]+)?|(.+?)(?::[0-9]+)?")
 EXPORTED = "exported_"  # precedes lldpa's label if the target has a label of the same name
 
 
@@ -47,13 +45,12 @@ def samples(tree: Any) -> Iterator[tuple[str, dict[str, str], float]]:
     """Yields the host, the labels and the value of each series. Raises SeenFault."""
     try:
         for one in tree["data"]["result"]:
-            found = HOST.fullmatch(one["metric"]["instance"])
+            host = host_of(one["metric"]["instance"])
             labels = {name: plain(text) for name, text in one["metric"].items()}
             ours = {name[len(EXPORTED):]: text for name, text in labels.items()
                     if name.startswith(EXPORTED)}
-            if found:
-                yield (found[1] or found[2], defaultdict(str, {**labels, **ours}),
-                       float(one["value"][1]))
+            if host:
+                yield host, defaultdict(str, {**labels, **ours}), float(one["value"][1])
     except (AttributeError, IndexError, KeyError, TypeError, ValueError):
         raise SeenFault("it is an answer of Prometheus, but a series in it lacks a value, or "
                         "the label instance") from None

@@ -58,8 +58,7 @@ class Tables:
         return ""
 
     def forget(self, host: str, reason: str) -> None:
-        """Discards all data of a host, for this reason."""
-        self.add_host(host)
+        """Discards all data of an audited host, for this reason."""
         self._forgotten.setdefault(self.names.host(host), reason)
 
     def discard_forgotten(self) -> None:
@@ -79,6 +78,15 @@ class Tables:
         if known is None and self.covers(key):
             known = self.ends[key] = KnownPort(end, ())
         return known
+
+    def neighbors(self, key: End) -> Sequence[Seen]:
+        """Returns the neighbors of an end, none if nothing is known of it."""
+        known = self.ends.get(key)
+        return known.neighbors if known is not None else ()
+
+    def heard(self, key: End, far: End) -> Optional[Seen]:
+        """Returns the first neighbor of an end that may be the end `far`, or None."""
+        return next((one for one in self.neighbors(key) if self.names.answers(one, far)), None)
 
     def covers(self, key: End) -> bool:
         """Returns whether it is known what an end hears, perhaps from a complete list that does not

@@ -171,7 +171,7 @@ def found_in(tree: Any) -> str:
     """Returns what JSON has, in a few words."""
     if isinstance(tree, list):
         count = f"JSON with a list of {len(tree)} {'value' if len(tree) == 1 else 'values'}"
-        return f"{count}, the first of which is {found_in(tree[0])}"
+        return f"{count}, the first of which is {found_in(tree[0])}" if tree else count
     if not isinstance(tree, dict):
         return "JSON without any object" if isinstance(tree, (bool, type(None))) else "a text"
     return f"JSON with the names {', '.join(first_of([name[:LONGEST_SHOWN] for name in tree]))}"
