@@ -86,7 +86,7 @@ def start(program: str) -> list[str]:
     """Returns lines on the cost of a start: one port, and 64 ports for 128 neighbors each."""
     lines = []
     for title, words in (("one port", ["eth0"]), ("64 ports", ["--max-neighbors=128", *PORTS])):
-        least = min(spent([program, *words])[0] for _ in range(20))
+        least = min(spent([program, *words]).processor for _ in range(20))
         memory = resident([program, *words])
         lines.append(f"start with {title}: {1e3 * least:.2f} ms of processor time, {memory} KB of memory")
     return lines

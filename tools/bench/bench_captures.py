@@ -17,7 +17,7 @@ import sys
 import tempfile
 import time
 from pathlib import Path
-from typing import Callable, Iterator, Sequence, Tuple
+from typing import Callable, Iterator, NamedTuple, Sequence, Tuple
 
 TOP = Path(__file__).resolve().parents[2]
 sys.path.append(str(TOP / "audit" / "tools"))
@@ -36,14 +36,22 @@ Packets = Iterator[Tuple[bytes, int]]  # each with its time in milliseconds
 PCAP = bytes.fromhex("d4c3b2a1020004000000000000000000ffff000001000000")
 
 
+class Spent(NamedTuple):
+    """What a run of a program took: seconds of processors and by the clock, and its peak memory in MB."""
+    processor: float
+    clock: float
+    megabytes: float
+
+
 def seconds(words: list[str], trace: Path) -> float:
     """Returns the processor time of one run of a program with this input."""
-    return spent(words, trace)[0]
+    return spent(words, trace).processor
 
 
-def spent(words: list[str], trace: Path = Path(os.devnull), status: int = 0) -> tuple[float, float]:
-    """Returns the processor time (in seconds) and the peak memory (in MB) of a program, which shall
-    end with this status. (The kernel's `ru_maxrss` is at least the memory of this program.)"""
+def spent(words: list[str], trace: Path = Path(os.devnull), status: int = 0) -> Spent:
+    """Returns what a program takes, which shall end with this status. (The kernel's `ru_maxrss` is at
+    least the memory of this program.)"""
+    began = time.monotonic()
     with trace.open("rb") as file:
         child = subprocess.Popen(words, stdin=file, stdout=subprocess.DEVNULL, stderr=subprocess.DEVNULL)
     ended, kilobytes = 0, ["0"]
@@ -53,7 +61,8 @@ def spent(words: list[str], trace: Path = Path(os.devnull), status: int = 0) -> 
         ended, child.returncode, usage = os.wait4(child.pid, os.WNOHANG)
     if os.waitstatus_to_exitcode(child.returncode) != status:
         sys.exit(f"{words} ended with {os.waitstatus_to_exitcode(child.returncode)}")
-    return usage.ru_utime + usage.ru_stime, int(kilobytes[-1]) / 1024
+    clock = time.monotonic() - began
+    return Spent(usage.ru_utime + usage.ru_stime, clock, int(kilobytes[-1]) / 1024)
 
 
 def write_capture(path: Path, packets: Packets) -> None:
@@ -84,7 +93,7 @@ def other_readers(room: Path, times: int) -> list[str]:
     lines = []
     for tool, words in (("tcpdump", ["-nnv", "-r"]), ("tshark", ["-V", "-r"])):
         if shutil.which(tool):
-            used = min(spent([tool, *words, str(capture)])[0] for _ in range(times))
+            used = min(spent([tool, *words, str(capture)]).processor for _ in range(times))
             lines.append(f"a typical frame, read and printed by {tool}: {1e9 * used / (20 * len(frames)):.0f} ns")
     return lines
 
@@ -100,12 +109,18 @@ CAPTURE_READERS = (("lldpa-capture", [sys.executable, str(TOP / "bin/lldpa-captu
 def capture_row(title: str, capture: Path, times: int) -> str:
     """Runs each installed reader `times` times on a capture. Returns a line with the results."""
     readers = [(name, words) for name, words in CAPTURE_READERS if shutil.which(words[0])]
-    runs: dict[str, list[tuple[float, float]]] = {name: [] for name, _ in readers}
+    runs: dict[str, list[Spent]] = {name: [] for name, _ in readers}
     for _ in range(times):
         for name, words in readers:
             runs[name].append(spent([*words, str(capture)]))
-    told = [f"{name} {min(ran)[0]:.2f} s and {max(mb for _, mb in ran):.0f} MB" for name, ran in runs.items()]
-    return f"{title}: {', '.join(told)}"
+    return f"{title}: {', '.join(f'{name} {told(ran)}' for name, ran in runs.items())}"
+
+
+def told(ran: Sequence[Spent]) -> str:
+    """Tells the least times of some runs, and their greatest memory. Where processes work at the same
+    time, users wait by the clock, and each process is slower for the others."""
+    processor, clock = min(run.processor for run in ran), min(run.clock for run in ran)
+    return f"{processor:.2f} s ({clock:.2f} by the clock) and {max(run.megabytes for run in ran):.0f} MB"
 
 
 def capture_rows(room: Path, times: int) -> list[str]:
@@ -163,11 +178,11 @@ def networks(room: Path, sizes: Sequence[int], forms: Sequence[str], pods: int) 
 
 
 def audits(room: Path, words: list[str], output: list[str], programs: list[str], times: int) -> str:
-    """Audits a network by each program in turn. Returns each one's least time and greatest memory."""
+    """Audits a network by each program in turn. Returns each one's least times and greatest memory."""
     file = [str(room / "file")] if output not in ([], ["--json"]) else []
     runs = [[spent([sys.executable, program, *output, *file, *words], status=1) for program in programs]
             for _ in range(times)]  # an audit that finds faults ends with 1
-    return ", ".join(f"{min(ran)[0]:.2f} s and {max(mb for _, mb in ran):.0f} MB" for ran in zip(*runs))
+    return ", ".join(told(ran) for ran in zip(*runs))
 
 
 def program_of(tree: str, room: Path) -> str:
@@ -200,8 +215,8 @@ def main() -> None:
         programs = [program_of(tree, room) for tree in given.trees]
         for name, words in networks(room, given.links, forms, given.pods):
             for output in outputs:
-                told = audits(room, words, output, programs, given.times)
-                print(f"an audit of {' '.join([name, *output])}: {told}", flush=True)
+                line = audits(room, words, output, programs, given.times)
+                print(f"an audit of {' '.join([name, *output])}: {line}", flush=True)
 
 
 if __name__ == "__main__":

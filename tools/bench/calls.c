@@ -8,16 +8,14 @@
  *     show                          lldpa_show_lines, a page of LLDPA_LINE_ROOM octets after the other
  *     loop                          a frame and lldpa_due. Each neighbor sends every 30 seconds, which
  *                                   lldpa_ticks counts, and once a minute all neighbors are read
- *     worst                         lldpa_frame. All neighbors have the same tag and IDs of 256 octets
- *                                   that differ only in eight octets of the Port ID, from PORTS on (of
- *                                   one port), and the frame is that of the last
+ *     worst..                       lldpa_frame, for names that worst.c chooses. PORTS is a place in the names
  *     tlv-text, escape              a System Name or a text of NUMBER octets is written
  */
 #include <stdio.h>
 #include <stdlib.h>
 #include <string.h>
 
-#include "lldpa.h"
+#include "calls.h"
 
 static uint8_t frame[] = "\x01\x80\xc2\0\0\x0e\0\x11\x22\x33\x44\x55\x88\xcc\x02\x07\x04\0\x11\x22\x33\x44\x55"
                          "\x04\x05\x05" "eth0" "\x06\x02\0\x78\x08\x0e" "GigabitEther01" "\x0a\x03" "sw1"
@@ -25,17 +23,11 @@ static uint8_t frame[] = "\x01\x80\xc2\0\0\x0e\0\x11\x22\x33\x44\x55\x88\xcc\x02
 /* The octet of the chassis ID that tells the neighbors apart. */
 #define APART 22
 
-/* The divisor of the tags in the neighbor table. Numbers that differ by it have the same tag. */
-#define DIVISOR 65521ULL
+lldpa_agent agent;
+lldpa_marks marks;
+int failed;
 
-enum { ID = 256, FRONT = 14, WORST = FRONT + 2 + ID + 2 + ID + 6 };
-
-static lldpa_agent agent;
-static lldpa_marks marks;
-static int failed;
-
-/* Opens an agent with ports that only receive. */
-static void open_agent(uint32_t ports, uint32_t neighbors)
+void open_agent(uint32_t ports, uint32_t neighbors)
 {
     static char names[64][8];
     lldpa_text texts[64];
@@ -155,27 +147,6 @@ static void run_agent(const char *name, uint32_t ports, uint32_t neighbors, uint
     lldpa_close(&agent);
 }
 
-/* Passes the frames of 128 neighbors with the same tag, and then that of the last `count` times. */
-static void run_worst(uint32_t place, uint32_t count)
-{
-    static uint8_t worst[WORST];
-    uint8_t *port = worst + FRONT + 2 + ID + 2;
-    memcpy(worst, frame, FRONT);
-    memset(worst + FRONT, 7, WORST - FRONT);
-    memcpy(worst + FRONT, "\x03\0", 2);
-    memcpy(port - 2, "\x05\0", 2);
-    memcpy(port + ID, "\x06\x02\0\x78\0\0", 6);
-    open_agent(1, 128);
-    for (uint32_t at = 0; at < 128 + count; at++) {
-        uint64_t number = (1ULL << 56) + (at < 128 ? at : 127) * DIVISOR;
-        for (int octet = 0; octet < 8; octet++) {
-            port[place + octet] = (uint8_t)(number >> (56 - 8 * octet));
-        }
-        failed += lldpa_frame(&agent, 0, worst, sizeof worst, &marks, NULL) != LLDPA_OK;
-    }
-    lldpa_close(&agent);
-}
-
 /* Writes a System Name, or a text, `count` times. */
 static void run_texts(int is_tlv, size_t length, uint32_t count)
 {
@@ -196,11 +167,9 @@ int main(int argc, char **argv)
     }
     uint32_t ports = (uint32_t)strtoul(argv[2], NULL, 10);
     uint32_t number = (uint32_t)strtoul(argv[3], NULL, 10), count = (uint32_t)strtoul(argv[4], NULL, 10);
-    if (strcmp(argv[1], "worst") == 0) {
-        run_worst(ports, count);
-    } else if (strcmp(argv[1], "tlv-text") == 0 || strcmp(argv[1], "escape") == 0) {
+    if (strcmp(argv[1], "tlv-text") == 0 || strcmp(argv[1], "escape") == 0) {
         run_texts(strcmp(argv[1], "tlv-text") == 0, number, count);
-    } else {
+    } else if (!run_worst(argv[1], ports, count)) {
         run_agent(argv[1], ports, number, count);
     }
     return failed != 0;
