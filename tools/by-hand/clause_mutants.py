@@ -8,6 +8,7 @@ value modulo 64, one more, 0, or with two fields exchanged.
 """
 from __future__ import annotations
 
+import functools
 import pathlib
 import re
 import sys
@@ -26,13 +27,14 @@ CLAUSE = re.compile(r"(?m)^ *ensures\*?( \w+)? \{")
 PLACE = re.compile(r"(\w+): &(?:'\w+ )?mut (\w+)")
 STRUCT = re.compile(r"(?ms)^pub struct (\w+)(?:<.*?>)? \{\n(.*?)^\}")
 FIELD = re.compile(r"(?m)^    pub (\w+): (.*),$")
+TYPE = re.compile(r"(?m)^(?:pub(?:\([^)]*\))? )?(?:struct|enum) (\w+)")
 NAME = re.compile(r"[\w◌<>=&|+%≡≤-]+")
 NUMBERS = ("u8", "u16", "u32", "u64", "usize")
 OPERATORS = (words, operands, values, fields)
 
 
 class Contract(NamedTuple):
-    """A public function's file, its path as `rt check` prints it, its head, and its clauses."""
+    """A public function's file, its path by this file, its head, and its clauses."""
     crate: str
     path: str
     function: str
@@ -43,12 +45,31 @@ class Contract(NamedTuple):
     def name(self) -> str:
         return self.function.rpartition("::")[2]
 
+    def printed(self) -> str:
+        return printed(self.crate, self.function)
+
     def clauses(self) -> list[tuple[str, int, int]]:
         """Returns the name of each clause, with its beginning and its end in the text."""
         found = []
         for head in CLAUSE.finditer(self.text):
             found.append(((head[1] or "").strip(), head.start(), closing(self.text, head.end() - 1)))
         return found
+
+
+@functools.lru_cache(None)
+def modules_of_types(crate: str) -> dict[str, list[str]]:
+    """Returns the module of each type that a crate declares."""
+    return {name: module_of(str(path.relative_to(CRATES / crate)))
+            for path in sources(crate) for name in TYPE.findall(path.read_text())}
+
+
+def printed(crate: str, function: str) -> str:
+    """Returns the path of a function as `rt check` prints it. A method stands in the module of its
+    type, whichever file has the `impl`."""
+    *module, name = function.split("::")
+    if module and module[-1] in modules_of_types(crate):
+        module = [*modules_of_types(crate)[module[-1]], module[-1]]
+    return "::".join([*module, name])
 
 
 def closing(text: str, place: int) -> int:
@@ -86,6 +107,7 @@ def contracts_of(crate: str) -> list[Contract]:
     return found
 
 
+@functools.lru_cache(None)
 def structs_of(crate: str) -> dict[str, dict[str, str]]:
     """Returns the public fields of each struct of a crate and of those below it, with their types."""
     texts = [path.read_text() for one in (*ROWS[crate].split(), crate) for path in sources(one)]
@@ -151,14 +173,6 @@ def wrapped(contract: Contract, structs: dict[str, dict[str, str]]) -> Iterator[
             yield f"{place}: {what}", new
 
 
-def importing(text: str, wrong: list[tuple[Contract, str]]) -> str:
-    """Returns a file with wrong clauses of some functions, which also imports what only they need."""
-    changed = text
-    for contract, new in sorted(wrong, key=lambda one: -one[0].begin):
-        changed = changed[:contract.begin] + new + changed[contract.begin + len(contract.text):]
-    return with_imports(changed, text, wrong)
-
-
 def with_imports(changed: str, text: str, wrong: list[tuple[Contract, str]]) -> str:
     """Returns a changed file that also imports what wrong clauses need and the file `text` lacks."""
     needed = [lacking(contract, text, new) for contract, new in wrong]
@@ -166,13 +180,14 @@ def with_imports(changed: str, text: str, wrong: list[tuple[Contract, str]]) -> 
     lines: set[str] = set().union(*(structs for _, structs in needed))
     if prelude:
         lines.add(f"Rattle.std.specs.Prelude.{{{', '.join(sorted(prelude))}}}")
-    at = changed.index("\nghost use ") + 1
+    at = changed.index("\nghost use ") + 1 if lines else 0
     return changed[:at] + "".join(f"ghost use {line};\n" for line in sorted(lines)) + changed[at:]
 
 
 def lacking(contract: Contract, text: str, new: str) -> tuple[set[str], set[str]]:
     """Returns the words of the Prelude, and the imports of structs, that only wrong clauses need."""
-    imported = " ".join(re.findall(r"(?m)^ *ghost use .*$", text))
+    # what an impl imports for its own view is not in scope in another impl
+    imported = " ".join(re.findall(r"(?m)^ghost use .*$", text))
     added = set(TOKEN.findall(new)) - set(TOKEN.findall(contract.text))
     names = {"ℕ": "ℕ", "+": "◌+◌", **PRELUDE}
     prelude = {names[word] for word in added & set(names)} - set(NAME.findall(imported))

@@ -1,101 +1,43 @@
-"""Says which callers need what clauses of public functions say, for mutate_specs.py --clauses.
+"""Says who needs what clauses of public functions say, for mutate_specs.py --clauses.
 
 A mutant is refused by a caller of its function, or by a wrong body of the function itself that is
-proved with it. Twins (clause_twins.py) show the second for all mutants of a crate at once. A contract
-is all that callers see. So wrong clauses of different functions share a copy of the crate and the
-checks of their callers, if no function calls two of these.
+proved with it. Twins (clause_twins.py) show the second for many mutants of a crate at once, and
+clause_asking.py asks the callers.
 """
 from __future__ import annotations
 
 import functools
+import hashlib
 import pathlib
 import re
-import shutil
-import signal
 import sys
-from typing import Iterator, NamedTuple, Protocol, Sequence
+from typing import Iterator, Sequence
 
-from clause_mutants import Contract, importing
+from clause_asking import AskingRoom, Verdict, Wrong, reaching
+from clause_callers import callers_in
+from clause_mutants import Contract
 from clause_twins import Twin, lay_proofs, twins_of, with_twins
-from spec_rooms import ROWS, Room, below
+from spec_rooms import ROWS, below
 
 TOP = pathlib.Path(__file__).resolve().parents[2]
 sys.path.append(str(TOP / "tools" / "gate"))
-from edits import CRATES, function_at  # noqa: E402
-from rooms import Said, refused_in_source  # noqa: E402
+from edits import CRATES  # noqa: E402
+from rooms import Said  # noqa: E402
 
-VERDICT = re.compile(r"(?m)^fn (\w+)::(\S+): (.*)$")
-# the crates that are proved, each after those below it, without the crate of tests and the program
-PROVED = [crate for crate in ROWS if crate not in ("lldp_tests", "above")]
-SECONDS = 300, 10  # of processor, for a check and for each function of it
 TYPED, SEARCHED = 60, 8  # how many twins share a check: without a search, and with one
 
 
-class Wrong(Protocol):
-    """Wrong clauses of a public function."""
-
-    @property
-    def of(self) -> Contract: ...
-
-    @property
-    def what(self) -> str: ...
-
-    @property
-    def new(self) -> str: ...
-
-    def name(self) -> str: ...
-
-    def shown(self) -> str: ...
-
-
-class Verdict(NamedTuple):
-    mutant: Wrong
-    kind: str
-    said: str
-
-
 @functools.lru_cache(None)
-def callers_in(crate: str, contract: Contract) -> tuple[str, ...]:
-    """Returns the functions of a crate whose bodies name a function, without the function itself."""
-    found = []
-    for path in sorted((CRATES / crate / "src").rglob("*.rt")):
-        text, name = path.read_text(), str(path.relative_to(CRATES / crate))
-        for call in re.finditer(rf"(?<!fn )\b{contract.name()}\(", text):
-            caller = function_at(text, call.start(), name)
-            if caller and (crate, caller) != (contract.crate, contract.function):
-                found.append(caller)
-    return tuple(dict.fromkeys(found))
-
-
-@functools.lru_cache(None)
-def touched_by(contract: Contract) -> frozenset[tuple[str, str]]:
-    """Returns the function itself and its callers in all crates, each with its crate."""
-    crates = [crate for crate in PROVED if contract.crate in (crate, *below(crate))]
-    callers = {(crate, caller) for crate in crates for caller in callers_in(crate, contract)}
-    return frozenset(callers | {(contract.crate, contract.function)})
-
-
-def groups_of(mutants: Sequence[Wrong]) -> list[list[Wrong]]:
-    """Puts each mutant of a crate into the first group whose mutants have no function in common with
-    it, neither their own nor a caller."""
-    groups: list[tuple[list[Wrong], set[tuple[str, str]]]] = []
-    for mutant in mutants:
-        touched = touched_by(mutant.of)
-        for group, taken in groups:
-            if not touched & taken:
-                group.append(mutant)
-                taken |= touched
-                break
-        else:
-            groups.append(([mutant], set(touched)))
-    return [group for group, _ in groups]
+def is_called(contract: Contract) -> bool:
+    """Returns whether a proved function seems to call a function."""
+    return any(callers_in(crate, contract) for crate in reaching(contract.crate))
 
 
 @functools.lru_cache(None)
 def is_spoken_of(contract: Contract) -> bool:
     """Returns whether a statement or proof of a crate, outside the function's own folder, or another
     function has the name of a function. A law that spoke of its contract would need the name."""
-    own = f"/proofs/{contract.function.replace('::', '/')}/"
+    own = f"/proofs/{contract.printed().replace('::', '/')}/"
     name = re.compile(rf"(?<![\w-]){contract.name()}(?![\w-])")
     for crate in [crate for crate in ROWS if contract.crate in (crate, *below(crate))]:
         for path in sorted((CRATES / crate).glob("[ps]*/**/*.*t*")):
@@ -109,43 +51,15 @@ def is_spoken_of(contract: Contract) -> bool:
 def is_free(mutant: Wrong) -> bool:
     """Returns whether clauses hold for another value than the call gives, and nothing calls or names
     it. Then no proof can need what they said, and C programs show who does."""
-    return ": " in mutant.what and len(touched_by(mutant.of)) == 1 and not is_spoken_of(mutant.of)
+    return ": " in mutant.what and not is_called(mutant.of) and not is_spoken_of(mutant.of)
 
 
-class ClauseRoom(Room):
-    """A copy of the crates in which the callers of functions with wrong clauses are checked."""
-
-    def begin(self, crate: str) -> None:
-        """Lays what a check of the crate kept beside its sources."""
-        tried = self.crates / crate / "tried"
-        shutil.rmtree(tried, ignore_errors=True)
-        shutil.copytree(CRATES / crate / "out" / "incremental", tried)
-
-    def said_of(self, crate: str, functions: Sequence[str], changed: str = "") -> Said | None:
-        """Returns what a check of these functions of a crate prints, or None if it did not end."""
-        self.begin(crate)
-        seconds = SECONDS[0] + SECONDS[1] * len(functions)
-        status, said = self.check(crate, sorted(set(functions)), seconds, "tried", changed)
-        found = {name: words for of, name, words in VERDICT.findall(said) if of == crate}
-        return None if status == -signal.SIGXCPU else Said(said, found, refused_in_source(said))
-
-    def plant(self, some: Sequence[Wrong]) -> None:
-        """Makes the copy of a crate have these wrong clauses, and no others."""
-        crate = some[0].of.crate
-        for path in sorted((CRATES / crate / "src").rglob("*.rt")):
-            name = str(path.relative_to(CRATES / crate))
-            wrong = [(mutant.of, mutant.new) for mutant in some if mutant.of.path == name]
-            text = path.read_text()
-            (self.crates / crate / name).write_text(importing(text, wrong) if wrong else text)
-
-    def restore(self, crate: str) -> None:
-        shutil.copytree(CRATES / crate / "src", self.crates / crate / "src", dirs_exist_ok=True)
+class ClauseRoom(AskingRoom):
+    """A copy of the crates in which wrong clauses are tried."""
 
     def lay_twins(self, twins: Sequence[Twin]) -> None:
         """Makes the copy of a crate have these twins, and no others."""
         crate = twins[0].of.crate
-        shutil.rmtree(self.crates / crate / "proofs")
-        shutil.copytree(CRATES / crate / "proofs", self.crates / crate / "proofs")
         self.restore(crate)
         for path in {twin.of.path for twin in twins}:
             here = [twin for twin in twins if twin.of.path == path]
@@ -176,27 +90,30 @@ class ClauseRoom(Room):
         return not any(int(line) in lines and words.startswith("error") for line, words in places)
 
     def verdicts_on(self, some: Sequence[Wrong]) -> Iterator[Verdict]:
-        """Yields the verdict on each mutant of a crate."""
+        """Yields the verdict on each mutant of a crate. Wrong bodies need the longest search, so they
+        are tried for what no caller refuses."""
         free = [mutant for mutant in some if is_free(mutant)]
         yield from (Verdict(mutant, "survived", "nothing calls it") for mutant in free)
-        asked = [mutant for mutant in some if mutant not in free]
-        told = self.told_by_twins(asked)
-        yield from told.values()
-        for group in groups_of([mutant for mutant in asked if mutant not in told]):
-            try:
-                yield from self.asked_of_callers(group)
-            finally:
-                self.restore(group[0].of.crate)
+        unread = self.told_by_twins({typed(mutant): mutant for mutant in some if mutant not in free})
+        yield from unread.values()
+        left = [mutant for mutant in some if mutant not in free and mutant not in unread]
+        stood: dict[Wrong, Verdict] = {}
+        for verdict in self.asked_of_callers(list(left)) if left else ():
+            if verdict.kind == "survived":
+                stood[verdict.mutant] = verdict
+            else:
+                left.remove(verdict.mutant)
+                yield verdict
+        told = self.told_by_twins({twin: mutant for mutant in left for twin in with_bodies(mutant)})
+        yield from ({**stood, **told}[mutant] for mutant in left if mutant in stood or mutant in told)
 
-    def told_by_twins(self, some: Sequence[Wrong]) -> dict[Wrong, Verdict]:
+    def told_by_twins(self, twins: dict[Twin, Wrong]) -> dict[Wrong, Verdict]:
         """Returns a verdict for each mutant that is ill-typed, or with which a wrong body is proved."""
-        twins = {twin: mutant for at, mutant in enumerate(some) for twin in twins_of(mutant.of, mutant.new, f"twin{at}")}
         told: dict[Wrong, Verdict] = {}
-        for searched, most in ((False, TYPED), (True, SEARCHED)):
-            these = [twin for twin in twins if bool(twin.edit) == searched]
-            for twin, said in self.said_of_twins(these, most):
-                verdict = self.told_by(twin, said, twins[twin])
-                told.update({twins[twin]: verdict} if verdict else {})
+        most = SEARCHED if any(twin.edit for twin in twins) else TYPED
+        for twin, said in self.said_of_twins(list(twins), most):
+            verdict = self.told_by(twin, said, twins[twin])
+            told.update({twins[twin]: verdict} if verdict else {})
         return told
 
     def told_by(self, twin: Twin, said: Said | None, mutant: Wrong) -> Verdict | None:
@@ -209,21 +126,19 @@ class ClauseRoom(Room):
             return Verdict(mutant, "refused", f"with it {twin.edit.name} is proved")
         return None
 
-    def asked_of_callers(self, some: Sequence[Wrong]) -> list[Verdict]:
-        """Returns the verdicts of callers, in the crate itself and then in those above it."""
-        self.plant(some)
-        found: list[Verdict] = []
-        own, left = some[0].of.crate, list(some)
-        for crate in [crate for crate in PROVED if own in (crate, *below(crate))]:
-            callers = [caller for mutant in left for caller in callers_in(crate, mutant.of)]
-            if callers:
-                said = self.said_of(crate, callers, "" if crate == own else own)
-                kind = "timeout" if said is None else "refused" if crate == own else "above"
-                found += [Verdict(mutant, kind, said.text if said else "") for mutant in left
-                          if said is None or refusing(callers_in(crate, mutant.of), said)]
-                told = [verdict.mutant for verdict in found]
-                left = [mutant for mutant in left if mutant not in told]
-        return found + [Verdict(mutant, "survived", "") for mutant in left]
+
+def typed(mutant: Wrong) -> Twin:
+    """Returns a twin that nothing tries to prove."""
+    return Twin(mutant.of, mutant.new, f"{mutant.of.name()}_typed{hashed(mutant.new)}")
+
+
+def with_bodies(mutant: Wrong) -> list[Twin]:
+    """Returns a twin with each wrong body that the new clauses may let through."""
+    return [twin for twin in twins_of(mutant.of, mutant.new, f"twin{hashed(mutant.new)}") if twin.edit]
+
+
+def hashed(text: str) -> str:
+    return hashlib.sha256(text.encode()).hexdigest()[:8]
 
 
 def judged(twin: Twin, said: Said) -> Said:
@@ -231,11 +146,6 @@ def judged(twin: Twin, said: Said) -> Said:
     if twin.function() not in said.verdicts:
         sys.exit(f"no verdict on {twin.name}: {said.text[-2000:]}")
     return said
-
-
-def refusing(callers: Sequence[str], said: Said) -> bool:
-    """Returns whether a goal of one of these callers was refused."""
-    return any(said.refused_goal(caller) for caller in callers)
 
 
 def is_proved(function: str, said: Said) -> bool:

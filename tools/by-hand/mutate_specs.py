@@ -3,7 +3,7 @@
 
     tools/by-hand/mutate_specs.py --room DIR [--seed N] [--count N] [--only PATTERN] [--jobs N]
                                   [--list]
-    tools/by-hand/mutate_specs.py --clauses [--batch N] ..
+    tools/by-hand/mutate_specs.py --clauses [--batch N] [--callers PATTERN] ..
 
 A mutant is one small change (spec_mutants.py) of one definition in `specs`, outside specs/Laws and
 specs/Code. Only laws, worked examples, vectors and transcripts are checked, and no function: so a
@@ -14,7 +14,8 @@ builds them.
 
 With --clauses a mutant is one change of the clauses of a public function (clause_mutants.py). All
 those of the library's functions are drawn, and `count` of the others. clause_rooms.py tries them, and
-clause_calls.py plants in C what no proof needs of the library.
+clause_calls.py plants in C what no proof needs of the library. To ask all callers takes long: --callers
+asks those that its pattern of `CRATE FUNCTION` names, and then only refusals are kept.
 
 A mutant is `ill-typed`, `refused` by its crate, refused `above` by transcripts and examples, or
 `survived`. The law that reaches the fewest definitions, this one among them, is checked first, and
@@ -42,8 +43,9 @@ import subprocess
 import sys
 from typing import Iterable, NamedTuple
 
+from clause_asking import PROVED, Wrong
 from clause_mutants import Contract, changes_of as wrong_clauses_of, contracts_of
-from clause_rooms import PROVED, ClauseRoom, Wrong
+from clause_rooms import ClauseRoom
 from spec_mutants import changes_of, importing
 from spec_rooms import ROWS, Room, below
 
@@ -118,7 +120,7 @@ def said_by_laws_alone(crate: str) -> set[str]:
     of_others: set[str] = set()
     for path in [*CRATES.glob(f"{crate}/src/**/*.rt"), *CRATES.glob(f"{crate}/specs/**/*.antt")]:
         text = re.sub(r"(?m)^(abbrev |pub )*record \w+", "", without_comments(path.read_text()))
-        words = of_laws if re.search(r"/(laws|Laws)\b", str(path)) else of_others
+        words = of_laws if re.search(r"/(laws|Laws)\b", str(path.relative_to(CRATES))) else of_others
         words.update(re.findall(r"\w+", text))
     return of_laws - of_others
 
@@ -156,9 +158,9 @@ def try_all(folder: pathlib.Path, job: int, mutants: list[Mutant]) -> None:
         keep(folder, mutant, verdict, said)
 
 
-def try_clauses(folder: pathlib.Path, job: int, batch: int, mutants: list[Wrong]) -> None:
+def try_clauses(folder: pathlib.Path, job: int, batch: int, asks: str, mutants: list[Wrong]) -> None:
     """Tries wrong clauses in a room of their own, some of a crate at a time, and keeps the verdicts."""
-    room = ClauseRoom(folder / f"job-{job}")
+    room = ClauseRoom(folder / f"job-{job}", asks)
     for crate in dict.fromkeys(mutant.of.crate for mutant in mutants):
         of_crate = [mutant for mutant in mutants if mutant.of.crate == crate]
         for at in range(0, len(of_crate), batch):
@@ -175,6 +177,7 @@ def read_options() -> argparse.Namespace:
     parser.add_argument("--jobs", type=int, default=2)
     parser.add_argument("--clauses", action="store_true", help="change clauses of public functions")
     parser.add_argument("--batch", type=int, default=300, help="how many wrong clauses share checks")
+    parser.add_argument("--callers", default="", help="a pattern of `CRATE FUNCTION`")
     parser.add_argument("--list", action="store_true", help="print the mutants, and try none")
     return parser.parse_args()
 
@@ -199,7 +202,8 @@ def print_sums(kept: dict[str, str], chosen: list[str]) -> None:
 def try_in_jobs(options: argparse.Namespace, left: list[Mutant | WrongClauses]) -> None:
     for crate in below("lldpa_c"):
         subprocess.run(["rt", "lib"], cwd=CRATES / crate, stdout=subprocess.DEVNULL, check=True)
-    task = functools.partial(try_clauses, batch=options.batch) if options.clauses else try_all
+    task = (functools.partial(try_clauses, batch=options.batch, asks=options.callers)
+            if options.clauses else try_all)
     jobs = [{"folder": options.room, "job": job, "mutants": left[job::options.jobs]}
             for job in range(options.jobs)]
     running = [multiprocessing.Process(target=task, kwargs=job) for job in jobs]

@@ -96,7 +96,7 @@ class Room:
         """Checks functions of a crate over those below, and keeps in a folder what it checked. A crate
         below that has wrong clauses, `changed`, is checked from its sources."""
         words = ["prlimit", f"--cpu={seconds}:{seconds + 9}", f"{kit()}/bin/rattle", "check",
-                 "src/lib.rt", "--crate-name", crate, "--jobs", "1",
+                 self.root(crate), "--crate-name", crate, "--jobs", "1",
                  *(word for path in ([only] if isinstance(only, str) else only) for word in ("--only", path)),
                  "--incremental", f"{self.crates}/{crate}/{kept}", "-L", f"dependency={kit()}/rlibs",
                  "--logic-built", f"{kit()}/logic_built",
@@ -110,6 +110,11 @@ class Room:
         ran = subprocess.run(words, cwd=self.crates / crate, stdin=subprocess.DEVNULL, check=False,
                              stdout=subprocess.PIPE, stderr=subprocess.STDOUT, errors="replace")
         return ran.returncode, ran.stdout
+
+    def root(self, crate: str) -> str:
+        """Returns the root file of a crate: a program's is not that of a library."""
+        is_program = (self.crates / crate / "src/main.rt").exists()
+        return "src/main.rt" if is_program else "src/lib.rt"
 
     def library(self, crate: str) -> list[str]:
         """Returns the arguments that have a crate below checked from its sources."""

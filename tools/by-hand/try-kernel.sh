@@ -67,7 +67,8 @@ sleep 60
 END
 chmod 755 "$start/init"
 (cd "$start" && find . | "$KERNEL/bin/busybox" cpio -o -H newc 2> /dev/null) > "$room/initrd"
-timeout "${LONGEST-3000}" qemu-system-x86_64 -accel "${ACCEL-tcg}" -m 3072 -smp 2 -display none -nic none -no-reboot \
+# The program needs a newer processor than the one that qemu shows by itself.
+timeout "${LONGEST-3000}" qemu-system-x86_64 -accel "${ACCEL-tcg}" -cpu max -m 3072 -smp 2 -display none -nic none -no-reboot \
     -serial "file:$room/said" -kernel "$KERNEL/boot/vmlinuz-$version" -initrd "$room/initrd" -append "console=ttyS0 quiet" \
     -virtfs local,path=/,mount_tag=files,security_model=none,readonly=on,multidevs=remap \
     -virtfs "local,path=$KERNEL/lib/modules,mount_tag=modules,security_model=none,readonly=on" < /dev/null
