@@ -27,13 +27,16 @@ class GateOfParts(unittest.TestCase):
                       "sh -c 'printf \"a\\nb\\n\" > $GATE_NAMES; echo 2 passed, 0 failed'"),
             plan.Part(plan.HOST, "two", "sh -c 'echo 3 passed, 0 failed'")]
 
-    def gate(self, *words: str, top: "Path | None" = None) -> "tuple[int, str]":
+    def gate(self, *words: str, top: "Path | None" = None,
+             processors: int = 2) -> "tuple[int, str]":
         """Runs the gate's main in another process, with these parts and this ledger, in a
-        repository at `top` or in this one. Returns its status and what it prints."""
+        repository at `top` or in this one, as on a host with so many processors. Returns its
+        status and what it prints."""
         parts = [tuple(one) for one in self.parts]
         script = (f"import sys; sys.path.insert(0, {str(GATE)!r})\n"
                   "import check, ledger, pathlib, plan\n"
                   f"check.TOP = pathlib.Path({str(top)!r}) if {bool(top)} else check.TOP\n"
+                  f"check.processors = lambda: {processors}\n"
                   f"check.PARTS = ledger.PARTS = [plan.Part(*one) for one in {parts!r}]\n"
                   f"ledger.LEDGER = pathlib.Path({str(self.folder / 'ledger.txt')!r})\n"
                   f"ledger.KEPT = pathlib.Path({str(self.folder / 'kept')!r})\n"

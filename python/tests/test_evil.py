@@ -11,6 +11,7 @@ from contextlib import suppress
 from pathlib import Path
 from typing import Dict, Iterable, Iterator, List, NamedTuple, Optional
 
+from patience import by_the_clock
 from served import BIN, CTL
 from support import FilesCase
 
@@ -181,6 +182,7 @@ class Memory(Evil):
     def test_of_lines_that_are_not_printable(self) -> None:
         self.holds({b"": [b"\xff" * 8000 + b"\n"] * 5_000}, SOME)
 
+    @by_the_clock
     def test_a_watch_keeps_no_more_than_40_megabytes(self) -> None:
         answers = of_agent(neighbors(b"unknown.9=\n" * 740, 40))
         programs = [f"{ASK} watch", f"{ASK} --json watch", f"{CLI} watch"]

@@ -42,6 +42,13 @@ class Shell(unittest.TestCase):
                 ended = shell(f". tools/gate/parts.sh; {words}")
                 self.assertEqual((ended.returncode, ended.stdout), (status, said))
 
+    def test_words_that_test_python_does_not_know_run_no_test(self) -> None:
+        for words in ("--help", "no-program", "no-program audit", "audit python"):
+            with self.subTest(words):
+                ended = shell(f"tools/gate/test-python.py {words}", timeout=60)
+                self.assertEqual(ended.returncode, 1)
+                self.assertIn(": which is not a program; words are\nRuns the tests", ended.stdout)
+
     def test_without_a_compiler_or_python_the_gate_fails(self) -> None:
         with tempfile.TemporaryDirectory() as folder:
             for name in ("sh", "dirname"):

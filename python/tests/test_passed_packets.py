@@ -1,7 +1,11 @@
 """Tests which packets of a capture are skipped without a look at them: all that say nothing new."""
 
+import ctypes
 import io
+import shutil
+import unittest
 
+from lldpa.capture.packet import LINK_TYPES
 from lldpa.capture.packets import reader_of
 from made_captures import (LLDP, OTHER, START, Frame, interface, packet, pcap, pcapng, section,
                            whole)
@@ -12,6 +16,18 @@ COOKED = 113  # LINUX_SLL
 FRAMES: list[Frame] = [whole(OTHER, START + number * 1000) for number in range(20_000)]
 # the reader looks at a few packets of each part of a file that it has in memory
 MOST_LOOKS = 100
+
+
+class LinkTypes(unittest.TestCase):
+    @unittest.skipUnless(shutil.which("tcpdump"), "tcpdump: it is not installed")
+    def test_names_are_those_of_libpcap(self) -> None:
+        """Checks the names of link types, which a note shows. For some libpcap has other names, or
+        other numbers than captures have."""
+        number_of = ctypes.CDLL("libpcap.so.0.8").pcap_datalink_name_to_val
+        others = {number: name for number, name in LINK_TYPES.items()
+                  if number_of(name.encode()) != number}
+        self.assertEqual(others, {1: "ETHERNET", 6: "IEEE802_5", 50: "PPP_HDLC", 101: "RAW",
+                                  119: "PRISM", 127: "IEEE802_11_RADIOTAP"})
 
 
 class PassedPackets(FilesCase):

@@ -43,6 +43,9 @@ class ForPeople(unittest.TestCase):
         self.assertEqual([letter for letter in others if is_shown(letter)], [])
 
     def test_octets_that_are_no_utf8_are_escaped(self) -> None:
+        for octet in range(0x80, 0x100):
+            text = bytes([octet]).decode(errors="surrogateescape")
+            self.assertEqual(printable(text), f"\\x{octet:02x}")
         for octets, shown in ((b"caf\xe9", "caf\\xe9"), (b"\xc3", "\\xc3"),
                               (b"\xff\xfe", "\\xff\\xfe"),
                               (b"\xed\xa0\x80", "\\xed\\xa0\\x80"), (b"\xc0\xaf", "\\xc0\\xaf"),

@@ -3,6 +3,7 @@
 import gzip
 import os
 import random
+import re
 import select
 import subprocess
 import sys
@@ -12,6 +13,7 @@ from lldpa import Source, Told, ports_of, trace_of
 from lldpa.capture.trace import TooManyPorts
 from made_captures import (FORMS, LLDP, OTHER, SECOND, START, TAGGED, Frame, block, interface,
                            lldp_frame, packet, pcap, pcapng, section, whole)
+from served import REPOSITORY
 from support import CAPTURE, FilesCase
 
 RX = f"rx eth0 {LLDP.hex()}\n"
@@ -163,6 +165,18 @@ class Program(FilesCase):
         self.assertEqual(self.ran("ge-0/0/1=a"), (named, "", 0))
         self.assertEqual(self.ran("--ports", "x=a", "a"), ("x\neth0\n", "", 0))
         self.assertEqual(self.ran("--ports", "-", octets=b""), ("eth0\n", "", 0))
+
+    def test_modules_that_are_programs(self) -> None:
+        """Checks that Python runs each module that `python3 -m lldpa` names."""
+        def said(module: str, *words: str) -> str:
+            path = f"{REPOSITORY}/python:{REPOSITORY}/audit"
+            return subprocess.run([sys.executable, "-m", module, *words], check=True, text=True,
+                                  stdout=subprocess.PIPE, env={"PYTHONPATH": path}).stdout
+        programs = re.findall("python3 -m ([a-z_.]+) +([a-z-]+)", said("lldpa"))
+        self.assertEqual(programs, [("lldpa.commands.capture", "lldpa-capture"),
+                                    ("lldpa_audit", "lldpa-audit")])
+        for module, program in programs:
+            self.assertEqual(said(module, "--version").split()[0], program)
 
     def test_ports_of_captures_that_cannot_be_read(self) -> None:
         self.file(pcapng([whole(LLDP)], name="swp1"), "a")

@@ -13,9 +13,11 @@ OUT = os.path.dirname(PROGRAM)
 
 
 class Whole(GateOfParts):
-    def whole(self, built: str, linked: str) -> "tuple[str, dict[str, str]]":
+    def whole(self, built: str, linked: str, processors: int = 2,
+              **first: str) -> "tuple[str, dict[str, str]]":
         """Runs a whole gate whose first part builds a program of these lines (if any), and whose
-        rt ci links another one. Returns what is printed, and the folder of each lane's part."""
+        rt ci links another one. What a lane's part does `first` may fail it. Returns what is
+        printed, and the folder of each lane's part."""
         top = self.folder / "top"
         subprocess.run(["git", "init", "--quiet", top], check=True)
         (top / OUT).parent.mkdir(parents=True)
@@ -25,11 +27,12 @@ class Whole(GateOfParts):
         for lane in lanes:
             write = f"printf '{text.get(lane)}' > {PROGRAM}; chmod +x {PROGRAM}"
             step = f"mkdir -p {OUT}; {write}" if text.get(lane) else f"test -x {PROGRAM}"
-            (self.folder / lane).write_text(f"pwd > $0.at\n{step} || exit 1\n"
-                                            "echo 1 passed, 0 failed\n")
+            begin = f"pwd > $0.at\n{first.get(lane, '')}\n"
+            end = "touch $0.ended; echo 1 passed, 0 failed\n"
+            (self.folder / lane).write_text(f"{begin}{step} || exit 1\n{end}")
         self.parts = [plan.Part(lane, lane, f"sh {self.folder / lane}") for lane in lanes]
         (self.folder / "ledger.txt").write_text("".join(f"== {lane}\n" for lane in lanes))
-        said = self.gate("--gate", top=top)[1]
+        said = self.gate("--gate", top=top, processors=processors)[1]
         at = {path.stem: path.read_text().strip() for path in self.folder.glob("*.at")}
         return said, {lane: folder.replace(str(top), "top") for lane, folder in at.items()}
 
@@ -44,6 +47,16 @@ class Whole(GateOfParts):
         said = self.whole("#!/bin/sh\\n", "#!/bin/sh\\nexit\\n")[0]
         self.assertIn("it is not the one that rt ci links", said)
         self.assertEqual(said.splitlines()[-1], "13 passed, 1 failed", said)
+
+    def test_edits_are_tried_beside_rt_ci_if_there_are_four_processors(self) -> None:
+        waits = f"timeout 60 sh -c 'until [ -e {self.folder}/edits.ended ]; do sleep 0.1; done'"
+        said = self.whole("#!/bin/sh\\n", "#!/bin/sh\\n", 4, proofs=f"{waits} || exit 1")[0]
+        self.assertEqual(said.splitlines()[-1], "14 passed, 0 failed", said)
+
+    def test_edits_are_tried_after_rt_ci_if_there_are_three(self) -> None:
+        said = self.whole("#!/bin/sh\\n", "#!/bin/sh\\n", 3, proofs="sleep 1",
+                          edits=f"[ -e {self.folder}/proofs.ended ] || exit 1")[0]
+        self.assertEqual(said.splitlines()[-1], "14 passed, 0 failed", said)
 
     def test_a_whole_gate_ends_if_nothing_can_be_built(self) -> None:
         said, at = self.whole("", "#!/bin/sh\\n")

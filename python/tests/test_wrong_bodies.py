@@ -5,10 +5,13 @@ import subprocess
 import sys
 import tempfile
 import unittest
+from unittest import mock
 
 TOP = pathlib.Path(__file__).resolve().parents[2]
 sys.path.append(str(TOP / "tools" / "gate"))
 
+import bases  # noqa: E402
+import reach  # noqa: E402
 from rooms import refused_in_source  # noqa: E402
 
 SCRIPTS = ("wrong_bodies.py", "edits.py", "rooms.py", "bases.py", "reach.py", "counts.py")
@@ -78,6 +81,92 @@ class Goals(unittest.TestCase):
         self.assertEqual(refused_in_source(PRINTED),
                          {"digits::decode": "src/digits.rt:139: `clause-octets`",
                           "line::Line::port": "src/show/lines.rt:30: `clause-port`"})
+
+
+LAW = {
+    "src/laws.rt": """ghost use Rattle.small.specs.Laws.Right.{AreRight};
+
+/// All is right.
+pub fn all_is_right()
+    ensures { AreRight }
+{}
+""",
+    "specs/Laws/Right.antt": """use Rattle.small.specs.Kinds.{few}
+use Rattle.small.specs.Numbers as number
+
+pub record AreRight : Type 0 where
+  pub same : (n : ℕ) → n ≡ n
+  pub even : (n : ℕ) → number.IsEven n
+  pub few : kind_of 1 ≡ few
+""",
+    "specs/Kinds.antt": """pub data Kind : Type 0 where
+  few : Kind
+  many : Kind
+""",
+    "specs/Numbers.antt": """use Rattle.std.specs.Prelude.{◌+◌, true as yes}
+
+pub IsEven : ℕ → Type 0
+IsEven n = IsHalf n yes
+
+pub IsOdd : ℕ → Type 0
+IsOdd n = n ≡ 1
+
+pub IsSmall : ℕ → Type 0
+IsSmall n = n ≤ 7
+
+pub IsSum : ℕ → ℕ → Type 0
+IsSum n m = n + m ≡ 9
+""",
+    "proofs/laws/all_is_right/Answers.antt": """use Rattle.small.proofs.Sums.{same, sum_is}
+
+all : (n : ℕ) → n ≡ n
+all n = same n (sum_is n)
+""",
+    "proofs/Sums.antt": """use Rattle.small.specs.Numbers.{IsSmall, IsSum}
+
+module _ (n : ℕ) (small : IsSmall n) where
+  pub same : n ≡ n
+  same = refl
+
+module _ (n : ℕ) where
+  module _ (m : ℕ) where
+    pub sum_is : IsSum n m
+    sum_is = refl
+""",
+}
+
+
+class Bases(unittest.TestCase):
+    """What a law rests on, and which definitions an edit changes, in a crate with one law."""
+
+    def setUp(self) -> None:
+        folder = tempfile.TemporaryDirectory()
+        self.addCleanup(folder.cleanup)
+        crates = pathlib.Path(folder.name)
+        for name, text in LAW.items():
+            path = crates / "small" / name
+            path.parent.mkdir(parents=True, exist_ok=True)
+            path.write_text(text)
+        for module in (bases, reach):
+            patched = mock.patch.object(module, "CRATES", crates)
+            self.addCleanup(patched.stop)
+            patched.start()
+
+    def test_a_law_rests_on_all_that_its_statement_and_its_proof_cite(self) -> None:
+        definitions = bases.bases_of_laws("small")["laws::all_is_right"].definitions
+        found = {one.name for one in definitions}
+        for name, where in (("AreRight", "its statement"), ("IsEven", "a field, behind its module"),
+                            ("Kind", "a constructor"), ("IsSmall", "the first line of a block"),
+                            ("IsSum", "a block in a block")):
+            with self.subTest(where):
+                self.assertIn(name, found)
+        self.assertNotIn("IsOdd", found)
+
+    def test_an_edit_changes_what_cites_a_name_that_now_comes_from_elsewhere(self) -> None:
+        path = "specs/Numbers.antt"
+        text = LAW[path].replace("true as yes", "false as yes")
+        changed = reach.Specification().changed_by("small", {path: text})
+        self.assertEqual({one.name for one in changed}, {"IsEven"})
 
 
 @unittest.skipUnless(shutil.which("rt"), "kit: a release is tested without it")

@@ -2,8 +2,7 @@
 
 The output of a part is printed in one piece when it ends. The program and the library are proved,
 linked and tested in a copy of the repository. rt ci proves all from nothing at the same time, and rt
-lets nobody else prove in its folders. Edits are tried after it, in a third copy, which nobody else
-changes.
+lets nobody else prove in its folders. Edits are tried in a third copy, which nobody else changes.
 """
 from __future__ import annotations
 
@@ -26,6 +25,7 @@ from part import FEATURE, PACKAGE, TOP, Ended, judged, settings_for
 from plan import ALONE, BUILT, CHANGED, CHEAP, EDITS, HOST, LIBRARY, PARTS, PROOFS, Part
 
 PROGRAM = "crates/lldpa/out/lldpa"
+FOR_EDITS_BESIDE = 4  # processors; with fewer of them the edits wait for rt ci, which uses two
 OF_ONE_PART = "crates library host audit release".split()
 
 
@@ -143,6 +143,10 @@ def copied(top: pathlib.Path, copy: pathlib.Path) -> pathlib.Path:
     return copy
 
 
+def processors() -> int:
+    return len(os.sched_getaffinity(0))
+
+
 def prove_and_test(gate: Gate, parts: list[Part]) -> None:
     """Proves and links the program, and tests it, while rt ci works."""
     beside = copied(TOP, gate.room / "beside")
@@ -158,8 +162,10 @@ def prove_and_test(gate: Gate, parts: list[Part]) -> None:
         return
     gate.tops[EDITS] = copied(beside, gate.room / "edits")
     tests = started(gate.run_lanes, [lane_of(parts, HOST), lane_of(parts, LIBRARY)])
-    proofs.join()
+    if processors() < FOR_EDITS_BESIDE:
+        proofs.join()
     gate.run_lane(lane_of(parts, EDITS))
+    proofs.join()
     tests.join()
     gate.run_lane(lane_of(parts, ALONE))
     same = Ended("the program that was tested", passed=1)

@@ -11,11 +11,12 @@ class Part(NamedTuple):
     """A part of the gate. `{program}` in the command stands for the program that is tested.
 
     The parts of a lane run one after the other, in this order. CHEAP comes first. Then BUILT makes
-    what HOST and LIBRARY test at the same time. PROOFS and after it EDITS run beside these three, and
-    at the end those that must run ALONE. CHANGED proves what has changed, before HOST and LIBRARY, if
-    there is no rt ci. A part waits until the parts `after` have ended. `by` says which options of
-    check.sh run it, besides those that run all of its lane. `names` is a command that prints the names
-    of what it runs, if the sources list them; a part without it may note them when it runs (ledger.py).
+    what HOST and LIBRARY test at the same time. PROOFS run beside these three, and EDITS beside HOST
+    and LIBRARY, or after PROOFS if the host is small. At the end come those that must run ALONE.
+    CHANGED proves what has changed, before HOST and LIBRARY, when rt ci does not run. A part waits
+    until the parts `after` have ended. `by` says which options of check.sh run it, besides those that
+    run all of its lane. `names` is a command that prints the names of what it runs, if the sources
+    list them; a part without it may note them when it runs (ledger.py).
     """
     lane: str
     name: str
@@ -53,8 +54,9 @@ PARTS = (
 
     Part(PROOFS, "proofs, mutants and tests (rt ci)", "tools/gate/proofs.sh",
          names="tools/gate/proofs.sh --names"),
-    Part(PROOFS, "axioms", "python3 tools/gate/artefacts.py --axioms"),
-    Part(EDITS, "wrong bodies", "python3 tools/gate/wrong_bodies.py",
+    # where rt run left its proofs: some kits let rt ci keep none, and all would be proved once more
+    Part(EDITS, "axioms", "python3 tools/gate/artefacts.py --axioms"),
+    Part(EDITS, "wrong bodies", "nice -n 10 python3 tools/gate/wrong_bodies.py --jobs 2",
          names="python3 tools/gate/wrong_bodies.py --names"),
 
     Part(HOST, LIVE, "tools/gate/check-live.sh", by="host release",

@@ -95,13 +95,17 @@ class Specification:
         self.texts |= definitions_in(crate, module, text)
 
     def changed_by(self, crate: str, texts: dict[str, str]) -> set[Definition]:
-        """Returns the definitions that other texts change, by the paths of their files in a crate."""
+        """Returns the definitions that other texts change, by the paths of their files in a crate. One
+        is changed too if a name in it is now imported from elsewhere."""
         found: set[Definition] = set()
         for path, text in texts.items():
             parts = pathlib.PurePath(path).with_suffix("").parts
             if parts[0] == "specs":
-                changed = definitions_in(crate, ".".join(parts[1:]), text)
-                found |= {one for one in changed if self.texts.get(one) != changed[one]}
+                module = ".".join(parts[1:])
+                before, after = self.imports.get((crate, module), {}), imports_of(text)
+                moved = {name for name in before if after.get(name, before[name]) != before[name]}
+                found |= {one for one, words in definitions_in(crate, module, text).items()
+                          if self.texts.get(one) != words or moved & set(NAME.findall(words))}
         return found
 
     def cited_by(self, one: Definition) -> set[Definition]:

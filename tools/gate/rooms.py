@@ -14,7 +14,8 @@ from edits import CRATES, TOP, Texts
 ROWS = dict(re.findall(r"(?m)^(\w+)(?: staticlib)?: *(.*)$", (TOP / "crates.txt").read_text()))
 PARTS = ("src", "specs", "proofs", "include", "front")
 VERDICT = re.compile(r"(?m)^fn (\S+): (.*)$")
-PLACE = re.compile(r"(?m)^(?:note: )?(?:\./)?((?:src|specs|proofs)/\S+?):(\d+):\d+: (.*)$")
+# a message goes on in lines that begin with spaces: behind a long term it is there what it lacks
+PLACE = re.compile(r"(?m)^(?:note: )?(?:\./)?((?:src|specs|proofs)/\S+?):(\d+):\d+: (.*(?:\n  .*)*)$")
 # a goal in the source that is refused; where a search only came to its limit, nothing is known
 REFUSED = re.compile(r"(?m)^note: (src/\S+:\d+):\d+: it is not proved that (?!.*gave up at one of its limits)"
                      r".*\((`[^`]+`)\)")
@@ -23,6 +24,10 @@ NAMES = re.compile(r"has no field|is not in scope|has no `|was not admitted")
 # what is said of a text that the prover cannot read
 UNREAD = re.compile(r"is not in scope|has no field|is no name|operand is missing|expected the end"
                     r"|cannot continue")
+
+
+def first_line(words: str) -> str:
+    return words.partition("\n")[0]
 
 
 class Said(NamedTuple):
@@ -42,7 +47,7 @@ class Said(NamedTuple):
         """Returns the first error in these files and folders that is more than a lost name, if any."""
         for path, line, words in PLACE.findall(self.text):
             if path.startswith(places) and words.startswith("error") and not NAMES.search(words):
-                return f"{path}:{line}: {words}"
+                return f"{path}:{line}: {first_line(words)}"
         return ""
 
     def refused_goal(self, function: str, files: Iterable[str] = ()) -> str:
@@ -68,7 +73,7 @@ class Said(NamedTuple):
         for path, line, words in PLACE.findall(self.text):
             is_source = path.startswith(("src/", "specs/")) and words.startswith("error")
             if is_source and UNREAD.search(words):
-                return f"{path}:{line}: {words}"
+                return f"{path}:{line}: {first_line(words)}"
         return ""
 
 

@@ -137,6 +137,8 @@ def main():
         prepare()
         print("\n".join(name for module in modules(group) for name in names_in(module)))
         return 0
+    if words[1:] or words and not pathlib.Path(words[0]).is_file():
+        sys.exit(f"{' '.join(words)}: which is not a program; words are\n{__doc__}")
     if words:
         os.environ["LLDPA"] = str(pathlib.Path(words[0]).resolve())
     passed = failed = 0

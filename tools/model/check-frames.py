@@ -7,7 +7,8 @@ Each LLDPDU below is received cut after each octet, and with each octet changed 
 value: once with an empty table, and once with the neighbor of the first LLDPDU stored, to see which
 neighbor a shutdown frame removes. After each frame the neighbors and counters are compared, and the
 table is emptied. Then eight random traces, with the seeds from SEED (default 1), have more
-neighbors than fit, and shutdown frames. The last line is `N passed, M failed`.
+neighbors than fit, and shutdown frames. Two more have neighbors whose names have one tag in lldpa's
+table, so that whole names are compared. The last line is `N passed, M failed`.
 """
 import random
 import sys
@@ -43,6 +44,10 @@ EMPTY = [b"configure ports eth0 lldp status disabled", b"configure ports eth0 ll
 NEIGHBORS = 180  # there is room for 128
 ROUNDS = 3000
 LOOK_EACH = 25
+
+DIVISOR = (65521).to_bytes(2, "big")  # tags are remainders of division by it
+# of IDs: the shortest, the longest, and some whose names end at about a multiple of 64 octets
+LENGTHS = (2, 3, 4, 15, 16, 17, *range(57, 67), *range(121, 130), 186, 188, *range(250, 257))
 
 
 def altered(frame):
@@ -88,21 +93,56 @@ def random_trace(seed):
             yield from EMPTY
 
 
+def alike(length):
+    """Returns IDs with one tag: zeros, and for each place zeros with the divisor at this place."""
+    places = range(length - 1)
+    return [bytes(length), *(bytes(at) + DIVISOR + bytes(length - at - 2) for at in places)]
+
+
+def names_alike(part, length):
+    """Returns the first octets of LLDPDUs whose names have one tag, and differ in this part."""
+    return [spelled(1, each if part == "chassis" else bytes(2))
+            + spelled(2, each if part == "port" else bytes(256)) for each in alike(length)]
+
+
+def heard_thrice(names):
+    """Yields lines in which neighbors with these names are new, are refreshed and are removed."""
+    for ttl in (120, 120, 0):
+        time_to_live = spelled(3, ttl.to_bytes(2, "big"))
+        yield from (heard(HEADER + name + time_to_live + END) for name in names)
+        yield LOOK[0]
+
+
+def alike_trace(part):
+    """Yields lines that hold names with one tag together, always with the name of zeros."""
+    for length in LENGTHS:
+        first, *others = names_alike(part, length)
+        for start in range(0, len(others), 127):
+            yield from heard_thrice([first, *others[start:start + 127]])
+
+
+def trace_of(case):
+    """Returns the lines of an LLDPDU, of the seed of a random trace, or of a part of names."""
+    if isinstance(case, int):
+        return list(random_trace(case))
+    return list(alike_trace(case)) if isinstance(case, str) else altered_trace(case)
+
+
 def fault_of(case):
-    """Returns what is wrong with a case (an LLDPDU or the seed of a random trace), or None."""
-    lines = list(random_trace(case)) if isinstance(case, int) else altered_trace(case)
+    """Returns what is wrong with a case, or None."""
+    lines = trace_of(case)
     return compare.difference(sys.argv[1], ["--receive-only", "--max-neighbors", "128", "eth0"], lines)
 
 
 def main():
     seed = int(sys.argv[2]) if sys.argv[2:] else 1
     print(f"seeds from {seed}", flush=True)
-    cases = [*LLDPDUS, *range(seed, seed + 8)]
+    cases = [*LLDPDUS, *range(seed, seed + 8), "chassis", "port"]
     with ProcessPoolExecutor() as pool:
         faults = list(pool.map(fault_of, cases))
     counts = Counts()
     for case, fault in zip(cases, faults):
-        counts.judge(fault, case if isinstance(case, int) else case.hex())
+        counts.judge(fault, case.hex() if isinstance(case, bytes) else case)
     return counts.end()
 
 

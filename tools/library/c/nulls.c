@@ -171,12 +171,14 @@ static const lldpa_tlv two_tlvs[2] = {{frame, 4, 5}, {NULL, 1, 6}};
     CALL(LLDPA_NULL, lldpa_neighbor(NULL, 0, 0, now.room, 1500, &now.held))                                            \
     CALL(LLDPA_NULL, lldpa_neighbor(&agent, 0, 0, NULL, 1500, &now.held))                                              \
     CALL(LLDPA_OUT_OF_RANGE, lldpa_neighbor(&agent, 0, 0, NULL, 0, &now.held))                                         \
+    CALL(LLDPA_OUT_OF_RANGE, lldpa_neighbor(&agent, 0, 0, now.room, 1500, &now.held))                                  \
     CALL(LLDPA_NULL, lldpa_neighbor(&agent, 0, 0, now.room, 1500, NULL))                                               \
     CALL(LLDPA_NULL, lldpa_aged_count(NULL, 0, &now.number))                                                           \
     CALL(LLDPA_NULL, lldpa_aged_count(&agent, 0, NULL))                                                                \
     CALL(LLDPA_NULL, lldpa_aged(NULL, 0, 0, now.room, 1500, &now.held))                                                \
     CALL(LLDPA_NULL, lldpa_aged(&agent, 0, 0, NULL, 1500, &now.held))                                                  \
     CALL(LLDPA_OUT_OF_RANGE, lldpa_aged(&agent, 0, 0, NULL, 0, &now.held))                                             \
+    CALL(LLDPA_OUT_OF_RANGE, lldpa_aged(&agent, 0, 0, now.room, 1500, &now.held))                                      \
     CALL(LLDPA_NULL, lldpa_aged(&agent, 0, 0, now.room, 1500, NULL))                                                   \
     CALL(LLDPA_NULL, lldpa_link(NULL, 0, false, &now.marks))                                                           \
     CALL(LLDPA_NULL, lldpa_link(&agent, 0, false, NULL))                                                               \
@@ -197,6 +199,7 @@ static const lldpa_tlv two_tlvs[2] = {{frame, 4, 5}, {NULL, 1, 6}};
     CALL(LLDPA_NULL, lldpa_escape(frame, 3, now.room, 12, NULL))                                                       \
     CALL(LLDPA_NULL, lldpa_fault_text(LLDPA_MEMORY, NULL, 65, &now.length))                                            \
     CALL(LLDPA_NO_ROOM, lldpa_fault_text(LLDPA_MEMORY, NULL, 0, &now.length))                                          \
+    CALL(LLDPA_OUT_OF_RANGE, lldpa_fault_text(9, now.room, 65, &now.length))                                           \
     CALL(LLDPA_NULL, lldpa_fault_text(LLDPA_MEMORY, now.room, 65, NULL))                                               \
     CALL(LLDPA_NULL, lldpa_show_lines(NULL, 3, 0, now.room, 1514, &now.lines))                                         \
     CALL(LLDPA_NULL, lldpa_show_lines(&agent, 3, 0, NULL, 1514, &now.lines))                                           \

@@ -121,6 +121,22 @@ static void try_many_told(size_t put)
     try_walk(told.extent, 0);
 }
 
+/* Checks walks over extents that are as short as they can be, and have one TLV. */
+static void try_short_walks(void)
+{
+    static const uint8_t mandatory[] = {2, 2, 7, 'a', 4, 2, 7, 'b', 6, 2, 0, 120};
+    memset(room, 'c', sizeof room);
+    memcpy(room, mandatory, sizeof mandatory);
+    room[12] = 5 << 1;
+    for (size_t body = 0; body < 256; body++) {
+        lldpa_kept walk = LLDPA_KEPT_INIT;
+        room[13] = (uint8_t)body;
+        int is_so = lldpa_next_kept(room, 14 + body, &walk) && walk.kind == 5 && walk.body.start == 14;
+        holds(is_so && walk.body.length == body, "a walk over a short extent");
+        holds(!lldpa_next_kept(room, 14 + body, &walk) && walk.next == 14 + body, "a walk over a short extent that has ended");
+    }
+}
+
 /* Checks that each of many TLVs is built or has a fault. */
 static void try_many_tlvs(void)
 {
@@ -236,6 +252,7 @@ static int is_kept(size_t from)
 /* Checks that calls write no octet after their result, and none if they are refused. */
 static void try_rest(void)
 {
+    static const uint8_t long_text[512];
     lldpa_lines lines;
     memset(room, 0x5a, sizeof room);
     holds(lldpa_fault_text(LLDPA_MEMORY, room, 3, &length) == LLDPA_NO_ROOM && is_kept(0), "a fault's text that does not fit");
@@ -244,6 +261,10 @@ static void try_rest(void)
     length = 77;
     holds(lldpa_escape(frame, 8, room, 9, &length) == LLDPA_NO_ROOM && is_kept(0) && length == 77, "a text that does not fit");
     holds(lldpa_tlv_text(5, frame, 8, room, 9, &length) == LLDPA_NO_ROOM && is_kept(0) && length == 77, "a TLV that does not fit");
+    holds(lldpa_escape(long_text, 512, room, sizeof room, &length) == LLDPA_OUT_OF_RANGE && is_kept(0) && length == 77,
+          "a text that is too long");
+    holds(lldpa_tlv_text(9, long_text, 512, room, sizeof room, &length) == LLDPA_OUT_OF_RANGE && is_kept(0) &&
+              length == 77, "a TLV that is too long");
     holds(lldpa_escape(frame, 8, room, sizeof room, &length) == LLDPA_OK && is_kept(length), "after a text");
     memset(room, 0x5a, sizeof room);
     holds(lldpa_tlv_text(5, frame, 8, room, sizeof room, &length) == LLDPA_OK && is_kept(length), "after a TLV");
@@ -253,6 +274,24 @@ static void try_rest(void)
     memset(room, 0x5a, sizeof room);
     holds(lldpa_show_lines(&agent, LLDPA_SHOW_CONFIGURATION, 0, room, sizeof room, &lines) == LLDPA_OK &&
               is_kept(lines.length), "after the lines of a show");
+}
+
+/* Checks that calls that write an LLDPDU write no octet after it, and no number after those of the TLVs. */
+static void try_rest_of_lldpdus(void)
+{
+    lldpa_held held = {.left = 0}, kept;
+    lldpa_tlv tlv = {frame, 4, 5};
+    uint8_t faults[2] = {0x5a, 0x5a};
+    memset(room, 0x5a, sizeof room);
+    holds(lldpa_neighbor(&agent, 1, 0, room, sizeof room, &held) == LLDPA_OK && is_kept(held.pdu.extent), "after a neighbor");
+    memset(room, 0x5a, sizeof room);
+    held.left ^= 1;
+    memcpy(&kept, &held, sizeof held);
+    holds(lldpa_neighbor(&agent, 1, 0, room, held.pdu.extent - 1, &held) == LLDPA_NO_ROOM && is_kept(0) &&
+              memcmp(&held, &kept, sizeof held) == 0, "a neighbor that does not fit");
+    holds(lldpa_build(frame + 16, 7, frame + 25, 5, 120, &tlv, 1, faults, 2, room, sizeof room, &length) == LLDPA_OK &&
+              is_kept(length), "after an LLDPDU that is built");
+    holds(faults[0] == LLDPA_OK && faults[1] == 0x5a, "after the numbers of the TLVs");
 }
 
 /* Checks what is told of a frame that is refused, and that the frames to send do not depend on who asks for news. */
@@ -295,10 +334,14 @@ static void try_aged(void)
         holds(lldpa_ticks(&agent, left, &marks, &told) == LLDPA_OK, "seconds");
     }
     holds(told.aged_out == 1 && aged_on(0) == 0 && aged_on(1) == 1, "the neighbor ages out");
-    holds(lldpa_aged(&agent, 1, 0, room, before.pdu.extent - 1, &held) == LLDPA_NO_ROOM, "one octet too few");
+    memset(room, 0x5a, sizeof room);
+    holds(lldpa_aged(&agent, 1, 0, room, before.pdu.extent - 1, &held) == LLDPA_NO_ROOM && is_kept(0) && held.left == 0 &&
+              held.pdu.extent == 0, "one octet too few");
     holds(lldpa_aged(&agent, 1, 0, room, before.pdu.extent, &held) == LLDPA_OK && held.left == 1, "who aged out");
     holds(held.pdu.extent == before.pdu.extent && memcmp(room, octets, held.pdu.extent) == 0, "its LLDPDU");
     holds(memcmp(&held.pdu, &before.pdu, sizeof held.pdu) == 0, "its fields");
+    memset(room, 0x5a, sizeof room);
+    holds(lldpa_aged(&agent, 1, 0, room, sizeof room, &held) == LLDPA_OK && is_kept(held.pdu.extent), "after who aged out");
     holds(lldpa_aged(&agent, 1, 1, room, sizeof room, &held) == LLDPA_OUT_OF_RANGE, "no other neighbor");
     holds(lldpa_frame(&agent, 1, frame, sizeof frame - 1, &marks, NULL) == LLDPA_OK, "a frame");
     holds(aged_on(1) == 0, "none that aged out after a frame");
@@ -321,8 +364,10 @@ int main(void)
     try_two_wrong();
     try_machines();
     try_rest();
+    try_rest_of_lldpdus();
     try_news();
     try_texts();
+    try_short_walks();
     try_many_tlvs();
     try_many_neighbors();
     try_many_seconds();
