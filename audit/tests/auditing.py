@@ -11,6 +11,7 @@ from pathlib import Path
 from typing import Any, List, Mapping, NamedTuple, NoReturn, Optional, Sequence, Tuple
 
 import rack
+from patience import HANGS
 from served import PROGRAM, REPOSITORY
 
 sys.path.append(str(REPOSITORY / "audit"))
@@ -72,7 +73,7 @@ def run_whole(*words: str, folder: Optional[str] = None) -> "subprocess.Complete
     start Python and to load the modules would take most of the time of most tests."""
     if "LLDPA_AUDIT" in os.environ:
         return subprocess.run([sys.executable, AUDIT, *words], env=WITH_AGENT, cwd=folder,
-                              capture_output=True, text=True, timeout=600, check=False)
+                              capture_output=True, text=True, timeout=HANGS, check=False)
     with tempfile.TemporaryFile("w+") as out, tempfile.TemporaryFile("w+") as err:
         child = os.fork()
         if child == 0:

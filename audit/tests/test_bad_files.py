@@ -19,6 +19,7 @@ from lldpa.capture.pcapng import MOST_INTERFACES
 from lldpa_audit.seen.folders import read_whats
 from lldpa_audit.seen.forms import read_list
 from lldpa_audit.what import What
+from patience import HANGS
 from served import REPOSITORY
 from shapes import INTERFACE, SECTION
 from support import run_capture
@@ -27,7 +28,6 @@ PCAP = rack.pcap([])
 # a limit far above what linear time takes, and far below quadratic time
 SECONDS = 40
 TEN = 10  # seconds for any one file
-PATIENCE = 600  # seconds until an audit hangs
 
 
 def captures() -> Iterator[Tuple[bytes, int, int]]:
@@ -203,7 +203,7 @@ class Shapes(InAFolder):
                 ran = subprocess.run(
                     ["prlimit", f"--data={megabytes << 20}", sys.executable, AUDIT, plan,
                      f"{self.folder}/seen{hosts}", "--json"],
-                    capture_output=True, text=True, check=False, timeout=PATIENCE)
+                    capture_output=True, text=True, check=False, timeout=HANGS)
                 with self.subTest(megabytes=megabytes, hosts=hosts):
                     self.assertNotIn("Traceback", ran.stderr)
                     self.assertIn((ran.returncode, len(ran.stderr.splitlines())),

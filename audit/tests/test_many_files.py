@@ -17,7 +17,7 @@ from lldpa_audit.seen import files
 from lldpa_audit.seen.listing import Listing
 from lldpa_audit.seen.tables import Tables
 from lldpa_audit.what import What
-from patience import eventually
+from patience import HANGS, eventually
 
 TOP = Path(__file__).resolve().parents[2]
 FILES = 2 * files.MANY
@@ -52,7 +52,7 @@ def begun_late(name):
 
 def read_long(*_):
     os.write(reads, b" ")
-    time.sleep(60)
+    time.sleep(3600)
 
 moment, os.fork, os.sched_getaffinity = sys.argv[2], told, lambda _: {0, 1, 2}
 files.CDLL = begun_late if moment == "early" else library
@@ -71,7 +71,7 @@ from lldpa_audit.seen import files
 
 def interrupt(*_):
     os.kill(0 if whom == "group" else audit, signal.SIGINT)
-    time.sleep(60)
+    time.sleep(3600)
 
 audit, whom = os.getpid(), sys.argv.pop()
 os.sched_getaffinity, files.read_file = lambda _: {0, 1, 2}, interrupt
@@ -320,6 +320,6 @@ class ManyFiles(InAFolder):
         for whom in ("group", "audit", "twice"):
             words = [sys.executable, "-c", INTERRUPTED, self.plan, f"{self.folder}/seen", whom]
             ran = subprocess.run([*words, ":".join(CODE)], stdout=subprocess.PIPE, text=True,
-                                 stderr=subprocess.STDOUT, start_new_session=True, timeout=50,
+                                 stderr=subprocess.STDOUT, start_new_session=True, timeout=HANGS,
                                  check=False)
             self.assertEqual((ran.returncode, ran.stdout), (130, ""))

@@ -19,6 +19,7 @@ from lldpa_audit.progress import Progress
 from lldpa_audit.report.drawing import ENDS_OF_A_PICTURE
 from lldpa_audit.report.page import page_of
 from lldpa_audit.report.report import Report
+from patience import HANGS
 from test_report import report_of
 
 BROWSER = shutil.which("chromium") or shutil.which("chromium-browser")
@@ -157,7 +158,7 @@ class InABrowser(InAFolder):
                 [str(BROWSER), "--headless", "--no-sandbox", "--disable-gpu", "--hide-scrollbars",
                  f"--user-data-dir={self.folder}/browser", "--window-size=1400,1000",
                  "--dump-dom", f"file://{file}"],
-                capture_output=True, text=True, timeout=180, check=False)
+                capture_output=True, text=True, timeout=HANGS, check=False)
             found = re.search(r'data-widths="([^"]*)"', ran.stdout)
             assert found is not None, ran.stderr
             wide, window, picture, pictures = json.loads(found[1])
@@ -180,7 +181,7 @@ class Terminal(InAFolder):
                    "p = progress.Progress('x')\n"
                    "for n in p.over(range(24), 24, 'files'): clock[0] += 0.1\n"
                    "p.clear()")
-        subprocess.run([sys.executable, "-c", program], stderr=theirs, timeout=60, check=True,
+        subprocess.run([sys.executable, "-c", program], stderr=theirs, timeout=HANGS, check=True,
                        env={**os.environ, "PYTHONPATH": PATH})
         self.assertEqual(os.read(ours, 10_000), b"\r\x1b[Kx: 21 of 24 files"
                          b"\r\x1b[Kx: 23 of 24 files\r\x1b[K")

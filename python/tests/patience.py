@@ -11,6 +11,7 @@ from pathlib import Path
 from typing import Any, Callable, Sequence
 
 SECONDS = 30.0  # the longest wait for a condition, used up only if it stays false
+HANGS = 600.0  # seconds after which a program has hung, even if its host is full
 TRIES = 3
 NOTICEABLE = 0.05  # seconds of a standstill after which a failed test is repeated
 NAP = 0.01

@@ -10,6 +10,7 @@ from typing import Any
 from unittest import mock
 
 from gates import GateOfParts
+from patience import HANGS
 from served import REPOSITORY
 import check  # noqa: E402
 import ledger  # noqa: E402
@@ -45,7 +46,7 @@ class Shell(unittest.TestCase):
     def test_words_that_test_python_does_not_know_run_no_test(self) -> None:
         for words in ("--help", "no-program", "no-program audit", "audit python"):
             with self.subTest(words):
-                ended = shell(f"tools/gate/test-python.py {words}", timeout=60)
+                ended = shell(f"tools/gate/test-python.py {words}", timeout=HANGS)
                 self.assertEqual(ended.returncode, 1)
                 self.assertIn(": which is not a program; words are\nRuns the tests", ended.stdout)
 

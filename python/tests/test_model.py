@@ -7,6 +7,7 @@ import subprocess
 import unittest
 from typing import List
 
+from patience import HANGS
 from served import REPOSITORY
 from wires import Peer, Wires, inside
 
@@ -69,7 +70,7 @@ class OnALink(unittest.TestCase):
         peer = Peer(wires, "peer0")
         self.addCleanup(peer.close)
         peer.send(SWITCH)
-        return shell.communicate(timeout=60)[0].splitlines()
+        return shell.communicate(timeout=HANGS)[0].splitlines()
 
     def test_shows_who_sends_on_a_live_link(self) -> None:
         shown = self.shown()

@@ -6,6 +6,7 @@ import sys
 from typing import Sequence, Tuple
 
 from made_captures import LLDP, pcap, whole
+from patience import HANGS
 from served import CTL, Served
 from support import CAPTURE, FilesCase
 
@@ -17,7 +18,7 @@ BY_PYTHON = [sys.executable, CAPTURE]
 def run_with(output: str, words: Sequence[str]) -> Tuple[int, str]:
     """Returns the status and the messages of a program with this redirection of standard output."""
     ran = subprocess.run(["bash", "-c", f'"$@" {output}', "bash", *words],
-                         stderr=subprocess.PIPE, stdin=subprocess.DEVNULL, check=False, timeout=60)
+                         stderr=subprocess.PIPE, stdin=subprocess.DEVNULL, check=False, timeout=HANGS)
     return ran.returncode, ran.stderr.decode()
 
 
@@ -27,7 +28,7 @@ def unread(words: Sequence[str]) -> Tuple[int, str]:
     reader, writer = os.pipe()
     os.close(reader)
     ran = subprocess.run(words, stdout=writer, stderr=subprocess.PIPE,
-                         check=False, timeout=60)
+                         check=False, timeout=HANGS)
     os.close(writer)
     said = ran.stderr.decode()
     assert "standard output" not in said and "Traceback" not in said, said

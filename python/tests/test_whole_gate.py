@@ -1,7 +1,9 @@
 """Tests the order of a whole gate: it tests what it has built, which must be what rt ci links."""
 
 import os
+import signal
 import subprocess
+import sys
 from pathlib import Path
 
 from gates import GateOfParts
@@ -57,6 +59,27 @@ class Whole(GateOfParts):
         said = self.whole("#!/bin/sh\\n", "#!/bin/sh\\n", 3, proofs="sleep 1",
                           edits=f"[ -e {self.folder}/proofs.ended ] || exit 1")[0]
         self.assertEqual(said.splitlines()[-1], "14 passed, 0 failed", said)
+
+    def test_provers_let_the_other_parts_go_first(self) -> None:
+        """The tests of a gate of two processors once waited a minute for each program they began."""
+        own = os.getpriority(os.PRIO_PROCESS, 0)
+        late = f"for try in $(seq 600); do [ $(nice) = {own} ] || break; sleep 0.1; done\n"
+        patient = f"{late}[ $(nice) = {own + check.PATIENCE} ] || exit 1"
+        said = self.whole("#!/bin/sh\\n", "#!/bin/sh\\n", proofs=patient, edits=patient,
+                          host=f"[ $(nice) = {own} ] || exit 1")[0]
+        self.assertEqual(said.splitlines()[-1], "14 passed, 0 failed", said)
+
+    def test_a_session_that_lets_others_go_first_takes_the_smaller_part(self) -> None:
+        one = min(os.sched_getaffinity(0))
+        spin = f"import os, time\nos.sched_setaffinity(0, [{one}])\nwhile time.process_time() < %s: 1"
+        patient, other = (subprocess.Popen([sys.executable, "-c", spin % seconds],
+                                           start_new_session=True) for seconds in (60, 1))
+        check.let_others_go_first(patient.pid)
+        self.assertEqual(other.wait(), 0)
+        patient.kill()
+        taken = os.wait4(patient.pid, 0)[2].ru_utime
+        patient.returncode = -signal.SIGKILL
+        self.assertLess(taken, 0.3)
 
     def test_a_whole_gate_ends_if_nothing_can_be_built(self) -> None:
         said, at = self.whole("", "#!/bin/sh\\n")

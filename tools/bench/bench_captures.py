@@ -17,6 +17,7 @@ import sys
 import tempfile
 import time
 from pathlib import Path
+from statistics import median
 from typing import Callable, Iterator, NamedTuple, Sequence, Tuple
 
 TOP = Path(__file__).resolve().parents[2]
@@ -117,10 +118,10 @@ def capture_row(title: str, capture: Path, times: int) -> str:
 
 
 def told(ran: Sequence[Spent]) -> str:
-    """Tells the least times of some runs, and their greatest memory. Where processes work at the same
-    time, users wait by the clock, and each process is slower for the others."""
-    processor, clock = min(run.processor for run in ran), min(run.clock for run in ran)
-    return f"{processor:.2f} s ({clock:.2f} by the clock) and {max(run.megabytes for run in ran):.0f} MB"
+    """Tells the times of some runs, each as the least one and the median, and their greatest memory. Where
+    processes work at the same time, users wait by the clock, and each process is slower for the others."""
+    processor, clock = (f"{min(some):.2f} s (median {median(some):.2f})" for some in zip(*(run[:2] for run in ran)))
+    return f"{processor}, {clock} by the clock and {max(run.megabytes for run in ran):.0f} MB"
 
 
 def capture_rows(room: Path, times: int) -> list[str]:
@@ -178,11 +179,16 @@ def networks(room: Path, sizes: Sequence[int], forms: Sequence[str], pods: int) 
 
 
 def audits(room: Path, words: list[str], output: list[str], programs: list[str], times: int) -> str:
-    """Audits a network by each program in turn. Returns each one's least times and greatest memory."""
+    """Audits a network by each program in turn, and begins with another one each time, since hosts slow down while
+    they are busy. Returns each one's times and greatest memory."""
     file = [str(room / "file")] if output not in ([], ["--json"]) else []
-    runs = [[spent([sys.executable, program, *output, *file, *words], status=1) for program in programs]
-            for _ in range(times)]  # an audit that finds faults ends with 1
-    return ", ".join(told(ran) for ran in zip(*runs))
+    runs: dict[str, list[Spent]] = {program: [] for program in programs}
+    for turn in range(times):
+        first = turn % len(programs)
+        for program in programs[first:] + programs[:first]:
+            # an audit that finds faults ends with 1
+            runs[program].append(spent([sys.executable, program, *output, *file, *words], status=1))
+    return ", ".join(told(ran) for ran in runs.values())
 
 
 def program_of(tree: str, room: Path) -> str:

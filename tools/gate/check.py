@@ -7,6 +7,7 @@ lets nobody else prove in its folders. Edits are tried in a third copy, which no
 from __future__ import annotations
 
 import argparse
+import contextlib
 import os
 import pathlib
 import shlex
@@ -22,9 +23,11 @@ from typing import Any
 
 import ledger
 from part import FEATURE, PACKAGE, TOP, Ended, judged, settings_for
-from plan import ALONE, BUILT, CHANGED, CHEAP, EDITS, HOST, LIBRARY, PARTS, PROOFS, Part
+from plan import (ALONE, BUILT, CHANGED, CHEAP, EDITS, HOST, LIBRARY, PARTS, PATIENT, PROOFS,
+                  Part)
 
 PROGRAM = "crates/lldpa/out/lldpa"
+PATIENCE = 10  # of nice(1)
 FOR_EDITS_BESIDE = 4  # processors; with fewer of them the edits wait for rt ci, which uses two
 OF_ONE_PART = "crates library host audit release".split()
 
@@ -53,6 +56,8 @@ class Gate:
                                        stderr=subprocess.STDOUT, start_new_session=True,
                                        env=settings_for(self.room, part.name))
             self.running.add(process)
+            if part.lane in PATIENT:
+                let_others_go_first(process.pid)
             self.say(f"-- {part.name} begins; its lines so far are in {output}")
             _, status, used = os.wait4(process.pid, 0)
             process.returncode = os.waitstatus_to_exitcode(status)
@@ -96,6 +101,15 @@ class Gate:
 
     def failed(self) -> int:
         return sum(one.failed for one in self.ended.values())
+
+
+def let_others_go_first(session: int) -> None:
+    """Gives a new session a tenth of the share of others. Linux first shares a processor among
+    sessions (autogroup in sched(7)), and the niceness of a process counts only within its own."""
+    own = os.getpriority(os.PRIO_PROCESS, 0)
+    os.setpriority(os.PRIO_PGRP, session, own + PATIENCE)
+    with contextlib.suppress(OSError):  # kernels may lack this
+        pathlib.Path(f"/proc/{session}/autogroup").write_text(str(PATIENCE))
 
 
 def started(run: Callable[[Any], None], what: Any) -> threading.Thread:

@@ -5,6 +5,7 @@ from typing import NamedTuple
 
 CHEAP, CHANGED, BUILT, PROOFS = "cheap", "changed", "built", "proofs"
 EDITS, HOST, LIBRARY, ALONE = "edits", "host", "library", "alone"
+PATIENT = (PROOFS, EDITS)
 
 
 class Part(NamedTuple):
@@ -13,6 +14,7 @@ class Part(NamedTuple):
     The parts of a lane run one after the other, in this order. CHEAP comes first. Then BUILT makes
     what HOST and LIBRARY test at the same time. PROOFS run beside these three, and EDITS beside HOST
     and LIBRARY, or after PROOFS if the host is small. At the end come those that must run ALONE.
+    The other lanes go before those that are PATIENT, which use processors for long and by no clock.
     CHANGED proves what has changed, before HOST and LIBRARY, when rt ci does not run. A part waits
     until the parts `after` have ended. `by` says which options of check.sh run it, besides those that
     run all of its lane. `names` is a command that prints the names of what it runs, if the sources
@@ -56,7 +58,7 @@ PARTS = (
          names="tools/gate/proofs.sh --names"),
     # where rt run left its proofs: some kits let rt ci keep none, and all would be proved once more
     Part(EDITS, "axioms", "python3 tools/gate/artefacts.py --axioms"),
-    Part(EDITS, "wrong bodies", "nice -n 10 python3 tools/gate/wrong_bodies.py --jobs 2",
+    Part(EDITS, "wrong bodies", "python3 tools/gate/wrong_bodies.py --jobs 2",
          names="python3 tools/gate/wrong_bodies.py --names"),
 
     Part(HOST, LIVE, "tools/gate/check-live.sh", by="host release",

@@ -1,8 +1,7 @@
 #!/bin/sh
 # Proves all crates from nothing, tries the edits of must-fail and runs the tests (rt ci).
 #     tools/gate/proofs.sh [--names]
-# Other work goes before it, since it uses all processors for long. --names prints the names of the
-# edits and of the tests. The last line is `N passed, M failed`.
+# --names prints the names of the edits and of the tests. The last line is `N passed, M failed`.
 set -u
 cd "$(dirname "$0")/../.." || exit 2
 . tools/gate/parts.sh
@@ -19,4 +18,4 @@ if [ "${1-}" = --names ]; then
     exit
 fi
 names | while read -r name; do ran "$name"; done
-nice -n 10 rt ci
+rt ci

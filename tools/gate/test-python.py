@@ -30,8 +30,8 @@ LONGEST = ("test_scarce", "test_any_interface", "test_guards", "test_churn", "te
            "test_patterns", "test_control", "test_live_ends", "test_bad_files", "test_live_log", "test_packaging",
            "test_settings", "test_ctl_live", "test_audit_command", "test_identity", "test_ask", "test_audit",
            "test_random_networks", "test_write_plan", "test_situations", "test_log_growth")
-# modules that run alone, since they load the machine, or need an answer within a tenth of a second
-ALONE = ("test_budget", "test_live_flood", "test_load_dear", "test_load_floods", "test_load_quiet",
+# modules that run alone, since they load the machine, need it, or need an answer within a tenth of a second
+ALONE = ("test_budget", "test_evil_memory", "test_live_flood", "test_load_dear", "test_load_floods", "test_load_quiet",
          "test_load_tables", "test_slow_log")
 MODULES_AT_A_TIME = 6  # for each processor
 
