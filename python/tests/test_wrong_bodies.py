@@ -12,6 +12,8 @@ sys.path.append(str(TOP / "tools" / "gate"))
 
 import bases  # noqa: E402
 import reach  # noqa: E402
+import wrong_bodies  # noqa: E402
+from edits import Change, Edit  # noqa: E402
 from rooms import refused_in_source  # noqa: E402
 
 SCRIPTS = ("wrong_bodies.py", "edits.py", "rooms.py", "bases.py", "reach.py", "counts.py")
@@ -147,7 +149,7 @@ class Bases(unittest.TestCase):
             path = crates / "small" / name
             path.parent.mkdir(parents=True, exist_ok=True)
             path.write_text(text)
-        for module in (bases, reach):
+        for module in (bases, reach, wrong_bodies):
             patched = mock.patch.object(module, "CRATES", crates)
             self.addCleanup(patched.stop)
             patched.start()
@@ -167,6 +169,21 @@ class Bases(unittest.TestCase):
         text = LAW[path].replace("true as yes", "false as yes")
         changed = reach.Specification().changed_by("small", {path: text})
         self.assertEqual({one.name for one in changed}, {"IsEven"})
+
+    def test_edits_share_no_copy_if_one_changes_what_a_law_of_the_other_rests_on(self) -> None:
+        laws, specification = bases.bases_of_laws("small"), reach.Specification()
+
+        def plan(path: str, old: str, new: str, goal: str) -> wrong_bodies.Plan:
+            edit = Edit("small", goal, (Change(path, old, new),), (goal,))
+            return wrong_bodies.plan_of(edit, {goal: "proved"}, laws, specification)
+        one = plan("specs/Kinds.antt", "many : Kind", "all : Kind", "laws::all_is_right")
+        for path, old, new, disturbs in (("specs/Numbers.antt", "n + m ≡ 9", "n + m ≡ 8", True),
+                                         ("proofs/Sums.antt", "same = refl", "same = it", True),
+                                         ("specs/Numbers.antt", "n ≡ 1", "n ≡ 3", False)):
+            with self.subTest(old):
+                other = plan(path, old, new, "laws::of_another_kind")
+                self.assertIs(one.disturbs(other), disturbs)
+                self.assertIs(other.disturbs(one), disturbs)
 
 
 @unittest.skipUnless(shutil.which("rt"), "kit: a release is tested without it")

@@ -41,11 +41,12 @@ PROOFS = "proofs/"  # how a goal begins that is a file of examples and not a fun
 
 
 class Plan(NamedTuple):
-    """An edit, its functions, the definitions that it changes, and what its laws rest on."""
+    """An edit, its functions, the definitions and files of proofs that it changes, and what its laws
+    rest on: `bases` has both, and `files` the files of proofs alone."""
     edit: Edit
     functions: frozenset[str]
-    changed: frozenset[Definition]
-    bases: frozenset[Definition]
+    changed: frozenset[Definition | str]
+    bases: frozenset[Definition | str]
     files: frozenset[str]
 
     def disturbs(self, other: Plan) -> bool:
@@ -107,10 +108,11 @@ def plan_of(edit: Edit, known: dict[str, str], laws: dict[str, Base],
     texts = edit.applied(CRATES / edit.crate)
     functions = frozenset(named(path, known) for path in edit.functions(CRATES / edit.crate))
     changed = specification.changed_by(edit.crate, texts)
+    proofs = {path for path in texts if path.startswith(PROOFS)}
     bases = [laws[goal] for goal in edit.goals if goal in laws]
-    return Plan(edit, functions, frozenset(changed),
-                frozenset().union(*(base.definitions for base in bases)),
-                frozenset().union(*(base.files for base in bases)))
+    files = frozenset().union(*(base.files for base in bases))
+    return Plan(edit, functions, frozenset(changed | proofs),
+                files.union(*(base.definitions for base in bases)), files)
 
 
 def groups_of(plans: list[Plan], alone: bool) -> list[Group]:
