@@ -1,5 +1,5 @@
-"""Tests what a client costs whose lldpa-live was taken over: at most 30 seconds. test_evil_memory and
-test_evil_watch test how much memory."""
+"""Tests what a client costs whose lldpa-live was taken over: at most 30 seconds. test_evil_memory
+and test_evil_watch test how much memory."""
 
 import os
 import socket

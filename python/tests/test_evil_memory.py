@@ -1,5 +1,5 @@
-"""Tests what a client costs that lldpa-live, which was taken over, answers with up to 200 MB: at most
-100 MB of memory. It runs alone, since a client waits 30 seconds."""
+"""Tests what a client costs that lldpa-live, which was taken over, answers with up to 200 MB: at
+most 100 MB of memory. It runs alone, since a client waits 30 seconds."""
 
 import unittest
 

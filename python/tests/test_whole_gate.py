@@ -61,7 +61,7 @@ class Whole(GateOfParts):
         self.assertEqual(said.splitlines()[-1], "14 passed, 0 failed", said)
 
     def test_provers_let_the_other_parts_go_first(self) -> None:
-        """The tests of a gate of two processors once waited a minute for each program they began."""
+        """On two slow processors a program of a test once waited a minute to begin."""
         own = os.getpriority(os.PRIO_PROCESS, 0)
         late = f"for try in $(seq 600); do [ $(nice) = {own} ] || break; sleep 0.1; done\n"
         patient = f"{late}[ $(nice) = {own + check.PATIENCE} ] || exit 1"
@@ -71,7 +71,8 @@ class Whole(GateOfParts):
 
     def test_a_session_that_lets_others_go_first_takes_the_smaller_part(self) -> None:
         one = min(os.sched_getaffinity(0))
-        spin = f"import os, time\nos.sched_setaffinity(0, [{one}])\nwhile time.process_time() < %s: 1"
+        spin = (f"import os, time\nos.sched_setaffinity(0, [{one}])\n"
+                "while time.process_time() < %s: 1")
         patient, other = (subprocess.Popen([sys.executable, "-c", spin % seconds],
                                            start_new_session=True) for seconds in (60, 1))
         check.let_others_go_first(patient.pid)
