@@ -12,6 +12,7 @@ from contextlib import suppress
 from pathlib import Path
 from typing import Dict, Iterable, Iterator, List, NamedTuple, Optional
 
+from patience import by_the_clock
 from served import BIN, CTL
 from support import FilesCase
 
@@ -131,12 +132,12 @@ class Evil(FilesCase):
             path = self.served(answers)
             cost = self.cost(*[path if word == "PATH" else word for word in program.split()])
             costs.append(cost)
-            with self.subTest(program=program, cost=cost):
-                self.assertLess(cost.memory, MOST_MEMORY)
-                self.assertLess(cost.seconds, MOST_SECONDS + FOR_A_LOADED_MACHINE)
-                self.assertNotIn("Traceback", cost.said)
-                if status is not None:
-                    self.assertEqual(cost.status, status)
+            told = f"{program}: {cost}"
+            self.assertLess(cost.memory, MOST_MEMORY, told)
+            self.assertLess(cost.seconds, MOST_SECONDS + FOR_A_LOADED_MACHINE, told)
+            self.assertNotIn("Traceback", cost.said, told)
+            if status is not None:
+                self.assertEqual(cost.status, status, told)
         return costs
 
 
@@ -149,6 +150,7 @@ def memory_of(number: int) -> Optional[int]:
 
 
 class Time(Evil):
+    @by_the_clock
     def test_all_answers_of_a_command_come_in_one_time(self) -> None:
         """Each answer alone takes 16 seconds."""
         answers = {line: [*[b""] * 15, b"".join(pieces)]

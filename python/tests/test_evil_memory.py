@@ -18,6 +18,7 @@ class Memory(Evil):
     def test_of_empty_lines(self) -> None:
         self.holds({b"": [b"\n" * 24_000_000]}, SOME)
 
+    @by_the_clock
     def test_of_neighbors_that_said_many_short_things(self) -> None:
         said = b"unknown.9=\n" * 740
         answers = of_agent(neighbors(said))
@@ -25,6 +26,7 @@ class Memory(Evil):
         self.holds(answers, NATIVE[:4], 0)
         self.holds(of_agent(neighbors(said, 2)), [*NATIVE, *IN_PYTHON], 0)
 
+    @by_the_clock
     def test_of_neighbors_that_said_long_things(self) -> None:
         name = rb"\x01" * 255
         said = b"chassis.name=%b\nchassis.descr=%b\nport.descr=%b\n" % (name, name, name)
