@@ -6,6 +6,7 @@ import unittest
 from patience import by_the_clock
 from test_evil import ASK, CLI, Evil, neighbors, of_agent
 
+MEGABYTE = 1_000_000
 NATIVE = [f"{ASK} {words}" for words in ("neighbors", "show neighbors", "interfaces", "metrics",
                                          "live", "show statistics")]
 IN_PYTHON = [f"{ASK} {words}" for words in ("details", "--json neighbors", "--json interfaces")]
@@ -22,7 +23,7 @@ class Memory(Evil):
     def test_of_neighbors_that_said_many_short_things(self) -> None:
         said = b"unknown.9=\n" * 740
         answers = of_agent(neighbors(said))
-        self.assertGreater(sum(map(len, answers[b"show neighbors"])), 200_000_000)
+        self.assertGreater(sum(map(len, answers[b"show neighbors"])), 200 * MEGABYTE)
         self.holds(answers, NATIVE[:4], 0)
         self.holds(of_agent(neighbors(said, 2)), [*NATIVE, *IN_PYTHON], 0)
 

@@ -17,7 +17,7 @@ QUESTIONS = 100
 # an answer is late if lldpa-live uses more than this many seconds of processor time for it
 LATE = 0.1
 MOST_LATE = QUESTIONS // 10
-MOST_KIB = 8_000
+MOST_KIB = 8 * 1000
 A_SECOND, AT_ONCE = 64, 1024  # limits for frames that may change a port's table
 A_STOP = 150_000  # frames, more than a socket of 64 MB has room for
 

@@ -61,6 +61,7 @@ class TestStatements(unittest.TestCase):
 
     def test_a_statement_without_its_check_is_reported(self) -> None:
         for old, new, told in (("0 KEPT = 32", "0 KEPT =", "no check has its number 32"),
+                               ("0 KEPT = 32", "0 KEPT =; echo 1320 x32", "number 32"),
                                ("    run echo asked; false => 1 asked\n", "", "it has no check"),
                                ("    run echo", "    tun echo", "this is no form of a check"),
                                ("run echo asked; false => 1 asked", "in README.md: lldpa",

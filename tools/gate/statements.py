@@ -176,7 +176,7 @@ def fault_of_statement(statement: Statement) -> str | None:
         if check.startswith("test "):
             shown += source_of_test(check[5:].partition(": ")[0]) or ""
     shown = re.sub(r"(?<=\d)[,_](?=\d)|(?<=\b0)o(?=\d)", "", shown.replace("\\", ""))
-    missing = [number for number in numbers_of(statement.words) if number not in shown]
+    missing = numbers_of(statement.words) - numbers_of(shown)
     return f"no check has its number {min(missing)}" if missing else None
 
 
