@@ -1,15 +1,14 @@
 //! The order of a table's slots, those in use first, and the functions that search or change it.
-ghost use Rattle.std.specs.Prelude.{◌≡◌, ℕ, ◌≤◌, ◌<◌, ◌+◌, ◌*◌, ◌-◌, ◌++◌, true, false, List, length, take, map, MatchOption, not, slice_index, slice_index_or, sum_by, IsPermutation, nat_eq};
-ghost use Rattle.std.specs.List.{list_any, filter, filter_map, AllByRecursion, IsDistinct};
+ghost use Rattle.std.specs.Prelude.{◌≡◌, ℕ, ◌≤◌, ◌<◌, ◌+◌, ◌*◌, ◌-◌, ◌++◌, true, List, length, take, MatchOption, not, slice_index, slice_index_or, sum_by, nat_eq};
+ghost use Rattle.std.specs.List.{filter, AllByRecursion, IsDistinct};
 ghost use Rattle.lldp_pdu.specs.Lldpdu.{msap_of};
-ghost use Rattle.lldp_table.specs.Code.Stored.{Stored, tag_of, IsName, BeginsWithName};
-ghost use Rattle.lldp_table.specs.Msap.{same_msap};
+ghost use Rattle.lldp_table.specs.Code.Stored.{tag_of, IsName, BeginsWithName};
 ghost use Rattle.lldp_table.specs.Code.Ageing.{Aged};
 ghost use Rattle.lldp_table.specs.Code.Queue.{Due, less_first, is_spent, IsTimed};
 ghost use Rattle.memchr.specs.Find.{Nowhere};
 ghost use Rattle.lldp_table.specs.Code.Tags.{IsTagged};
 ghost use Rattle.lldp_table.specs.Code.Marks.{has_mark, parted};
-ghost use Rattle.lldp_table.specs.Code.Layout.{blank, msap_at, octets_at, neighbors_at, gone_at, with_next};
+ghost use Rattle.lldp_table.specs.Code.Layout.{blank, octets_at, with_next, IsPlaceOf};
 
 use crate::limits::MOST_NEIGHBORS;
 use crate::prefix::second_tlv;
@@ -51,11 +50,7 @@ pub(crate) fn place_of(
     requires tagged { IsTagged tags.now slots.now }
     requires few { length slots.now ≤ MOST_NEIGHBORS }
     requires within { AllByRecursion (λ i. i < length slots.now) order.now }
-    ensures { MatchOption result
-        (list_any (same_msap (msap_of name.now)) (map (msap_at slots.now) order.now) ≡ false)
-        (λ at. (at < length order.now)
-        × (same_msap (msap_of name.now) (msap_at slots.now (slice_index_or order.now at 0))
-        ≡ true)) }
+    ensures { IsPlaceOf (msap_of name.now) slots.now order.now result }
 {
     let Some(first) = tags.find(tag, 0, slots.len()) else {
         return None;
@@ -78,11 +73,7 @@ fn place_among(slots: &[Slot], order: &[u8], tags: &Tags, name: &[u8], tag: u16)
     requires tagged { IsTagged tags.now slots.now }
     requires few { length slots.now ≤ MOST_NEIGHBORS }
     requires within { AllByRecursion (λ i. i < length slots.now) order.now }
-    ensures { MatchOption result
-        (list_any (same_msap (msap_of name.now)) (map (msap_at slots.now) order.now) ≡ false)
-        (λ at. (at < length order.now)
-        × (same_msap (msap_of name.now) (msap_at slots.now (slice_index_or order.now at 0))
-        ≡ true)) }
+    ensures { IsPlaceOf (msap_of name.now) slots.now order.now result }
 {
     let second = second_tlv(name);
     let mut at = 0;
