@@ -18,7 +18,8 @@ BY_PYTHON = [sys.executable, CAPTURE]
 def run_with(output: str, words: Sequence[str]) -> Tuple[int, str]:
     """Returns the status and the messages of a program with this redirection of standard output."""
     ran = subprocess.run(["bash", "-c", f'"$@" {output}', "bash", *words],
-                         stderr=subprocess.PIPE, stdin=subprocess.DEVNULL, check=False, timeout=HANGS)
+                         stderr=subprocess.PIPE, stdin=subprocess.DEVNULL, check=False,
+                         timeout=HANGS)
     return ran.returncode, ran.stderr.decode()
 
 

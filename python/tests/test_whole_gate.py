@@ -1,7 +1,6 @@
 """Tests the order of a whole gate: it tests what it has built, which must be what rt ci links."""
 
 import os
-import signal
 import subprocess
 import sys
 from pathlib import Path
@@ -12,6 +11,17 @@ import plan  # noqa: E402
 
 PROGRAM = check.PROGRAM
 OUT = os.path.dirname(PROGRAM)
+# prints how much of a processor another process takes for each second of its own
+OTHER = """\
+def used():
+    with open(f"/proc/{sys.argv[1]}/stat") as file:
+        return int(file.read().split()[13]) / os.sysconf("SC_CLK_TCK")
+
+before, began = used(), time.process_time()
+while time.process_time() < began + 1:
+    pass
+print(used() - before)
+"""
 
 
 class Whole(GateOfParts):
@@ -71,16 +81,15 @@ class Whole(GateOfParts):
 
     def test_a_session_that_lets_others_go_first_takes_the_smaller_part(self) -> None:
         one = min(os.sched_getaffinity(0))
-        spin = (f"import os, time\nos.sched_setaffinity(0, [{one}])\n"
-                "while time.process_time() < %s: 1")
-        patient, other = (subprocess.Popen([sys.executable, "-c", spin % seconds],
-                                           start_new_session=True) for seconds in (60, 1))
+        begin = f"import os, sys, time; os.sched_setaffinity(0, [{one}])\n"
+        patient = subprocess.Popen([sys.executable, "-c", f"{begin}while True: 1"],
+                                   start_new_session=True)
+        self.addCleanup(patient.wait)
+        self.addCleanup(patient.kill)
         check.let_others_go_first(patient.pid)
-        self.assertEqual(other.wait(), 0)
-        patient.kill()
-        taken = os.wait4(patient.pid, 0)[2].ru_utime
-        patient.returncode = -signal.SIGKILL
-        self.assertLess(taken, 0.3)
+        other = subprocess.run([sys.executable, "-c", begin + OTHER, str(patient.pid)],
+                               start_new_session=True, stdout=subprocess.PIPE, check=True)
+        self.assertLess(float(other.stdout), 0.3)
 
     def test_a_whole_gate_ends_if_nothing_can_be_built(self) -> None:
         said, at = self.whole("", "#!/bin/sh\\n")
