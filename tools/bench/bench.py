@@ -46,7 +46,7 @@ from bench_rows import PORTS, Row, rows
 
 TOP = Path(__file__).resolve().parents[2]
 sys.path.append(str(TOP / "tools" / "gate"))
-from counts import Counts, ran  # noqa: E402
+from counts import Counts  # noqa: E402
 
 SAVED, PICTURE = TOP / "docs" / "bench.json", TOP / "docs" / "bench.svg"
 ELSEWHERE = TOP / "docs" / "bench-elsewhere.json"  # times beside plain C, by the names of processors
@@ -164,7 +164,6 @@ def check(options: argparse.Namespace, room: Path) -> int:
     yardstick, counts = compiled(room), Counts()
     for row in rows(options.program, room):
         sides, told = row.sides(options.program, yardstick), saved.pop(row.title, [])
-        ran(row.title)
         now: list[float] = []
         for pause in PAUSES if row.yardsticks else ():
             time.sleep(pause)

@@ -25,7 +25,7 @@ from bench_rows import MANY, PORTS, Row, rows
 
 TOP = Path(__file__).resolve().parents[2]
 sys.path.append(str(TOP / "tools" / "gate"))
-from counts import Counts, ran  # noqa: E402
+from counts import Counts  # noqa: E402
 
 MOST, MOST_ELSEWHERE = 1.01, 1.05
 START = "start with 64 ports"
@@ -83,7 +83,6 @@ def main() -> int:
     judged = Counts()
     with tempfile.TemporaryDirectory() as folder:
         now = counts(program, Path(folder))
-    ran(*now)
     for title, count in now.items():
         print(f"{title}: {count:.0f} instructions, {saved[title]:.0f} before")
         judged.that(f"{title} is as fast as before", saved[title] / most <= count <= most * saved[title])

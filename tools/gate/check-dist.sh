@@ -44,20 +44,6 @@ refused() {
     judge $? "$refused_what: $(tail -n 3 "$room/out")"
 }
 
-# nested COMMAND..: runs a command that counts its own checks, and adds its counts. Its lines are
-# indented: what it skips is missing where it runs.
-nested() {
-    "$@" > "$room/nested" 2>&1
-    sed 's/^/    /' "$room/nested"
-    counted=$(grep -x '[0-9]* passed, [0-9]* failed' "$room/nested" | tail -n 1)
-    [ -n "$counted" ]
-    judge $? "$* prints no count"
-    counted=${counted:-0 passed, 0 failed}
-    passed=$((passed + ${counted%% *}))
-    counted=${counted#*, }
-    failed=$((failed + ${counted%% *}))
-}
-
 # Sets `used` to the seconds of processor that the commands of this script have used.
 look_at_processor() {
     times > "$room/times"
@@ -120,7 +106,6 @@ check_missing() {
     done << 'END'
 cargo tools/release/live.sh cargo is not installed
 gcc tools/release/build.sh gcc is not installed
-python3 tools/gate/check.sh python3 is older than 3.9, or missing
 END
 }
 
@@ -206,13 +191,12 @@ fi
 check_build
 if [ "$failed" -eq 0 ]; then
     began=$(date +%s)
-    nested inside make --silent -C "$tree" check
+    check "make tests" inside make --silent -C "$tree" tests
     echo "make check: $(($(date +%s) - began)) s (aim: 600)"
     check_missing
     check_language
     check_library_first
     check_installing
     check_packages
-    [ "${1-}" != --arm64 ] || nested inside python3 "$tree/tools/library/check-arm64.py"
 fi
 finish

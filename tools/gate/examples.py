@@ -1,7 +1,7 @@
 #!/usr/bin/env python3
 """Runs the examples on the built program, and compares the output.
 
-    python3 tools/gate/examples.py PROGRAM [NAME ...]
+    pytest tools/gate/test_examples.py [-k NAME]
     python3 tools/gate/examples.py --as-root
 
 The transcripts are in examples/; CONTRIBUTING.md describes the files. The texts of a filter have
@@ -18,12 +18,8 @@ Standard error must be empty. A free port replaces the number after --listen, an
 may differ. A block that takes too long fails, and its processes are killed.
 tools/by-hand/try-package.sh runs the blocks whose commands begin with sudo; --as-root lists these
 commands. A block with commands of both kinds fails.
-
-If names are given, only those transcripts and their rows are run. The last line counts the ways of
-each transcript, the rows and the blocks.
 """
 import array
-import concurrent.futures
 import contextlib
 import fcntl
 import functools
@@ -37,8 +33,6 @@ import sys
 import tempfile
 import termios
 import time
-
-from counts import Counts
 
 TOP = pathlib.Path(__file__).resolve().parents[2]
 
@@ -160,54 +154,29 @@ def fault_of_filter(texts, steps):
     return next((f"no shown line contains {text}" for text in texts if text.encode() not in lines), None)
 
 
-def transcripts(only):
-    """Yields each transcript: its name, arguments, filter, input, and its steps or a fault."""
+def transcripts(only=()):
+    """Yields each transcript, or those of these names: its name, arguments, filter, input, and its steps or a fault."""
     for args in sorted((TOP / "examples").glob("*.args")):
-        if not only or args.stem in only:
-            words, texts = words_and_filter(args.read_text())
-            trace = args.with_suffix(".trace").read_bytes()
-            steps = steps_of(trace, args.with_suffix(".expect").read_bytes())
-            fault = None if isinstance(steps, str) else fault_of_filter(texts, steps)
-            yield args.stem, words, texts, trace, fault or steps
+        if only and args.stem not in only:
+            continue
+        words, texts = words_and_filter(args.read_text())
+        trace = args.with_suffix(".trace").read_bytes()
+        steps = steps_of(trace, args.with_suffix(".expect").read_bytes())
+        fault = None if isinstance(steps, str) else fault_of_filter(texts, steps)
+        yield args.stem, words, texts, trace, fault or steps
 
 
-def run_transcripts(program, only):
-    """Runs each transcript in each way. Yields each way's name, and its fault if it has one."""
-    with concurrent.futures.ProcessPoolExecutor() as pool:
-        for name, words, texts, trace, steps in transcripts(only):
-            if isinstance(steps, str):
-                yield name, steps
-                continue
-            for way, runs in ways(trace, steps):
-                faults = pool.map(functools.partial(fault_of_run, program, words, texts), runs, chunksize=16)
-                found = [(len(run[0][0]), fault) for run, fault in zip(runs, faults) if fault is not None]
-                yield f"{name}, {way}", found and f"{found[0][1]} (its first piece has {found[0][0]} octets)"
-
-
-def rows(only):
+def rows():
     """Yields the name and the counters of each row, and its transcript or a fault."""
     counters, *table = [line.split() for line in ROWS.read_text().splitlines()]
-    shown = {one[0]: one for one in transcripts([])}
+    shown = {one[0]: one for one in transcripts()}
     for name, *values in table:
-        if only and name not in only:
-            continue
         fault = None
         if name not in shown:
             fault = "no transcript has this name"
         elif len(values) != len(counters) - 1 or not all(re.fullmatch("[0-9]+", value) for value in values):
             fault = f"it does not have {len(counters) - 1} numbers"
         yield name, list(zip(counters[1:], values)), fault or shown[name]
-
-
-def run_rows(program, only):
-    """Runs each row's transcript, then `show statistics`. Yields the row's name and fault."""
-    for name, values, found in rows(only):
-        fault = found
-        if not isinstance(found, str):
-            texts = [f"lldp.eth0.{counter}=" for counter, _ in values]
-            wanted = "".join(f"{text}{value}\n" for text, (_, value) in zip(texts, values))
-            fault = fault_of_run(program, found[1], texts, ([found[3] + SHOW], wanted.encode()))
-        yield f"{name} in {ROWS.name}", fault
 
 
 def blocks():
@@ -285,30 +254,8 @@ def fault_of_block(lines, folder):
     return None
 
 
-def run_blocks(program):
-    with tempfile.TemporaryDirectory() as folder:
-        (pathlib.Path(folder) / "lldpa").symlink_to(program)
-        for name, lines in blocks():
-            if lines and lines[0].startswith("$ "):
-                as_root = {command.startswith(AS_ROOT) for command in commands(lines)}
-                if as_root == {False}:
-                    yield f"{name} ({lines[0]})", fault_of_block(lines, folder)
-                elif as_root != {True}:
-                    yield f"{name} ({lines[0]})", "only some of its commands begin with sudo"
-
-
-def main():
-    if sys.argv[1:] == ["--as-root"]:
-        shown = (command for _, lines in blocks() for command in commands(lines))
-        print(*(one.removeprefix(AS_ROOT) for one in shown if one.startswith(AS_ROOT)), sep="\n")
-        return 0
-    program, only = pathlib.Path(sys.argv[1]).resolve(), sys.argv[2:]
-    counts = Counts()
-    for runs in (run_transcripts(program, only), run_rows(program, only), [] if only else run_blocks(program)):
-        for name, fault in runs:
-            counts.judge(fault or None, name)
-    return counts.end()
-
-
 if __name__ == "__main__":
-    sys.exit(main())
+    if sys.argv[1:] != ["--as-root"]:
+        sys.exit(__doc__)
+    shown = (command for _, lines in blocks() for command in commands(lines))
+    print(*(one.removeprefix(AS_ROOT) for one in shown if one.startswith(AS_ROOT)), sep="\n")

@@ -17,7 +17,6 @@ frame=${frame}00a096c6f63616c686f73740c056c6c6470610e04008000800000
 ends() {
     (cd "$room" && PATH="$room/bin:$PATH" sh -c "$3") < /dev/null > "$room/out" 2> "$room/err"
     status=$?
-    ran "$(printf %s "$3" | tr -s "\n " " ")"
     is_so=0
     [ "$status" -eq "$1" ] || is_so=1
     holds "$2" "$room/err" || is_so=1

@@ -1,12 +1,13 @@
 """For checks of the library: runs commands, adds up counts, and builds programs."""
 from __future__ import annotations
 
-import concurrent.futures
+import os
 import pathlib
 import re
 import subprocess
 import sys
-from typing import Any, Callable, Iterable, Mapping, Sequence
+import warnings
+from typing import Any, Mapping, Sequence
 
 TOP = pathlib.Path(__file__).resolve().parents[2]
 sys.path.append(str(TOP / "tools" / "gate"))
@@ -19,8 +20,10 @@ SECONDS = 1800
 
 
 def skip(name: str, what: str) -> None:
-    """Says what is skipped, and which package or feature of tools/gate/install.sh --list is missing."""
-    print(f"skipped: {name}: {what}")
+    """Says what a check leaves out (pytest.skip would leave out the rest as well). With CI it fails. `name` is the
+    missing package or feature of tools/gate/install.sh --list."""
+    assert not os.environ.get("CI") or name in ("x86-64", "sanitizers"), f"{name}: {what}"
+    warnings.warn(f"left out: {name}: {what}")
 
 
 def ran(command: Sequence[object], cwd: pathlib.Path | None = None,
@@ -40,30 +43,10 @@ def fault_of(command: Sequence[object]) -> str | None:
 
 
 def count_of(command: Sequence[object], what: str, counts: Counts) -> None:
-    """Runs a program, and adds the counts of its last line. An unexpected end is one failure."""
+    """Runs a program, which ends with status 0 if all its checks held, and says nothing on standard error."""
     ended = ran(command)
-    *lines, last = ended.stdout.splitlines() or [""]
-    found = re.fullmatch(r"(\d+) passed, (\d+) failed", last)
-    if found is None or ended.returncode != (found[2] != "0") or ended.stderr:
-        counts.judge(f"status {ended.returncode}, {last!r}, {ended.stderr[-1500:]}", what)
-        return
-    for line in lines:
-        print(f"{what}: {line}")
-    counts.passed += int(found[1])
-    counts.failed += int(found[2])
-
-
-def side_by_side(checks: Iterable[Callable[[Counts], None]], counts: Counts) -> None:
-    """Runs checks, three at a time, and adds up their counts."""
-    def counted(check: Callable[[Counts], None]) -> Counts:
-        own = Counts()
-        check(own)
-        return own
-
-    with concurrent.futures.ThreadPoolExecutor(3) as pool:
-        for own in pool.map(counted, checks):
-            counts.passed += own.passed
-            counts.failed += own.failed
+    fault = f"status {ended.returncode}, {ended.stdout[-500:]} {ended.stderr[-1500:]}"
+    counts.judge(fault if ended.returncode or ended.stderr or not ended.stdout else None, what)
 
 
 class Library:

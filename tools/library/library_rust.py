@@ -44,7 +44,6 @@ def check_crate(words: list[str], folder: pathlib.Path, library: Library, counts
     """Counts the crate's tests that cargo reports as passed, and checks cargo's status."""
     ended = cargo(words, folder, library)
     results = re.findall(r"^test result: \w+\. (\d+) passed; \d+ failed", ended.stdout, re.M)
-    counts.passed += sum(map(int, results))
     is_right = ended.returncode == 0 and (words[0] != "test" or sum(map(int, results)) > 0)
     counts.judge(None if is_right else f"{ended.stdout[-1500:]}{ended.stderr[-1500:]}", f"cargo {' '.join(words)}")
 

@@ -93,7 +93,7 @@ def leaving(agent: model.Agent, lines: Iterable[bytes]) -> Steps:
 
 def check_transcripts(command: Sequence[str], counts: Counts) -> None:
     """Runs each transcript of examples/, and compares whole shows with the model."""
-    for name, words, texts, _, steps in examples.transcripts([]):
+    for name, words, texts, _, steps in examples.transcripts():
         fault = steps if isinstance(steps, str) else fault_of_events(command, words, steps, texts)
         counts.judge(fault, f"transcript {name}")
     for ports, neighbors in ((64, 2), (1, 128)):

@@ -3,7 +3,7 @@
 #     tools/release/dist.sh [FOLDER]           writes it to FOLDER, by default the current one
 #     tools/release/dist.sh --check ARCHIVE    makes it again, and compares each octet
 # It has the files that git tracks here, as they are now, the proved crates as assembly
-# (tools/release/assembly.sh), and tools/release/release.mk as its Makefile. The same commit and the
+# (tools/release/assembly.sh). The same commit and the
 # same kit give the same octets. Needs the kit, git, GNU tar and xz. Prints the name of the archive.
 set -eu
 archive=
@@ -26,7 +26,6 @@ tree=$room/$name
 
 mkdir "$tree"
 git ls-files -z | xargs -0 cp -P --parents -t "$tree"
-cp tools/release/release.mk "$tree/Makefile"
 for made in amd64/lldpa amd64/lldpa_c amd64-v3/lldpa_c arm64/lldpa arm64/lldpa_c; do
     assembly=$(tools/release/assembly.sh "${made%/*}" "${made#*/}")
     install -D -m 644 "$assembly" "$tree/assembly/$made.s"

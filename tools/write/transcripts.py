@@ -259,7 +259,7 @@ def theorems(shown):
 
 def theorems_of_rows():
     """Yields the definitions of counters, and then the theorem of each row."""
-    table = list(rows([]))
+    table = list(rows())
     yield COUNTED % listed(f"lldp.eth0.{counter}=".encode() for counter, _ in table[0][1])
     for name, values, found in table:
         if isinstance(found, str):
@@ -280,6 +280,6 @@ def ticks(trace):
 
 
 if __name__ == "__main__":
-    shown = HEAD + "".join(theorems(one for one in transcripts([]) if ticks(one[3]) <= MOST_TICKS))
+    shown = HEAD + "".join(theorems(one for one in transcripts() if ticks(one[3]) <= MOST_TICKS))
     shown += "".join(theorems_of_rows())
     pathlib.Path(sys.argv[1] if sys.argv[1:] else FILE).write_text(shown)

@@ -1,13 +1,13 @@
 #!/usr/bin/env python3
 """Checks that what the pages name exists. Needs no network.
 
-    tools/gate/check-links.py [--installed FOLDER]
+    pytest tools/gate/test_pages.py
+    tools/gate/test_pages.py --installed FOLDER
 
 It checks links and their anchors, and names of files, calls and options. Blocks marked `rust` or
 `antt` must be consecutive lines of one source. On pages about proofs, each word in backticks and
-each large number must occur in the sources. Each promise of SECURITY.md has an entry in security.txt,
-which names existing laws or calls of the crates, tests of python/tests or audit/tests, or scripts. No
-page may call lldpa-live "the bridge". No line of text may be over 120 columns long.
+each large number must occur in the sources. No page may call lldpa-live "the bridge". No line of text may
+be over 120 columns long.
 
 With --installed it checks only the links of the pages in FOLDER, which tools/release/install.sh has
 filled. The last line is `N passed, M failed`.
@@ -16,11 +16,10 @@ import pathlib
 import re
 import sys
 
-from counts import Counts
+import pytest
 
 TOP = pathlib.Path(__file__).resolve().parents[2]
 CRATES = [line.split(":")[0].split()[0] for line in (TOP / "crates.txt").read_text().splitlines()]
-SHOWN = TOP / "tools" / "gate" / "security.txt"
 PAGES = [path for folder in (".", "docs", "audit") for path in sorted((TOP / folder).glob("*.md"))]
 SOURCE = "\n".join(path.read_text() for path in TOP.glob("crates/*/src/**/*.rt"))
 DEFINITIONS = "\n".join(path.read_text() for path in TOP.glob("crates/*/specs/**/*.antt"))
@@ -40,7 +39,8 @@ OF_OPTIONS = [TOP / "examples" / "help.txt"] + [
 OPTIONS = {option for path in OF_OPTIONS if path.is_file() and path.suffix != ".pyc"
            for option in re.findall(r"--[a-z][a-z-]*[a-z]", path.read_text(errors="replace"))}
 # options of the toolchain and of other programs
-OPTIONS |= {"--only", "--anew", "--list-axioms", "--allow-holes", "--fix-imports", "--test", "--minutes", "--line-buffered", "--now", "--since"}
+OPTIONS |= {"--only", "--anew", "--list-axioms", "--allow-holes", "--fix-imports", "--test", "--minutes", "--line-buffered", "--now", "--since",
+            "--example", "--reference", "--stack"}
 
 FOLDERS_OF_A_CRATE = ("specs", "proofs", "src", "must-fail", "wrong")
 
@@ -162,43 +162,6 @@ def faults_of_page(page):
         yield lines[0], None if is_shown(lines) else "these are not consecutive lines of a source"
 
 
-def is_shown_by(name):
-    """Returns whether a script, test (test_file.test_name), law or call has this name."""
-    module, _, test = name.partition(".")
-    if name.startswith("tools/"):
-        return (TOP / name).is_file()
-    if module.startswith("test_"):
-        files = [TOP / folder / "tests" / f"{module}.py" for folder in ("python", "audit")]
-        return any(re.search(rf"def {test}\b", file.read_text()) for file in files if file.is_file())
-    return re.search(rf"\bpub fn {name}\b", SOURCE) is not None
-
-
-def items_of(section):
-    """Returns the plain words of each item of a section's first list, or of each row of its table."""
-    found = re.search(r"^(?:\| .*\n\|---.*\n)((?:\|.*\n)+)|^((?:- .*\n(?:  .*\n)*)+)", section, re.M)
-    items = [] if found is None else re.findall(r"^\| (.*) \|$", found[1] or "", re.M) or re.split(r"^- ", found[2], flags=re.M)[1:]
-    without_links = (re.sub(r"\[([^][]*)\]\([^)]*\)", r"\1", item) for item in items)
-    return [" ".join(re.sub("[`*]", "", item).split()) for item in without_links]
-
-
-def faults_of_security():
-    """Yields each item that SECURITY.md promises, and each name that shows one, with its fault or None."""
-    page = (TOP / "SECURITY.md").read_text()
-    sections = re.split(r"^== (.*)$", SHOWN.read_text(), flags=re.M)[1:]
-    for name, text in zip(sections[::2], sections[1::2]):
-        found = re.search(rf"^##+ {re.escape(name)}\n(.*?)(?=^##|\Z)", page, re.M | re.S)
-        items = items_of(found[1]) if found else []
-        shown = re.findall(r"^(\S.*)\n((?:    .*\n)*)", text, re.M)
-        for item in items:
-            is_shown = [begin for begin, _ in shown if item.startswith(begin)]
-            yield item[:50], None if len(is_shown) == 1 else f"{SHOWN.name} has {len(is_shown)} entries for it"
-        for begin, names in shown:
-            yield begin, None if any(map(str.startswith, items, [begin] * len(items))) else "SECURITY.md does not say this any more"
-            yield begin, None if names else "nothing shows it"
-            for one in names.split():
-                yield one, None if is_shown_by(one) else "no such law, call, test or script"
-
-
 def faults_of_installed(page, folder):
     """Yields each link of an installed page, with a fault unless its target is installed."""
     for target in links(without_code(page.read_text())):
@@ -206,19 +169,12 @@ def faults_of_installed(page, folder):
         yield target, fault_of_link(page, target) if is_inside else "it leads out of the folder"
 
 
-def main():
-    if sys.argv[1:2] == ["--installed"]:
-        folder = pathlib.Path(sys.argv[2]).resolve()
-        found = {page: faults_of_installed(page, folder) for page in sorted(folder.rglob("*.md"))}
-    else:
-        found = {page.relative_to(TOP): faults_of_page(page) for page in PAGES}
-        found["rows of SECURITY.md"] = faults_of_security()
-    counts = Counts()
-    for page, faults in found.items():
-        for what, fault in faults:
-            counts.judge(fault, f"{page}: {what}")
-    return counts.end()
+@pytest.mark.parametrize("page", PAGES, ids=lambda page: page.relative_to(TOP).as_posix())
+def test_page(page):
+    assert [f"{what}: {fault}" for what, fault in faults_of_page(page) if fault] == []
 
 
 if __name__ == "__main__":
-    sys.exit(main())
+    FOLDER = pathlib.Path(sys.argv[2]).resolve()
+    sys.exit("\n".join(f"{page}: {what}: {fault}" for page in sorted(FOLDER.rglob("*.md"))
+                       for what, fault in faults_of_installed(page, FOLDER) if fault) or 0)

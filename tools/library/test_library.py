@@ -1,7 +1,7 @@
 #!/usr/bin/env python3
 """Checks the library for C, the crate rust/lldpa, and the examples of docs/LIBRARY.md and examples.
 
-    python3 tools/library/check-library.py [FOLDER]
+    pytest -n 3 tools/library/test_library.py
 
 Programs of tools/library/c run with the library, most with the compiler's sanitizers. vectors.c
 runs the rows of examples/vectors.rows, and reads cut and altered LLDPDUs. transcript.c runs the
@@ -9,9 +9,8 @@ transcripts of examples/ and long shows. nulls.c passes NULL for each pointer, a
 range. limits.c tries small buffers and random octets, and ranges.c the ends of ranges, long lists and
 long waits. refused.c refuses memory to the library.
 
-FOLDER has liblldpa.a, liblldpa.so.1 and lldpa.h. Without FOLDER tools/library/library.sh makes
-them; if it fails, so does this script. Checks that need a missing program, such as cargo, are
-reported and not counted. Without a C compiler the status is 3. The last line is `N passed, M failed`.
+LLDPA_LIB_DIR, by default crates/lldpa_c/out/lib, has liblldpa.a, liblldpa.so.1 and lldpa.h. Checks that need a
+missing program, such as cargo, are skipped.
 """
 from __future__ import annotations
 
@@ -19,22 +18,21 @@ import os
 import pathlib
 import re
 import shutil
-import sys
-import tempfile
 from typing import Callable
 
+import pytest
+
 from library_abi import check_abi
-from library_abi_edits import check_edits
 from library_examples import check_page, check_receive, check_sd_lldp_rx, check_who
 from library_front import check_front
 from library_layout import check_layout
 from library_level import check_level
 from library_machine import check_machine
-from library_parts import (TOP, WARNINGS, Counts, Library, count_of, fault_of, ran, side_by_side,
-                           skip)
+from library_parts import TOP, WARNINGS, Counts, Library, count_of, fault_of, ran, skip
 from library_rust import check_bindings, check_rust
 from library_transcripts import check_rows, check_transcripts
 
+FOLDER = pathlib.Path(os.environ.get("LLDPA_LIB_DIR") or TOP / "crates" / "lldpa_c" / "out" / "lib")
 TOOLS = TOP / "tools" / "library" / "c"
 MANUAL = TOP / "crates" / "lldpa_c" / "include" / "lldpa.3"
 SANITIZERS = ["-fsanitize=address,undefined", "-fno-sanitize-recover=all"]
@@ -163,32 +161,12 @@ def check_stack(library: Library, counts: Counts) -> None:
 
 # The checks that take longest come first.
 CHECKS = (check_programs, check_rust, check_front, check_refused, check_receive, check_layout, check_header,
-          check_processor, check_level, check_functions, check_needs, check_abi, check_edits, check_plug_in,
+          check_processor, check_level, check_functions, check_needs, check_abi, check_plug_in,
           check_bindings, check_size, check_machine, check_stack, check_page, check_who, check_sd_lldp_rx)
 
 
-def in_own_room(check: Callable[[Library, Counts], None], folder: pathlib.Path,
-                room: pathlib.Path) -> Callable[[Counts], None]:
-    """Makes a folder for the files of a check. Returns the check for the library in `folder`."""
-    own = Library(folder, room / check.__name__)
-    own.room.mkdir()
-    return lambda counts: check(own, counts)
-
-
-def main() -> int:
-    if shutil.which("cc") is None:
-        skip("cc", "the library")
-        return 3
+@pytest.mark.parametrize("check", CHECKS, ids=lambda check: check.__name__)
+def test_library(check: Callable[[Library, Counts], None], tmp_path: pathlib.Path) -> None:
     counts = Counts()
-    with tempfile.TemporaryDirectory() as name:
-        room = pathlib.Path(name)
-        folder = pathlib.Path(sys.argv[1]).resolve() if sys.argv[1:] else room / "lib"
-        fault = None if sys.argv[1:] else fault_of([TOP / "tools/library/library.sh", folder])
-        counts.judge(fault, "tools/library/library.sh")
-        if fault is None:
-            side_by_side([in_own_room(check, folder, room) for check in CHECKS], counts)
-    return counts.end()
-
-
-if __name__ == "__main__":
-    sys.exit(main())
+    check(Library(FOLDER, tmp_path), counts)
+    assert not counts.failed
