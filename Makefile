@@ -14,12 +14,12 @@ rust = $(shell find rust/*/src -type f)
 pages = man/*.[1-8] audit/*.1 crates/lldpa_c/include/*.3
 
 all: $(program) $(library) $(live)                ## proves and builds everything
-check: pages generated types named rights         ## what needs no program: a minute
-crates: $(program) examples model instructions    ## after a change of a crate
+check: pages generated types named rights         ## what needs no program: after a change of anything
+crates: $(program) examples model instructions    ## after a change of crates or examples
 	cd crates/lldp_tests && rt try --test
-lib: c-library arm64                              ## after a change of the library
-tests: examples model c-library live people completions python audit   ## what a release can test without the kit
-host: live people completions python              ## after a change of rust, python, share, man
+library: c-library arm64                          ## after a change of the library
+live: rust-live rust-people completions services  ## after a change of rust, python, bin, share or man
+tests: examples model c-library live audit        ## what a release can test without the kit
 
 front = $(wildcard crates/lldpa_c/front/* crates/lldpa_c/include/*) tools/library/library.sh
 ifeq ($(wildcard assembly),)
@@ -88,24 +88,24 @@ c-library: $(library)
 	$(PYTEST) -n 3 tools/library/test_library.py
 arm64: $(library)
 	$(PYTEST) -n $(N) --dist loadfile tools/library/test_arm64.py
-cargo = unset MAKEFLAGS; cd rust/$@ && export CARGO_TARGET_DIR=out/target LLDPA_LIB_DIR=$(abspath $(dir $(library))) && \
+cargo = unset MAKEFLAGS; cd rust/$(@:rust-%=%) && export CARGO_TARGET_DIR=out/target LLDPA_LIB_DIR=$(abspath $(dir $(library))) && \
 	cargo fmt --check && . ../../tools/release/crates.sh && \
 	cargo_with_crates clippy --locked --all-targets --quiet -- -D warnings && cargo_with_crates test --locked
-live: $(live)
+rust-live: $(live)
 	$(cargo)
-people:
+rust-people:
 	$(cargo)
 	cd rust/people && CARGO_TARGET_DIR=out/target cargo build --locked --release --example people
 	cp rust/people/out/target/release/examples/people rust/people/out/people
 completions: $(live)
 	python3 tools/gate/completions.py
-python: $(live) people
-	$(PYTEST) -n $$(($(N) * 6)) --dist loadfile -m "not alone" python/tests
-audit: $(live)                                    ## after a change of audit
+services: $(live) rust-people
+	$(PYTEST) -n $$(($(N) * 6)) --dist loadfile -m "not alone" rust python tools/release
+audit: $(live)                                    ## after a change of audit or python/lldpa
 	$(PYTEST) -n $$(($(N) * 2)) --dist loadfile audit/tests
 	python3 audit/tools/check.py --program $(program)
 alone: $(live)                                    ## what needs the machine for itself
-	$(PYTEST) -m alone python/tests
+	$(PYTEST) -m alone rust
 	python3 tools/bench/bench.py --program $(program) --check
 
 # The proofs, from nothing, of what is committed
@@ -124,7 +124,7 @@ release-check: package                            ## before a release, and each 
 	tools/gate/check-dist.sh
 	tools/by-hand/try-package.sh
 
-beside: check proofs wrong-bodies crates lib host audit package
+beside: check proofs wrong-bodies crates library live audit package
 gate:                                             ## everything that a merge needs
 	+$(MAKE) -j$(N) -k beside
 	cmp $(program) out/ci/$(program)
@@ -142,5 +142,5 @@ clean:
 help:
 	@sed -n 's/^\([a-z-]*\):.*## /    make \1\t/p' Makefile | expand -t 28
 
-.PHONY: all check crates lib host pages generated types named rights examples model instructions c-library arm64 \
-	live people completions python audit alone proofs wrong-bodies package release-check tests install uninstall clean beside gate help
+.PHONY: all check crates library live pages generated types named rights examples model instructions c-library arm64 \
+	rust-live rust-people completions services audit alone proofs wrong-bodies package release-check tests install uninstall clean beside gate help

@@ -17,7 +17,7 @@ import subprocess
 import sys
 
 TOP = pathlib.Path(__file__).resolve().parents[2]
-sys.path += [str(TOP / folder) for folder in ("tools/gate", "python/tests", "python")]
+sys.path += [str(TOP / folder) for folder in ("tools/gate", "python/tests", "rust/live/tests", "python")]
 from counts import Counts  # noqa: E402
 from patience import eventually  # noqa: E402
 from real_lldpd import Lldpd  # noqa: E402

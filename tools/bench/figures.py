@@ -23,7 +23,7 @@ import time
 import unittest
 
 TOP = pathlib.Path(__file__).resolve().parents[2]
-sys.path[:0] = [str(TOP / name) for name in ("python", "python/tests")]
+sys.path[:0] = [str(TOP / name) for name in ("python", "python/tests", "rust/live/tests")]
 import bench  # noqa: E402
 import test_load_floods  # noqa: E402
 from loads import family, figure  # noqa: E402

@@ -3,11 +3,11 @@
 
     tools/by-hand/try-details.py [--save FILE] [--octets]
 
-Some frames are from real senders: lldpd, ladvd and lldpad (saved in python/tests/judged.json), and
+Some frames are from real senders: lldpd, ladvd and lldpad (saved in rust/people/tests/judged.json), and
 lldpds that this script configures. Others are made up, with a TLV of each kind and each value that
 has a name. Each frame is sent to an lldpd, which lldpcli asks (-f json0), and is read by tshark.
 The values of both must equal those that lldpa reads, except the values that judges.py and
-by_tshark.py of python/tests list with a reason. --save writes the frames with both answers to FILE
+by_tshark.py of rust/people/tests list with a reason. --save writes the frames with both answers to FILE
 for test_judged.py. --octets also compares lldpa and tshark on a TLV of each kind: on its first N
 octets for each N, and on copies with one octet changed to each other value.
 Needs Linux, root, and Debian's lldpd, iproute2 and tshark. The last line is `N passed, M failed`.
@@ -21,7 +21,7 @@ import subprocess
 import sys
 
 TOP = pathlib.Path(__file__).resolve().parents[2]
-sys.path[:0] = [str(TOP / "python"), str(TOP / "python" / "tests")]
+sys.path[:0] = [str(TOP / name) for name in ("python", "python/tests", "rust/live/tests", "rust/people/tests")]
 from by_tshark import is_left_out, told_of  # noqa: E402
 from judges import PARTS, Judged, compare, flat, leaves, sender_of_frame, shown_value  # noqa: E402
 from patience import eventually  # noqa: E402

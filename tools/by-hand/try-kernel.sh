@@ -1,5 +1,5 @@
 #!/bin/sh
-# Runs tests of python/tests on a kernel of Debian in a virtual machine: it has bonds, teams, VLANs,
+# Runs tests of rust/live/tests on a kernel of Debian in a virtual machine: it has bonds, teams, VLANs,
 # ipvlans, macvlans and Landlock, any of which the kernel of this host may lack.
 #     tools/by-hand/try-kernel.sh [MODULE..]
 # Without modules these are the tests of addresses, short losses of a link, rights and groups. The
@@ -61,7 +61,7 @@ ip link set lo up
 echo "kernel \$(uname -r)"
 # The first start of tshark takes half a minute here, which is longer than a test waits.
 tshark -i lo -a duration:1 > /dev/null 2>&1
-cd "$top/python/tests" && python3 -m unittest -v $* 2>&1
+cd "$top/rust/live/tests" && PYTHONPATH=$top/python:$top/python/tests python3 -m unittest -v $* 2>&1
 echo o > /proc/sysrq-trigger
 sleep 60
 END

@@ -4,7 +4,7 @@
     tools/by-hand/try-lldpctl.py
 
 At the far end, an lldpd sends TLVs of IEEE 802.1, IEEE 802.3 and LLDP-MED, and custom TLVs. Then
-the frames of python/tests/judged.json are sent, and frames with every octet in their texts. At the
+the frames of rust/people/tests/judged.json are sent, and frames with every octet in their texts. At the
 near end, `lldpd -r` and lldpa-live receive the same frames. Each command runs in the forms plain,
 keyvalue, json and json0. All keys and values are compared, except ages. A difference fails unless
 docs/LLDPD.md lists it. It needs Linux, root, and Debian's packages lldpd and iproute2. The last
@@ -22,7 +22,8 @@ import sys
 import unicodedata
 
 TOP = pathlib.Path(__file__).resolve().parents[2]
-sys.path[:0] = [str(TOP / folder) for folder in ("python", "python/tests", "audit/tests", "tools/gate")]
+sys.path[:0] = [str(TOP / folder) for folder in ("python", "python/tests", "rust/live/tests",
+                                                 "rust/people/tests", "audit/tests", "tools/gate")]
 from counts import Counts  # noqa: E402
 from running_live import Live  # noqa: E402
 from judges import flat, sender_of_frame, with_chassis  # noqa: E402

@@ -127,7 +127,7 @@ has_landlock() {
 
 # Makes a control group that limits memory, as the test does.
 limits_memory() {
-    PYTHONPATH=python/tests python3 -c '
+    PYTHONPATH=rust/live/tests python3 -c '
 import limited, sys
 group = limited.memory_group(1 << 28)
 sys.exit(group is None or group.close())'

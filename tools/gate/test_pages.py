@@ -35,7 +35,7 @@ NUMBERS_OF_SOURCES = NUMBERS_OF_CODE | set(re.findall(r"\d+", SCRIPTS.replace("_
 
 # the files that mention the options of the programs
 OF_OPTIONS = [TOP / "examples" / "help.txt"] + [
-    path for folder in ("python", "audit", "bin", "tools", ".ci", "rust/live/src") for path in (TOP / folder).rglob("*")]
+    path for folder in ("python", "audit", "bin", "tools", ".ci", "rust/live/src", "rust/people/src") for path in (TOP / folder).rglob("*")]
 OPTIONS = {option for path in OF_OPTIONS if path.is_file() and path.suffix != ".pyc"
            for option in re.findall(r"--[a-z][a-z-]*[a-z]", path.read_text(errors="replace"))}
 # options of the toolchain and of other programs
