@@ -37,3 +37,11 @@ def pytest_runtest_makereport(item, call):
                                stdout=subprocess.PIPE, text=True, check=False)
         if lacks.stdout.strip() != "feature":
             report.outcome, report.longrepr = "failed", f"{reason}: nothing of this kind may be skipped"
+
+
+def pytest_terminal_summary(terminalreporter):
+    """Says of each test that ran again what had failed."""
+    for report in terminalreporter.stats.get("rerun", []):
+        crash = getattr(report.longrepr, "reprcrash", None)
+        reason = crash.message if crash else report.longreprtext
+        terminalreporter.write_line(f"ran again: {report.nodeid}: {reason.splitlines()[0]}")
