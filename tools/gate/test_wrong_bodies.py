@@ -4,9 +4,10 @@
 
 An edit has lines `file: PATH`, `old: TEXT`, which stands once in that file, and `new: TEXT`. A line `body:
 FUNCTION` names each function whose body it changes; contracts stay, so such edits of different functions
-share a copy of their crate. Any other edit has lines `goal: LAW`, and is tried alone: the prover must refuse
-these laws, or file of examples. That a function is called which is not proved is no refusal. Each check begins
-with what `rt check` kept in the crates' folders.
+share a copy of their crate. Any other edit has lines `goal: LAW`: the prover must refuse these laws, or file of
+examples. It is tried alone, or with those of its crate that have the same line `group: NAME`, none of which
+changes what the others' laws rest on. That a function is called which is not proved is no refusal. Each check
+begins with what `rt check` kept in the crates' folders.
 """
 from __future__ import annotations
 
@@ -36,6 +37,7 @@ class Edit(NamedTuple):
     changes: tuple[tuple[str, str, str], ...]
     bodies: frozenset[str]
     goals: frozenset[str]
+    group: str = ""
 
     def applied(self, texts: dict[str, str]) -> dict[str, str] | None:
         """Returns the texts of changed files after this edit, or None if a text does not stand once in its file."""
@@ -49,7 +51,7 @@ class Edit(NamedTuple):
 
 
 def read(file: pathlib.Path) -> Edit:
-    words: dict[str, list[str]] = {"body": [], "goal": []}
+    words: dict[str, list[str]] = {"body": [], "goal": [], "group": []}
     changes, path, old = [], "", ""
     for line in file.read_text().splitlines():
         key, _, text = line.partition(": ")
@@ -58,19 +60,27 @@ def read(file: pathlib.Path) -> Edit:
             words[key].append(text.strip())
         elif key.rstrip(":") == "new":
             changes.append((path.strip(), old, text))
-    return Edit(file.parents[1].name, file.stem, tuple(changes), frozenset(words["body"]), frozenset(words["goal"]))
+    return Edit(file.parents[1].name, file.stem, tuple(changes), frozenset(words["body"]), frozenset(words["goal"]),
+                "".join(words["group"]))
 
 
 EDITS = [read(file) for file in sorted(CRATES.glob("*/wrong/*.edit"))]
 
 
+def share(edit: Edit, other: Edit) -> bool:
+    """Returns whether two edits of a crate may share a copy: they name one group, or change other functions."""
+    if edit.bodies and other.bodies:
+        return not edit.bodies & other.bodies
+    return edit.group == other.group != ""
+
+
 def grouped() -> list[list[Edit]]:
-    """Puts each edit of bodies into the first group of its crate that changes other functions."""
+    """Puts each edit into the first group of its crate whose edits it may share a copy with."""
     groups: list[list[Edit]] = []
     for edit in EDITS:
-        for group in groups if edit.bodies else ():
-            is_apart = all(one.bodies and not one.bodies & edit.bodies for one in group)
-            if is_apart and group[0].crate == edit.crate and texts_of((*group, edit)) is not None:
+        for group in groups:
+            are_apart = group[0].crate == edit.crate and all(share(edit, one) for one in group)
+            if are_apart and texts_of((*group, edit)) is not None:
                 group.append(edit)
                 break
         else:
@@ -131,13 +141,30 @@ def is_refused(name: str, told: dict[str, str], is_law: bool) -> bool:
 GROUPS = {edit: tuple(group) for group in grouped() for edit in group}
 
 
+def fault_of(edit: Edit, *groups: tuple[Edit, ...]) -> str | None:
+    """Tries an edit in these groups, until one refuses it. Returns what is said of it if none does."""
+    for group in groups:
+        told = said(group)
+        if any(is_refused(name, told, bool(edit.goals)) for name in edit.bodies | edit.goals):
+            return None
+    verdicts = {name: text.rsplit("\n", 1)[-1] for name, text in told.items() if name in edit.bodies | edit.goals}
+    return f"no goal of its own is refused: {verdicts or told['']}"
+
+
 @pytest.mark.parametrize("edit", [
     pytest.param(edit, id=f"{edit.crate}/{edit.name}", marks=pytest.mark.xdist_group(f"{group[0].crate}/{group[0].name}"))
     for edit, group in GROUPS.items()])
 def test_wrong_body(edit):
-    for group in (GROUPS[edit], (edit,)):
-        told = said(group)
-        if any(is_refused(name, told, bool(edit.goals)) for name in edit.bodies | edit.goals):
-            return
-    verdicts = {name: text.rsplit("\n", 1)[-1] for name, text in told.items() if name in edit.bodies | edit.goals}
-    pytest.fail(f"no goal of its own is refused: {verdicts or told['']}")
+    assert fault_of(edit, GROUPS[edit], (edit,)) is None
+
+
+def test_a_right_body_is_reported():
+    right = Edit("lldp_text", "right", (("src/numbers.rt", "u32::from(greatest) < value", "value > u32::from(greatest)"),),
+                 frozenset(["numbers::number"]), frozenset())
+    assert "proved" in fault_of(right, (right,))
+
+
+def test_an_edit_of_a_text_that_is_gone_is_reported():
+    stale = Edit("lldp_text", "stale", (("src/numbers.rt", "no such text", ""),), frozenset(["numbers::number"]), frozenset())
+    with pytest.raises(AssertionError, match="does not stand once"):
+        fault_of(stale, (stale,))
