@@ -89,11 +89,12 @@ c-library: $(library)
 arm64: $(library)
 	$(PYTEST) -n $(N) --dist loadfile tools/library/test_arm64.py
 cargo = unset MAKEFLAGS; cd rust/$(@:rust-%=%) && export CARGO_TARGET_DIR=out/target LLDPA_LIB_DIR=$(abspath $(dir $(library))) && \
-	cargo fmt --check && . ../../tools/release/crates.sh && \
-	cargo_with_crates clippy --locked --all-targets --quiet -- -D warnings && cargo_with_crates test --locked
+	cargo fmt --check && cargo clippy --locked --all-targets --quiet -- -D warnings && cargo test --locked
+rust/vendor:
+	tools/release/vendor.sh
 rust-live: $(live)
 	$(cargo)
-rust-people:
+rust-people: rust/vendor
 	$(cargo)
 	cd rust/people && CARGO_TARGET_DIR=out/target cargo build --locked --release --example people
 	cp rust/people/out/target/release/examples/people rust/people/out/people

@@ -3,8 +3,9 @@
 #     tools/release/dist.sh [FOLDER]           writes it to FOLDER, by default the current one
 #     tools/release/dist.sh --check ARCHIVE    makes it again, and compares each octet
 # It has the files that git tracks here, as they are now, the proved crates as assembly
-# (tools/release/assembly.sh). The same commit and the
-# same kit give the same octets. Needs the kit, git, GNU tar and xz. Prints the name of the archive.
+# (tools/release/assembly.sh), and the crate libc (tools/release/vendor.sh). The same commit, the same kit and
+# Debian's package of this crate give the same octets. Needs the kit, git, GNU tar and xz. Prints the name of
+# the archive.
 set -eu
 archive=
 folder=$PWD
@@ -26,6 +27,8 @@ tree=$room/$name
 
 mkdir "$tree"
 git ls-files -z | xargs -0 cp -P --parents -t "$tree"
+tools/release/vendor.sh
+cp -R rust/vendor "$tree/rust"
 for made in amd64/lldpa amd64/lldpa_c amd64-v3/lldpa_c arm64/lldpa arm64/lldpa_c; do
     assembly=$(tools/release/assembly.sh "${made%/*}" "${made#*/}")
     install -D -m 644 "$assembly" "$tree/assembly/$made.s"

@@ -5,8 +5,8 @@
 # The program is rust/live/out/lldpa-live for this machine, rust/live/out/ARCH/lldpa-live for
 # another architecture. It is linked statically. With --dynamic it uses the GNU C library of the
 # system, and is written to a subfolder `dynamic`, where tools/release/package.sh looks for it.
-# LLDPA_LIB_DIR can name another folder of liblldpa.a. Needs cargo, and the crate libc: of Debian's
-# package librust-libc-dev if it is installed, otherwise cargo fetches it.
+# LLDPA_LIB_DIR can name another folder of liblldpa.a. Needs cargo 1.63 or later, and the crate libc, which
+# tools/release/vendor.sh finds; a release has it.
 # Another architecture needs its gcc and its standard library of Rust, such as libstd-rust-dev:arm64
 # for Debian's cargo. Without such a library the status is 3.
 set -eu
@@ -57,9 +57,8 @@ sources=$(cd rust && pwd -P)
 separator=$(printf '\037')
 export CARGO_ENCODED_RUSTFLAGS="$flags${flags:+$separator}--remap-path-prefix=${sources%/rust}=lldpa"
 export CARGO_TARGET_DIR="$out/target"
-. tools/release/crates.sh
-(cd rust/live && cargo_with_crates build --release --locked --quiet --target "$triple") ||
-    fail "cargo failed. Without Debian's librust-libc-dev it needs a network, to fetch the crate libc"
+tools/release/vendor.sh
+(cd rust/live && cargo build --release --locked --quiet --target "$triple") || fail "cargo failed"
 mkdir -p "$(dirname "$program")"
 cp "$out/target/$triple/release/lldpa-live" "$program.new"
 mv "$program.new" "$program"
