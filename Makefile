@@ -3,7 +3,9 @@ SHELL = /bin/bash
 .SHELLFLAGS = -eu -o pipefail -c
 MAKEFLAGS += --output-sync=target --no-builtin-rules
 export PYTHONDONTWRITEBYTECODE = 1
-PYTEST = pytest -q $(if $(CI),--whole)
+# Skips what needs a tool that is not here, and says so; with CI it fails.
+with = $(CURDIR)/tools/gate/with.sh
+PYTEST = $(with) python3-pytest{,-xdist,-timeout,-rerunfailures} -- pytest -q $(if $(CI),--whole)
 N ?= $(shell nproc)
 
 program = crates/lldpa/out/lldpa
@@ -11,6 +13,7 @@ library = crates/lldpa_c/out/lib/liblldpa.a
 live = rust/live/out/lldpa-live
 proved = $(shell find crates -name '*.rt' -o -name '*.antt') crates.txt
 rust = $(shell find rust/*/src -type f)
+served = $(if $(shell command -v cargo),$(live)) # for tests, which can do without
 pages = man/*.[1-8] audit/*.1 crates/lldpa_c/include/*.3
 
 all: $(program) $(library) $(live)                ## proves and builds everything
@@ -44,9 +47,9 @@ $(live): $(library) $(rust)
 # Cheap checks
 pages:
 	$(PYTEST) tools/gate/test_pages.py
-	mandoc -T lint -W warning $(pages)
-	for page in $(pages); do [ -z "$$(groff -mandoc -ww -z $$page 2>&1)" ]; done
-	for svg in docs/*.svg; do rsvg-convert $$svg > /dev/null; done
+	$(with) mandoc -- mandoc -T lint -W warning $(pages)
+	$(with) groff -- bash -ec 'for page; do [ -z "$$(groff -mandoc -ww -z $$page 2>&1)" ]; done' groff $(pages)
+	$(with) rsvg-convert -- bash -ec 'for svg in docs/*.svg; do rsvg-convert $$svg > /dev/null; done'
 # Compares what scripts write with what stands here; `make generated W=cp` writes it. (A file that is only written
 # anew would be newer than the program, and all would be proved again.)
 W = cmp
@@ -59,10 +62,10 @@ generated:
 	    made rust/people/src/letters.rs tools/write/letters.py; \
 	    made docs/LAWS.md tools/write/laws.py; \
 	    made docs/bench.svg tools/bench/bench.py --svg
-	tools/library/bindings.sh > out/made && $(W) out/made rust/lldpa/src/sys.rs
+	$(with) bindgen -- bash -ec 'tools/library/bindings.sh > out/made; $(W) out/made rust/lldpa/src/sys.rs'
 types:
-	mypy --strict --cache-dir out/types python/lldpa audit/lldpa_audit
-	shellcheck -S error $$(grep -l '^#!' $$(git ls-files '*.sh'))
+	$(with) mypy -- mypy --strict --cache-dir out/types python/lldpa audit/lldpa_audit
+	$(with) shellcheck -- shellcheck -S error $$(grep -l '^#!' $$(git ls-files '*.sh'))
 named:
 	$(PYTEST) tools/gate/test_named.py
 rights:
@@ -81,7 +84,7 @@ model: $(program)
 	python3 tools/model/fuzz.py --program $(program) --seed 1 --traces 4000
 	python3 tools/model/fuzz.py --program $(program) --seconds 20
 instructions: $(program) $(library)
-	python3 tools/bench/bench_counts.py --program $(program)
+	$(with) valgrind -- python3 tools/bench/bench_counts.py --program $(program)
 
 # The library, the service and the Python programs
 c-library: $(library)
@@ -89,23 +92,23 @@ c-library: $(library)
 arm64: $(library)
 	$(PYTEST) -n $(N) --dist loadfile tools/library/test_arm64.py
 cargo = unset MAKEFLAGS; cd rust/$(@:rust-%=%) && export CARGO_TARGET_DIR=out/target LLDPA_LIB_DIR=$(abspath $(dir $(library))) && \
-	cargo fmt --check && cargo clippy --locked --all-targets --quiet -- -D warnings && cargo test --locked
-rust/vendor:
-	tools/release/vendor.sh
-rust-live: $(live)
+	$(with) cargo -- ../../tools/release/vendor.sh && $(with) rustfmt -- cargo fmt --check && \
+	$(with) rust-clippy -- cargo clippy --locked --all-targets --quiet -- -D warnings && \
+	$(with) cargo -- cargo test --locked
+rust-live: $(served)
 	$(cargo)
-rust-people: rust/vendor
+rust-people:
 	$(cargo)
-	cd rust/people && CARGO_TARGET_DIR=out/target cargo build --locked --release --example people
-	cp rust/people/out/target/release/examples/people rust/people/out/people
-completions: $(live)
-	python3 tools/gate/completions.py
-services: $(live) rust-people
+	cd rust/people && CARGO_TARGET_DIR=out/target $(with) cargo -- cargo build --locked --release --example people
+	$(with) cargo -- cp rust/people/out/target/release/examples/people rust/people/out/people
+completions: $(served)
+	$(with) cargo bash-completion zsh -- python3 tools/gate/completions.py
+services: $(served) rust-people
 	$(PYTEST) -n $$(($(N) * 6)) --dist loadfile -m "not alone" rust python tools/release
-audit: $(live)                                    ## after a change of audit or python/lldpa
+audit: $(served)                                  ## after a change of audit or python/lldpa
 	$(PYTEST) -n $$(($(N) * 2)) --dist loadfile audit/tests
 	python3 audit/tools/check.py --program $(program)
-alone: $(live)                                    ## what needs the machine for itself
+alone: $(served)                                  ## what needs the machine for itself
 	$(PYTEST) -m alone rust
 	python3 tools/bench/bench.py --program $(program) --check
 
@@ -118,8 +121,8 @@ proofs:
 wrong-bodies: $(program) $(library)               ## the prover refuses each wrong body
 	nice -n 10 $(PYTEST) -n 2 --dist loadgroup tools/gate/test_wrong_bodies.py tools/gate/test_axioms.py
 
-package: $(live)
-	tools/gate/check-package.sh $(program)
+package: $(served)
+	$(with) cargo binutils dpkg-dev debhelper dh-python lintian pkgconf unshare -- tools/gate/check-package.sh $(program)
 release-check: package                            ## before a release, and each night
 	RELEASE=1 $(PYTEST) tools/library/test_arm64.py -k packages
 	tools/gate/check-dist.sh

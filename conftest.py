@@ -35,7 +35,7 @@ def pytest_runtest_makereport(item, call):
         reason = report.longrepr[2].removeprefix("Skipped: ")
         lacks = subprocess.run([TOP / "tools/gate/install.sh", "--lacks", reason.partition(":")[0]],
                                stdout=subprocess.PIPE, text=True, check=False)
-        if lacks.stdout.strip() != "feature":
+        if not lacks.stdout.startswith("feature: "):
             report.outcome, report.longrepr = "failed", f"{reason}: nothing of this kind may be skipped"
 
 

@@ -7,11 +7,12 @@
 #
 # --list prints the name of each package and of each feature of the host, and what the gate skips
 # without it. --lacks looks whether the package or the feature of this name, or the package with this
-# command, is missing here. If it is, it prints `package` or `feature`, and the status is 0. It is 1
-# if it is there, and 2 if the list does not have this name.
+# command, is missing here. If it is, it prints `package: ` or `feature: ` and what for, and the status
+# is 0. It is 1 if it is there, and 2 if the list does not have this name.
 set -u
 
-# Prints each package, the command or the file that shows that it is installed, and what it is for.
+# Prints each package, the command, the file or the plugin of pytest that shows that it is installed, and what it is
+# for.
 packages() {
     cat << 'END'
 gcc                       cc                    everything: the gate fails without a C compiler
@@ -22,6 +23,10 @@ rustfmt                   cargo-fmt             the form of lldpa-live and of th
 rust-clippy               cargo-clippy          warnings about them
 rustc                     /usr/bin/rustc        the crate for Rust with Debian's compiler
 librust-libc-dev          /usr/share/cargo/registry/libc-*  lldpa-live, unless cargo reaches a registry
+python3-pytest            pytest                tests in Python
+python3-pytest-xdist      pytest:xdist          tests in Python
+python3-pytest-timeout    pytest:timeout        tests in Python
+python3-pytest-rerunfailures  pytest:rerunfailures  tests in Python
 bindgen                   bindgen               the declarations of the crate for Rust
 dwarves                   pahole                the binary interface of the library
 iproute2                  ip                    lldpa-live on links, and what else needs links
@@ -50,6 +55,7 @@ python3-jsonschema        /usr/lib/python3/dist-packages/jsonschema  output in J
 python3-textfsm           /usr/lib/python3/dist-packages/textfsm  text of switches, in the audit
 chromium                  chromium              the audit's page, as a browser shows it
 mypy                      mypy                  types of the Python packages
+shellcheck                shellcheck            faults of the scripts
 prometheus                promtool              the metrics and the alerts
 mandoc                    mandoc                manual pages
 groff                     groff                 manual pages
@@ -142,24 +148,27 @@ runs_sanitized() {
     return "$ran"
 }
 
-# is_installed PLACE: succeeds if there is a command or a file of this name.
+# is_installed PLACE: succeeds if there is a command, a file or a plugin of this name.
 is_installed() {
     # shellcheck disable=SC2086 # a pattern
     case $1 in
         /*) ls $1 > /dev/null 2>&1 ;;
+        pytest:*) pytest -p "${1#*:}" --version > /dev/null 2>&1 ;;
         *) command -v "$1" > /dev/null ;;
     esac
 }
 
-# lacks NAME: says whether a package or a feature of the list is missing.
+# lacks NAME: says whether a package or a feature of the list is missing, and what for. (A cargo that is not Debian's
+# does for all but a release.)
 lacks() {
-    place=$(packages | while read -r package place _; do
-        case $1 in "$package" | "$place") echo "$place" ;; esac
+    found=$(packages | while read -r package place what; do
+        case $1 in "$package" | "$place") echo "$place $what" ;; esac
     done)
-    if [ -n "$place" ]; then
-        ! is_installed "$place" && echo package
-    elif features | cut -d " " -f 1 | grep -qxF -- "$1"; then
-        ! has_feature "$1" && echo feature
+    what=$(features | while read -r feature what; do [ "$1" != "$feature" ] || echo "$what"; done)
+    if [ -n "$found" ]; then
+        ! command -v "$1" > /dev/null && ! is_installed "${found%% *}" && echo "package: ${found#* }"
+    elif [ -n "$what" ]; then
+        ! has_feature "$1" && echo "feature: $what"
     else
         return 2
     fi
