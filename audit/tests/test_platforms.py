@@ -119,7 +119,7 @@ class Platforms(InAFolder):
         self.file("leaf1", TEXT)
         self.assertIn("gone/index: No such file", self.ran("--platform", "x", templates="gone")[0])
 
-    @unittest.skipUnless(PYTHON, "no Python here has textfsm (Debian: python3-textfsm)")
+    @unittest.skipUnless(PYTHON, "python3-textfsm: no Python here has it")
     def test_the_platform_in_a_name(self) -> None:
         """Checks that each file may have a platform of its own, and that --platform gives it a
         command, or is for the files that name none."""

@@ -5,21 +5,10 @@
 # unpacked, built, tested (make check), installed in a folder, and packed for Debian. With --arm64, for
 # a release, its arm64 programs are tested too, by qemu. With --packages only the archive is checked,
 # and the packages that are built from it. Prints the seconds from `tar` to `lldpa-ctl --version`, and
-# those of `make check`. Needs root and the kit. The last line is `N passed, M failed`.
+# those of `make tests`. Needs root, the kit, and what the Makefile names.
 set -u
 cd "$(dirname "$0")/../.." || exit 2
 . tools/gate/parts.sh
-for needed in gcc unshare xz make; do
-    needs "$needed" || exit 3
-done
-if [ "$(id -u)" -ne 0 ]; then
-    echo "skipped: root: only root may hide the kit from another user"
-    exit 3
-fi
-if ! [ -x /usr/bin/cargo ]; then
-    echo "skipped: cargo: the user nobody finds none"
-    exit 3
-fi
 kit=$(dirname "$(rt doc)")
 version=$(sed -n 's/^## \([0-9][0-9.]*\)$/\1/p' CHANGELOG.md | head -n 1)
 place=$room/place # the user's folder
@@ -126,10 +115,6 @@ check_library_first() {
 
 # The library is the same if it is built in Turkish, where the range a-z does not have each letter.
 check_language() {
-    if ! [ -e /usr/share/i18n/locales/tr_TR ]; then
-        echo "skipped: locales: a release that is built in Turkish"
-        return
-    fi
     check "localedef" inside localedef -i tr_TR -f UTF-8 "$place/tr_TR.UTF-8"
     check "library.sh in Turkish" inside env "LOCPATH=$place" LC_ALL=tr_TR.UTF-8 "$tree/tools/library/library.sh" "$place/turkish"
     check "the library that is built in Turkish" cmp "$place/turkish/liblldpa.a" "$tree/crates/lldpa_c/out/lib/liblldpa.a"
@@ -163,9 +148,6 @@ same_packages() {
 
 # The Debian packages from the source package have the octets of those that are built with the kit.
 check_packages() {
-    for needed in dpkg-buildpackage dh dh_python3; do
-        needs "$needed" || return
-    done
     debian=$place/debian
     inside mkdir "$debian"
     cp "$archive" "$debian/lldpa_$version.orig.tar.xz"

@@ -3,20 +3,14 @@
 # everything. Builds the Debian packages, compares them with what tools/release/install.sh installs,
 # and checks that lintian, if installed, finds nothing.
 #     tools/gate/check-package.sh [PROGRAM]
-# It needs no root, and installs nothing on this host. The last line is `N passed, M failed`.
-# Without lldpa-live (tools/release/live.sh --dynamic) it is skipped, with status 3. Without
-# debhelper, dh-python or cargo the packages are skipped.
+# It installs nothing on this host. Only as root it also installs the package, in a chroot. It needs lldpa-live
+# (tools/release/live.sh --dynamic) and what the Makefile names.
 set -u
 LLDPA=$(realpath -- "${1:-$(dirname "$0")/../../crates/lldpa/out/lldpa}")
 export LLDPA
 cd "$(dirname "$0")/../.." || exit 2
 . tools/gate/parts.sh
-needs objcopy || exit 3 # of the package binutils, as are strip, objdump and nm
 export LLDPA_LIVE="$PWD/rust/live/out/dynamic/lldpa-live"
-if ! [ -x "$LLDPA_LIVE" ]; then
-    echo "skipped: cargo: the package, since tools/release/live.sh --dynamic builds lldpa-live with it"
-    exit 3
-fi
 multiarch=$(dpkg-architecture -qDEB_HOST_MULTIARCH 2> /dev/null || true)
 export LIBDIR="/usr/lib${multiarch:+/$multiarch}"
 version=$(sed -n 's/^## \([0-9][0-9.]*\)$/\1/p' CHANGELOG.md | head -n 1)
@@ -99,7 +93,7 @@ check_pages() {
     (cd "$documents" && find . -name '*.md' | sort) > "$room/pages"
     find ./README.md ./SECURITY.md ./audit/README.md ./docs -name '*.md' | sort > "$room/wanted"
     check "pages that are installed" diff "$room/wanted" "$room/pages"
-    check "links of installed pages" python3 tools/gate/check-links.py --installed "$documents"
+    check "links of installed pages" tools/gate/links.py "$documents"
 }
 
 # The service reads the settings of /etc/lldpa.d. Below another prefix it reads PREFIX/etc/lldpa.d.
@@ -123,12 +117,10 @@ check_units() {
 # pkg-config finds the library, and uninstalling removes it.
 check_library() {
     install_into "$room/dev" --library /usr
-    check "links of the library's page" python3 tools/gate/check-links.py --installed "$room/dev/usr/share/doc/liblldpa-dev"
+    check "links of the library's page" tools/gate/links.py "$room/dev/usr/share/doc/liblldpa-dev"
     shared_object "$room/dev$LIBDIR/liblldpa.so.1"
-    if needs pkg-config && needs cc; then
-        told_by_pkg_config liblldpa.so.1
-        told_by_pkg_config -l:liblldpa.a
-    fi
+    told_by_pkg_config liblldpa.so.1
+    told_by_pkg_config -l:liblldpa.a
     install_into "$room/undone" --library /usr
     install_into "$room/undone" --uninstall --library /usr
     check "tools/release/install.sh --uninstall --library leaves files" left_in "$room/undone"
@@ -215,7 +207,6 @@ check_control() {
 # writes through them.
 check_chroot() {
     [ "$(id -u)" -eq 0 ] || { echo "skipped: the package in a chroot, which needs root"; return; }
-    needs unshare || return
     cat > "$room/in-chroot" <<'END'
 #!/bin/sh
 # in-chroot FOLDER PACKAGE: writes a line for each check, `held` or `FAILED`, and a name.
@@ -308,9 +299,6 @@ fi
 export LLDPA_LIB_DIR="$PWD/crates/lldpa_c/out/lib"
 cmp -s "$room/built/liblldpa.a" "$LLDPA_LIB_DIR/liblldpa.a" || LLDPA_LIB_DIR=$room/built
 check_library
-for needed in dpkg-buildpackage dh dh_python3 cargo; do
-    needs "$needed" || { finish; exit; }
-done
 mkdir "$room/given"
 cp "$LLDPA" "$room/given/lldpa"
 ln -s "$LLDPA_LIB_DIR" "$room/given/lib"
@@ -321,9 +309,7 @@ check_control
 check_chroot
 check_refusal
 check_crate
-if needs lintian; then
-    lintian --fail-on error,warning --allow-root "$room"/packages/*.changes > "$room/out" 2>&1 && [ ! -s "$room/out" ]
-    judge $? "lintian: $(cat "$room/out")"
-fi
+lintian --fail-on error,warning --allow-root "$room"/packages/*.changes > "$room/out" 2>&1 && [ ! -s "$room/out" ]
+judge $? "lintian: $(cat "$room/out")"
 check_same
 finish

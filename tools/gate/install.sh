@@ -72,7 +72,6 @@ END
 features() {
     cat << 'END'
 root          what needs links, other users or mounts
-kit           what proves, in a release
 link-veth     lldpa-live on links
 link-vlan     ports that are a VLAN, and addresses of a VLAN of a port
 link-bond     addresses of a bond above a port
@@ -100,7 +99,6 @@ in_namespace() {
 has_feature() {
     case $1 in
         root) [ "$(id -u)" -eq 0 ] ;;
-        kit) command -v rt > /dev/null ;;
         link-veth) in_namespace true ;;
         link-vlan) in_namespace "ip link add link tried0 name tried2 type vlan id 5" ;;
         link-macvlan | link-ipvlan) in_namespace "ip link add tried2 link tried0 type ${1#link-}" ;;

@@ -20,13 +20,6 @@ check() {
     judge $? "$check_what: $(tail -n 20 "$room/out")"
 }
 
-# needs NAME: succeeds if this command is installed; otherwise says that its checks are left out.
-needs() {
-    command -v "$1" > /dev/null && return
-    echo "skipped: $1: it is not installed"
-    false
-}
-
 # The status is 1 if a check failed.
 finish() {
     [ "$failed" -eq 0 ]

@@ -8,13 +8,12 @@
 # One run has the arguments of crates/lldpa/args, the other 64 ports of 128 neighbors each. Then
 # each transcript of examples/ runs. It must request memory as often as a run with the same
 # arguments and empty input, and write the same if all requests after opening are refused. It needs
-# a C compiler for refuse.c, which is preloaded; without one the status is 3. The argument is the
+# a C compiler for refuse.c, which is preloaded. The argument is the
 # program (default: crates/lldpa/out/lldpa). The last line is `N passed, M failed`.
 set -u
 cd "$(dirname "$0")/../.." || exit 2
 program=$(realpath -- "${1:-crates/lldpa/out/lldpa}") && [ -x "$program" ] || { echo "no program"; exit 2; }
 . tools/gate/parts.sh
-needs cc || exit 3
 cc -O1 -shared -fPIC -o "$room/refuse.so" tools/gate/refuse.c || exit 2
 survived=0
 

@@ -1,22 +1,16 @@
-#!/usr/bin/env python3
-"""Checks that what the pages name exists. Needs no network.
-
-    pytest tools/gate/test_pages.py
-    tools/gate/test_pages.py --installed FOLDER
+"""What the pages name exists.
 
 It checks links and their anchors, and names of files, calls and options. Blocks marked `rust` or
 `antt` must be consecutive lines of one source. On pages about proofs, each word in backticks and
 each large number must occur in the sources. No page may call lldpa-live "the bridge". No line of text may
 be over 120 columns long.
-
-With --installed it checks only the links of the pages in FOLDER, which tools/release/install.sh has
-filled. The last line is `N passed, M failed`.
 """
 import pathlib
 import re
-import sys
 
 import pytest
+
+from links import fault_of_link, links, without_code
 
 TOP = pathlib.Path(__file__).resolve().parents[2]
 CRATES = [line.split(":")[0].split()[0] for line in (TOP / "crates.txt").read_text().splitlines()]
@@ -43,36 +37,6 @@ OPTIONS |= {"--only", "--anew", "--list-axioms", "--allow-holes", "--fix-imports
             "--example", "--reference", "--stack"}
 
 FOLDERS_OF_A_CRATE = ("specs", "proofs", "src", "must-fail", "wrong")
-
-
-def without_code(text):
-    return re.sub(r"^```.*?^```$", "", text, flags=re.M | re.S)
-
-
-def anchors(page):
-    """Returns the anchors of a page's headings, as GitHub makes them."""
-    found = set()
-    for heading in re.findall(r"^#+ (.*)$", without_code(page.read_text()), re.M):
-        plain = re.sub(r"\[([^]]*)\]\([^)]*\)", r"\1", heading).lower()
-        anchor = re.sub(r"[^\w\- ]", "", plain).replace(" ", "-")
-        found.add(anchor if anchor not in found else f"{anchor}-1")
-    return found
-
-
-def fault_of_link(page, target):
-    name, _, anchor = target.partition("#")
-    file = (page.parent / name).resolve() if name else page
-    if not file.exists():
-        return "no such file"
-    if anchor and anchor not in anchors(file):
-        return "no such heading"
-    return None
-
-
-def links(text):
-    """Returns the targets of a page's links, except links to other hosts."""
-    found = re.findall(r"\]\(([^)\s]+)\)", text) + re.findall(r"^\[[^]]+\]: (\S+)$", text, re.M)
-    return [target for target in found if not re.match(r"[a-z]+://", target)]
 
 
 def is_there(name):
@@ -162,19 +126,6 @@ def faults_of_page(page):
         yield lines[0], None if is_shown(lines) else "these are not consecutive lines of a source"
 
 
-def faults_of_installed(page, folder):
-    """Yields each link of an installed page, with a fault unless its target is installed."""
-    for target in links(without_code(page.read_text())):
-        is_inside = (page.parent / target.partition("#")[0]).resolve().is_relative_to(folder)
-        yield target, fault_of_link(page, target) if is_inside else "it leads out of the folder"
-
-
 @pytest.mark.parametrize("page", PAGES, ids=lambda page: page.relative_to(TOP).as_posix())
 def test_page(page):
     assert [f"{what}: {fault}" for what, fault in faults_of_page(page) if fault] == []
-
-
-if __name__ == "__main__":
-    FOLDER = pathlib.Path(sys.argv[2]).resolve()
-    sys.exit("\n".join(f"{page}: {what}: {fault}" for page in sorted(FOLDER.rglob("*.md"))
-                       for what, fault in faults_of_installed(page, FOLDER) if fault) or 0)

@@ -4,14 +4,15 @@
     pytest -n 4 tools/library/test_arm64.py
 
 The program's output is compared with the transcripts of examples/, and with the model's output for
-random traces. C programs of tools/library/c test the library. If RELEASE is set, lldpa-live and the Debian
-packages are built too. Without gcc for arm64 or qemu-user it is skipped.
+random traces. C programs of tools/library/c test the library. `make release-check` runs test_packages, which builds
+lldpa-live and the Debian packages too. Without gcc for arm64 or qemu-user it is skipped.
 """
 from __future__ import annotations
 
 import importlib
 import os
 import pathlib
+import re
 import shlex
 import shutil
 import sys
@@ -26,7 +27,8 @@ QEMU = ["qemu-aarch64", "-L", "/usr/aarch64-linux-gnu"]
 TOOLS = TOP / "tools" / "library" / "c"
 MODEL = TOP / "tools" / "model"
 TRACES = "200"
-EM_AARCH64 = 183
+OBJDUMP = "aarch64-linux-gnu-objdump"
+COMPILED = {"lldpa": ["lldpa", "lldpa-live"], "liblldpa1": ["liblldpa.so.1"], "liblldpa-dev": ["liblldpa.a"]}
 NATIVE = importlib.import_module("test_library")
 
 
@@ -71,7 +73,13 @@ def test_library(folder: pathlib.Path, tmp_path: pathlib.Path, name: str, linked
     assert not counts.failed
 
 
-@pytest.mark.skipif(not os.environ.get("RELEASE"), reason="release: make release-check builds the packages")
+def machines(tree: pathlib.Path) -> dict[str, set[str]]:
+    """Returns the compiled files and archives below a folder, each with the processors that it is for."""
+    files = [path for path in tree.rglob("*") if path.is_file() and not path.is_symlink()
+             and path.read_bytes().startswith((b"\x7fELF", b"!<arch>"))]
+    return {path.name: set(re.findall(r"^architecture: (\w+)", ran([OBJDUMP, "-f", path]).stdout, re.M)) for path in files}
+
+
 def test_packages(folder: pathlib.Path, tmp_path: pathlib.Path) -> None:
     """Builds lldpa-live and the Debian packages, and checks that their compiled files are for arm64."""
     settings = os.environ | {"LLDPA_LIB_DIR": str(folder / "lib"), "LLDPA_BUILT": str(folder)}
@@ -80,8 +88,7 @@ def test_packages(folder: pathlib.Path, tmp_path: pathlib.Path) -> None:
         assert ran([*QEMU, made.stdout.strip(), "--version"]).stdout.startswith("lldpa-live "), made.stderr
     made = ran([TOP / "tools" / "release" / "package.sh", tmp_path / "packages", "-a", "arm64"], env=settings)
     assert made.returncode == 0, made.stderr
-    for name in ("lldpa", "liblldpa1", "liblldpa-dev"):
+    for name, compiled in COMPILED.items():
         tree = tmp_path / f"{name}.tree"
         ran(["dpkg-deb", "-x", next((tmp_path / "packages").glob(f"{name}_*_arm64.deb")), tree])
-        begins = [path.read_bytes()[:20] for path in tree.rglob("*") if path.is_file()]
-        assert {octets[18] for octets in begins if octets.startswith(b"\x7fELF")} == {EM_AARCH64}
+        assert machines(tree) == dict.fromkeys(compiled, {"aarch64"})
