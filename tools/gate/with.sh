@@ -10,12 +10,16 @@ for name; do
     [ "$name" != -- ] || exec "$@"
     lacks=$("$list" --lacks "$name")
     case $? in
-        0) echo "skipped: $name: ${lacks#*: }" ;;
+        0) break ;;
         1) continue ;;
         *) echo "tools/gate/with.sh: $list does not list $name" >&2 && exit 2 ;;
     esac
-    [ -z "${CI-}" ] || [ "${lacks%%:*}" = feature ]
-    exit
 done
-echo "usage: tools/gate/with.sh NAME.. -- COMMAND [WORD..]" >&2
-exit 2
+if [ $# -eq 0 ]; then
+    echo "usage: tools/gate/with.sh NAME.. -- COMMAND [WORD..]" >&2
+    exit 2
+fi
+while [ "$1" != -- ]; do shift; done
+shift
+echo "skipped: $name: ${lacks#*: }: $*" | cut -c -160
+[ -z "${CI-}" ] || [ "${lacks%%:*}" = feature ]
