@@ -97,8 +97,8 @@ rust-people:
 	$(cargo)
 	cd rust/people && CARGO_TARGET_DIR=out/target cargo build --locked --release --example people
 	cp rust/people/out/target/release/examples/people rust/people/out/people
-completions: $(live)
-	python3 tools/gate/completions.py
+completions: $(program) $(live)
+	$(PYTEST) -n $(N) tools/gate/test_help.py
 services: $(live) rust-people
 	$(PYTEST) -n $$(($(N) * 6)) --dist loadfile -m "not alone" rust python tools/release
 audit: $(live)                                    ## after a change of audit or python/lldpa
