@@ -72,8 +72,7 @@ rights:
 
 # The program
 examples: $(program)
-	$(PYTEST) -n $(N) tools/gate/test_examples.py
-	tools/gate/words.sh $(program)
+	$(PYTEST) -n $(N) tools/gate/test_examples.py tools/gate/test_words.py
 	tools/gate/refuse-memory.sh $(program)
 model: $(program)
 	python3 tools/model/check-frames.py $(program)
