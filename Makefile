@@ -66,8 +66,7 @@ types:
 named:
 	$(PYTEST) tools/gate/test_named.py
 rights:
-	$(PYTEST) tools/gate/test_unit.py
-	python3 tools/gate/check-memory.py
+	$(PYTEST) tools/gate/test_unit.py tools/gate/test_memory.py
 	grep -qx 'Handles allowed: Net\.' HANDLES
 
 # The program
