@@ -74,8 +74,7 @@ examples: $(program)
 	$(PYTEST) -n $(N) tools/gate/test_examples.py tools/gate/test_words.py
 	tools/gate/refuse-memory.sh $(program)
 model: $(program)
-	python3 tools/model/check-frames.py $(program)
-	python3 tools/model/check-listen.py $(program)
+	$(PYTEST) -n $(N) tools/model/test_frames.py tools/model/test_listen.py
 	python3 tools/model/fuzz.py --program $(program) --seed 1 --traces 4000
 	python3 tools/model/fuzz.py --program $(program) --seconds 20
 instructions: $(program) $(library)
