@@ -99,7 +99,7 @@ check_pages() {
     (cd "$documents" && find . -name '*.md' | sort) > "$room/pages"
     find ./README.md ./SECURITY.md ./audit/README.md ./docs -name '*.md' | sort > "$room/wanted"
     check "pages that are installed" diff "$room/wanted" "$room/pages"
-    check "links of installed pages" python3 tools/gate/check-links.py --installed "$documents"
+    check "links of installed pages" env PAGES="$documents" pytest -q tools/gate/test_pages.py -k links
 }
 
 # The service reads the settings of /etc/lldpa.d. Below another prefix it reads PREFIX/etc/lldpa.d.
@@ -123,7 +123,7 @@ check_units() {
 # pkg-config finds the library, and uninstalling removes it.
 check_library() {
     install_into "$room/dev" --library /usr
-    check "links of the library's page" python3 tools/gate/check-links.py --installed "$room/dev/usr/share/doc/liblldpa-dev"
+    check "links of the library's page" env PAGES="$room/dev/usr/share/doc/liblldpa-dev" pytest -q tools/gate/test_pages.py -k links
     shared_object "$room/dev$LIBDIR/liblldpa.so.1"
     if needs pkg-config && needs cc; then
         told_by_pkg_config liblldpa.so.1
