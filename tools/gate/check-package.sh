@@ -3,7 +3,7 @@
 # everything. Builds the Debian packages, compares them with what tools/release/install.sh installs,
 # and checks that lintian, if installed, finds nothing.
 #     tools/gate/check-package.sh [PROGRAM]
-# It needs no root, and installs nothing on this host. The last line is `N passed, M failed`.
+# It needs no root, and installs nothing on this host.
 # Without lldpa-live (tools/release/live.sh --dynamic) it is skipped, with status 3. Without
 # debhelper, dh-python or cargo the packages are skipped.
 set -u

@@ -1,4 +1,4 @@
-"""Runs tools/library/c/transcript.c and vectors.c on transcripts and rows, for check-library.py."""
+"""Runs tools/library/c/transcript.c and vectors.c on transcripts and rows, for test_library.py."""
 from __future__ import annotations
 
 import pathlib

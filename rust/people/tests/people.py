@@ -14,8 +14,7 @@ from served import REPOSITORY
 PEOPLE = Path(os.environ.get("LLDPA_PEOPLE") or REPOSITORY / "rust/people/out/people")
 Answers = Sequence[Sequence[str]]
 Tlvs = Sequence[Tuple[str, str]]  # each a kind such as 0080c2.1, and octets in hexadecimal
-is_made = unittest.skipUnless(PEOPLE.exists(), "cargo: tools/gate/check-people.sh builds "
-                                               "rust/people/out/people with it")
+is_made = unittest.skipUnless(PEOPLE.exists(), "cargo: make rust-people builds rust/people/out/people with it")
 
 
 class Question(NamedTuple):
