@@ -69,18 +69,15 @@ types:
 named:
 	$(PYTEST) tools/gate/test_named.py
 rights:
-	$(PYTEST) tools/gate/test_unit.py
-	python3 tools/gate/check-memory.py
+	$(PYTEST) tools/gate/test_unit.py tools/gate/test_memory.py
 	grep -qx 'Handles allowed: Net\.' HANDLES
 
 # The program
 examples: $(program)
-	$(PYTEST) -n $(N) tools/gate/test_examples.py
-	tools/gate/words.sh $(program)
+	$(PYTEST) -n $(N) tools/gate/test_examples.py tools/gate/test_words.py
 	tools/gate/refuse-memory.sh $(program)
 model: $(program)
-	python3 tools/model/check-frames.py $(program)
-	python3 tools/model/check-listen.py $(program)
+	$(PYTEST) -n $(N) tools/model/test_frames.py tools/model/test_listen.py
 	python3 tools/model/fuzz.py --program $(program) --seed 1 --traces 4000
 	python3 tools/model/fuzz.py --program $(program) --seconds 20
 instructions: $(program) $(library)
@@ -101,8 +98,8 @@ rust-people:
 	$(cargo)
 	cd rust/people && CARGO_TARGET_DIR=out/target $(with) cargo -- cargo build --locked --release --example people
 	$(with) cargo -- cp rust/people/out/target/release/examples/people rust/people/out/people
-completions: $(served)
-	$(with) cargo bash-completion zsh -- python3 tools/gate/completions.py
+completions: $(program) $(served)
+	$(PYTEST) -n $(N) tools/gate/test_help.py
 services: $(served) rust-people
 	$(PYTEST) -n $$(($(N) * 6)) --dist loadfile -m "not alone" rust python tools/release
 audit: $(served)                                  ## after a change of audit or python/lldpa
@@ -122,7 +119,7 @@ wrong-bodies: $(program) $(library)               ## the prover refuses each wro
 	nice -n 10 $(PYTEST) -n 2 --dist loadgroup tools/gate/test_wrong_bodies.py tools/gate/test_axioms.py
 
 package: $(served)
-	$(with) cargo binutils dpkg-dev debhelper dh-python lintian pkgconf unshare -- tools/gate/check-package.sh $(program)
+	$(with) cargo binutils dpkg-dev debhelper dh-python lintian pkgconf unshare python3-pytest -- tools/gate/check-package.sh $(program)
 release-check: package                            ## before a release, and each night
 	$(PYTEST) -k packages tools/library/test_arm64.py
 	$(with) root /usr/bin/cargo xz-utils unshare locales dpkg-dev debhelper dh-python -- tools/gate/check-dist.sh

@@ -1,6 +1,6 @@
 #!/usr/bin/env python3
 """Checks that audits of audit/worked print expected.txt (by plan.dot without columns), and that
-audit.svg is the page's picture, which --write makes. The last line is `N passed, M failed`."""
+audit.svg is the page's picture, which --write makes."""
 import argparse
 import os
 import pathlib

@@ -5,7 +5,7 @@ Then runs it on the files of audit/tests/shapes.py.
     audit/tools/try-damage.py [--minutes 10] [--seed N]
 
 An audit must take less than 30 seconds of processor time and 500 MB, and must not write through a
-symbolic link. LLDPA names the agent. The first line is the seed, the last `N passed, M failed`.
+symbolic link. LLDPA names the agent. The first line is the seed.
 """
 import argparse
 import gzip

@@ -5,8 +5,8 @@ The forms json, json0 and snmpwalk must give the same verdicts.
     audit/tools/try-lldpd.py
 
 Two links join two namespaces, leaf1 and host01, each with an lldpd. leaf1 also has an snmpd. Later
-a second sender joins. Needs Linux, root, and Debian's packages lldpd, snmp, snmpd and iproute2. The
-last line is `N passed, M failed`. If something is missing, a line says so, and the status is 77.
+a second sender joins. Needs Linux, root, and Debian's packages lldpd, snmp, snmpd and iproute2.
+If something is missing, a line says so, and the status is 77.
 """
 import contextlib
 import json
@@ -73,7 +73,7 @@ class Trial:
 def main():
     lack = next((f"{name} is not installed" for name in NEEDED if not shutil.which(name)), "")
     if lack or os.geteuid() != 0:
-        print(f"skipped: {lack or 'it needs root'}\n0 passed, 0 failed")
+        print(f"skipped: {lack or 'it needs root'}")
         return 77
     with contextlib.ExitStack() as opened:
         wires = opened.enter_context(contextlib.closing(Wires(3)))

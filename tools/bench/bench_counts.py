@@ -5,8 +5,8 @@ bench_calls.py does the same for calls of the library.
     python3 tools/bench/bench_counts.py [--program PROGRAM]
 
 A row fails if its instructions are over 1 % more or fewer than the saved count (with another C
-library, over 5 %). Without valgrind the status is 3. The last line is `N passed, M failed`. If a row
-has become slower or faster on purpose, `tools/bench/bench.py --save` saves all figures anew.
+library, over 5 %). Without valgrind the status is 3. If a row has become
+slower or faster on purpose, `tools/bench/bench.py --save` saves all figures anew.
 """
 from __future__ import annotations
 

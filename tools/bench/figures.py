@@ -4,7 +4,6 @@
     tools/bench/figures.py [NAME..]
 
 Without a NAME all are measured, in five minutes:
-    functions   how many functions are proved (counted in the sources)
     memory      what lldpa-live holds in memory on eight links with a neighbor each, with metrics
                 and an open `lldpa-ctl watch`; and what lldpd holds beside it
     time        the processor time for a typical received frame, as a part of plain C's
@@ -15,7 +14,6 @@ the program and a C compiler.
 from __future__ import annotations
 
 import pathlib
-import runpy
 import subprocess
 import sys
 import tempfile
@@ -71,13 +69,7 @@ class Time(unittest.TestCase):
         figure(self, f"{row.title}: {ours / plain:.2f} of the time of plain C")
 
 
-class Functions(unittest.TestCase):
-    def test_functions(self) -> None:
-        counted = runpy.run_path(str(TOP / "tools" / "write" / "numbers.py"))["numbers"]()
-        figure(self, next(f"{number} {what}" for what, number in counted.items() if "functions" in what))
-
-
-TESTS = {"functions": (Functions, "test_functions"), "memory": (Memory, "test_memory"), "time": (Time, "test_time"),
+TESTS = {"memory": (Memory, "test_memory"), "time": (Time, "test_time"),
          "flood": (test_load_floods.Floods, "test_of_as_many_frames_as_can_be_sent")}
 
 

@@ -11,7 +11,6 @@ and systemd. Each accepts `verdict FILE` and `bench FILE N`; FILE has a frame in
 line. --library names a folder that tools/library/library.sh wrote. Without --library that script
 runs. --frames adds captures (pcap) and traces to those of docs and examples. N frames (default
 300,000) are compared: the captured ones, altered copies, and frames made by tools/model/fuzz.py.
-The last line is `N passed, M failed`.
 """
 from __future__ import annotations
 

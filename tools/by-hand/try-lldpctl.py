@@ -7,8 +7,7 @@ At the far end, an lldpd sends TLVs of IEEE 802.1, IEEE 802.3 and LLDP-MED, and 
 the frames of rust/people/tests/judged.json are sent, and frames with every octet in their texts. At the
 near end, `lldpd -r` and lldpa-live receive the same frames. Each command runs in the forms plain,
 keyvalue, json and json0. All keys and values are compared, except ages. A difference fails unless
-docs/LLDPD.md lists it. It needs Linux, root, and Debian's packages lldpd and iproute2. The last
-line is `N passed, M failed`.
+docs/LLDPD.md lists it. It needs Linux, root, and Debian's packages lldpd and iproute2.
 """
 import collections
 import contextlib

@@ -93,7 +93,7 @@ check_pages() {
     (cd "$documents" && find . -name '*.md' | sort) > "$room/pages"
     find ./README.md ./SECURITY.md ./audit/README.md ./docs -name '*.md' | sort > "$room/wanted"
     check "pages that are installed" diff "$room/wanted" "$room/pages"
-    check "links of installed pages" tools/gate/links.py "$documents"
+    check "links of installed pages" env PAGES="$documents" pytest -q tools/gate/test_pages.py -k links
 }
 
 # The service reads the settings of /etc/lldpa.d. Below another prefix it reads PREFIX/etc/lldpa.d.
@@ -117,7 +117,7 @@ check_units() {
 # pkg-config finds the library, and uninstalling removes it.
 check_library() {
     install_into "$room/dev" --library /usr
-    check "links of the library's page" tools/gate/links.py "$room/dev/usr/share/doc/liblldpa-dev"
+    check "links of the library's page" env PAGES="$room/dev/usr/share/doc/liblldpa-dev" pytest -q tools/gate/test_pages.py -k links
     shared_object "$room/dev$LIBDIR/liblldpa.so.1"
     told_by_pkg_config liblldpa.so.1
     told_by_pkg_config -l:liblldpa.a

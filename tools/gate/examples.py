@@ -181,10 +181,10 @@ def rows():
 
 def blocks():
     """Yields the name and the lines of each block of the pages and of the manual pages."""
-    for path in [path for folder in (".", "docs") for path in sorted((TOP / folder).glob("*.md"))]:
+    for path in [path for folder in (".", "docs", "audit") for path in sorted((TOP / folder).glob("*.md"))]:
         for place, block in enumerate(re.findall(r"^```\w*\n(.*?)^```$", path.read_text(), re.M | re.S), 1):
             yield f"{path.relative_to(TOP)}, block {place}", block.splitlines()
-    for path in sorted((TOP / "man").iterdir()):
+    for path in [*sorted((TOP / "man").iterdir()), *sorted((TOP / "audit").glob("*.1"))]:
         page = path.read_text().replace("\\e", "\\").replace("\\-", "-").replace("\\&", "")
         for place, block in enumerate(re.findall(r"^\.Bd -literal\n(.*?)^\.Ed$", page, re.M | re.S), 1):
             yield f"{path.relative_to(TOP)}, block {place}", block.splitlines()

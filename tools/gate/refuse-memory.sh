@@ -9,7 +9,7 @@
 # each transcript of examples/ runs. It must request memory as often as a run with the same
 # arguments and empty input, and write the same if all requests after opening are refused. It needs
 # a C compiler for refuse.c, which is preloaded. The argument is the
-# program (default: crates/lldpa/out/lldpa). The last line is `N passed, M failed`.
+# program (default: crates/lldpa/out/lldpa).
 set -u
 cd "$(dirname "$0")/../.." || exit 2
 program=$(realpath -- "${1:-crates/lldpa/out/lldpa}") && [ -x "$program" ] || { echo "no program"; exit 2; }

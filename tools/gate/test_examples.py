@@ -1,5 +1,8 @@
 """Runs the transcripts, the rows and the blocks of the pages (examples.py) on the built program."""
 import os
+import shutil
+import signal
+import subprocess
 
 import pytest
 
@@ -7,6 +10,9 @@ import examples
 from examples import SHOW, TOP
 
 PROGRAM = os.environ.get("LLDPA") or TOP / "crates" / "lldpa" / "out" / "lldpa"
+PRLIMIT = shutil.which("prlimit")
+PORTS = [f"eth{place}" for place in range(64)]
+MOST = "most", ["--max-neighbors", "128", *PORTS], (TOP / "crates/lldpa/stdin").read_bytes()
 RUNS = [(name, words, texts, way, runs) for name, words, texts, trace, steps in examples.transcripts()
         if not isinstance(steps, str) for way, runs in examples.ways(trace, steps)]
 BLOCKS = [(name, lines) for name, lines in examples.blocks() if lines and lines[0].startswith("$ ")]
@@ -21,6 +27,18 @@ def test_files_agree(name, steps):
 def test_transcript(name, words, texts, way, runs):
     for run in runs:
         assert examples.fault_of_run(PROGRAM, words, texts, run) is None, f"first piece {len(run[0][0])} octets"
+
+
+@pytest.mark.parametrize("name,words,trace", [MOST, *((one[0], one[1], one[3]) for one in examples.transcripts())])
+def test_stack_of_64_kb_suffices(name, words, trace):
+    """docs/CLAIMS.md says this. The environment is on the stack, too."""
+    ran = subprocess.run([PRLIMIT, "--stack=65536", PROGRAM, *words], env={}, input=trace, capture_output=True)
+    assert (ran.returncode, ran.stderr) == (0, b"")
+
+
+def test_stack_of_40_kb_does_not_suffice():
+    ran = subprocess.run([PRLIMIT, "--stack=40960", PROGRAM, "eth0"], env={}, stdin=subprocess.DEVNULL)
+    assert ran.returncode == -signal.SIGSEGV
 
 
 @pytest.mark.parametrize("name,values,found", examples.rows(), ids=lambda one: one if isinstance(one, str) else "")

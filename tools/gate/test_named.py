@@ -22,7 +22,7 @@ def stands(kind, what):
     if kind == "vector":
         return has("examples/vectors.rows", rf"^{re.escape(what).replace(chr(92) + ' ', chr(9), 1)}\t")
     if kind == "shell":
-        return what in map(str.strip, (TOP / "tools/gate/words.sh").read_text().splitlines())
+        return what in map(str.strip, (TOP / "tools/gate/test_words.py").read_text().splitlines())
     if kind == "script":
         return has("Makefile", rf"\b{re.escape(what)}\b") and (TOP / what).is_file()
     path, _, row = what.partition(": ")

@@ -1,131 +1,100 @@
-"""What the pages name exists.
+"""What the pages name exists: links and their anchors, files, options, excerpts of sources, and names of the crates.
 
-It checks links and their anchors, and names of files, calls and options. Blocks marked `rust` or
-`antt` must be consecutive lines of one source. On pages about proofs, each word in backticks and
-each large number must occur in the sources. No page may call lldpa-live "the bridge". No line of text may
-be over 120 columns long.
+    pytest tools/gate/test_pages.py
+    PAGES=FOLDER pytest tools/gate/test_pages.py -k links    links of installed pages lead to installed files
 """
-import pathlib
+import os
 import re
+from pathlib import Path
 
 import pytest
 
-from links import fault_of_link, links, without_code
-
-TOP = pathlib.Path(__file__).resolve().parents[2]
-CRATES = [line.split(":")[0].split()[0] for line in (TOP / "crates.txt").read_text().splitlines()]
-PAGES = [path for folder in (".", "docs", "audit") for path in sorted((TOP / folder).glob("*.md"))]
-SOURCE = "\n".join(path.read_text() for path in TOP.glob("crates/*/src/**/*.rt"))
-DEFINITIONS = "\n".join(path.read_text() for path in TOP.glob("crates/*/specs/**/*.antt"))
-FUNCTIONS = set(re.findall(r"\b(?:fn|const|type|struct|enum|trait) (\w+)", SOURCE))
-FUNCTIONS |= set(re.findall(r"^    (\w+)(?:\(|,| \{)", SOURCE, re.M))  # the cases of enums
-PROOFS = "\n".join(path.read_text() for path in TOP.glob("crates/*/proofs/**/*.antt"))
-FILES = {name for path in TOP.rglob("*") if not {"out", ".git"} & set(path.relative_to(TOP).parts) for name in (path.stem, path.name)}
-NAMES = FILES | {name for text in (SOURCE, DEFINITIONS, PROOFS) for name in re.findall(r"\w+(?:-\w+)*", text)} | set(CRATES)
-ABOUT_PROOFS = ("CLAIMS.md", "DEFINITIONS.md", "ARCHITECTURE.md", "STANDARD.md")
-SCRIPTS = "\n".join(path.read_text() for path in (TOP / "tools").rglob("*.*") if path.suffix in (".py", ".sh"))
-NUMBERS_OF_CODE = set(re.findall(r"\d+", (SOURCE + DEFINITIONS).replace("_", "")))
-NUMBERS_OF_SOURCES = NUMBERS_OF_CODE | set(re.findall(r"\d+", SCRIPTS.replace("_", "")))
-
-# the files that mention the options of the programs
-OF_OPTIONS = [TOP / "examples" / "help.txt"] + [
-    path for folder in ("python", "audit", "bin", "tools", ".ci", "rust/live/src", "rust/people/src") for path in (TOP / folder).rglob("*")]
-OPTIONS = {option for path in OF_OPTIONS if path.is_file() and path.suffix != ".pyc"
-           for option in re.findall(r"--[a-z][a-z-]*[a-z]", path.read_text(errors="replace"))}
-# options of the toolchain and of other programs
-OPTIONS |= {"--only", "--anew", "--list-axioms", "--allow-holes", "--fix-imports", "--test", "--minutes", "--line-buffered", "--now", "--since",
-            "--example", "--reference", "--stack"}
-
+TOP = Path(__file__).resolve().parents[2]
+ROOT = Path(os.environ.get("PAGES") or TOP).resolve()
+PAGES = [page for page in sorted(ROOT.rglob("*.md"))
+         if not re.search(r"(^|/)(out|\..*)/", page.relative_to(ROOT).as_posix())]
+EACH = pytest.mark.parametrize("page", PAGES, ids=lambda page: page.relative_to(ROOT).as_posix())
+ABOUT_PROOFS = pytest.mark.parametrize("page", [TOP / f"docs/{name}.md" for name in (
+    "CLAIMS", "DEFINITIONS", "ARCHITECTURE", "STANDARD")], ids=lambda page: page.stem)
+CRATES = [path.name for path in (TOP / "crates").iterdir()]
 FOLDERS_OF_A_CRATE = ("specs", "proofs", "src", "must-fail", "wrong")
+TEXTS = {path: path.read_text(errors="replace") for path in TOP.rglob("*")
+         if path.is_file() and path.suffix in ("", ".antt", ".c", ".h", ".py", ".rs", ".rt", ".service", ".sh", ".txt")
+         and not re.search(r"(^|/)(out|\..*)/", path.relative_to(TOP).as_posix())}
+OPTION = r"(?<![\w-])--[a-z][a-z-]*[a-z]"
 
 
-def is_there(name):
-    """Returns whether a path exists below the top or in a crate, perhaps with an ending added."""
-    folders = [TOP, TOP / "crates"]
+def without_code(text):
+    return re.sub(r"^ *```.*?^ *```$", "", text, flags=re.M | re.S)
+
+
+def anchors(page):
+    """Returns the anchors of a page's headings, as GitHub makes them."""
+    found = set()
+    for heading in re.findall(r"^#+ (.*)$", without_code(page.read_text()), re.M):
+        plain = re.sub(r"\[([^]]*)\]\([^)]*\)", r"\1", heading).lower()
+        anchor = re.sub(r"[^\w\- ]", "", plain).replace(" ", "-")
+        found.add(anchor if anchor not in found else f"{anchor}-1")
+    return found
+
+
+def is_reached(page, target):
+    name, _, anchor = target.partition("#")
+    file = (page.parent / name).resolve() if name else page
+    return file.exists() and file.is_relative_to(ROOT) and (not anchor or anchor in anchors(file))
+
+
+@EACH
+def test_links(page):
+    text = without_code(page.read_text())
+    targets = re.findall(r"\]\(([^)\s]+)\)", text) + re.findall(r"^\[[^]]+\]: (\S+)$", text, re.M)
+    assert [one for one in targets if not re.match(r"[a-z]+://", one) and not is_reached(page, one)] == []
+
+
+def is_there(page, name):
+    """Returns whether a path exists beside the page, below the top or in a crate, perhaps with an ending added."""
+    folders = [page.parent, TOP, TOP / "crates"]
     if name.split("/")[0] in FOLDERS_OF_A_CRATE:
         folders += [TOP / "crates" / crate for crate in CRATES]
-    endings = ("", ".antt", ".rt", ".edit")
-    return any(next(folder.glob(name.rstrip("/") + ending), None) for folder in folders for ending in endings)
+    ends = ("", ".antt", ".rt", ".edit")
+    return any(next(folder.glob(name.rstrip("/") + end), None) for folder in folders for end in ends)
 
 
-def file_names(text):
-    """Yields the file names in backticks, except names that the reader has to fill in."""
+@EACH
+def test_files(page):
     tops = {path.name for path in TOP.iterdir()} | set(FOLDERS_OF_A_CRATE) | set(CRATES)
-    for name in re.findall(r"`([\w.*/-]+)`", text):
-        is_path = "/" in name and name.split("/")[0] in tops and "out" not in name.split("/")
-        if (is_path or name.endswith((".md", ".txt"))) and not re.search(r"\b(NAME|MODULE|TYPE|FUNCTION|FILE)\b", name):
-            yield name
+    names = re.findall(r"`([\w.*/-]+)`", without_code(page.read_text()))
+    paths = [name for name in names if "/" in name and name.split("/")[0] in tops and "out" not in name.split("/")]
+    paths += [name for name in names if name.endswith((".md", ".txt"))]
+    to_fill_in = re.compile(r"\b(NAME|MODULE|TYPE|FUNCTION|FILE)\b")
+    assert [name for name in paths if not to_fill_in.search(name) and not is_there(page, name)] == []
 
 
-def excerpts(text):
-    """Yields the lines of each block of a page that is marked `rust` or `antt`."""
-    for block in re.findall(r"^```(?:rust|antt)\n(.*?)^```$", text, re.M | re.S):
-        yield [line.strip() for line in block.splitlines() if line.strip()]
+@EACH
+def test_options(page):
+    """Options alone in backticks, and those behind a program of ours, stand in a source."""
+    text = page.read_text()
+    blocks = "".join(re.findall(r"^ *```\w*\n(.*?)^ *```$", text, re.M | re.S)).splitlines()
+    shown = [code for code in re.findall(r"`([^`]+)`", without_code(text)) + blocks
+             if re.match(OPTION, code) or re.search(r"\blldp(a|ctl|cli)\b|tools/", code)]
+    known = {option for source in TEXTS.values() for option in re.findall(OPTION, source)}
+    assert {option for code in shown for option in re.findall(OPTION, code)} - known == set()
 
 
-def lines_of_sources():
-    """Yields each source's lines, without empty ones, and which of them can begin an item."""
-    for folder in ("src", "specs"):
-        for path in TOP.glob(f"crates/*/{folder}/**/*"):
-            if path.suffix in (".rt", ".antt"):
-                lines = path.read_text().splitlines()
-                pairs = zip(["", *lines], lines)
-                kept = [(line.strip(), before) for before, line in pairs if line.strip()]
-                begins = re.compile(r"\s*(//|--|#\[|$)|.*\{$").match
-                yield [line for line, _ in kept], [begins(before) for _, before in kept]
+@EACH
+def test_excerpts(page):
+    """Blocks marked `rust` or `antt` are consecutive lines of one source."""
+    sources = [re.sub(r"\n\s*", "\n", text) for path, text in TEXTS.items() if path.suffix in (".antt", ".rt")]
+    for block in re.findall(r"^```(?:rust|antt)\n(.*?)^```$", page.read_text(), re.M | re.S):
+        shown = re.sub(r"\n\s*", "\n", block)
+        assert any(f"\n{shown}" in source for source in sources), block
 
 
-LINES = list(lines_of_sources())
-
-
-def is_shown(lines):
-    """Returns whether a source has these consecutive lines, the first at the start of an item."""
-    shown = "\n".join(lines)
-    are_closed = all(shown.count(one) == shown.count(other) for one, other in ("()", "{}", "[]"))
-    return are_closed and any(
-        begins and source[at:at + len(lines)] == lines
-        for source, all_begin in LINES if lines[0] in source
-        for at, begins in enumerate(all_begin))
-
-
-def large_numbers(text):
-    """Yields the numbers of at least four digits that are whole words, except 2009 and 2016."""
-    for number in re.findall(r"(?<![\w.,-])(\d{1,3}(?:,\d{3})+|\d{4,})(?![\w,.-]*\w)", text):
-        if number not in ("2009", "2016"):
-            yield number.replace(",", "")
-
-
-def without_counts(text):
-    """Returns a page without the sections that tools/gate/artefacts.py compares."""
-    return re.sub(r"^#+ (?:What you run|The axioms).*?(?=^#|\Z)", "", text, flags=re.M | re.S)
-
-
-def faults_of_page(page):
-    """Yields what a page names, and what it must not contain, each with its fault or None."""
-    text = without_code(page.read_text())
-    for line in text.splitlines():
-        if len(line) > 120 and not line.startswith("|"):
-            yield line[:50], "a line of more than 120 columns"
-    for words in re.findall(r"\b(?:the|another) bridge\b", text, re.I):
-        yield words, "call lldpa-live by its name"
-    for target in links(text):
-        yield target, fault_of_link(page, target)
-    for file in file_names(text):
-        yield file, None if is_there(file) or (page.parent / file).exists() else "no such file"
-    for owner, call in re.findall(r"`(?:\w+::)*([A-Z]\w*)::(\w+)(?:\([^`]*\))?`", text):
-        known = {owner, call} <= FUNCTIONS | {"default"} or owner not in SOURCE
-        yield f"{owner}::{call}", None if known else "no such call"
-    if page.name in ABOUT_PROOFS:
-        for word in re.findall(r"`([A-Za-z]\w*(?:-\w+)*)`", without_counts(text)):
-            yield word, None if word in NAMES else "no such name in the sources"
-        for number in large_numbers(without_counts(text)):
-            yield number, None if number in NUMBERS_OF_SOURCES else "no such number in the sources"
-    for option in re.findall(r"(?<![\w-])--[a-z][a-z-]*[a-z]", page.read_text()):
-        yield option, None if option in OPTIONS else "no such option"
-    for lines in excerpts(page.read_text()):
-        yield lines[0], None if is_shown(lines) else "these are not consecutive lines of a source"
-
-
-@pytest.mark.parametrize("page", PAGES, ids=lambda page: page.relative_to(TOP).as_posix())
-def test_page(page):
-    assert [f"{what}: {fault}" for what, fault in faults_of_page(page) if fault] == []
+@ABOUT_PROOFS
+def test_names(page):
+    """Each name in backticks occurs in a source, or is that of a file or a folder. Axioms are of the kit."""
+    known = {part for path in TEXTS for part in (*path.parts, path.stem)}
+    known |= {name for text in TEXTS.values() for name in re.findall(r"\w+(?:-\w+)*", text)}
+    text = re.sub(r"^#+ The axioms.*?(?=^#|\Z)", "", without_code(page.read_text()), flags=re.M | re.S)
+    names = re.findall(r"`((?:\w+::)*[A-Za-z]\w*(?:-\w+)*)`", text)
+    assert {part for name in names for part in name.split("::")} - known == set()

@@ -1,7 +1,7 @@
 #!/bin/sh
 # Prints the declarations of lldpa.h for Rust. After a change of the header run
 #     tools/library/bindings.sh > rust/lldpa/src/sys.rs
-# It needs bindgen. tools/library/check-library.py checks that sys.rs is up to date. Comments are
+# It needs bindgen. test_library.py checks that sys.rs is up to date. Comments are
 # kept, and lldpa_statistics_told becomes Statistics, its name in the crate.
 set -eu
 cd "$(dirname "$0")/../.."

@@ -1,4 +1,4 @@
-"""Checks the crate rust/lldpa with the library, for tools/library/check-library.py."""
+"""Checks the crate rust/lldpa with the library, for test_library.py."""
 from __future__ import annotations
 
 import os

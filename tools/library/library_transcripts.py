@@ -1,7 +1,6 @@
-"""Runs tools/library/c/transcript.c and vectors.c on transcripts and rows, for check-library.py."""
+"""Runs tools/library/c/transcript.c and vectors.c on transcripts and rows, for test_library.py."""
 from __future__ import annotations
 
-import importlib
 import pathlib
 import re
 import subprocess
@@ -13,9 +12,9 @@ from library_parts import SECONDS, TOP, Counts, ran
 
 sys.path += [str(TOP / "tools" / name) for name in ("gate", "model")]
 import examples  # noqa: E402
+import made_frames  # noqa: E402
 import model  # noqa: E402
 
-FRAMES = importlib.import_module("check-frames")
 ROWS = TOP / "examples" / "vectors.rows"
 HEADER = TOP / "crates" / "lldpa_c" / "include" / "lldpa.h"
 # Causes in order, each with how often it occurs, and the frame to send. The frames were worked out
@@ -104,7 +103,7 @@ def check_transcripts(command: Sequence[str], counts: Counts) -> None:
 def whole_shows(ports: int, neighbors: int) -> tuple[list[str], Steps]:
     """Returns arguments and lines with many neighbors on each port, and what the model writes."""
     names = [f"p{port}" for port in range(ports)]
-    frames = [FRAMES.frame_of(number, 120).hex() for number in range(neighbors)]
+    frames = [made_frames.frame_of(number, 120).hex() for number in range(neighbors)]
     lines = [f"rx {name} {frame}" for name in names for frame in frames]
     lines += ["down p40" if ports > 1 else "", "tick", *(f"show {show}" for show in model.SHOWS)]
     words = ["--max-neighbors", "128", *names]
@@ -118,7 +117,7 @@ def check_rows(command: Sequence[str], room: pathlib.Path, counts: Counts) -> No
     rows.append(row_of_causes())
     for row, found in zip_longest(rows, written_rows(command, rows, room)):
         counts.judge(None if found == row else f"{found}", row)
-    altered = [b"", *(pdu for whole in FRAMES.LLDPDUS for pdu in FRAMES.altered(whole))]
+    altered = [b"", *(pdu for whole in made_frames.LLDPDUS for pdu in made_frames.altered(whole))]
     counts.judge(fault_of_rows(command, map(row_of, altered), room), "cut and altered LLDPDUs")
 
 

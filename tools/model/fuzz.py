@@ -5,7 +5,7 @@
 
 Trace K of a run has the seed N + K, so `--seed SEED --traces 1` runs that trace alone. The first seed
 is printed first. The first difference ends the run; the trace is made small and printed with its
-seed. Without --seconds and --traces it runs for half a minute. The last line is `N passed, M failed`.
+seed. Without --seconds and --traces it runs for half a minute.
 """
 import argparse
 import functools
@@ -453,7 +453,7 @@ def main():
                     show(given.program, seed)
                     return 1
             ran += len(seeds)
-    print(f"{ran} traces agree, in {time.monotonic() - begin:.0f} seconds\n1 passed, 0 failed")
+    print(f"{ran} traces agree, in {time.monotonic() - begin:.0f} seconds")
     return 0
 
 
@@ -468,7 +468,7 @@ def show(program, seed):
     print(f"seed {seed} differs: {difference(program, words, lines)[:1000]}", flush=True)
     words, lines = made_small(program, words, lines)
     print(f"made smaller: {difference(program, words, lines)}\n{as_command(program, words, lines)}")
-    print("FAILED: the program and the model differ\n0 passed, 1 failed")
+    print("FAILED: the program and the model differ")
 
 
 if __name__ == "__main__":

@@ -3,7 +3,7 @@
 
     tools/write/laws.py FILE
 
-A law is a public function in `src/laws.rt` or `src/laws` of a crate. tools/write/check.py compares
+A law is a public function in `src/laws.rt` or `src/laws` of a crate. `make check` compares
 the page with what this writes.
 """
 from __future__ import annotations

@@ -1,5 +1,5 @@
 //! Checks that no call accepts an unknown answer or version as success. In the archive that
-//! `tools/library/check-library.py` builds for this test, `lldpa_open` returns 0, the other calls
+//! `tools/library/test_library.py` builds for this test, `lldpa_open` returns 0, the other calls
 //! return 77, and the version is wrong if `LLDPA_STRANGE` is set.
 
 use lldpa::{

@@ -2,7 +2,7 @@
  * Reads the input of each row of a file, calls the library with it, and writes the row with the
  * library's results. If the library is right, the written rows equal those of the file.
  *     vectors FILE
- * The head of examples/vectors.rows describes the rows. check-library.py compares what is written.
+ * The head of examples/vectors.rows describes the rows. test_library.py compares what is written.
  */
 #include "checks.h"
 #include "lldpa.h"

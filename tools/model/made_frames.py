@@ -1,21 +1,6 @@
-#!/usr/bin/env python3
-"""Compares the built program with the model on altered frames and on full tables.
-
-    tools/model/check-frames.py PROGRAM [SEED]
-
-Each LLDPDU below is received cut after each octet, and with each octet changed to each different
-value: once with an empty table, and once with the neighbor of the first LLDPDU stored, to see which
-neighbor a shutdown frame removes. After each frame the neighbors and counters are compared, and the
-table is emptied. Then eight random traces, with the seeds from SEED (default 1), have more
-neighbors than fit, and shutdown frames. Two more have neighbors whose names have one tag in lldpa's
-table, so that whole names are compared. The last line is `N passed, M failed`.
-"""
+"""Makes lines with altered frames, full tables and names that are alike."""
 import random
-import sys
-from concurrent.futures import ProcessPoolExecutor
 
-import compare
-from counts import Counts
 from model import spelled
 
 HEADER = bytes.fromhex("0180c200000e00112233445588cc")
@@ -119,32 +104,3 @@ def alike_trace(part):
         first, *others = names_alike(part, length)
         for start in range(0, len(others), 127):
             yield from heard_thrice([first, *others[start:start + 127]])
-
-
-def trace_of(case):
-    """Returns the lines of an LLDPDU, of the seed of a random trace, or of a part of names."""
-    if isinstance(case, int):
-        return list(random_trace(case))
-    return list(alike_trace(case)) if isinstance(case, str) else altered_trace(case)
-
-
-def fault_of(case):
-    """Returns what is wrong with a case, or None."""
-    lines = trace_of(case)
-    return compare.difference(sys.argv[1], ["--receive-only", "--max-neighbors", "128", "eth0"], lines)
-
-
-def main():
-    seed = int(sys.argv[2]) if sys.argv[2:] else 1
-    print(f"seeds from {seed}", flush=True)
-    cases = [*LLDPDUS, *range(seed, seed + 8), "chassis", "port"]
-    with ProcessPoolExecutor() as pool:
-        faults = list(pool.map(fault_of, cases))
-    counts = Counts()
-    for case, fault in zip(cases, faults):
-        counts.judge(fault, case.hex() if isinstance(case, bytes) else case)
-    return counts.end()
-
-
-if __name__ == "__main__":
-    sys.exit(main())

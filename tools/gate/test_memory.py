@@ -1,4 +1,3 @@
-#!/usr/bin/env python3
 """Checks in the sources what types and contracts do not show.
 
 Memory: only `Room` allocates memory, at opening. In lldp_program and the crates below, only Room's
@@ -9,17 +8,16 @@ no more room than needed. Only modules that read the arguments receive the runti
 Accesses: `Times` counts each access to a stored time. Only its functions `get`, `set` and `look`
 reach the times. A `Times` cannot be copied. `look` does not count, and only `Table::entries`,
 `Table::entry` and `Table::soonest` use it. No tick calls these: the program calls `entries` to show
-neighbors, and only the library and tests call the others. The types of a table have only known fields, since another field could store times. Only
-two functions of `Count` and those of a C handle have proofs by hand, which could claim any count.
-
-    tools/gate/check-memory.py
-
+neighbors, and only the library and tests call the others. The types of a table have only known
+fields, since another field could store times. Only two functions of `Count` and those of a C handle
+have proofs by hand, which could claim any count.
 """
 from __future__ import annotations
 
 import pathlib
 import re
-import sys
+
+import pytest
 
 TOP = pathlib.Path(__file__).resolve().parents[2]
 CRATES = TOP / "crates"
@@ -49,7 +47,7 @@ HANDED_ON = {
 PROGRAM = "lldp_program/src/program.rt"
 READ_THE_WORDS = ("lldpa/src/main.rt", "lldp_program/src/program.rt", "lldp_program/src/arguments.rt")
 HANDLES = "lldpa_c/proofs/handle/"
-WALKS = ("count/Count/add/Proof.antt", "count/Count/new/Proof.antt")
+WALKS = [f"lldp_table/proofs/count/Count/{name}/Proof.antt" for name in ("add", "new")]
 TABLE = "lldp_table/src/"
 ABOVE_THE_TABLE = ("lldp_engine", "lldp_program", "lldpa/")
 LOOKS = r"\.(?:entries|entry|soonest)\(|::(?:entries|entry|soonest)\b(?!::)"
@@ -80,33 +78,13 @@ def without_comments(text: str) -> str:
     return re.sub(r"//.*", "", text)
 
 
-class Sources:
-    """The sources of all crates except the tests, by their paths below `crates`."""
-
-    def __init__(self) -> None:
-        self.texts: dict[str, str] = {}
-        self.broken: list[str] = []
-        self.rules = 0
-        for path in sorted(CRATES.glob("*/src/**/*.rt")):
-            name = str(path.relative_to(CRATES))
-            if "/tests" not in name and not name.startswith("lldp_tests/"):
-                self.texts[name] = path.read_text()
-
-    def code(self, crates: str | tuple[str, ...]) -> dict[str, str]:
-        texts = self.texts.items()
-        return {name: without_comments(text) for name, text in texts if name.startswith(crates)}
-
-    def see(self, is_so: bool, fault: str) -> None:
-        """Counts a rule, and records the fault if the rule is broken."""
-        self.rules += 1
-        if not is_so:
-            self.broken.append(fault)
+# The code of all crates except the tests, by its paths below `crates`.
+CODE = {name: without_comments(path.read_text()) for path in sorted(CRATES.glob("*/src/**/*.rt"))
+        for name in [str(path.relative_to(CRATES))] if "/tests" not in name and not name.startswith("lldp_tests/")}
 
 
-def counts_of(pattern: str, texts: dict[str, str]) -> dict[str, int]:
-    """Returns how often the pattern occurs in each text that has it."""
-    counts = {name: len(re.findall(rf"(?<!fn ){pattern}", text)) for name, text in texts.items()}
-    return {name: count for name, count in counts.items() if count > 0}
+def code_of(crates: "str | tuple[str, ...]") -> "dict[str, str]":
+    return {name: code for name, code in CODE.items() if name.startswith(crates)}
 
 
 def functions_handed(code: str) -> str:
@@ -118,8 +96,7 @@ def functions_handed(code: str) -> str:
 
 def fields(code: str) -> str:
     """Returns the bodies of all structs and enums, which declare their fields."""
-    bodies = re.findall(r"\b(?:struct|enum) \w+[^{;]*\{(.*?)\n\}", code, re.S)
-    return "\n".join(bodies)
+    return "\n".join(re.findall(r"\b(?:struct|enum) \w+[^{;]*\{(.*?)\n\}", code, re.S))
 
 
 # What code must not contain. Each rule has the crates, the part of their code that is searched, a
@@ -146,72 +123,46 @@ FORBIDDEN = (
 )
 
 
-def see_room(sources: Sources) -> None:
-    """Checks that the module of `Room` allocates memory once, and is short enough to read."""
-    text = sources.texts[ROOM]
+def test_room():
+    """The module of `Room` allocates memory once, and is short enough to read."""
+    text = (CRATES / ROOM).read_text()
     code = re.sub(r"\bstd::alloc\b", "", without_comments(text))
-    lines = text.count("\n")
-    asked = code.count("alloc")
-    sources.see(lines <= MOST_LINES_OF_ROOM, f"{ROOM}: {lines} lines")
-    sources.see(asked == 2, f"{ROOM}: names its allocator {asked} times instead of twice")
-    sources.see(ROOM_TAKES in code, f"{ROOM}: allocates something else")
-    is_kept = ROOM_HAS in code and code.count("Vec") == 2
-    sources.see(is_kept, f"{ROOM}: does not keep its Vec to itself")
+    assert text.count("\n") <= MOST_LINES_OF_ROOM
+    assert code.count("alloc") == 2, "it names its allocator at another place than the two"
+    assert ROOM_TAKES in code
+    assert ROOM_HAS in code and code.count("Vec") == 2, "it does not keep its Vec to itself"
 
 
-def see_forbidden(sources: Sources) -> None:
-    for crates, part, left_out, sought, allowed, fault in FORBIDDEN:
-        for name, code in sources.code(crates).items():
-            rest = re.sub(left_out, "", part(code)) if left_out else part(code)
-            found = re.search(sought, rest)
-            sources.see(found is None or name in allowed, f"{name}: {fault}: {found}")
+@pytest.mark.parametrize("crates,part,left_out,sought,allowed,fault", FORBIDDEN, ids=[rule[-1] for rule in FORBIDDEN])
+def test_forbidden(crates, part, left_out, sought, allowed, fault):
+    for name, code in code_of(crates).items():
+        found = re.search(sought, re.sub(left_out, "", part(code)) if left_out else part(code))
+        assert found is None or name in allowed, f"{name}: {fault}"
 
 
-def see_reached(sources: Sources) -> None:
-    """Checks how often each pattern of REACHED occurs, and that no stored time can be copied."""
-    for pattern, crates, modules in REACHED:
-        found = counts_of(pattern, sources.code(crates))
-        sources.see(found == modules, f"{pattern} occurs in {found}")
-    for module in COUNTING:
-        text = without_comments(sources.texts[TABLE + module])
-        derived = set(re.findall(r"#\[derive\((.*?)\)\]", text))
-        given = set(re.findall(r"^impl(?:<.*?>)? (\w+)(?:<.*?>)? for\b", text, re.M))
-        is_so = derived == {"Drop"} and given == {"Model"}
-        sources.see(is_so, f"{module}: implements more than Drop and Model: {derived}, {given}")
+@pytest.mark.parametrize("pattern,crates,modules", REACHED)
+def test_reached(pattern, crates, modules):
+    """Each pattern occurs in these modules alone, and so often."""
+    counts = {name: len(re.findall(rf"(?<!fn ){pattern}", code)) for name, code in code_of(crates).items()}
+    assert {name: count for name, count in counts.items() if count} == modules
 
 
-def see_stores(sources: Sources) -> None:
-    """Checks the fields of a table's types, since a further field could store times too."""
-    code = "\n".join(sources.code(TABLE).values())
-    for name, held in HOLDS.items():
-        body = re.search(rf"\bstruct {name}\b[^{{;]*\{{(.*?)\n\}}", code, re.S)
-        found = re.findall(FIELD, body[1]) if body else []
-        sources.see(found == held.split(), f"{name} has the fields {found}")
+@pytest.mark.parametrize("module", COUNTING)
+def test_no_stored_time_can_be_copied(module):
+    code = CODE[TABLE + module]
+    assert set(re.findall(r"#\[derive\((.*?)\)\]", code)) == {"Drop"}
+    assert set(re.findall(r"^impl(?:<.*?>)? (\w+)(?:<.*?>)? for\b", code, re.M)) == {"Model"}
 
 
-def see_all(sources: Sources) -> None:
-    see_room(sources)
-    see_forbidden(sources)
-    see_reached(sources)
-    see_stores(sources)
+@pytest.mark.parametrize("name,held", HOLDS.items())
+def test_fields(name, held):
+    """A further field of a table's types could store times too."""
+    code = "\n".join(code_of(TABLE).values())
+    body = re.search(rf"\bstruct {name}\b[^{{;]*\{{(.*?)\n\}}", code, re.S)
+    assert body and re.findall(FIELD, body[1]) == held.split()
 
 
-def see_walks(sources: Sources) -> None:
-    """Checks that only `Count` and the C library's handles have proofs written by hand."""
-    for path in sorted(CRATES.glob("*/proofs/**/Proof.antt")):
-        name = str(path.relative_to(CRATES))
-        is_known = name in [f"lldp_table/proofs/{walk}" for walk in WALKS] or name.startswith(HANDLES)
-        sources.see(is_known, f"{name}: a proof by hand")
-
-
-def main() -> int:
-    sources = Sources()
-    see_all(sources)
-    see_walks(sources)
-    for fault in sources.broken:
-        print(fault)
-    return 1 if sources.broken else 0
-
-
-if __name__ == "__main__":
-    sys.exit(main())
+def test_proofs_by_hand():
+    """Only `Count` and the C library's handles have proofs written by hand."""
+    names = [str(path.relative_to(CRATES)) for path in CRATES.glob("*/proofs/**/Proof.antt")]
+    assert names and [name for name in names if not name.startswith(HANDLES) and name not in WALKS] == []
