@@ -12,7 +12,7 @@ import pytest
 TOP = Path(__file__).resolve().parents[2]
 ROOT = Path(os.environ.get("PAGES") or TOP).resolve()
 PAGES = [page for page in sorted(ROOT.rglob("*.md"))
-         if not re.search(r"(^|/)(out|\..*)/", page.relative_to(ROOT).as_posix())]
+         if not re.search(r"(^|/)(out|vendor|\..*)/", page.relative_to(ROOT).as_posix())]
 EACH = pytest.mark.parametrize("page", PAGES, ids=lambda page: page.relative_to(ROOT).as_posix())
 ABOUT_PROOFS = pytest.mark.parametrize("page", [TOP / f"docs/{name}.md" for name in (
     "CLAIMS", "DEFINITIONS", "ARCHITECTURE", "STANDARD")], ids=lambda page: page.stem)
@@ -20,7 +20,7 @@ CRATES = [path.name for path in (TOP / "crates").iterdir()]
 FOLDERS_OF_A_CRATE = ("specs", "proofs", "src", "must-fail", "wrong")
 TEXTS = {path: path.read_text(errors="replace") for path in TOP.rglob("*")
          if path.is_file() and path.suffix in ("", ".antt", ".c", ".h", ".py", ".rs", ".rt", ".service", ".sh", ".txt")
-         and not re.search(r"(^|/)(out|\..*)/", path.relative_to(TOP).as_posix())}
+         and not re.search(r"(^|/)(out|vendor|\..*)/", path.relative_to(TOP).as_posix())}
 OPTION = r"(?<![\w-])--[a-z][a-z-]*[a-z]"
 
 
