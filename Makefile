@@ -96,8 +96,8 @@ rust-live: $(served)
 	$(cargo)
 rust-people:
 	$(cargo)
-	cd rust/people && CARGO_TARGET_DIR=out/target $(with) cargo -- cargo build --locked --release --example people
-	$(with) cargo -- cp rust/people/out/target/release/examples/people rust/people/out/people
+	cd rust/people && CARGO_TARGET_DIR=out/target $(with) cargo -- bash -ec 'cargo build --locked --release --example people; \
+	    cp out/target/release/examples/people out/people'
 completions: $(program) $(served)
 	$(PYTEST) -n $(N) tools/gate/test_help.py
 services: $(served) rust-people
