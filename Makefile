@@ -74,8 +74,7 @@ rights:
 
 # The program
 examples: $(program)
-	$(PYTEST) -n $(N) tools/gate/test_examples.py tools/gate/test_words.py
-	tools/gate/refuse-memory.sh $(program)
+	$(PYTEST) -n $(N) tools/gate/test_examples.py tools/gate/test_words.py tools/gate/test_refused_memory.py
 model: $(program)
 	$(PYTEST) -n $(N) tools/model/test_frames.py tools/model/test_listen.py
 	python3 tools/model/fuzz.py --program $(program) --seed 1 --traces 4000

@@ -1,4 +1,4 @@
-/* A preloaded library that refuses memory to a program, for tools/gate/refuse-memory.sh.
+/* A preloaded library that refuses memory to a program, for tools/gate/test_refused_memory.py.
  *
  * It counts the program's requests for memory. REFUSE_AT=N refuses request N and, if REFUSE_LATER is
  * set, all later ones. TELL_TO=FILE writes the number of requests to FILE at the end. */

@@ -64,7 +64,7 @@ def is_there(page, name):
 def test_files(page):
     tops = {path.name for path in TOP.iterdir()} | set(FOLDERS_OF_A_CRATE) | set(CRATES)
     names = re.findall(r"`([\w.*/-]+)`", without_code(page.read_text()))
-    paths = [name for name in names if "/" in name and name.split("/")[0] in tops and "out" not in name.split("/")]
+    paths = [name for name in names if name.split("/")[0] in tops and not re.search(r"/(out|vendor)\b|^[^/]*$", name)]
     paths += [name for name in names if name.endswith((".md", ".txt"))]
     to_fill_in = re.compile(r"\b(NAME|MODULE|TYPE|FUNCTION|FILE)\b")
     assert [name for name in paths if not to_fill_in.search(name) and not is_there(page, name)] == []

@@ -1,5 +1,5 @@
 //! Tests that opening reports a lack of memory. No later call allocates memory: the types ensure
-//! it, and tools/gate/refuse-memory.sh checks it for the program.
+//! it, and tools/gate/test_refused_memory.py checks it for the program.
 use super::{NAMES, only_receiving, open};
 use linked_list_allocator::LocalHeap;
 use lldp_engine::OpenFault;
