@@ -58,7 +58,6 @@ generated:
 	made() { python3 "$${@:2}" out/made && $(W) out/made $$1; }; \
 	    made crates/lldpa/proofs/Transcripts.antt tools/write/transcripts.py; \
 	    made crates/lldp_pdu/proofs/Vectors/Rows.antt tools/write/vectors.py; \
-	    made crates/lldp_tests/src/rows.rt tools/write/vectors.py --table; \
 	    made rust/people/src/letters.rs tools/write/letters.py; \
 	    made docs/LAWS.md tools/write/laws.py; \
 	    made docs/bench.svg tools/bench/bench.py --svg

@@ -193,6 +193,7 @@ FIELDS = {
 def options(words):
     """Returns the options as a term, and the parts of the --management address or None."""
     given, names = model.read_words(words)
+    given.pop("connections", None)  # no option of an agent
     fields = [FIELDS[name](value) if name in FIELDS
               else f"{name.removeprefix('tx_').removesuffix('_delay')} = {value}" for name, value in given.items()]
     if names != ["eth0"]:

@@ -1,10 +1,9 @@
 #!/usr/bin/env python3
-"""Writes the rows of examples/vectors.rows about LLDPDUs as theorems, or all rows as a table.
+"""Writes the rows of examples/vectors.rows about LLDPDUs as theorems.
 
-    tools/write/vectors.py [--table] [FILE]
+    tools/write/vectors.py [FILE]
 
-FILE of the theorems is crates/lldp_pdu/proofs/Vectors/Rows.antt by default, and FILE of the table
-(--table) is crates/lldp_tests/src/rows.rt.
+FILE is crates/lldp_pdu/proofs/Vectors/Rows.antt by default.
 """
 from __future__ import annotations
 
@@ -16,7 +15,6 @@ from itertools import groupby
 TOP = pathlib.Path(__file__).resolve().parents[2]
 ROWS = TOP / "examples" / "vectors.rows"
 FILE = TOP / "crates" / "lldp_pdu" / "proofs" / "Vectors" / "Rows.antt"
-TABLE = TOP / "crates" / "lldp_tests" / "src" / "rows.rt"
 # This many equal octets, or more, are written with `replicate`.
 LONG_RUN = 8
 FAULTS = ("Truncated", "NoChassis", "ChassisLength", "NoPort", "PortLength", "NoTtl", "TtlLength", "Repeated")
@@ -39,13 +37,9 @@ use Rattle.lldp_pdu.proofs.Vectors.Parts.{Gives, Tells, ShutsDown, tlv, begun, a
 """
 
 
-def all_rows() -> list[str]:
-    return [line for line in ROWS.read_text().splitlines() if not line.startswith("#")]
-
-
 def rows_of(kind: str) -> list[list[str]]:
     """Returns the rows of a kind, each as its fields after the kind."""
-    rows = [line.split("\t") for line in all_rows()]
+    rows = [line.split("\t") for line in ROWS.read_text().splitlines() if not line.startswith("#")]
     return [row[1:] for row in rows if row[0] == kind]
 
 
@@ -131,14 +125,5 @@ def proofs() -> str:
     return HEAD + faults_theorem() + "".join(told) + bodies_theorems() + "".join(built)
 
 
-def table() -> str:
-    rows = [row.replace("\t", "\\t") for row in all_rows()]
-    return ("//! The rows of examples/vectors.rows, written by tools/write/vectors.py.\n\n"
-            "pub const ROWS: &[&str] = &[\n" + "".join(f'    "{row}",\n' for row in rows) + "];\n")
-
-
 if __name__ == "__main__":
-    files = [word for word in sys.argv[1:] if word != "--table"]
-    is_table = "--table" in sys.argv
-    file = pathlib.Path(files[0]) if files else TABLE if is_table else FILE
-    file.write_text(table() if is_table else proofs())
+    pathlib.Path(sys.argv[1] if sys.argv[1:] else FILE).write_text(proofs())

@@ -9,10 +9,6 @@ mod pdu;
 #[cfg(test)]
 mod program;
 #[cfg(test)]
-mod row;
-#[cfg(test)]
-mod rows;
-#[cfg(test)]
 mod table;
 #[cfg(test)]
 mod transmit;

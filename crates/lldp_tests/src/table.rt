@@ -1,10 +1,10 @@
 //! Tests the worked examples of a table, call by call, and how much memory a table needs.
-ghost use Rattle.std.specs.Prelude.{◌≤◌, ◌+◌, ◌*◌, length};
+ghost use Rattle.std.specs.Prelude.{◌≤◌, ◌<◌, ◌+◌, ◌*◌, length};
 
 use linked_list_allocator::LocalHeap;
 use lldp_pdu::{Examined, Info, examine};
 use lldp_table::*;
-use std::alloc::Allocator;
+use std::alloc::{Allocator, Global};
 use std::process::Abort;
 use std::test::Fail;
 
@@ -140,32 +140,48 @@ fn equal_expiries(rt: HostRuntime) -> Result<(), Fail> {
     Ok(())
 }
 
+/// Checks that opening fails if there is less room than for all neighbors, and leaves nothing
+/// allocated.
+fn refuses_less(rt: &impl Abort, alloc: Global, limit: u8) -> Result<(), Fail>
+    requires some { 0 < limit }
+    requires at_most { limit ≤ 128 }
+{
+    // a heap rounds its size up to a multiple of 16
+    let scarce = LocalHeap::new(alloc, usize::from(limit) * 1500 - 16)?;
+    assert!(rt; Table::open(&scarce, limit).is_err());
+    assert_eq!(rt; scarce.used(), 0);
+    Ok(())
+}
+
+/// Makes each call that changes an empty table.
+fn fills<A: Allocator>(rt: &impl Abort, table: &mut Table<A>, limit: u8) {
+    for port in 0..limit {
+        learns(rt, table, &lldpdu(port, 9), Learned::New);
+    }
+    learns(rt, table, &lldpdu(limit, 9), Learned::Dropped);
+    learns(rt, table, &lldpdu(0, 1), Learned::Refreshed);
+    assert!(rt; limit <= table.capacity() && table.len() <= limit);
+    table.set_limit(limit);
+    ticks(rt, table, 1, 1);
+    forgets(rt, table, &lldpdu(1, 9), limit > 1);
+    table.purge();
+    assert_eq!(rt; table.limit(), limit);
+}
+
 /// Checks that a table makes one allocation, for all neighbors; that opening fails if there is less
 /// room; and that no later call needs memory.
 #[test]
 fn memory(rt: HostRuntime) -> Result<(), Fail> {
     for limit in [1u8, 32, 128] {
-        // a heap rounds its size up to a multiple of 16
-        let scarce = LocalHeap::new(rt.alloc(), usize::from(limit) * 1500 - 16)?;
-        assert!(rt; Table::open(&scarce, limit).is_err());
-        assert_eq!(rt; scarce.used(), 0);
+        refuses_less(&rt, rt.alloc(), limit)?;
         let ample = LocalHeap::new(rt.alloc(), usize::from(limit) * 3200)?;
         let mut table = Table::open(&ample, limit)?;
         assert!(rt; ample.used() >= usize::from(limit) * 1500);
         let rest = Vec::<u8, _>::with_capacity(&ample, ample.free())?;
         assert!(rt; Vec::<u8, _>::with_capacity(&ample, 1).is_err());
         let used = ample.used();
-        for port in 0..limit {
-            learns(&rt, &mut table, &lldpdu(port, 9), Learned::New);
-        }
-        learns(&rt, &mut table, &lldpdu(limit, 9), Learned::Dropped);
-        learns(&rt, &mut table, &lldpdu(0, 1), Learned::Refreshed);
-        assert!(rt; limit <= table.capacity() && table.len() <= limit);
-        table.set_limit(limit);
-        ticks(&rt, &mut table, 1, 1);
-        forgets(&rt, &mut table, &lldpdu(1, 9), limit > 1);
-        table.purge();
-        assert_eq!(rt; (table.limit(), ample.used()), (limit, used));
+        fills(&rt, &mut table, limit);
+        assert_eq!(rt; ample.used(), used);
         assert!(rt; rest.is_empty());
     }
     Ok(())

@@ -226,6 +226,18 @@ commands_refused : Shows (codes "error" ∷ codes "tx-interval" ∷ codes "tx-ho
 unfolding computed
 commands_refused = record { options = record usual { max_neighbors = 3; receive_only = true; names = codes "eth0" ∷ codes "eth1" ∷ [] }; asked = words_of_commands_refused; sound = refl; written = refl }
 
+words_of_connections_without_listen : AsksFor (codes "lldpa" ∷ codes "--connections" ∷ codes "2" ∷ codes "--receive-only" ∷ codes "eth0" ∷ [])
+    (record usual { receive_only = true })
+unfolding clap_on_literals decode_pairs digits
+words_of_connections_without_listen roles = record { names = refl; mac = record { long = refl; colons = refl; digits = refl }; hostname = refl; management = refl; role = refl; max_neighbors = refl; credit_max = refl; fast_init = refl; reinit = refl; receives = λ e. refl; sends = λ e. cc }
+
+connections_without_listen : Writes
+    (codes "lldpa" ∷ codes "--connections" ∷ codes "2" ∷ codes "--receive-only" ∷ codes "eth0" ∷ [])
+    (codes "show neighbors\n")
+    ((codes "lldp.eth0.neighbors=0\n" ++ codes "lldp.eth0.octets=0\n" ++ codes "lldp.eth0.too-many=no\n") ∷ [])
+unfolding computed
+connections_without_listen = record { options = record usual { receive_only = true }; asked = words_of_connections_without_listen; sound = refl; written = refl }
+
 words_of_credit_of_one : AsksFor (codes "lldpa" ∷ codes "--tx-credit-max" ∷ codes "1" ∷ codes "eth0" ∷ [])
     (record usual { credit_max = 1 })
 unfolding clap_on_literals decode_pairs digits
@@ -929,6 +941,18 @@ same_limit_is_a_change : Writes
 unfolding computed
 same_limit_is_a_change = record { options = usual; asked = words_of_disabled_hears_nothing; sound = refl; written = refl }
 
+seventy_names : Writes
+    (codes "lldpa" ∷ codes "--receive-only" ∷ codes "eth0" ∷ [])
+    (codes "rx eth0 0180c200000e00112233445588cc02070400112233445504050565746830060200780a000a000a000a000a000a000a000a000a000a000a000a000a000a000a000a000a000a000a000a000a000a000a000a000a000a000a000a000a000a000a000a000a000a000a000a000a000a000a000a000a000a000a000a000a000a000a000a000a000a000a000a000a000a000a000a000a000a000a000a000a000a000a000a000a000a000a000a000a000a00\n"
+    ++ codes "show neighbors\n")
+    ([]
+    ∷ (codes "lldp.eth0.neighbors=1\n" ++ codes "lldp.eth0.octets=160\n" ++ codes "lldp.eth0.too-many=no\n"
+    ++ codes "lldp.eth0.1.chassis.mac=00:11:22:33:44:55\n" ++ codes "lldp.eth0.1.port.ifname=eth0\n"
+    ++ codes "lldp.eth0.1.ttl=120\n" ++ codes "lldp.eth0.1.expires=120\n" ++ codes "lldp.eth0.1.chassis.name=\n")
+    ∷ [])
+unfolding computed
+seventy_names = record { options = record usual { receive_only = true }; asked = words_of_address_and_local_identifiers; sound = refl; written = refl }
+
 shorter_interval : Writes
     (codes "lldpa" ∷ codes "eth0" ∷ [])
     (codes "tick\n" ++ codes "configure lldp tx-interval 2\n" ++ codes "tick\n" ++ codes "tick\n")
@@ -1055,6 +1079,24 @@ statuses : Writes
     ∷ [])
 unfolding computed
 statuses = record { options = record usual { max_neighbors = 2 }; asked = words_of_statuses; sound = refl; written = refl }
+
+ttl_of_one_second : Writes
+    (codes "lldpa" ∷ codes "--receive-only" ∷ codes "eth0" ∷ [])
+    (codes "rx eth0 0180c200000e00112233445588cc02070400112233445504050565746830060200010000\n"
+    ++ codes "show neighbors\n" ++ codes "# tick\n" ++ codes "tick\n" ++ codes "show neighbors\n"
+    ++ codes "rx eth9 00\n" ++ codes "\n" ++ (9 ∷ []) ++ codes "tick 0\n" ++ codes "\"tick\" x\n"
+    ++ codes "show neighbors x\n" ++ codes "show neighbors")
+    ([]
+    ∷ (codes "lldp.eth0.neighbors=1\n" ++ codes "lldp.eth0.octets=20\n" ++ codes "lldp.eth0.too-many=no\n"
+    ++ codes "lldp.eth0.1.chassis.mac=00:11:22:33:44:55\n" ++ codes "lldp.eth0.1.port.ifname=eth0\n"
+    ++ codes "lldp.eth0.1.ttl=1\n" ++ codes "lldp.eth0.1.expires=1\n")
+    ∷ [] ∷ []
+    ∷ (codes "lldp.eth0.neighbors=0\n" ++ codes "lldp.eth0.octets=0\n" ++ codes "lldp.eth0.too-many=no\n")
+    ∷ codes "error: no such port\n" ∷ [] ∷ codes "error: out of range\n" ∷ codes "error: not a number\n"
+    ∷ codes "error: extra word\n"
+    ∷ (codes "lldp.eth0.neighbors=0\n" ++ codes "lldp.eth0.octets=0\n" ++ codes "lldp.eth0.too-many=no\n") ∷ [])
+unfolding computed
+ttl_of_one_second = record { options = record usual { receive_only = true }; asked = words_of_address_and_local_identifiers; sound = refl; written = refl }
 
 two_neighbors : Writes
     (codes "lldpa" ∷ codes "--receive-only" ∷ codes "eth0" ∷ [])
@@ -1198,3 +1240,7 @@ counters_of_bad_capabilities = refl
 counters_of_all_kinds_of_tlvs : counted all_kinds_of_tlvs ≡ valued counters (0 ∷ 0 ∷ 1 ∷ 0 ∷ 0 ∷ 0 ∷ 3 ∷ 0 ∷ 0 ∷ [])
 unfolding computed all_kinds_of_tlvs
 counters_of_all_kinds_of_tlvs = refl
+
+counters_of_seventy_names : counted seventy_names ≡ valued counters (0 ∷ 0 ∷ 1 ∷ 0 ∷ 1 ∷ 69 ∷ 0 ∷ 0 ∷ 0 ∷ [])
+unfolding computed seventy_names
+counters_of_seventy_names = refl

@@ -2,6 +2,7 @@
 use super::{only_receiving, open};
 use linked_list_allocator::LocalHeap;
 use lldp_engine::{Agent, Command, CommandFault, Event, Mark, Show};
+use lldp_table::Entry;
 use std::alloc::Allocator;
 use std::process::Abort;
 use std::test::Fail;
@@ -15,26 +16,14 @@ const SHUTDOWN: &[u8] =
     b"\x01\x80\xc2\x00\x00\x0e\x02\x00\x00\x00\x00\x01\x88\xcc\x02\x07\x04\x02\x00\x00\x00\x00\x01\x04\x05\x05eth0\x06\x02\x00\x00\x00\x00";
 
 #[test]
-fn commands_tables_and_frames(rt: HostRuntime) -> Result<(), Fail> {
-    let mut agent = open(&rt, rt.alloc(), &only_receiving(&["eth0"], 2))?;
+fn commands_and_frames(rt: HostRuntime) -> Result<(), Fail> {
+    let agent = open(&rt, rt.alloc(), &only_receiving(&["eth0"], 2))?;
     let show = agent.read_command(b"show \"neighbors\"");
-    assert_eq!(rt; show, Ok(Command::Show(Show::Neighbors)));
+    assert!(rt; matches!(show, Ok(Command::Show(Show::Neighbors))));
     let refused = agent.read_command(b"show neighbors x");
-    assert_eq!(rt; refused, Err(CommandFault::Extra));
-    let event = Event::Frame {
-        port: 0,
-        octets: FRAME,
-    };
-    assert!(rt; agent.allows(&event));
-    agent.step(event);
+    assert!(rt; matches!(refused, Err(CommandFault::Extra)));
     assert!(rt; 0 < agent.ports());
     assert_eq!(rt; agent.frame(0, Mark::Shutdown).as_slice(), SHUTDOWN);
-    let table = agent.table(0);
-    assert!(rt; 0 < table.len());
-    let neighbor = table.entry(0);
-    assert_eq!(rt; (neighbor.ttl(), neighbor.left()), (120, 120));
-    assert_eq!(rt; neighbor.msap().port, b"\x05eth7".as_slice());
-    assert_eq!(rt; neighbor.octets(), &FRAME[14..]);
     Ok(())
 }
 
@@ -44,8 +33,15 @@ fn take<A: Allocator>(rt: &impl Abort, agent: &mut Agent<A>, event: Event<'_>) {
     agent.step(event);
 }
 
-/// Checks that the first of two ports has no neighbor, and the second one has one with this many
-/// ticks left.
+/// Checks that a neighbor is that of `FRAME`, with this many ticks left.
+fn expect_neighbor(rt: &impl Abort, neighbor: &Entry<'_>, left: u16) {
+    assert_eq!(rt; (neighbor.ttl(), neighbor.left()), (120, left));
+    assert_eq!(rt; neighbor.msap().port, b"\x05eth7".as_slice());
+    assert_eq!(rt; neighbor.octets(), &FRAME[14..]);
+}
+
+/// Checks that the first of two ports has no neighbor, and the second one has that of `FRAME`, with
+/// this many ticks left.
 fn expect_heard<A: Allocator>(rt: &impl Abort, agent: &Agent<A>, left: u16) {
     assert_eq!(rt; agent.ports(), 2);
     assert_eq!(rt; agent.port_name(0), b"eth0".as_slice());
@@ -53,7 +49,7 @@ fn expect_heard<A: Allocator>(rt: &impl Abort, agent: &Agent<A>, left: u16) {
     assert_eq!(rt; agent.table(0).len(), 0);
     let second = agent.table(1);
     assert_eq!(rt; second.len(), 1);
-    assert_eq!(rt; second.entry(0).left(), left);
+    expect_neighbor(rt, &second.entry(0), left);
 }
 
 /// Checks that a frame at the second of two ports is stored there alone, that each port keeps its

@@ -80,11 +80,24 @@ fn faulty_connection(rt: HostRuntime) -> Result<(), Fail> {
     serve_all(&rt, &[LEAVE, ASK_IN_VAIN], &[(words, SOCKET_FAILED)])
 }
 
+/// The whole message for an argument that is not an option.
+const NO_SUCH: &str = "error: unexpected argument '--no-such' found
+
+  tip: to pass '--no-such' as a value, use '-- --no-such'
+
+Usage: lldpa [OPTIONS] PORT...
+
+For more information, try '--help'.
+";
+
 /// Checks the answer if no client comes, and if the network has another port. Checks that options
-/// are refused before a port is bound.
+/// are refused before a port is bound, and that an empty list of arguments is like the program's
+/// name alone.
 #[test]
-fn no_client(rt: HostRuntime) -> Result<(), Fail> {
+fn nobody_is_served(rt: HostRuntime) -> Result<(), Fail> {
     let rows: &[(&str, (u8, &str))] = &[
+        ("", (2, "lldpa: no ports\n")),
+        ("lldpa --no-such eth0", (2, NO_SUCH)),
         ("lldpa --listen 4711 eth0", SOCKET_FAILED),
         ("lldpa --listen 4712 eth0", SOCKET_FAILED),
         ("lldpa --listen 4712 a.b", (2, "lldpa: bad port name\n")),

@@ -92,19 +92,6 @@ pub fn expect_run(
     assert_eq!(rt; fuse.taken(), wanted.1, "at {place}");
 }
 
-/// Runs the input octet by octet, in two pieces (cut at every place), and in one piece.
-#[test]
-fn any_pieces(rt: HostRuntime) -> Result<(), Fail> {
-    for first in 1..=INPUT.len() {
-        let later = if first == 1 { 1 } else { usize::MAX };
-        let mut agent = open(&rt, rt.alloc(), &only_receiving(&["eth0"], 32))?;
-        let mut drip = Drip::new(INPUT, first, later, None);
-        let wanted = (Ok(()), OUTPUT);
-        expect_run(&rt, &mut agent, &mut drip, Fuse::endless(), wanted, first);
-    }
-    Ok(())
-}
-
 /// Returns what a run over the input writes. The clauses follow from public contracts alone.
 pub fn text_of_input(
     rt: &(impl Abort + AllocGlobal),

@@ -41,6 +41,12 @@ pub const ASK_IN_VAIN: Client<'static> = (&[SHOW], Some(NONE));
 /// A client that asks 200 times, and leaves without reading.
 pub const LEAVE: Client<'static> = (&[SHOW; 200], None);
 
+/// A client that sends nothing.
+const NOTHING: Client<'static> = (&[], Some(""));
+
+/// A client whose only line is not whole.
+const HALF_A_LINE: Client<'static> = (&["show neigh"], Some("error: unknown command\n"));
+
 /// Returns a listener at a free port. If no client waits there, accepting fails.
 pub fn listen(
     rt: &(impl Abort + AllocGlobal + Net<Stream = TcpStream, Listener = TcpListener>),
@@ -110,42 +116,62 @@ impl Server {
     }
 
     /// Connects clients and sends their lines. Calls `serve` for each of these numbers of
-    /// connections, and compares its answers. Then compares what the clients receive.
+    /// connections, and compares its answers. Then compares what the clients receive. Failures of
+    /// calls print `name`.
     fn serves(
         &mut self,
         rt: &(impl Abort + AllocGlobal + Net<Stream = TcpStream, Listener = TcpListener>),
+        name: &str,
         clients: &[Client<'_>],
         calls: &[(u16, Result<u16, ServeFault>)],
     ) -> Result<(), Fail> {
         let waiting = send_all(rt, &self.listener, clients)?;
         for &(connections, answer) in calls {
             let served = serve(&mut self.agent, &self.listener, connections);
-            assert_eq!(rt; served, answer);
+            assert_eq!(rt; served, answer, "{name}");
         }
         read_all(rt, waiting)
     }
 }
 
-#[test]
-fn two_connections(rt: HostRuntime) -> Result<(), Fail> {
-    Server::open(&rt)?.serves(&rt, &[LEARN, ASK], &[(2, Ok(0))])
-}
+/// Clients that connect and send their lines, and then calls of `serve`: how many connections each
+/// may serve, and its answer.
+type Scene<'a> = (&'a [Client<'a>], &'a [(u16, Result<u16, ServeFault>)]);
 
-/// Checks that no more clients are served than requested, also if 0 are requested.
-#[test]
-fn no_connections(rt: HostRuntime) -> Result<(), Fail> {
-    let mut server = Server::open(&rt)?;
-    server.serves(&rt, &[], &[(0, Ok(0))])?;
-    server.serves(&rt, &[LEARN, ASK], &[(0, Ok(0)), (1, Ok(0)), (1, Ok(0))])
-}
+/// Scenes with one agent and one listener. No more clients are served than requested, also if 0 are
+/// requested; each client is served, whatever the client before it did; and connections before a
+/// failed accept were served.
+const ROWS: &[(&str, &[Scene<'_>])] = &[
+    ("two connections", &[(&[LEARN, ASK], &[(2, Ok(0))])]),
+    (
+        "no connections",
+        &[
+            (&[], &[(0, Ok(0))]),
+            (&[LEARN, ASK], &[(0, Ok(0)), (1, Ok(0)), (1, Ok(0))]),
+        ],
+    ),
+    (
+        "client that does not read",
+        &[(&[LEARN, LEAVE, NOTHING, HALF_A_LINE, ASK], &[(5, Ok(1))])],
+    ),
+    (
+        "nobody to accept",
+        &[
+            (&[LEARN], &[(2, Err(ServeFault::Accept))]),
+            (&[ASK], &[(1, Ok(0))]),
+        ],
+    ),
+];
 
-/// Checks that each client is served, whatever the client before it did.
 #[test]
-fn client_that_does_not_read(rt: HostRuntime) -> Result<(), Fail> {
-    let nothing: Client<'_> = (&[], Some(""));
-    let half_a_line: Client<'_> = (&["show neigh"], Some("error: unknown command\n"));
-    let clients = [LEARN, LEAVE, nothing, half_a_line, ASK];
-    Server::open(&rt)?.serves(&rt, &clients, &[(5, Ok(1))])
+fn scenes(rt: HostRuntime) -> Result<(), Fail> {
+    for (name, scenes) in ROWS {
+        let mut server = Server::open(&rt)?;
+        for (clients, calls) in *scenes {
+            server.serves(&rt, name, clients, calls)?;
+        }
+    }
+    Ok(())
 }
 
 /// Checks that the next client is served after a client left without reading its answer. The client
@@ -160,14 +186,6 @@ fn client_that_leaves(rt: HostRuntime) -> Result<(), Fail> {
     read_all(&rt, waiting)
 }
 
-/// Checks that connections before a failed accept were served.
-#[test]
-fn nobody_to_accept(rt: HostRuntime) -> Result<(), Fail> {
-    let mut server = Server::open(&rt)?;
-    server.serves(&rt, &[LEARN], &[(2, Err(ServeFault::Accept))])?;
-    server.serves(&rt, &[ASK], &[(1, Ok(0))])
-}
-
 /// The counters after a thousand frames.
 const HEARD_ALL: [&str; 3] = [
     "lldp.eth0.sent=0",
@@ -180,7 +198,7 @@ const HEARD_ALL: [&str; 3] = [
 fn many_connections(rt: HostRuntime) -> Result<(), Fail> {
     let mut server = Server::open(&rt)?;
     for _client in 0..1000 {
-        server.serves(&rt, &[LEARN], &[(1, Ok(0))])?;
+        server.serves(&rt, "many connections", &[LEARN], &[(1, Ok(0))])?;
     }
     expect_counters(&rt, &server.agent, &HEARD_ALL);
     Ok(())
@@ -244,7 +262,7 @@ fn converse(
         &mut ToWriter::new(&mut &stream),
     );
     assert_eq!(rt; ran, answer);
-    server.serves(rt, &[ASK], &[(1, Ok(0))])
+    server.serves(rt, "after a conversation", &[ASK], &[(1, Ok(0))])
 }
 
 /// Checks that each answer arrives before the next line is sent, while the connection is still

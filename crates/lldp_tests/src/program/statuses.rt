@@ -83,36 +83,6 @@ fn help_that_cannot_be_written(rt: HostRuntime) -> Result<(), Fail> {
     Ok(())
 }
 
-/// The whole message for an argument that is not an option.
-const NO_SUCH: &str = "error: unexpected argument '--no-such' found
-
-  tip: to pass '--no-such' as a value, use '-- --no-such'
-
-Usage: lldpa [OPTIONS] PORT...
-
-For more information, try '--help'.
-";
-
-/// Checks that an empty list of arguments is like the program's name alone, that `--connections`
-/// changes nothing without `--listen`, and that nothing is read if the arguments have a fault.
-#[test]
-fn words_of_the_program(rt: HostRuntime) -> Result<(), Fail> {
-    let without_listen = "lldpa --connections 2 --receive-only eth0";
-    let rows: &[(&str, (u8, &str), &str, usize)] = &[
-        ("", (2, "lldpa: no ports\n"), "", 0),
-        (without_listen, (0, ""), NONE, 2),
-        ("lldpa --no-such eth0", (2, NO_SUCH), "", 0),
-    ];
-    for &(words, wanted, written, calls) in rows {
-        let mut reader = Drip::whole(b"show neighbors\n");
-        let mut writer = Fuse::endless();
-        expect_status(&rt, &OFFLINE, words, &mut reader, &mut writer, wanted)?;
-        assert_eq!(rt; writer.taken(), written.as_bytes());
-        assert_eq!(rt; reader.calls, calls);
-    }
-    Ok(())
-}
-
 /// Checks that the messages of faults are the lines that the program writes. No test can make
 /// enough reads for `input too long`.
 #[test]
