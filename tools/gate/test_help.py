@@ -50,6 +50,8 @@ VALUES = [
     ("lldpa-live", "--once", ["1", "86400"], ["0", "86401"], "at most N seconds"),
     ("lldpa-live", "--management-pattern", ["192.0.2.*,!172.17.*"], ["eth*"], "as '192.0.2.*,!172.17.*'; '!' excludes"),
     ("lldpa-live", "--control", ["/nowhere"], [], "(default /run/lldpa/control)"),
+    *(("lldpa-live", option, [], ["1"], "")
+      for option in ("--stay", "-- --listen", "-- --connections", "-- --help", "-- --version")),
     ("lldpa-audit", "--stale-after", ["90", "15m", "12h", "1d"], ["1w", "-1"], "TIME: 90 (seconds), 15m, 12h, 1d"),
     ("lldpa-audit", "--wait", ["90", "15m", "12h", "1d"], ["1w", "-1"], "with --live, wait up to TIME"),
     ("lldpa-audit", "--columns", ["host=device,port=interface,peer=to,peer_port=to_port"], ["a=b"],
