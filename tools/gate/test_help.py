@@ -50,6 +50,8 @@ VALUES = [
     ("lldpa-live", "--once", ["1", "86400"], ["0", "86401"], "at most N seconds"),
     ("lldpa-live", "--management-pattern", ["192.0.2.*,!172.17.*"], ["eth*"], "as '192.0.2.*,!172.17.*'; '!' excludes"),
     ("lldpa-live", "--control", ["/nowhere"], [], "(default /run/lldpa/control)"),
+    ("lldpa-live", "--user", [], [], "(default _lldpa if there is such a user, else nobody)"),
+    ("lldpa-ctl", "--control", [], [], "(default /run/lldpa/control)"),
     *(("lldpa-live", option, [], ["1"], "")
       for option in ("--stay", "-- --listen", "-- --connections", "-- --help", "-- --version")),
     ("lldpa-audit", "--stale-after", ["90", "15m", "12h", "1d"], ["1w", "-1"], "TIME: 90 (seconds), 15m, 12h, 1d"),
@@ -93,6 +95,8 @@ def test_values(program, option, taken, refused, text):
     *before, name = option.split()
     said = re.search(rf"^  +{name}\b(.*?)(?=^  +-|^\S|\Z)", help_of(program), re.M | re.S)
     assert text in re.sub(r"\s+", " ", said[1] if said else "")
+    if not taken + refused:
+        return
     without = ran(program, *before)
     assert without.returncode == 2 and without.stderr
     for value in taken:
