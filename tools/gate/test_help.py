@@ -52,6 +52,7 @@ VALUES = [
     ("lldpa-live", "--control", ["/nowhere"], [], "(default /run/lldpa/control)"),
     ("lldpa-live", "--user", [], [], "(default _lldpa if there is such a user, else nobody)"),
     ("lldpa-ctl", "--control", [], [], "(default /run/lldpa/control)"),
+    ("lldpctl", "-u", [], [], "(default /run/lldpa/control)"),
     *(("lldpa-live", option, [], ["1"], "")
       for option in ("--stay", "-- --listen", "-- --connections", "-- --help", "-- --version")),
     ("lldpa-audit", "--stale-after", ["90", "15m", "12h", "1d"], ["1w", "-1"], "TIME: 90 (seconds), 15m, 12h, 1d"),
@@ -108,7 +109,7 @@ def test_values(program, option, taken, refused, text):
 
 @pytest.mark.parametrize("program", PROGRAMS)
 def test_version(program):
-    for option in ("-V", "--version"):
+    for option in re.search(r"(-\w), (--version)", help_of(program)).groups():
         assert ran(program, option).stdout == f"{program} {__version__}\n"
 
 
