@@ -69,7 +69,7 @@ named:
 	$(PYTEST) tools/gate/test_named.py
 rights:
 	$(PYTEST) tools/gate/test_unit.py tools/gate/test_memory.py
-	grep -qx 'Handles allowed: Net\.' HANDLES
+	echo 'Handles allowed: Net.' | cmp - HANDLES
 
 # The program
 examples: $(program)

@@ -50,6 +50,11 @@ VALUES = [
     ("lldpa-live", "--once", ["1", "86400"], ["0", "86401"], "at most N seconds"),
     ("lldpa-live", "--management-pattern", ["192.0.2.*,!172.17.*"], ["eth*"], "as '192.0.2.*,!172.17.*'; '!' excludes"),
     ("lldpa-live", "--control", ["/nowhere"], [], "(default /run/lldpa/control)"),
+    ("lldpa-live", "--user", [], [], "(default _lldpa if there is such a user, else nobody)"),
+    ("lldpa-ctl", "--control", [], [], "(default /run/lldpa/control)"),
+    ("lldpctl", "-u", [], [], "(default /run/lldpa/control)"),
+    *(("lldpa-live", option, [], ["1"], "")
+      for option in ("--stay", "-- --listen", "-- --connections", "-- --help", "-- --version")),
     ("lldpa-audit", "--stale-after", ["90", "15m", "12h", "1d"], ["1w", "-1"], "TIME: 90 (seconds), 15m, 12h, 1d"),
     ("lldpa-audit", "--wait", ["90", "15m", "12h", "1d"], ["1w", "-1"], "with --live, wait up to TIME"),
     ("lldpa-audit", "--columns", ["host=device,port=interface,peer=to,peer_port=to_port"], ["a=b"],
@@ -91,6 +96,8 @@ def test_values(program, option, taken, refused, text):
     *before, name = option.split()
     said = re.search(rf"^  +{name}\b(.*?)(?=^  +-|^\S|\Z)", help_of(program), re.M | re.S)
     assert text in re.sub(r"\s+", " ", said[1] if said else "")
+    if not taken + refused:
+        return
     without = ran(program, *before)
     assert without.returncode == 2 and without.stderr
     for value in taken:
@@ -102,7 +109,7 @@ def test_values(program, option, taken, refused, text):
 
 @pytest.mark.parametrize("program", PROGRAMS)
 def test_version(program):
-    for option in ("-V", "--version"):
+    for option in re.search(r"(-\w), (--version)", help_of(program)).groups():
         assert ran(program, option).stdout == f"{program} {__version__}\n"
 
 
