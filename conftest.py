@@ -9,6 +9,9 @@ import pytest
 TOP = pathlib.Path(__file__).resolve().parent
 # A shell's background jobs ignore SIGINT, and so would the programs that tests run.
 signal.signal(signal.SIGINT, signal.default_int_handler)
+# What stands below rust tests lldpa-live and lldpa-ctl, which are one program.
+LIVE = pathlib.Path(os.environ.get("LLDPA_LIVE") or TOP / "rust/live/out/lldpa-live")
+LACKS_LIVE = pytest.mark.skip(reason="cargo: tools/release/live.sh builds lldpa-live with it")
 # modules that load the machine, need it, or need an answer within a tenth of a second
 ALONE = ("test_budget test_evil_memory test_live_flood test_load_dear test_load_floods test_load_quiet "
          "test_load_tables test_slow_log").split()
@@ -18,6 +21,8 @@ def pytest_collection_modifyitems(items):
     for item in items:
         if item.module.__name__ in ALONE:
             item.add_marker("alone")
+        if TOP / "rust" in item.path.parents and not LIVE.exists():
+            item.add_marker(LACKS_LIVE)
         if hasattr(item.obj, "by_the_clock"):
             item.add_marker(pytest.mark.flaky(reruns=2, condition="os.getloadavg()[0] > os.cpu_count()"))
 

@@ -7,6 +7,7 @@ from typing import Sequence, Tuple
 
 from made_captures import LLDP, pcap, whole
 from patience import HANGS
+from running_live import is_built
 from served import CTL, Served
 from support import CAPTURE, FilesCase
 
@@ -47,6 +48,7 @@ class Output(FilesCase):
                 said = run_with(output, [*BY_PYTHON, *words])
                 self.assertEqual(said, (1, f"lldpa-capture: {told}"))
 
+    @is_built
     def test_ctl(self) -> None:
         with Served() as served:
             for words in ([], ["show", "neighbors"], ["metrics"], ["--json"]):

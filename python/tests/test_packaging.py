@@ -10,7 +10,7 @@ import unittest
 from pathlib import Path
 
 import lldpa
-from running_live import LIVE
+from running_live import LIVE, is_built
 from served import PROGRAM, REPOSITORY
 
 SECTIONS = {"lldpa-audit": 1, "lldpa-capture": 1, "lldpa-ctl": 8, "lldpctl": 1}
@@ -153,6 +153,7 @@ class Modules(unittest.TestCase):
         self.assertEqual(told.stdout, f"lldpa {lldpa.__version__}\n")
 
 
+@is_built
 class Programs(unittest.TestCase):
     """Tests the version and the help of each program."""
 

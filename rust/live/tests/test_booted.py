@@ -1,0 +1,130 @@
+"""Tests the unit of the service under a systemd that boots in a container: what it does to an lldpa-live that hangs,
+that is killed, or that has wrong options."""
+
+import os
+import shutil
+import signal
+import subprocess
+import time
+import unittest
+
+from booted import NSPAWN, Booted
+from patience import HANGS, eventually
+from running_live import LIVE, is_built
+from served import REPOSITORY
+from wires import Peer, Wires
+
+PREFIX = "/opt/lldpa"
+CTL = f"{PREFIX}/bin/lldpa-ctl"
+MOST_RESTARTS = 5  # within ten seconds: systemd starts a unit that ends more often no more
+
+
+@is_built
+@unittest.skipUnless(os.geteuid() == 0, "root: only root boots a container")
+@unittest.skipUnless(shutil.which("ip"), "ip: it is not installed")
+@unittest.skipUnless(shutil.which(NSPAWN), f"{NSPAWN}: it is not installed")
+class TestUnit(unittest.TestCase):
+    @classmethod
+    def setUpClass(cls) -> None:
+        cls.wires = Wires()
+        cls.addClassCleanup(cls.wires.close)
+        cls.host = Booted(cls.wires)
+        cls.addClassCleanup(cls.host.close)
+        cls.install()
+        fault = cls.host.boot()
+        if fault:
+            raise unittest.SkipTest(f"booted-systemd: {fault}")
+
+    @classmethod
+    def install(cls) -> None:
+        """Installs the programs and the unit, which systemd finds by a link."""
+        root = cls.host.root
+        settings = {"DESTDIR": str(root), "LLDPA": "/bin/true", "LLDPA_LIVE": LIVE, "PYTHON_FOLDER": "/opt/python"}
+        subprocess.run([REPOSITORY / "tools/release/install.sh", PREFIX], env={**os.environ, **settings},
+                       stdout=subprocess.DEVNULL, check=True)
+        for unit in (root / PREFIX[1:] / "lib/systemd/system").iterdir():
+            (root / "etc/systemd/system" / unit.name).symlink_to(f"{PREFIX}/lib/systemd/system/{unit.name}")
+        cls.options = root / PREFIX[1:] / "etc/default/lldpa"
+        cls.settings = root / PREFIX[1:] / "etc/lldpa.d"
+        cls.given = cls.options.read_text().replace("PORTS=", "PORTS=eth0 # ")
+        cls.options.write_text(cls.given)
+
+    def setUp(self) -> None:
+        self.run_in_it("systemctl", "restart", "lldpa")
+        self.peer = Peer(self.wires, "peer0")
+        self.addCleanup(self.peer.close)
+
+    def run_in_it(self, *words: str) -> str:
+        """Runs a command that must succeed in the container. Returns what it writes."""
+        ended = self.host.run(*words)
+        journal = self.host.run("journalctl", "-n", "30", "-o", "cat").stdout if ended.returncode else ""
+        self.assertEqual(ended.returncode, 0, f"{words}: {ended.stdout}{ended.stderr}{journal}")
+        return ended.stdout
+
+    def process(self) -> int:
+        """Returns the process of the service as the container sees it, or 0."""
+        return int(self.host.show("lldpa", "MainPID") or 0)
+
+    def send(self, name: str) -> None:
+        self.run_in_it("kill", f"-{name}", str(self.process()))
+
+    def runs_anew(self, old: int) -> bool:
+        """True if another process than `old` answers."""
+        return self.process() not in (0, old) and self.host.run(CTL, "show", "chassis").returncode == 0
+
+    def test_start(self) -> None:
+        """`systemctl start` ends when the service answers, and not before."""
+        self.run_in_it("systemctl", "stop", "lldpa")
+        self.run_in_it("systemctl", "start", "lldpa")
+        self.assertIn("Station:on", self.run_in_it(CTL, "show", "chassis"))
+
+    def test_hangs(self) -> None:
+        """One that hangs says goodbye to its peers, and is started again."""
+        old = self.process()
+        self.send("STOP")
+        self.assertIsNotNone(self.peer.hears(HANGS, ttl=0), "no goodbye")
+        self.assertTrue(eventually(lambda: self.runs_anew(old), HANGS))
+
+    def test_killed(self) -> None:
+        """One that is killed as often as it starts is started again each time."""
+        for _ in range(MOST_RESTARTS + 1):
+            old = self.process()
+            self.send("KILL")
+            self.assertTrue(eventually(lambda: self.runs_anew(old), HANGS),
+                            self.host.run("systemctl", "status", "lldpa").stdout)
+
+    def test_wrong_options(self) -> None:
+        """Status 2 is for wrong options, which another start would not mend."""
+        self.addCleanup(self.options.write_text, self.given)
+        self.options.write_text(self.given.replace('LIVE_OPTIONS="', 'LIVE_OPTIONS="--no-such '))
+        self.host.run("systemctl", "restart", "lldpa")
+        self.assertTrue(eventually(lambda: self.host.show("lldpa", "ActiveState") == "failed"),
+                        self.host.run("systemctl", "status", "lldpa").stdout)
+        self.assertEqual([self.host.show("lldpa", name) for name in ("ExecMainStatus", "NRestarts")], ["2", "0"])
+
+    def test_reload(self) -> None:
+        """A reload takes new settings over in the same process."""
+        old = self.process()
+        (self.settings / "a.conf").write_text('configure system description "of the folder"\n')
+        self.addCleanup((self.settings / "a.conf").unlink)
+        self.run_in_it("systemctl", "reload", "lldpa")
+        self.assertTrue(eventually(lambda: "of the folder" in self.run_in_it(CTL, "show", "chassis")))
+        self.assertEqual(self.process(), old)
+
+    def test_stop(self) -> None:
+        """A stop says goodbye. One that cannot end is killed soon."""
+        self.run_in_it("systemctl", "stop", "lldpa")
+        self.assertIsNotNone(self.peer.hears(ttl=0), "no goodbye")
+        self.run_in_it("systemctl", "start", "lldpa")
+        frozen = subprocess.Popen(
+            ["nsenter", "--all", f"--target={self.host.first()}", "sh", "-c",
+             f"while kill -STOP {self.process()}; do :; done"], stderr=subprocess.DEVNULL)
+        began = time.monotonic()
+        self.run_in_it("systemctl", "stop", "lldpa")
+        frozen.wait(HANGS)
+        self.assertLess(time.monotonic() - began, 60, "systemd's own limit is 90 seconds")
+
+
+if __name__ == "__main__":
+    signal.signal(signal.SIGINT, signal.default_int_handler)
+    unittest.main()
