@@ -19,7 +19,7 @@ pages = man/*.[1-8] audit/*.1 crates/lldpa_c/include/*.3
 all: $(program) $(library) $(live)                ## proves and builds everything
 check: pages generated types named rights         ## what needs no program: after a change of anything
 crates: $(program) examples model instructions    ## after a change of crates or examples
-	cd crates/lldp_tests && rt try --test
+	cd crates/lldp_tests && rt try --test --seconds 600
 library: c-library arm64                          ## after a change of the library
 live: rust-live rust-people completions services  ## after a change of rust, python, bin, share or man
 tests: examples model c-library live audit        ## what a release can test without the kit
