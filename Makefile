@@ -106,7 +106,6 @@ audit: $(live)                                    ## after a change of audit
 	python3 audit/tools/check.py --program $(program)
 alone: $(live)                                    ## what needs the machine for itself
 	$(PYTEST) -m alone python/tests
-	python3 tools/bench/bench.py --program $(program) --check
 
 # The proofs, from nothing, of what is committed
 proofs:
