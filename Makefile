@@ -105,7 +105,6 @@ audit: $(served)                                  ## after a change of audit or 
 	python3 audit/tools/check.py --program $(program)
 alone: $(served)                                  ## what needs the machine for itself
 	$(PYTEST) -m alone rust
-	python3 tools/bench/bench.py --program $(program) --check
 
 # The proofs, from nothing, of what is committed
 proofs:

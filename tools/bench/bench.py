@@ -5,8 +5,6 @@
     tools/bench/bench.py --others      also measures a start, readers of captures, and an audit
     tools/bench/bench.py --save        also writes docs/bench.json and docs/bench.svg
     tools/bench/bench.py --svg FILE    draws docs/bench.json again, and measures nothing
-    tools/bench/bench.py --check       measures, and compares the times beside plain C with the saved ones
-    tools/bench/bench.py --save-elsewhere    measures them on another kind of processor, and saves them
 
 For each row the programs run in turn, several times, on a trace and on the beginning of that trace.
 The row shows each program's least processor time for the trace, less that for the beginning, per
@@ -14,13 +12,9 @@ item. C with vector instructions checks no TLVs, so it only shows what is possib
 valgrind) counts instructions on a shorter trace. --others measures installed readers (tshark,
 tcpdump) too. Needs a C compiler, and --save needs valgrind.
 
-What is saved is measured by one run with one program, and the gate measures it again: the
-instructions (bench_counts.py), and how many times as long as plain C the program takes. Both have
-the same hour and the same machine, so what the machine makes of an hour does not matter; a row fails
-if lldpa is off by more than a quarter in each of four tries (C with vector instructions, which depends
-on where its data lie, by more than six tenths). Nanoseconds are printed, but not saved. On another kind
-of processor C gains more or less than lldpa does. So the times beside C are saved for each kind, and
-on one that nobody measured they must lie between those that are saved.
+What is saved is measured by one run with one program. The gate measures the instructions again
+(bench_counts.py). How many times as long as plain C the program takes is saved for the picture alone,
+since it is another on each kind of processor. Nanoseconds are printed, but not saved.
 
 bench_rows.py has the rows, bench_captures.py measures readers of captures, and bench_picture.py draws
 the picture.
@@ -31,7 +25,6 @@ import argparse
 import json
 import platform
 import re
-import statistics
 import subprocess
 import sys
 import tempfile
@@ -45,15 +38,9 @@ from bench_picture import picture
 from bench_rows import PORTS, Row, rows
 
 TOP = Path(__file__).resolve().parents[2]
-sys.path.append(str(TOP / "tools" / "gate"))
-from counts import Counts  # noqa: E402
 
 SAVED, PICTURE = TOP / "docs" / "bench.json", TOP / "docs" / "bench.svg"
-ELSEWHERE = TOP / "docs" / "bench-elsewhere.json"  # times beside plain C, by the names of processors
 HEADS = ["lldpa", "C", "ratio", "vectors", "# lldpa"]
-MOST_OFF, MOST_OFF_OF_VECTORS = 1.25, 1.6
-MEASURED = 5  # how often --save-elsewhere measures
-PAUSES = (0, 2, 10, 30)  # seconds before each try of a row: other machines may use the same host for a while
 
 
 def resident(words: list[str]) -> int:
@@ -141,51 +128,6 @@ def measure(options: argparse.Namespace, room: Path) -> dict[str, Any]:
     return told
 
 
-def saved_times() -> dict[str, list[list[float]]]:
-    """Returns the times beside plain C that were saved of each row: those of this processor or, if there
-    are none, those of all processors."""
-    known = json.loads(SAVED.read_text())
-    times = json.loads(ELSEWHERE.read_text())
-    times[known["machine"].rpartition(", ")[0]] = {row["title"]: row["beside_c"] for row in known["rows"]}
-    chosen = [times[processor()]] if processor() in times else list(times.values())
-    return {title: [one[title] for one in chosen if title in one] for some in chosen for title in some}
-
-
-def is_near(now: list[float], saved: list[list[float]]) -> bool:
-    """Returns whether times beside plain C are near saved ones, or between some of them."""
-    columns = list(zip(*saved))
-    bounds = [(min(one) / off, max(one) * off) for one, off in zip(columns, (MOST_OFF, MOST_OFF_OF_VECTORS))]
-    return len(now) == len(bounds) and all(least <= one <= most for one, (least, most) in zip(now, bounds))
-
-
-def check(options: argparse.Namespace, room: Path) -> int:
-    """Compares each row's time beside plain C with the saved one."""
-    saved = saved_times()
-    yardstick, counts = compiled(room), Counts()
-    for row in rows(options.program, room):
-        sides, told = row.sides(options.program, yardstick), saved.pop(row.title, [])
-        now: list[float] = []
-        for pause in PAUSES if row.yardsticks else ():
-            time.sleep(pause)
-            now = beside_c(by_turns(row, room, sides, options.times))
-            if is_near(now, told):
-                break
-        counts.judge(None if is_near(now, told) else f"{now} times plain C, {told} saved", row.title)
-    counts.judge(f"no such rows: {list(saved)}" if saved else None, "docs/bench.json")
-    return counts.end()
-
-
-def save_elsewhere(options: argparse.Namespace, room: Path) -> None:
-    """Measures the times beside plain C several times, and saves the medians as those of this processor."""
-    found = [table(options, room) for _ in range(MEASURED)]
-    times = json.loads(ELSEWHERE.read_text())
-    times[processor()] = {}
-    for of_row in zip(*found):
-        columns = zip(*(row["beside_c"] for row in of_row))
-        times[processor()][of_row[0]["title"]] = [statistics.median(one) for one in columns]
-    ELSEWHERE.write_text(json.dumps(times, indent=1) + "\n")
-
-
 def read_options() -> argparse.Namespace:
     parser = argparse.ArgumentParser(description=(__doc__ or "").splitlines()[0])
     add = parser.add_argument
@@ -194,31 +136,23 @@ def read_options() -> argparse.Namespace:
     add("--only", default="", help="only rows with this text in their title")
     add("--others", action="store_true", help="also measure a start, readers of captures, and an audit")
     add("--save", action="store_true", help="write docs/bench.json, and draw it")
-    add("--save-elsewhere", action="store_true", help="write docs/bench-elsewhere.json: times on another processor")
     add("--svg", metavar="FILE", help="draw docs/bench.json to this file, and measure nothing")
-    add("--check", action="store_true", help="compare the times beside plain C with docs/bench.json")
     return parser.parse_args()
 
 
-def main() -> int:
+def main() -> None:
     options = read_options()
     if options.svg:
         Path(options.svg).write_text(picture(json.loads(SAVED.read_text())))
-        return 0
-    if (options.save or options.save_elsewhere) and options.only:
+        return
+    if options.save and options.only:
         sys.exit("what is saved is measured whole: --save takes no --only")
     with tempfile.TemporaryDirectory() as folder:
-        if options.save_elsewhere:
-            save_elsewhere(options, Path(folder))
-            return 0
-        if options.check:
-            return check(options, Path(folder))
         told = measure(options, Path(folder))
     if options.save:
         SAVED.write_text(json.dumps(told, indent=1) + "\n")
         PICTURE.write_text(picture(told))
-    return 0
 
 
 if __name__ == "__main__":
-    sys.exit(main())
+    main()

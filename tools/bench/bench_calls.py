@@ -1,4 +1,4 @@
-"""Counts the instructions of calls of the library, for bench_counts.py: calls.c and worst.c make them.
+"""Counts the instructions of calls of the library, for bench_counts.py: calls.c makes them.
 
     tools/bench/bench_calls.py PROGRAM [CALL]    prints the counts of the built calls.c, or of one call
     tools/bench/bench_calls.py PROGRAM --save    saves the counts in calls.json
@@ -20,25 +20,19 @@ TOP = pathlib.Path(__file__).resolve().parents[2]
 sys.path.append(str(TOP / "tools" / "gate"))
 from counts import Counts  # noqa: E402
 
-SOURCES = [TOP / "tools" / "bench" / name for name in ("calls.c", "worst.c")]
+SOURCE = TOP / "tools" / "bench" / "calls.c"
 SAVED = TOP / "tools" / "bench" / "calls.json"
 LIMITS = (1, 32, 128)
-# The names that a stranger chooses (worst.c), each with a place in them.
-WORST = (*(("worst", place) for place in (3, 122, 232, 250, 261, 380, 444, 508)),
-         *((name, place) for name in ("worst-pairs", "worst-fours", "worst-twins") for place in (22, 102, 250)),
-         ("worst-again", 22), ("worst-shorter", 240))
-# The calls, each with the number of ports and of neighbors on each. The worst names have a place instead of
-# ports, and texts have a number of octets instead of neighbors.
+# The calls, each with the number of ports and of neighbors on each. Texts have a number of octets instead.
 CALLS = (*((name, 1, limit) for limit in LIMITS for name in ("frame", "news", "due", "neighbor")),
          ("due", 8, 32), ("due", 64, 32), ("due", 64, 128), ("frame-of", 1, 1), ("show", 1, 32), ("show", 1, 128),
-         ("loop", 1, 32), ("loop", 8, 32), ("loop", 64, 128),
-         *((name, place, 128) for name, place in WORST),
+         ("loop", 1, 32), ("loop", 8, 32), ("loop", 64, 128), ("worst", 1, 128),
          ("tlv-text", 1, 20), ("escape", 1, 20))
 # How often each call is made, if not 1000 times. A loop over all neighbors is counted for a minute.
 TIMES = {"show": 1, "loop": 16_380}
 # The most instructions of some calls.
 AIMS = {"due 1 x 1": 100, "due 1 x 32": 100, "due 1 x 128": 100, "due 64 x 32": 1900, "due 64 x 128": 1900,
-        **{f"{name} {place} x 128": 20_000 for name, place in WORST}, "tlv-text 1 x 20": 600, "escape 1 x 20": 600}
+        "worst 1 x 128": 60_000, "tlv-text 1 x 20": 600, "escape 1 x 20": 600}
 # The most that a frame with news may need, compared with one without.
 MOST_NEWS = 1.15
 # The most that a neighbor's lines may need in pages with 128 neighbors, compared with pages with 32.
@@ -50,7 +44,7 @@ def built(room: pathlib.Path) -> pathlib.Path:
     folder, program = room / "lib", room / "calls"
     subprocess.run([TOP / "tools/library/library.sh", folder], check=True)
     archive = folder / "liblldpa.a"
-    subprocess.run(["cc", "-std=c99", "-O2", f"-I{folder}", *SOURCES, archive, "-o", program], check=True)
+    subprocess.run(["cc", "-std=c99", "-O2", f"-I{folder}", SOURCE, archive, "-o", program], check=True)
     return program
 
 

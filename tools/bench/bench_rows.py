@@ -63,16 +63,6 @@ def greatest(names: int) -> list[bytes]:
     return [frame(*name(i), [*said, tlv(127, b"\0\x80\xc2\x63" + bytes(room[i] - 6))]) for i in range(names)]
 
 
-# Names whose numbers differ by this divisor have the same tag in the neighbor table.
-DIVISOR = 65_521
-
-
-def one_tag() -> list[bytes]:
-    """Returns frames of 128 senders whose names have the same tag in the neighbor table."""
-    ends = [(2 ** 56 + i * DIVISOR).to_bytes(8, "big") for i in range(128)]
-    return [frame(b"\x07" + bytes(20) + end, b"\x05swp1", []) for end in ends]
-
-
 def own_tags() -> list[bytes]:
     """Returns frames of 128 senders whose names are equally long but have different tags."""
     rng = random.Random(2)
@@ -122,16 +112,15 @@ def both(neighbors: int) -> list[list[str]]:
 
 def rows_received() -> list[Row]:
     """Returns the rows in which one port receives frames. C with vector instructions compares only
-    16 octets of a name, so it does not run the rows with long names."""
+    16 octets of a name, so it does not run the row with long names."""
     many, plain = [*MANY, "eth0"], [["read", "128"]]
-    own, one = own_tags(), one_tag()
+    own = own_tags()
     return [
         Row("receive a typical frame, 32 neighbors", ONE_PORT, "", received(mix(992, 32)), 100_000, both(32)),
         Row("receive the shortest frame, 36 octets", ONE_PORT, "", received(least(32)), 200_000, both(32)),
         Row("receive the longest frame, 1,514 octets", ONE_PORT, "", received(greatest(32)), 30_000, both(32)),
         Row("receive a typical frame, 128 neighbors", many, "", received(mix(1024, 128)), 100_000, both(128)),
         Row("refresh the last of 128 neighbors", many, received(own), received(own[-1:]), 200_000, plain),
-        Row("the same, names chosen to collide", many, received(one), received(one[-1:]), 200_000, plain),
     ]
 
 

@@ -8,14 +8,14 @@
  *     show                          lldpa_show_lines, a page of LLDPA_LINE_ROOM octets after the other
  *     loop                          a frame and lldpa_due. Each neighbor sends every 30 seconds, which
  *                                   lldpa_ticks counts, and once a minute all neighbors are read
- *     worst..                       lldpa_frame, for names that worst.c chooses. PORTS is a place in the names
+ *     worst                         lldpa_frame, for the worst names that a stranger can choose
  *     tlv-text, escape              a System Name or a text of NUMBER octets is written
  */
 #include <stdio.h>
 #include <stdlib.h>
 #include <string.h>
 
-#include "calls.h"
+#include "lldpa.h"
 
 static uint8_t frame[] = "\x01\x80\xc2\0\0\x0e\0\x11\x22\x33\x44\x55\x88\xcc\x02\x07\x04\0\x11\x22\x33\x44\x55"
                          "\x04\x05\x05" "eth0" "\x06\x02\0\x78\x08\x0e" "GigabitEther01" "\x0a\x03" "sw1"
@@ -23,11 +23,12 @@ static uint8_t frame[] = "\x01\x80\xc2\0\0\x0e\0\x11\x22\x33\x44\x55\x88\xcc\x02
 /* The octet of the chassis ID that tells the neighbors apart. */
 #define APART 22
 
-lldpa_agent agent;
-lldpa_marks marks;
-int failed;
+static lldpa_agent agent;
+static lldpa_marks marks;
+static int failed;
 
-void open_agent(uint32_t ports, uint32_t neighbors)
+/* Opens an agent with ports that only receive. */
+static void open_agent(uint32_t ports, uint32_t neighbors)
 {
     static char names[64][8];
     lldpa_text texts[64];
@@ -122,6 +123,45 @@ static void write_frame(uint32_t neighbor)
     failed += lldpa_frame_of(&agent, 0, LLDPA_ORDINARY, room, sizeof room, &length) != LLDPA_OK;
 }
 
+/*
+ * Receives the frame of a neighbor with the longest identifiers. All neighbors have the same port, and their
+ * chassis differ only at the end, which is compared last. They have the same tag, too: a tag is one octet, to
+ * which the last two octets add 31 x + 225 x, which is 0.
+ */
+static void receive_worst(uint32_t neighbor, bool leaves)
+{
+    static uint8_t worst[14 + 2 * 258 + 6];
+    uint8_t *chassis = worst + 14, *port = chassis + 258, *rest = port + 258;
+    memcpy(worst, frame, 14);
+    memset(chassis, 7, 2 * 258);
+    memcpy(chassis, "\x03", 2);
+    memcpy(port, "\x05", 2);
+    memcpy(rest, leaves ? "\x06\x02\0\0\0" : "\x06\x02\xff\xff\0", 6);
+    port[-2] = (uint8_t)neighbor;
+    port[-1] = (uint8_t)(225 * neighbor);
+    failed += lldpa_frame(&agent, 0, worst, sizeof worst, &marks, NULL) != LLDPA_OK;
+}
+
+/* Three of four neighbors leave. One more then comes and leaves, so that each slot that is not in use has its name. */
+static void run_worst(uint32_t neighbors, uint32_t count)
+{
+    open_agent(1, neighbors);
+    for (uint32_t at = 0; at < neighbors; at++) {
+        receive_worst(at, false);
+    }
+    for (uint32_t at = neighbors / 4; at < neighbors; at++) {
+        receive_worst(at, true);
+    }
+    for (uint32_t at = neighbors / 4; at < neighbors; at++) {
+        receive_worst(neighbors, true);
+        receive_worst(neighbors, false);
+    }
+    for (uint32_t at = 0; at < count; at++) {
+        receive_worst(neighbors, false);
+    }
+    lldpa_close(&agent);
+}
+
 static const struct {
     const char *name;
     void (*call)(uint32_t neighbor);
@@ -169,7 +209,9 @@ int main(int argc, char **argv)
     uint32_t number = (uint32_t)strtoul(argv[3], NULL, 10), count = (uint32_t)strtoul(argv[4], NULL, 10);
     if (strcmp(argv[1], "tlv-text") == 0 || strcmp(argv[1], "escape") == 0) {
         run_texts(strcmp(argv[1], "tlv-text") == 0, number, count);
-    } else if (!run_worst(argv[1], ports, count)) {
+    } else if (strcmp(argv[1], "worst") == 0) {
+        run_worst(number, count);
+    } else {
         run_agent(argv[1], ports, number, count);
     }
     return failed != 0;

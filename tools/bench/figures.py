@@ -30,6 +30,7 @@ from real_lldpd import Lldpd, shutil  # noqa: E402
 from running_live import OnLinks  # noqa: E402
 from served import CTL, PROGRAM, numbered  # noqa: E402
 
+FUNCTION = r"^\s*(?:pub(?:\(\w+\))? )?(?:const )?fn \w+"
 LINKS = 8
 SETTLED = 35  # seconds
 

@@ -85,7 +85,6 @@ link-tun      interfaces that are no Ethernet
 loop-mounts   disks that stand still
 user-namespaces  capabilities in a new user namespace
 x86-64        what writes registers of this processor, or runs its older ones
-x86-64-v3     the shared object for processors with AVX2
 sanitizers    the library under the compiler's sanitizers
 END
 }
@@ -109,7 +108,6 @@ has_feature() {
         memory-cgroups) limits_memory ;;
         user-namespaces) unshare --user true 2> /dev/null ;;
         x86-64) [ "$(uname -m)" = x86_64 ] ;;
-        x86-64-v3) /lib64/ld-linux-x86-64.so.2 --help 2> /dev/null | grep -q 'x86-64-v3 (supported' ;;
         sanitizers) runs_sanitized ;;
     esac
 }

@@ -70,7 +70,7 @@ REACHED = (
 COUNTING = ("count.rt", "times.rt", "queue.rt")
 # The fields of the types that make up a table.
 HOLDS = {"Count": "number", "Times": "each count", "Queue": "slots last times",
-         "Slot": "ttl length room", "Tags": "tags apart", "Table": "slots order used gone queue tags limit too_many"}
+         "Slot": "ttl length room", "Table": "slots order used gone queue tags limit too_many"}
 FIELD = r"(?:^|[{,])\s*(?:pub(?:\(crate\))? )?(?:ghost )?(\w+):"
 
 

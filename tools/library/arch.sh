@@ -15,9 +15,8 @@ while [ $# -gt 0 ]; do
 done
 case $arch in
     amd64) triple=x86_64-linux-gnu target='x86_64-unknown-linux-gnu --cpu=x86-64' ;;
-    amd64-v3) triple=x86_64-linux-gnu target='x86_64-unknown-linux-gnu --cpu=x86-64-v3' ;;
     arm64) triple=aarch64-linux-gnu target=aarch64-unknown-linux-gnu ;;
     *) fail "unknown architecture $arch" ;;
 esac
 tools=
-[ "${arch%-v3}" = "$here" ] || tools=$triple-
+[ "$arch" = "$here" ] || tools=$triple-

@@ -3,9 +3,7 @@
 #     tools/library/library.sh [--arch amd64|arm64] [FOLDER]
 # By default FOLDER is crates/lldpa_c/out/lib and the architecture is that of this machine. Another
 # architecture needs a C compiler and binutils, such as the package gcc-aarch64-linux-gnu. The
-# library for amd64 runs on every amd64 processor. A second shared object from the same sources, in
-# FOLDER/glibc-hwcaps/x86-64-v3, is for amd64 processors with AVX2: there the loader of the GNU C
-# library takes it in place of the first.
+# library for amd64 runs on every amd64 processor.
 #
 # tools/release/assembly.sh gives the proved functions as assembly, and they get the prefix `proved_`.
 # Programs call the functions of crates/lldpa_c/front. These check for NULL, then call malloc and the
@@ -40,32 +38,15 @@ folder=$(realpath -m -- "${folder:-crates/lldpa_c/out/lib}")
 room=$(mktemp -d)
 trap 'rm -rf "$room"' EXIT
 
-# proved ARCH NAME: makes the archive NAME.a of the proved functions, with their prefix.
-proved() {
-    "${tools}gcc" -c "$(tools/release/assembly.sh "$1" lldpa_c)" -o "$room/$2.o"
-    "${tools}nm" --defined-only "$room/$2.o" | sed -n 's/^.* T \(lldpa_.*\)$/\1 proved_\1/p' > "$room/names"
-    "${tools}objcopy" --redefine-syms="$room/names" "$room/$2.o"
-    "${tools}ar" rcsD "$room/$2.a" "$room/$2.o"
-}
-
 # Each function of the front gets a section of its own.
 compile() {
     "${tools}gcc" -std=gnu99 -O2 -fPIC -ffunction-sections -Wall -Wextra -Werror -I"$header" -c "$@"
 }
 
-# shared FOLDER NAME OPTION..: makes the shared object in a folder, from the front, compiled with these
-# options, and the archive NAME.a.
-shared() {
-    into=$1 name=$2
-    shift 2
-    mkdir -p "$into"
-    compile "$@" $front/lldpa.c -o "$room/exported.o"
-    "${tools}gcc" -shared -o "$into/liblldpa.so.1" "$room/exported.o" -Wl,--start-group "$room/$name.a" \
-        "$room/memory.o" -Wl,--end-group -Wl,--gc-sections -Wl,-z,defs,-z,now,-soname,liblldpa.so.1 \
-        -Wl,--version-script="$room/exports"
-}
-
-proved "$arch" proved
+"${tools}gcc" -c "$(tools/release/assembly.sh "$arch" lldpa_c)" -o "$room/proved.o"
+"${tools}nm" --defined-only "$room/proved.o" | sed -n 's/^.* T \(lldpa_.*\)$/\1 proved_\1/p' > "$room/names"
+"${tools}objcopy" --redefine-syms="$room/names" "$room/proved.o"
+"${tools}ar" rcsD "$room/proved.a" "$room/proved.o"
 echo 'LLDPA_1 { global: lldpa_*; local: *; };' > "$room/exports"
 # The archive's functions are hidden, so a shared object that contains them does not export them.
 compile -fvisibility=hidden $front/lldpa.c -o "$room/front.o"
@@ -87,9 +68,8 @@ install -m 644 "$room/liblldpa.a" "$header/lldpa.h" "$folder"
 # The functions that the front calls, for tests that link them with a changed front.
 cp "$room/proved.a" "$folder/proved.a"
 "${tools}ar" rsD "$folder/proved.a" "$room/memory.o" 2> /dev/null
-shared "$folder" proved
-if [ "$arch" = amd64 ]; then
-    proved amd64-v3 proved-v3
-    shared "$folder/glibc-hwcaps/x86-64-v3" proved-v3 -march=x86-64-v3
-fi
+compile $front/lldpa.c -o "$room/exported.o"
+"${tools}gcc" -shared -o "$folder/liblldpa.so.1" "$room/exported.o" -Wl,--start-group "$room/proved.a" \
+    "$room/memory.o" -Wl,--end-group -Wl,--gc-sections -Wl,-z,defs,-z,now,-soname,liblldpa.so.1 \
+    -Wl,--version-script="$room/exports"
 echo "$folder"

@@ -26,7 +26,6 @@ from library_abi import check_abi
 from library_examples import check_page, check_receive, check_sd_lldp_rx, check_who
 from library_front import check_front
 from library_layout import check_layout
-from library_level import check_level
 from library_machine import check_machine
 from library_parts import TOP, WARNINGS, Counts, Library, count_of, fault_of, ran, skip
 from library_rust import check_bindings, check_rust
@@ -161,7 +160,7 @@ def check_stack(library: Library, counts: Counts) -> None:
 
 # The checks that take longest come first.
 CHECKS = (check_programs, check_rust, check_front, check_refused, check_receive, check_layout, check_header,
-          check_processor, check_level, check_functions, check_needs, check_abi, check_plug_in,
+          check_processor, check_functions, check_needs, check_abi, check_plug_in,
           check_bindings, check_size, check_machine, check_stack, check_page, check_who, check_sd_lldp_rx)
 
 

@@ -30,7 +30,7 @@ NEIGHBORS = 180  # there is room for 128
 ROUNDS = 3000
 LOOK_EACH = 25
 
-DIVISOR = (65521).to_bytes(2, "big")  # tags are remainders of division by it
+SAME = bytes([1, 225])  # adds 31 + 225, which is 0 modulo 256, to a tag
 # of IDs: the shortest, the longest, and some whose names end at about a multiple of 64 octets
 LENGTHS = (2, 3, 4, 15, 16, 17, *range(57, 67), *range(121, 130), 186, 188, *range(250, 257))
 
@@ -79,9 +79,9 @@ def random_trace(seed):
 
 
 def alike(length):
-    """Returns IDs with one tag: zeros, and for each place zeros with the divisor at this place."""
+    """Returns IDs with one tag: zeros, and for each place zeros with SAME at this place."""
     places = range(length - 1)
-    return [bytes(length), *(bytes(at) + DIVISOR + bytes(length - at - 2) for at in places)]
+    return [bytes(length), *(bytes(at) + SAME + bytes(length - at - 2) for at in places)]
 
 
 def names_alike(part, length):

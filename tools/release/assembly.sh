@@ -1,7 +1,6 @@
 #!/bin/sh
 # Prints the path of a proved crate as assembly, which GNU as takes.
-#     tools/release/assembly.sh ARCH CRATE     ARCH is amd64, amd64-v3 (with AVX2) or arm64, CRATE is
-#                                              lldpa or lldpa_c
+#     tools/release/assembly.sh ARCH CRATE     ARCH is amd64 or arm64, CRATE is lldpa or lldpa_c
 #     tools/release/assembly.sh --sources      prints the digest of what a proof and a build read
 # A release has these files in the folder `assembly`, and needs no kit. Elsewhere the kit's compiler
 # writes crates/CRATE/out/ARCH/CRATE.s, unless the head of that file names the sources and the kit of

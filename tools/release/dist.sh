@@ -29,7 +29,7 @@ mkdir "$tree"
 git ls-files -z | xargs -0 cp -P --parents -t "$tree"
 tools/release/vendor.sh
 cp -R rust/vendor "$tree/rust"
-for made in amd64/lldpa amd64/lldpa_c amd64-v3/lldpa_c arm64/lldpa arm64/lldpa_c; do
+for made in amd64/lldpa amd64/lldpa_c arm64/lldpa arm64/lldpa_c; do
     assembly=$(tools/release/assembly.sh "${made%/*}" "${made#*/}")
     install -D -m 644 "$assembly" "$tree/assembly/$made.s"
 done

@@ -112,8 +112,6 @@ put_library() {
     put 644 "$prefix/include" "$built/lldpa.h"
     put 644 "$libdir" "$built/liblldpa.a" "$built/liblldpa.so.1"
     link liblldpa.so.1 "$libdir/liblldpa.so" # the linker searches for this name
-    fast=glibc-hwcaps/x86-64-v3 # the loader searches here first, on amd64 processors with AVX2
-    [ ! -e "$built/$fast" ] || put 644 "$libdir/$fast" "$built/$fast/liblldpa.so.1"
     put 644 "$libdir/pkgconfig" share/pkgconfig/lldpa.pc
     version=$(sed -n 's/^## \([0-9][0-9.]*\)$/\1/p' CHANGELOG.md | head -n 1)
     sed -i "s,@prefix@,$prefix,; s,@libdir@,$libdir,; s,@version@,$version," "$tree$libdir/pkgconfig/lldpa.pc"
@@ -128,9 +126,7 @@ put_library() {
 
 if [ -n "$uninstall" ]; then # only names count, so nothing has to be built
     program=$room/lldpa live=$room/lldpa-live built=$room
-    mkdir -p "$room/glibc-hwcaps/x86-64-v3"
-    touch "$program" "$live" "$room/lldpa.h" "$room/liblldpa.a" "$room/liblldpa.so.1" \
-        "$room/glibc-hwcaps/x86-64-v3/liblldpa.so.1"
+    touch "$program" "$live" "$room/lldpa.h" "$room/liblldpa.a" "$room/liblldpa.so.1"
 fi
 if [ -n "$library" ]; then
     put_library

@@ -1,7 +1,5 @@
 -- Slots, and the order of those in use.
 pub mod Tags
-pub mod Names
-pub mod Blocks
 pub mod Places
 pub mod Layout
 pub mod Search

@@ -7,14 +7,11 @@ mod entry;
 pub mod laws;
 mod learned;
 mod limits;
-mod name;
 mod order;
-mod prefix;
 mod queue;
 mod room;
 mod slot;
 mod table;
-mod tags;
 mod times;
 
 pub use entries::Entries;

@@ -1,23 +1,22 @@
 //! The order of a table's slots, those in use first, and the functions that search or change it.
-ghost use Rattle.std.specs.Prelude.{◌≡◌, ℕ, ◌≤◌, ◌<◌, ◌+◌, ◌*◌, ◌-◌, ◌++◌, true, List, length, take, MatchOption, not, slice_index, slice_index_or, sum_by, nat_eq};
-ghost use Rattle.std.specs.List.{filter, AllByRecursion, IsDistinct};
-ghost use Rattle.lldp_pdu.specs.Lldpdu.{msap_of};
-ghost use Rattle.lldp_table.specs.Code.Stored.{tag_of, IsName, BeginsWithName};
+ghost use Rattle.std.specs.Prelude.{◌≡◌, ◌≤◌, ◌<◌, ◌+◌, ◌*◌, ◌-◌, ◌++◌, true, false, List, length, take, map, MatchOption, not, slice_index, slice_index_or, sum_by, IsPermutation, nat_eq};
+ghost use Rattle.std.specs.List.{list_any, filter, filter_map, AllByRecursion, IsDistinct};
+ghost use Rattle.lldp_pdu.specs.View.{msap_view};
+ghost use Rattle.lldp_table.specs.Code.Stored.{Stored, tag_of};
+ghost use Rattle.lldp_table.specs.Msap.{same_msap};
 ghost use Rattle.lldp_table.specs.Code.Ageing.{Aged};
 ghost use Rattle.lldp_table.specs.Code.Queue.{Due, less_first, is_spent, IsTimed};
-ghost use Rattle.memchr.specs.Find.{Nowhere};
+ghost use Rattle.memchr.specs.Find.{Nowhere, IsFirst};
 ghost use Rattle.lldp_table.specs.Code.Tags.{IsTagged};
 ghost use Rattle.lldp_table.specs.Code.Marks.{has_mark, parted};
-ghost use Rattle.lldp_table.specs.Code.Layout.{blank, octets_at, with_next, IsPlaceOf};
+ghost use Rattle.lldp_table.specs.Code.Layout.{blank, msap_at, octets_at, neighbors_at, gone_at, with_next};
 
 use crate::limits::MOST_NEIGHBORS;
-use crate::prefix::second_tlv;
 use crate::queue::Queue;
 use crate::room::Room;
 use crate::slot::Slot;
-use crate::tags::Tags;
 use arrayvec::ArrayVec;
-use lldp_pdu::MOST_OCTETS;
+use lldp_pdu::{MOST_OCTETS, Msap};
 use memchr::memchr;
 use std::alloc::Allocator;
 
@@ -34,60 +33,44 @@ fn place_in(order: &[u8], slot: usize) -> Option<usize>
     memchr(slot as u8, order)
 }
 
-/// Returns the place in `order` of the slot with the MSAP identifier whose two TLVs are `name`, and
-/// whose tag is `tag`. The first slot with this tag mostly has it.
+/// Returns the first slot with this tag, from `from` on and before `end`.
+fn find_tag(tags: &[u8], tag: u8, from: usize, end: usize) -> Option<usize>
+    requires least { from ≤ end }
+    requires most { end ≤ length tags.now }
+    ensures { IsFirst (λ i. slice_index tags.now i ≡ tag) from end result }
+{
+    match memchr(tag, &tags[from..end]) {
+        Some(ahead) => Some(from + ahead),
+        None => None,
+    }
+}
+
+/// Returns the place in `order` of the slot with the MSAP identifier `name`, whose tag is `tag`.
 pub(crate) fn place_of(
     slots: &[Slot],
     order: &[u8],
-    tags: &Tags,
-    name: &[u8],
-    tag: u16,
+    tags: &[u8],
+    name: &Msap<'_>,
+    tag: u8,
 ) -> Option<usize>
-    requires name { IsName name.now }
-    requires tag { tag ≡ tag_of (msap_of name.now) }
-    requires begin { (k : ℕ) → k < length order.now →
-        BeginsWithName (octets_at slots.now (slice_index_or order.now k 0)) }
+    requires tag { tag ≡ tag_of (msap_view name.now) }
     requires tagged { IsTagged tags.now slots.now }
     requires few { length slots.now ≤ MOST_NEIGHBORS }
     requires within { AllByRecursion (λ i. i < length slots.now) order.now }
-    ensures { IsPlaceOf (msap_of name.now) slots.now order.now result }
+    ensures { MatchOption result
+        (list_any (same_msap (msap_view name.now)) (map (msap_at slots.now) order.now) ≡ false)
+        (λ at. (at < length order.now)
+        × (same_msap (msap_view name.now) (msap_at slots.now (slice_index_or order.now at 0))
+        ≡ true)) }
 {
-    let Some(first) = tags.find(tag, 0, slots.len()) else {
-        return None;
-    };
-    if slots[first].is_named(name) {
-        if let Some(at) = place_in(order, first) {
-            return Some(at);
-        }
-    }
-    place_among(slots, order, tags, name, tag)
-}
-
-/// Does the same where several MSAP identifiers have this tag: it looks at each slot in use.
-#[inline(never)]
-fn place_among(slots: &[Slot], order: &[u8], tags: &Tags, name: &[u8], tag: u16) -> Option<usize>
-    requires name { IsName name.now }
-    requires tag { tag ≡ tag_of (msap_of name.now) }
-    requires begin { (k : ℕ) → k < length order.now →
-        BeginsWithName (octets_at slots.now (slice_index_or order.now k 0)) }
-    requires tagged { IsTagged tags.now slots.now }
-    requires few { length slots.now ≤ MOST_NEIGHBORS }
-    requires within { AllByRecursion (λ i. i < length slots.now) order.now }
-    ensures { IsPlaceOf (msap_of name.now) slots.now order.now result }
-{
-    let second = second_tlv(name);
-    let mut at = 0;
-    'places: while at < order.len() {
-        let slot = usize::from(order[at]);
-        if tags.is(slot, tag) {
-            let held = &slots[slot];
-            if held.may_be_named(name, second, tags.apart(slot)) {
-                if held.is_named(name) {
-                    return Some(at);
-                }
+    let mut from = 0;
+    'tagged: while let Some(slot) = find_tag(tags, tag, from, slots.len()) {
+        if slots[slot].is_named(name) {
+            if let Some(at) = place_in(order, slot) {
+                return Some(at);
             }
         }
-        at += 1;
+        from = slot + 1;
     }
     None
 }

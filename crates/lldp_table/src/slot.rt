@@ -1,14 +1,13 @@
 //! The memory for one neighbor.
-ghost use Rattle.std.specs.Prelude.{◌≡◌, ◌+◌, ◌*◌, ◌%◌, ◌≤◌, ◌<◌, ◌^◌, true, false, length};
+ghost use Rattle.std.specs.Prelude.{◌≡◌, ◌+◌, ◌*◌, ◌%◌, ◌≤◌, ◌<◌, ◌^◌, true, length};
 ghost use Rattle.std.specs.Str.{bytes_eq};
 ghost use Rattle.lldp_pdu.specs.Cut.{cut};
 ghost use Rattle.lldp_pdu.specs.Lldpdu.{msap_of, tlv_at};
 ghost use Rattle.lldp_pdu.specs.View.{msap_view};
 ghost use Rattle.lldp_table.specs.Msap.{same_msap};
 ghost use Rattle.lldp_table.specs.Code.Layout.{blank};
-ghost use Rattle.lldp_table.specs.Code.Stored.{mixed, tag_of, IsName, BeginsWithName};
+ghost use Rattle.lldp_table.specs.Code.Stored.{mixed, tag_of};
 
-use crate::prefix::{begins, may_begin};
 use lldp_pdu::{MOST_OCTETS, Msap, Tlvs};
 use std::marker::Model;
 
@@ -54,58 +53,23 @@ fn msap_in(octets: &[u8]) -> Msap<'_>
     Msap { chassis, port }
 }
 
-/// A tag is a remainder of division by this prime number. It is odd and above 255, so octets that
-/// differ in one place give different remainders.
-const DIVISOR: u64 = 65_521;
+/// The factor by which a tag is multiplied for each octet that is mixed into it. It is odd, so no octet
+/// is lost.
+const FACTOR: u8 = 31;
 
-/// Returns the remainder of a number.
-fn remainder(number: u64) -> u16
-    ensures { result ≡ number % 65521 }
-{
-    (number % DIVISOR) as u16
-}
-
-/// Mixes four octets into a tag at once.
-fn mix_four(tag: u16, four: [u8; 4]) -> u16
-    ensures { result ≡ mixed tag four }
-{
-    remainder(u64::from(tag) * 0x1_0000_0000 + u64::from(u32::from_be_bytes(four)))
-}
-
-/// Mixes the last octets into a tag, fewer than four.
-fn mix_last(tag: u16, octets: &[u8]) -> u16
-    requires { length octets.now < 4 }
-    ensures { result ≡ mixed tag octets.now }
-{
-    let tag_before = u64::from(tag);
-    match octets {
-        [a, b, c] => remainder(
-            tag_before * 0x100_0000
-                + u64::from(*a) * 0x1_0000
-                + u64::from(*b) * 0x100
-                + u64::from(*c),
-        ),
-        [a, b] => remainder(tag_before * 0x1_0000 + u64::from(*a) * 0x100 + u64::from(*b)),
-        [a] => remainder(tag_before * 0x100 + u64::from(*a)),
-        _ => tag,
-    }
-}
-
-/// Mixes these octets into a tag: four at a time, and then the few that are left.
-fn mix_octets(tag: u16, octets: &[u8]) -> u16
+/// Mixes these octets into a tag, one after another.
+fn mix_octets(tag: u8, octets: &[u8]) -> u8
     ensures { result ≡ mixed tag octets.now }
 {
     let mut mix = tag;
-    let mut rest = octets;
-    while let [a, b, c, d, others @ ..] = rest {
-        mix = mix_four(mix, [*a, *b, *c, *d]);
-        rest = others;
+    for octet in octets {
+        mix = mix.wrapping_mul(FACTOR).wrapping_add(*octet);
     }
-    mix_last(mix, rest)
+    mix
 }
 
 /// Returns the tag of an MSAP identifier: a mix of all its octets.
-pub(crate) fn mix_name(name: &Msap<'_>) -> u16
+pub(crate) fn mix_name(name: &Msap<'_>) -> u8
     ensures { result ≡ tag_of (msap_view name.now) }
 {
     mix_octets(mix_octets(0, name.chassis), name.port)
@@ -142,27 +106,12 @@ impl Slot {
         msap_in(self.octets())
     }
 
-    /// Returns false if a few octets show that the stored frame does not have the MSAP identifier whose
-    /// two TLVs these are. `second` and `places` say which octets (`may_begin`).
-    #[inline(always)]
-    pub(crate) fn may_be_named(&self, name: &[u8], second: usize, places: &[u16; 3]) -> bool
-        requires { IsName name.now }
-        ensures { result ≡ false → BeginsWithName self.now.octets →
-            same_msap (msap_of name.now) (msap_of self.now.octets) ≡ false }
+    /// Returns whether the stored frame has the MSAP identifier `name`.
+    pub(crate) fn is_named(&self, name: &Msap<'_>) -> bool
+        ensures { result ≡ same_msap (msap_view name.now) (msap_of self.now.octets) }
     {
-        may_begin(self.octets(), name, second, places)
-    }
-
-    /// Returns whether the stored frame has the MSAP identifier whose two TLVs these are. Says nothing
-    /// of a slot that never stored an extent.
-    #[inline(always)]
-    pub(crate) fn is_named(&self, name: &[u8]) -> bool
-        requires { IsName name.now }
-        ensures same { result ≡ true → same_msap (msap_of name.now) (msap_of self.now.octets) ≡ true }
-        ensures other { result ≡ false → BeginsWithName self.now.octets →
-            same_msap (msap_of name.now) (msap_of self.now.octets) ≡ false }
-    {
-        begins(self.octets(), name)
+        let held = self.msap();
+        name.port == held.port && name.chassis == held.chassis
     }
 
     /// Stores a frame in place of the previous one. Returns whether the octets are the same as before.

@@ -4,7 +4,7 @@ ghost use Rattle.lldp_pdu.specs.Kept.{kept_of};
 ghost use Rattle.lldp_pdu.specs.View.{msap_view};
 ghost use Rattle.lldp_pdu.specs.Lldpdu.{msap_of};
 ghost use Rattle.lldp_table.specs.Contents.{IsExtent, IsHeld, IsSound, holds_name, least_left, names_of};
-ghost use Rattle.lldp_table.specs.Code.Stored.{tag_of, IsName};
+ghost use Rattle.lldp_table.specs.Code.Stored.{tag_of};
 ghost use Rattle.lldp_table.specs.Code.Steps.{learn_answer, learned_as, after_learn, after_forget, after_purge, after_tick, after_set_limit, newly_opened};
 ghost use Rattle.lldp_table.specs.declared.learned.Learned.TheVariants.{New, Refreshed};
 ghost use Rattle.lldp_table.specs.Events.{Call, learn, forget, purge, tick, set_limit, live, answer, aged_out, events_of};
@@ -15,12 +15,10 @@ use crate::entries::Entries;
 use crate::entry::Entry;
 use crate::learned::{Learned, Outcome};
 use crate::limits::MOST_NEIGHBORS;
-use crate::name::{MOST_IN_ID, name_of, spell};
 use crate::order::{expire, octets_of, place_of, write_next};
 use crate::queue::Queue;
 use crate::room::Room;
 use crate::slot::{Slot, mix_name};
-use crate::tags::Tags;
 use arrayvec::ArrayVec;
 use lldp_pdu::{Info, Msap};
 use std::alloc::{AllocError, Allocator};
@@ -47,7 +45,8 @@ pub struct Table<A: Allocator> {
     gone: u8,
     /// The slots in use, in the order in which their neighbors expire.
     queue: Queue,
-    tags: Tags,
+    /// The tag of the MSAP identifier in each slot, by slot index.
+    tags: [u8; MOST_NEIGHBORS],
     limit: u8,
     /// The remaining ticks of the too-many timer (tooManyNeighborsTimer in the standard).
     too_many: u16,
@@ -88,7 +87,7 @@ impl<A: Allocator> Table<A> {
             used: 0,
             gone: 0,
             queue: Queue::new(),
-            tags: Tags::new(),
+            tags: [0; MOST_NEIGHBORS],
             limit,
             too_many: 0,
         })
@@ -127,10 +126,11 @@ impl<A: Allocator> Table<A> {
         ensures stands { ForEachCalls self.old.shown (λ opened calls.
             Stands opened (learn info.now.msap info.now.ttl info.now.octets ∷ calls) self.new.shown) }
     {
-        let tag = mix_name(&info.msap());
+        let name = info.msap();
+        let tag = mix_name(&name);
         let ttl = info.ttl();
         let octets = info.octets();
-        if let Some(at) = self.place(name_of(info), tag) {
+        if let Some(at) = self.place(&name, tag) {
             return self.refresh(at, octets, ttl);
         }
         if self.has_room() {
@@ -142,31 +142,14 @@ impl<A: Allocator> Table<A> {
         Outcome::NoRoom
     }
 
-    /// Returns the neighbor's place in the order, if a neighbor is held with the MSAP identifier whose
-    /// two TLVs these are.
-    fn place(&self, name: &[u8], tag: u16) -> Option<usize>
-        requires name { IsName name.now }
-        requires tag { tag ≡ tag_of (msap_of name.now) }
-        ensures { MatchOption result (holds_name self.now.shown (msap_of name.now) ≡ false)
-            (λ at. slice_get (names_of self.now.shown.neighbors) at ≡ Some (msap_of name.now)) }
+    /// Returns the neighbor's place in the order, if a neighbor with this MSAP identifier is held.
+    fn place(&self, name: &Msap<'_>, tag: u8) -> Option<usize>
+        requires { tag ≡ tag_of (msap_view name.now) }
+        ensures { MatchOption result (holds_name self.now.shown (msap_view name.now) ≡ false)
+            (λ at. slice_get (names_of self.now.shown.neighbors) at ≡ Some (msap_view name.now)) }
     {
         let order = &self.order[..self.used as usize];
         place_of(self.slots.as_slice(), order, &self.tags, name, tag)
-    }
-
-    /// Returns the neighbor's place in the order, if a neighbor with this MSAP identifier is held.
-    fn place_named(&self, msap: &Msap<'_>) -> Option<usize>
-        ensures { MatchOption result (holds_name self.now.shown (msap_view msap.now) ≡ false)
-            (λ at. slice_get (names_of self.now.shown.neighbors) at ≡ Some (msap_view msap.now)) }
-    {
-        let _ = &self.slots;
-        if msap.chassis.len() > MOST_IN_ID {
-            return None;
-        }
-        if msap.port.len() > MOST_IN_ID {
-            return None;
-        }
-        self.place(&spell(msap), mix_name(msap))
     }
 
     /// Stores a frame and its TTL for the neighbor at this place, which has the frame's identifier.
@@ -192,7 +175,7 @@ impl<A: Allocator> Table<A> {
     }
 
     /// Adds a new neighbor with this frame and its TTL after the others. There must be room.
-    fn admit(&mut self, octets: &[u8], ttl: u16, tag: u16)
+    fn admit(&mut self, octets: &[u8], ttl: u16, tag: u8)
         requires extent { IsExtent (msap_of octets.now) ttl octets.now }
         requires tag { tag ≡ tag_of (msap_of octets.now) }
         requires new { holds_name self.old.shown (msap_of octets.now) ≡ false }
@@ -203,7 +186,7 @@ impl<A: Allocator> Table<A> {
         write_next(&mut self.slots, &mut self.order, used);
         let slot = self.order[used];
         self.slots.at_mut(slot as usize).store(octets, ttl);
-        self.tags.set(slot, tag, self.slots.as_slice());
+        self.tags[slot as usize] = tag;
         self.queue.enter(slot, ttl);
         self.used += 1;
         self.gone = 0;
@@ -226,7 +209,7 @@ impl<A: Allocator> Table<A> {
         ensures stands { ForEachCalls self.old.shown (λ opened calls.
             Stands opened (forget (msap_view msap.now) ∷ calls) self.new.shown) }
     {
-        match self.place_named(msap) {
+        match self.place(msap, mix_name(msap)) {
             None => {
                 self.gone = 0;
                 false

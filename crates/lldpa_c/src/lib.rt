@@ -9,6 +9,7 @@ mod agent;
 mod answer;
 mod bodies;
 mod build;
+mod callers;
 mod chassis;
 mod command;
 mod due;

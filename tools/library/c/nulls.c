@@ -279,23 +279,6 @@ static void build_badly(void)
     build_empty_bodies();
 }
 
-static void machine_numbers(void)
-{
-    static const uint8_t wrong[][3] = {{0, 4, 2}, {11, 4, 2}, {5, 0, 2}, {5, 9, 2}, {5, 4, 0}, {5, 4, 11}};
-    lldpa_machine *machine = &now.machine;
-    for (size_t at = 0; at < sizeof wrong / sizeof *wrong; at++) {
-        ANSWERS(LLDPA_OUT_OF_RANGE, lldpa_transmit_new(machine, wrong[at][0], wrong[at][1], wrong[at][2], true));
-    }
-    for (uint32_t cause = 8; cause < 600; cause++) {
-        ANSWERS(LLDPA_OUT_OF_RANGE, lldpa_transmit_event(machine, cause, 30, &now.octet));
-    }
-    ANSWERS(LLDPA_OUT_OF_RANGE, lldpa_transmit_event(machine, LLDPA_CAUSE_TICK, 0, &now.octet));
-    ANSWERS(LLDPA_OUT_OF_RANGE, lldpa_transmit_event(machine, LLDPA_CAUSE_TICK, 3601, &now.octet));
-    ANSWERS(LLDPA_OUT_OF_RANGE, lldpa_transmit_event(machine, LLDPA_CAUSE_TICK, 65566, &now.octet));
-    machine->credit = 6; /* above its credit_max */
-    holds(lldpa_transmit_event(machine, LLDPA_CAUSE_TICK, 30, &now.octet) == LLDPA_OUT_OF_RANGE, "too much credit");
-}
-
 /* Checks that opening refuses these options, and that the handle is not open. */
 #define REFUSES(options, wanted)                                                                                       \
     do {                                                                                                               \
@@ -467,7 +450,6 @@ int main(void)
     read_headers();
     build_badly();
     MACHINES(ANSWERS)
-    machine_numbers();
     open_nulls();
     size_t length = shown(first, sizeof first);
     EVENTS(ANSWERS)

@@ -121,22 +121,6 @@ static void try_many_told(size_t put)
     try_walk(told.extent, 0);
 }
 
-/* Checks walks over extents that are as short as they can be, and have one TLV. */
-static void try_short_walks(void)
-{
-    static const uint8_t mandatory[] = {2, 2, 7, 'a', 4, 2, 7, 'b', 6, 2, 0, 120};
-    memset(room, 'c', sizeof room);
-    memcpy(room, mandatory, sizeof mandatory);
-    room[12] = 5 << 1;
-    for (size_t body = 0; body < 256; body++) {
-        lldpa_kept walk = LLDPA_KEPT_INIT;
-        room[13] = (uint8_t)body;
-        int is_so = lldpa_next_kept(room, 14 + body, &walk) && walk.kind == 5 && walk.body.start == 14;
-        holds(is_so && walk.body.length == body, "a walk over a short extent");
-        holds(!lldpa_next_kept(room, 14 + body, &walk) && walk.next == 14 + body, "a walk over a short extent that has ended");
-    }
-}
-
 /* Checks that each of many TLVs is built or has a fault. */
 static void try_many_tlvs(void)
 {
@@ -214,30 +198,6 @@ static void try_many_seconds(void)
     lldpa_close(&quiet);
 }
 
-/* Checks the ends of a machine's settings, and a machine with numbers that only lldpa_transmit_event allows. */
-static void try_machines(void)
-{
-    static const uint32_t ends[][4] = {{0, 1, 10, 11}, {0, 1, 8, 9}, {0, 1, 10, 11}};
-    static const lldpa_machine before = {3000, 200, 100, 90, 150, 80, 70, false, true, true, true};
-    for (size_t at = 0; at < 64; at++) {
-        uint32_t credit = ends[0][at % 4], fast = ends[1][at / 4 % 4], reinit = ends[2][at / 16];
-        int is_so = at % 4 % 3 > 0 && at / 4 % 4 % 3 > 0 && at / 16 % 3 > 0;
-        lldpa_machine machine = before, made = before;
-        if (is_so) {
-            made = (lldpa_machine){.credit_max = (uint8_t)credit, .fast_init = (uint8_t)fast, .reinit = (uint8_t)reinit,
-                                   .credit = (uint8_t)credit, .allowed = true, .up = true};
-        }
-        holds(lldpa_transmit_new(&machine, credit, fast, reinit, true) == (is_so ? LLDPA_OK : LLDPA_OUT_OF_RANGE),
-              "the settings of a machine");
-        holds(memcmp(&machine, &made, sizeof made) == 0, "a new machine");
-    }
-    lldpa_machine large = before;
-    uint8_t mark = 9;
-    holds(lldpa_transmit_event(&large, LLDPA_CAUSE_NOTHING, 3600, &mark) == LLDPA_OK && mark == LLDPA_QUIET,
-          "an event that changes nothing, and the greatest interval");
-    holds(memcmp(&large, &before, sizeof large) == 0, "a machine with large numbers");
-}
-
 /* Returns whether no octet of a buffer that was filled with 0x5a is written from here on. */
 static int is_kept(size_t from)
 {
@@ -247,51 +207,6 @@ static int is_kept(size_t from)
         }
     }
     return from < sizeof room;
-}
-
-/* Checks that calls write no octet after their result, and none if they are refused. */
-static void try_rest(void)
-{
-    static const uint8_t long_text[512];
-    lldpa_lines lines;
-    memset(room, 0x5a, sizeof room);
-    holds(lldpa_fault_text(LLDPA_MEMORY, room, 3, &length) == LLDPA_NO_ROOM && is_kept(0), "a fault's text that does not fit");
-    holds(lldpa_fault_text(LLDPA_MEMORY, room, sizeof room, &length) == LLDPA_OK && is_kept(length), "after a fault's text");
-    memset(room, 0x5a, sizeof room);
-    length = 77;
-    holds(lldpa_escape(frame, 8, room, 9, &length) == LLDPA_NO_ROOM && is_kept(0) && length == 77, "a text that does not fit");
-    holds(lldpa_tlv_text(5, frame, 8, room, 9, &length) == LLDPA_NO_ROOM && is_kept(0) && length == 77, "a TLV that does not fit");
-    holds(lldpa_escape(long_text, 512, room, sizeof room, &length) == LLDPA_OUT_OF_RANGE && is_kept(0) && length == 77,
-          "a text that is too long");
-    holds(lldpa_tlv_text(9, long_text, 512, room, sizeof room, &length) == LLDPA_OUT_OF_RANGE && is_kept(0) &&
-              length == 77, "a TLV that is too long");
-    holds(lldpa_escape(frame, 8, room, sizeof room, &length) == LLDPA_OK && is_kept(length), "after a text");
-    memset(room, 0x5a, sizeof room);
-    holds(lldpa_tlv_text(5, frame, 8, room, sizeof room, &length) == LLDPA_OK && is_kept(length), "after a TLV");
-    memset(room, 0x5a, sizeof room);
-    holds(lldpa_frame_of(&agent, 0, LLDPA_ORDINARY, room, 9, &length) == LLDPA_NO_ROOM && is_kept(0), "a frame that does not fit");
-    holds(lldpa_frame_of(&agent, 0, LLDPA_ORDINARY, room, sizeof room, &length) == LLDPA_OK && is_kept(length), "after a frame");
-    memset(room, 0x5a, sizeof room);
-    holds(lldpa_show_lines(&agent, LLDPA_SHOW_CONFIGURATION, 0, room, sizeof room, &lines) == LLDPA_OK &&
-              is_kept(lines.length), "after the lines of a show");
-}
-
-/* Checks that calls that write an LLDPDU write no octet after it, and no number after those of the TLVs. */
-static void try_rest_of_lldpdus(void)
-{
-    lldpa_held held = {.left = 0}, kept;
-    lldpa_tlv tlv = {frame, 4, 5};
-    uint8_t faults[2] = {0x5a, 0x5a};
-    memset(room, 0x5a, sizeof room);
-    holds(lldpa_neighbor(&agent, 1, 0, room, sizeof room, &held) == LLDPA_OK && is_kept(held.pdu.extent), "after a neighbor");
-    memset(room, 0x5a, sizeof room);
-    held.left ^= 1;
-    memcpy(&kept, &held, sizeof held);
-    holds(lldpa_neighbor(&agent, 1, 0, room, held.pdu.extent - 1, &held) == LLDPA_NO_ROOM && is_kept(0) &&
-              memcmp(&held, &kept, sizeof held) == 0, "a neighbor that does not fit");
-    holds(lldpa_build(frame + 16, 7, frame + 25, 5, 120, &tlv, 1, faults, 2, room, sizeof room, &length) == LLDPA_OK &&
-              is_kept(length), "after an LLDPDU that is built");
-    holds(faults[0] == LLDPA_OK && faults[1] == 0x5a, "after the numbers of the TLVs");
 }
 
 /* Checks what is told of a frame that is refused, and that the frames to send do not depend on who asks for news. */
@@ -362,12 +277,8 @@ int main(void)
     holds(lldpa_neighbor_count(&agent, 1, &counts[1]) == LLDPA_OK && counts[1] == 1, "a neighbor on the second port");
     try_options();
     try_two_wrong();
-    try_machines();
-    try_rest();
-    try_rest_of_lldpdus();
     try_news();
     try_texts();
-    try_short_walks();
     try_many_tlvs();
     try_many_neighbors();
     try_many_seconds();

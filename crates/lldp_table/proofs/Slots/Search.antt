@@ -1,11 +1,9 @@
 -- The search for a tag, and for the slot of a name among those with its tag.
-use Rattle.std.proofs.Common.{◌≡◌, ℕ, suc, ◌+◌, ◌<◌, ◌≤◌, not, false, eqb, List, [], ◌∷◌, ◌++◌, length, map, get_or, set, inl, inr, refl, ap, ◌∙◌, sym, arith, length-set, length-append}
-use Rattle.std.specs.List.{list_any, prefix_len, AllByRecursion}
-use Rattle.std.proofs.lemmas.Bool.{cases_lt, cases_eq, cases_Bool, eqb-true, eqb-false, or_from}
-use Rattle.std.proofs.lemmas.List.{get_or-set_same, get_or-set_other, get_or_append_left}
-use Rattle.std.proofs.lemmas.Simd.{run_in_chunk_fails, run_in_chunk_stops}
-use lib.Lanes.{chunk}
-use Rattle.memchr.specs.Find.{Nowhere}
+use Rattle.std.proofs.Common.{◌≡◌, ℕ, suc, ◌+◌, ◌-◌, ◌<◌, ◌≤◌, false, eqb, take, drop, List, [], ◌∷◌, ◌++◌, length, map, get_or, set, inl, inr, refl, ap, ◌∙◌, sym, arith, length-set, length-append}
+use Rattle.std.specs.List.{list_any, AllByRecursion}
+use Rattle.std.proofs.lemmas.Bool.{cases_lt, cases_eq, cases_Bool, eqb-true, eq-eqb, or_from}
+use Rattle.std.proofs.lemmas.List.{get_or-set_same, get_or-set_other, get_or_append_left, get_or-take, get_or-drop, length-take-le, length-drop}
+use Rattle.memchr.specs.Find.{Nowhere, NoneBefore, Passes, is_byte}
 use Rattle.lldp_pdu.specs.Msap.{MsapId}
 use Rattle.lldp_pdu.specs.Lldpdu.{msap_of}
 use Rattle.lldp_table.specs.Msap.{same_msap}
@@ -16,23 +14,38 @@ use Rattle.lldp_table.proofs.Msap.{same_msap-true}
 use Rattle.lldp_table.proofs.Slots.Places.{at_place}
 use Rattle.std.proofs.lemmas.Grind.{common_steps}
 
--- ## A block of tags
+-- ## A tag
 
-module _ (tags : List ℕ) (tag at : ℕ) (room : at + 16 ≤ length tags) (r : ℕ) (counted : r ≡ prefix_len (λ x. not (eqb x tag)) (chunk at 16 tags)) where
-  fails : (k : ℕ) → at ≤ k → k < at + r → get_or tags k 0 ≡ tag → ⊥
-  fails k a b = eqb-false (get_or tags k 0) tag (run_in_chunk_fails (λ x. eqb x tag) tags at 16 r 0 room counted k a b)
+-- the search among the tags from `from` up to `end`
+module _ (tags : List ℕ) (tag from end : ℕ) (least : from ≤ end) (most : end ≤ length tags) where
+  abbrev part : List ℕ
+  part = take (end - from) (drop from tags)
 
-  pub stops : r < 16 → get_or tags (at + r) 0 ≡ tag
-  stops l = eqb-true (get_or tags (at + r) 0) tag (run_in_chunk_stops (λ x. eqb x tag) tags at 16 r 0 room counted l)
+  long : length part ≡ end - from
+  long = length-take-le (end - from) (drop from tags) (omega (arith, length-drop from tags, most, least))
 
-  pub further : (from : ℕ) → Nowhere (λ i. get_or tags i 0 ≡ tag) from at → Nowhere (λ i. get_or tags i 0 ≡ tag) from (at + r)
-  further from none k a b = elim (cases_lt k at) [ inl l ↦ none k a l | inr g ↦ fails k g b ]
+  there : (k : ℕ) → k < end - from → get_or part k 0 ≡ get_or tags (from + k) 0
+  there k h = get_or-take (end - from) (drop from tags) k 0 h ∙ get_or-drop from tags k 0
+
+  pub nowhere : (j : ℕ) → j ≤ length part → Nowhere (Passes (is_byte tag) part) 0 j → Nowhere (λ i. get_or tags i 0 ≡ tag) from (from + j)
+  nowhere j few none k a b e =
+      let behind : from + (k - from) ≡ k = omega (arith, a) in
+      let same : get_or part (k - from) 0 ≡ tag = there (k - from) (omega (arith, a, b, few, long)) ∙ ap (λ i. get_or tags i 0) behind ∙ e in
+      none (k - from) (omega arith) (omega (arith, a, b)) (eq-eqb (get_or part (k - from) 0) tag same)
+
+  pub found : (k : ℕ) → NoneBefore (Passes (is_byte tag) part) 0 (length part) k × Passes (is_byte tag) part k → NoneBefore (λ i. get_or tags i 0 ≡ tag) from end (from + k) × (get_or tags (from + k) 0 ≡ tag)
+  found k h =
+      let within : k < end - from = omega (arith, h.0.high, long) in
+      (record { low = omega arith; high = omega (arith, within, least); before = nowhere k (omega (arith, within, long)) h.0.before }, sym (there k within) ∙ eqb-true (get_or part k 0) tag h.1)
+
+  pub not_found : Nowhere (Passes (is_byte tag) part) 0 (length part) → Nowhere (λ i. get_or tags i 0 ≡ tag) from end
+  not_found none k a b = nowhere (length part) (omega arith) none k a (omega (arith, b, long, least))
 
 -- ## The slot of a name
 
 -- a slot whose tag differs from that of a name has another name
 module _ (tags : List ℕ) (slots : List Stored) (t : IsTagged tags slots) (name : MsapId) where
-  pub differs : (i : ℕ) → i < length slots → (get_or tags i 0 ≡ tag_of name → ⊥) → same_msap name (msap_at slots i) ≡ false
+  differs : (i : ℕ) → i < length slots → (get_or tags i 0 ≡ tag_of name → ⊥) → same_msap name (msap_at slots i) ≡ false
   differs i l d = elim (cases_Bool (same_msap name (msap_at slots i))) [
     | inl e ↦ absurd (d (t.each i l ∙ ap tag_of (sym (same_msap-true name (msap_at slots i) e))))
     | inr f ↦ f
@@ -55,7 +68,7 @@ module _ (tags : List ℕ) (slots : List Stored) (t : IsTagged tags slots) (name
 
 -- ## Tables whose slots have their tags
 
-pub tagged_none : (tags : List ℕ) (slots : List Stored) → length tags ≡ 144 → slots ≡ [] → IsTagged tags slots
+pub tagged_none : (tags : List ℕ) (slots : List Stored) → length tags ≡ 128 → slots ≡ [] → IsTagged tags slots
 tagged_none tags slots all e = record { all = all; each = λ i l. absurd (omega (arith, l, ap length e)) }
 
 -- a slot is written again with a frame of the same name

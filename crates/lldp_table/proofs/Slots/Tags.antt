@@ -1,19 +1,19 @@
 -- MSAP identifiers that differ in one octet have different tags. Mixing in an octet loses no
--- information: the divisor is odd, so 2 ^ 8 has an inverse modulo the divisor.
+-- information: the factor is odd, so it has an inverse modulo 2 ^ 8.
 use Rattle.std.proofs.Common.{◌≡◌, ℕ, ◌+◌, ◌*◌, ◌%◌, ◌^◌, ◌<◌, List, [], ◌∷◌, ◌++◌, refl, ap, ◌∙◌, sym, arith, lit<, mod-lt}
 use Rattle.lldp_pdu.specs.Msap.{MsapId}
 use Rattle.lldp_table.specs.Code.Stored.{mixed, tag_of}
 
 abbrev step : ℕ → ℕ → ℕ
-step tag octet = (tag * 2 ^ 8 + octet) % 65521
+step tag octet = (tag * 31 % 2 ^ 8 + octet) % 2 ^ 8
 
-step_fits : (n : ℕ) → n % 65521 < 65521
+step_fits : (n : ℕ) → n % 2 ^ 8 < 2 ^ 8
 step_fits n = mod-lt n (lit< tt)
 
-same_step : (a b octet : ℕ) → a < 65521 → b < 65521 → step a octet ≡ step b octet → a ≡ b
+same_step : (a b octet : ℕ) → a < 2 ^ 8 → b < 2 ^ 8 → step a octet ≡ step b octet → a ≡ b
 same_step a b octet k l e = omega arith
 
-same_before : (a b : ℕ) (octets : List ℕ) → a < 65521 → b < 65521 → mixed a octets ≡ mixed b octets → a ≡ b
+same_before : (a b : ℕ) (octets : List ℕ) → a < 2 ^ 8 → b < 2 ^ 8 → mixed a octets ≡ mixed b octets → a ≡ b
 same_before a b [] k l e = e
 same_before a b (octet ∷ octets) k l e = same_step a b octet k l (same_before (step a octet) (step b octet) octets (step_fits _) (step_fits _) e)
 

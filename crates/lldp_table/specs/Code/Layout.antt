@@ -1,9 +1,8 @@
 -- How the code stores a table: slots that never move, the order of their indices, and their times.
-use Rattle.std.specs.Prelude.{◌≡◌, ℕ, ◌+◌, ◌<◌, ◌≤◌, true, false, Option, MatchOption, if◌then◌else◌, ◌==◌, List, [], ◌∷◌, ◌++◌, length, map, take, drop, slice_index_or, nat_eq}
-use Rattle.std.specs.List.{IsDistinct, AllByRecursion, list_any}
+use Rattle.std.specs.Prelude.{◌≡◌, ℕ, ◌+◌, ◌<◌, ◌≤◌, if◌then◌else◌, ◌==◌, List, [], ◌∷◌, ◌++◌, length, map, take, drop, slice_index_or, nat_eq}
+use Rattle.std.specs.List.{IsDistinct, AllByRecursion}
 use Rattle.lldp_pdu.specs.Msap.{MsapId}
 use Rattle.lldp_pdu.specs.Lldpdu.{msap_of}
-use Rattle.lldp_table.specs.Msap.{same_msap}
 use Rattle.lldp_table.specs.Events.{Neighbor}
 use Rattle.lldp_table.specs.Contents.{Contents, IsHeld, IsSound}
 use Rattle.lldp_table.specs.declared.limits.TheConstants.{MOST_NEIGHBORS}
@@ -20,12 +19,6 @@ octets_at slots i = (slice_index_or slots i blank).octets
 
 abbrev pub msap_at : List Stored → ℕ → MsapId
 msap_at slots i = msap_of (octets_at slots i)
-
--- The slot at this place in the order has this MSAP identifier. Without a place, no slot in the order has it.
-abbrev pub IsPlaceOf : MsapId → List Stored → List ℕ → Option ℕ → Type 0
-IsPlaceOf name slots order place = MatchOption place
-    (list_any (same_msap name) (map (msap_at slots) order) ≡ false)
-    (λ at. (at < length order) × (same_msap name (msap_at slots (slice_index_or order at 0)) ≡ true))
 
 -- the neighbor whose frame a slot stores, with this many ticks left
 abbrev pub neighbor_of : Stored → ℕ → Neighbor

@@ -1,13 +1,13 @@
 -- The tags of the slots, which decide most comparisons of MSAP identifiers.
 use Rattle.std.specs.Prelude.{◌≡◌, ℕ, ◌<◌, List, length, slice_index}
-use Rattle.lldp_table.specs.declared.tags.TheConstants.{ROOM}
+use Rattle.lldp_table.specs.declared.limits.TheConstants.{MOST_NEIGHBORS}
 use Rattle.lldp_table.specs.Code.Stored.{Stored, tag_of}
 use Rattle.lldp_table.specs.Code.Queue.{Due}
 use Rattle.lldp_table.specs.Code.Layout.{msap_at, IsTable}
 
 -- each slot has the tag of the MSAP identifier in it
 pub record IsTagged (tags : List ℕ) (slots : List Stored) : Type 0 where
-  pub all : length tags ≡ ROOM
+  pub all : length tags ≡ MOST_NEIGHBORS
   pub each : (i : ℕ) → i < length slots → slice_index tags i ≡ tag_of (msap_at slots i)
 
 -- the invariant of all parts of a table

@@ -19,7 +19,7 @@ invariant_of-self g c =
     let none = not_held before.laid (shown_is c.self.view_is) (msap_of c.args.octets.now) c.requires.new in
     record {
       table = rw c.write_next.ensures.room (new_table before room c.write_next.ensures.slots c.write_next.ensures.order c.store.ensures.octets c.store.ensures.ttl c.requires.extent none c.deref.ensures.0 refl c.enter.ensures);
-      tagged = tagged_new before room c.write_next.ensures.slots c.write_next.ensures.order c.store.ensures.octets c.store.ensures.ttl c.requires.extent none c.deref.ensures.0 refl c.enter.ensures c.self.invariant.tagged c.set.ensures c.requires.tag;
+      tagged = tagged_new before room c.write_next.ensures.slots c.write_next.ensures.order c.store.ensures.octets c.store.ensures.ttl c.requires.extent none c.deref.ensures.0 refl c.enter.ensures c.self.invariant.tagged refl c.requires.tag;
     }
 
 pub returns : goal.returns

@@ -1,4 +1,4 @@
-use Rattle.std.proofs.Common.{[], sym, subst, arith}
+use Rattle.std.proofs.Common.{[], refl, sym, subst, arith}
 use Rattle.lldp_table.specs.Contents.{Contents}
 use Rattle.lldp_table.specs.Standing.{Stands}
 use Rattle.lldp_table.proofs.Slots.Learned.{open_table}
@@ -12,7 +12,7 @@ invariant_of-result g c =
     let room = c.in_ok-open.ensures in
     record {
       table = open_table c.in_ok-open.field-0.capacity c.in_ok-open.field-0.items c.new-2.result.shown c.new.result.items c.args.limit (omega (arith, room.capacity)) room.items c.new-2.ensures c.new.ensures c.requires.least c.requires.most;
-      tagged = tagged_none c.new-3.result c.in_ok-open.field-0.items c.new-3.ensures room.items;
+      tagged = tagged_none _ c.in_ok-open.field-0.items refl room.items;
     }
 
 pub returns-clause-empty : goal.returns-clause-empty
