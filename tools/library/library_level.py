@@ -9,6 +9,7 @@ import os
 import pathlib
 from typing import Callable
 
+from library_front import write_rows
 from library_parts import TOP, WARNINGS, Counts, Library, count_of, fault_of, ran, skip
 from library_transcripts import check_rows, check_transcripts
 
@@ -28,13 +29,13 @@ def check_level(library: Library, counts: Counts) -> None:
         skip(LEVEL, "the shared object for processors with AVX2")
         return
     runs: dict[str, Callable[[list[str], Counts], None]] = {
-        name: lambda command, counts: count_of(command, command[-1], counts) for name in ("nulls", "limits", "ranges")}
+        name: lambda command, counts: count_of(command, command[-1], counts) for name in ("nulls", "ranges")}
     runs["vectors"] = lambda command, counts: check_rows(command, library.room, counts)
     runs["transcript"] = check_transcripts
     for name, run in runs.items():
         program = library.room / name
         source, plain = TOOLS / f"{name}.c", library.folder / "liblldpa.so.1"
-        built = fault_of(["cc", "-std=c99", "-O2", *WARNINGS, f"-I{library.folder}", source, plain, "-o", program])
+        built = fault_of(["cc", "-std=c99", "-O2", *WARNINGS, f"-I{library.folder}", write_rows(library), source, plain, "-o", program])
         counts.judge(built, f"building {name} with the shared object")
         if built is None:
             check_loaded(library.folder, program, fast, counts)

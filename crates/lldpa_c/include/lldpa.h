@@ -29,7 +29,8 @@
  *
  * ABI: in all releases 1.x, existing functions, parameters, numbers and fields of structs stay the same. A release may
  * add functions and fault numbers, so treat a number that you do not know as a fault. Only lldpa_options may get new
- * fields, at its end: its `size` says which fields your program was compiled with.
+ * fields, at its end: its `size` says which fields your program was compiled with, and a later library takes the values
+ * of its LLDPA_OPTIONS_INIT for the others.
  */
 #ifndef LLDPA_H
 #define LLDPA_H
@@ -334,10 +335,10 @@ typedef struct lldpa_agent {
 
 /*
  * Opens an agent, and allocates all memory that it will ever need: about 1.6 KB for each of max_neighbors neighbors on
- * each port. At first the link of each port is up. Returns the first of these that applies: LLDPA_OUT_OF_RANGE if the
- * library does not know an lldpa_options of this `size`; LLDPA_IS_OPEN; LLDPA_OUT_OF_RANGE for role, max_neighbors,
- * credit_max, fast_init or reinit, or for a text that is not UTF-8; the first fault, 22 to 26; LLDPA_MEMORY;
- * otherwise 0, and the agent is open. An error leaves the handle unchanged. With more than 64 names the call fails, and
+ * each port. At first the link of each port is up. Returns the first of these that applies: LLDPA_OUT_OF_RANGE if
+ * `size` is less than in 1.0.0 or more than the library knows; LLDPA_IS_OPEN; LLDPA_OUT_OF_RANGE for role,
+ * max_neighbors, credit_max, fast_init or reinit, or for a text that is not UTF-8; the first fault, 22 to 26;
+ * LLDPA_MEMORY; otherwise 0, and the agent is open. An error leaves the handle unchanged. With more than 64 names the call fails, and
  * names after the 65th are not read.
  */
 uint8_t lldpa_open(const lldpa_options *options, lldpa_agent *agent);
