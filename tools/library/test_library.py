@@ -7,7 +7,7 @@ Programs of tools/library/c run with the library, most with the compiler's sanit
 runs the rows of examples/vectors.rows, and reads cut and altered LLDPDUs. transcript.c runs the
 transcripts of examples/ and long shows. nulls.c passes NULL for each pointer, and values out of
 range. ranges.c tries the ends of ranges, small buffers, random octets, long lists and long waits.
-refused.c refuses memory to the library. With `-k` a part runs
+pause.c lets an example pause for a day. refused.c refuses memory to the library. With `-k` a part runs
 alone, such as `-k check_front`.
 
 LLDPA_LIB_DIR, by default crates/lldpa_c/out/lib, has liblldpa.a, liblldpa.so.1 and lldpa.h. Checks that need a
@@ -111,7 +111,7 @@ def check_programs(library: Library, counts: Counts) -> None:
     if not flags:
         skip("sanitizers", "memory and arithmetic of the C programs")
     flags.append(write_rows(library))
-    for name in ("vectors", "transcript", "nulls", "ranges"):
+    for name in ("vectors", "transcript", "nulls", "ranges", "pause"):
         fault = library.compiled(TOOLS / f"{name}.c", name, *flags)
         counts.judge(fault, f"building {name}")
         if fault is None:

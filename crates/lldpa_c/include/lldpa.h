@@ -366,8 +366,11 @@ typedef struct lldpa_ticks_taken {
  * sends or a neighbor ages out. Returns 0 or LLDPA_NOT_OPEN.
  *   count  the seconds that passed; LLDPA_NEVER waits for the next event, and ends soon if nothing is ever due
  *   marks  the frames to send at the last second counted, on success
- *   told   written on success. Send the frames of marks; then, if told->taken is less than count, call lldpa_ticks
- *          again for the remaining seconds. lldpa_aged writes the neighbors that aged out.
+ *   told   written on success. If told->taken is less than count, call lldpa_ticks again for the remaining seconds.
+ *          lldpa_aged writes the neighbors that aged out
+ * Take the seconds from a clock that nobody sets and that goes on while the machine sleeps, such as CLOCK_BOOTTIME of
+ * Linux. When all of them are reported, send the frame of the last mark of each port. After a pause of a day there were
+ * marks for each tx-interval that has passed, and neighbors need only the last of these frames.
  */
 uint8_t lldpa_ticks(lldpa_agent *agent, uint32_t count, lldpa_marks *marks, lldpa_ticks_taken *told);
 

@@ -433,8 +433,11 @@ extern "C" {
     #[doc = " sends or a neighbor ages out. Returns 0 or LLDPA_NOT_OPEN."]
     #[doc = "   count  the seconds that passed; LLDPA_NEVER waits for the next event, and ends soon if nothing is ever due"]
     #[doc = "   marks  the frames to send at the last second counted, on success"]
-    #[doc = "   told   written on success. Send the frames of marks; then, if told->taken is less than count, call lldpa_ticks"]
-    #[doc = "          again for the remaining seconds. lldpa_aged writes the neighbors that aged out."]
+    #[doc = "   told   written on success. If told->taken is less than count, call lldpa_ticks again for the remaining seconds."]
+    #[doc = "          lldpa_aged writes the neighbors that aged out"]
+    #[doc = " Take the seconds from a clock that nobody sets and that goes on while the machine sleeps, such as CLOCK_BOOTTIME of"]
+    #[doc = " Linux. When all of them are reported, send the frame of the last mark of each port. After a pause of a day there were"]
+    #[doc = " marks for each tx-interval that has passed, and neighbors need only the last of these frames."]
     pub fn lldpa_ticks(
         agent: *mut lldpa_agent,
         count: u32,
