@@ -50,6 +50,18 @@ def check_crate(words: list[str], folder: pathlib.Path, library: Library, counts
     counts.judge(None if is_right else f"{ended.stdout[-1500:]}{ended.stderr[-1500:]}", f"cargo {' '.join(words)}")
 
 
+def check_threads(library: Library, counts: Counts) -> None:
+    """Runs the test in which agents wander between threads with AddressSanitizer's malloc and free."""
+    found = ran(["cc", "-print-file-name=libasan.so"]).stdout.strip()
+    if not found.startswith("/"):
+        skip("sanitizers", "agents that wander between threads")
+        return
+    runner = f"target.'cfg(unix)'.runner=['env', 'LD_PRELOAD={found}']"
+    ended = cargo(["test", "--config", runner, "--test", "agents", "wander"], library.folder, library)
+    is_right = ended.returncode == 0 and "1 passed" in ended.stdout
+    counts.judge(None if is_right else f"{ended.stdout[-700:]}{ended.stderr[-1500:]}", "agents that wander between threads")
+
+
 def check_versions(library: Library, counts: Counts) -> None:
     """Checks that the crate's build accepts an archive of its release and of later ones of 1.x, and no other."""
     script = next((library.room / "target" / "debug" / "build").glob("lldpa-*/build-script-build"))
@@ -121,6 +133,7 @@ def check_rust(library: Library, counts: Counts) -> None:
         skip("cargo", "the crate for Rust")
         return
     check_crate(["test"], library.folder, library, counts)
+    check_threads(library, counts)
     if fault_of(["cargo", "clippy", "--version"]) is None:
         for words in (["--all-targets"], ["--no-default-features"]):
             check_crate(["clippy", *words, "--", "-D", "warnings"], library.folder, library, counts)

@@ -171,10 +171,22 @@ def check_machine(library: Library, counts: Counts) -> None:
     counts.judge(f"{found} branch before they probe" if found else None, "the machine code of the archive")
 
 
+def check_state(library: Library, counts: Counts) -> None:
+    """Checks that the library has no thread-local storage and no memory that it writes, so that an agent
+    may move to another thread (`Send` in rust/lldpa)."""
+    said = ran(["readelf", "--wide", "--segments", library.folder / "liblldpa.so.1"]).stdout
+    is_well = "LOAD" in said and " TLS " not in said
+    counts.judge(None if is_well else said, "the segments of the shared object")
+    said = ran(["readelf", "--wide", "--sections", library.folder / "liblldpa.a"]).stdout
+    written = re.findall(r"\] (\S+) +\w+ +\w+ \w+ (?!0+ )\w+ \w+ +(?=\w*W)\w+ ", said)
+    is_well = ".text" in said and all(name.startswith(".data.rel.ro") for name in written)
+    counts.judge(None if is_well else f"{written}", "the sections of the archive that are written")
+
+
 # The checks that take longest come first.
 CHECKS = (check_programs, check_rust, check_front, check_refused, check_receive, check_layout, check_header,
           check_processor, check_level, check_functions, check_needs, check_releases, check_plug_in,
-          check_size, check_machine, check_stack, check_page, check_who, check_sd_lldp_rx)
+          check_size, check_machine, check_state, check_stack, check_page, check_who, check_sd_lldp_rx)
 
 
 @pytest.mark.parametrize("check", CHECKS, ids=lambda check: check.__name__)

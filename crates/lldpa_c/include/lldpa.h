@@ -24,8 +24,9 @@
  * it. Texts that a function writes have no 0 at the end.
  *
  * Threads: the library has no state of its own, never waits, and starts no threads. Calls on different memory may run
- * at the same time, but calls on the same lldpa_machine or lldpa_agent may not. Use and close an agent on the thread
- * that opened it. Do not call its functions in a signal handler, or in a forked child of a process with threads.
+ * at the same time, but calls on the same lldpa_machine or lldpa_agent may not, even if both only read. Any thread may
+ * use or close an agent, after the calls of other threads on it have returned. Do not call its functions in a signal
+ * handler, or in a forked child of a process with threads.
  *
  * ABI: in all releases 1.x, existing functions, parameters, numbers and fields of structs stay the same. A release may
  * add functions and fault numbers, so treat a number that you do not know as a fault. Only lldpa_options may get new

@@ -43,11 +43,9 @@ fn write(agent: &Agent, ports: &[&str], sent: &[Sent]) {
     }
 }
 
-/// Returns the lines of `show statistics` for a port, from the `Debug` text of its counters.
+/// Returns the lines of `show statistics` for a port.
 fn counter_lines(port: &str, told: &Statistics) -> String {
-    let text = format!("{told:?}").replace('_', "-").replace(": ", "=");
-    let fields = text.trim_start_matches("Statistics { ").trim_end_matches(" }").split(", ");
-    fields.map(|field| format!("lldp.{port}.{field}\n")).collect()
+    told.by_key().map(|(key, number)| format!("lldp.{port}.{key}={number}\n")).collect()
 }
 
 /// Returns the lines of `show chassis` for these values.
