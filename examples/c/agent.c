@@ -26,7 +26,7 @@ static struct pollfd ports[MOST_PORTS];
 static char **names;
 static nfds_t count;
 
-static void end(int number)
+static void stop(int number)
 {
     (void)number;
     is_over = 1;
@@ -76,16 +76,20 @@ static int open_all(lldpa_agent *agent)
     return fault == LLDPA_OK ? 0 : -1;
 }
 
-/* Sends the frame of each mark. A frame that the kernel refuses is lost, as on a cable. */
-static void send_all(lldpa_agent *agent, const lldpa_marks *marks)
+/* Sends the frame of a mark. A frame that the kernel refuses is lost, as on a cable. */
+static void send_one(lldpa_agent *agent, lldpa_mark mark)
 {
     static uint8_t frame[LLDPA_FRAME_ROOM];
     size_t length;
+    if (lldpa_frame_of(agent, mark.port, mark.mark, frame, sizeof frame, &length) == LLDPA_OK) {
+        (void)!write(ports[mark.port].fd, frame, length);
+    }
+}
+
+static void send_all(lldpa_agent *agent, const lldpa_marks *marks)
+{
     for (uint8_t at = 0; at < marks->count; at++) {
-        lldpa_mark mark = marks->items[at];
-        if (lldpa_frame_of(agent, mark.port, mark.mark, frame, sizeof frame, &length) == LLDPA_OK) {
-            (void)!write(ports[mark.port].fd, frame, length);
-        }
+        send_one(agent, marks->items[at]);
     }
 }
 
@@ -112,14 +116,23 @@ static void print_aged(lldpa_agent *agent)
     }
 }
 
-/* Reports the seconds that passed. Sends what became due in each of them. */
+/* Reports the seconds that passed, and then sends what became due: on each port only the last frame. After a pause of
+ * a day (the machine slept, or the program was stopped) each port has been due thousands of times. */
 static void pass(lldpa_agent *agent, uint32_t seconds)
 {
     lldpa_marks marks;
     lldpa_ticks_taken done;
+    uint8_t last[MOST_PORTS] = {LLDPA_QUIET};
     for (; seconds > 0 && lldpa_ticks(agent, seconds, &marks, &done) == LLDPA_OK; seconds -= done.taken) {
-        send_all(agent, &marks);
+        for (uint8_t at = 0; at < marks.count; at++) {
+            last[marks.items[at].port] = marks.items[at].mark;
+        }
         print_aged(agent);
+    }
+    for (uint8_t port = 0; port < count; port++) {
+        if (last[port] != LLDPA_QUIET) {
+            send_one(agent, (lldpa_mark){port, last[port]});
+        }
     }
 }
 
@@ -139,10 +152,11 @@ static void hear(lldpa_agent *agent, uint32_t port)
     }
 }
 
+/* This clock goes on while the machine sleeps, as a neighbor's time to live does, and nobody sets it. */
 static time_t seconds(void)
 {
     struct timespec now;
-    clock_gettime(CLOCK_MONOTONIC, &now);
+    clock_gettime(CLOCK_BOOTTIME, &now);
     return now.tv_sec;
 }
 
@@ -162,8 +176,8 @@ int main(int words_count, char **words)
     sigaddset(&held, SIGINT);
     sigaddset(&held, SIGTERM);
     sigprocmask(SIG_BLOCK, &held, &before);
-    sigaction(SIGINT, &(struct sigaction){.sa_handler = end}, NULL);
-    sigaction(SIGTERM, &(struct sigaction){.sa_handler = end}, NULL);
+    sigaction(SIGINT, &(struct sigaction){.sa_handler = stop}, NULL);
+    sigaction(SIGTERM, &(struct sigaction){.sa_handler = stop}, NULL);
     if (open_all(&agent) != 0) {
         return 1;
     }

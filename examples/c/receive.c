@@ -3,7 +3,7 @@
  * ages out. Needs the right to open packet sockets (CAP_NET_RAW). Runs until SIGINT or SIGTERM.
  *     cc receive.c $(pkg-config --cflags --libs lldpa) -o receive && sudo ./receive eth0
  */
-#define _DEFAULT_SOURCE
+#define _GNU_SOURCE
 #include <lldpa.h>
 #include <arpa/inet.h>
 #include <linux/if_packet.h>
@@ -40,10 +40,11 @@ static int open_socket(const char *interface)
     return heard;
 }
 
+/* This clock goes on while the machine sleeps, as a neighbor's time to live does, and nobody sets it. */
 static long seconds(void)
 {
     struct timespec now;
-    clock_gettime(CLOCK_MONOTONIC, &now);
+    clock_gettime(CLOCK_BOOTTIME, &now);
     return now.tv_sec;
 }
 

@@ -20,6 +20,7 @@ from ctypes import (CDLL, POINTER, Structure, byref, c_bool, c_char_p, c_size_t,
 from who import Examined, Place, library
 
 ETHERTYPE_LLDP = 0x88cc
+CALLS = ("lldpa_open", "lldpa_due", "lldpa_ticks", "lldpa_frame", "lldpa_aged_count", "lldpa_aged")
 REPORTS = {4: "new", 5: "changed", 7: "no room for", 8: "gone"}
 
 
@@ -89,6 +90,11 @@ def give_frame(lldpa: CDLL, agent: Handle, frame: bytes) -> None:
         report(lldpa, REPORTS[news.what], frame, news.chassis, news.port)
 
 
+def seconds() -> int:
+    """Returns the seconds since the machine started, also those in which it slept."""
+    return int(time.clock_gettime(time.CLOCK_BOOTTIME))
+
+
 def opened(lldpa: CDLL, interface: str) -> Handle:
     """Opens an agent with one port. The port only receives."""
     name, handle = Text(interface.encode(), len(interface.encode())), Handle()
@@ -104,17 +110,19 @@ def main() -> None:
     """Passes received frames and elapsed seconds to the agent until SIGTERM."""
     signal.signal(signal.SIGTERM, lambda *_: sys.exit(0))
     interface, lldpa = sys.argv[1], library()
+    for name in CALLS:
+        getattr(lldpa, name).restype = c_uint8  # else ctypes reads an int, though a call defines 8 bits
     agent, due = opened(lldpa, interface), c_uint32()
     heard = socket.socket(socket.AF_PACKET, socket.SOCK_RAW, socket.htons(ETHERTYPE_LLDP))
     heard.bind((interface, ETHERTYPE_LLDP))
     group = struct.pack("iHH8s", socket.if_nametoindex(interface), 0, 6, bytes.fromhex("0180c200000e"))
     heard.setsockopt(263, 1, group)  # SOL_PACKET, PACKET_ADD_MEMBERSHIP
-    now = int(time.monotonic())
+    now = seconds()
     while True:
         lldpa.lldpa_due(byref(agent), byref(due))
         came = select.select([heard], [], [], min(due.value, 3600))[0]
         # the seconds passed before the frame arrived, so the agent gets the seconds first
-        before, now = now, int(time.monotonic())
+        before, now = now, seconds()
         give_seconds(lldpa, agent, now - before)
         if came:
             give_frame(lldpa, agent, heard.recv(2048))

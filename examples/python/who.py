@@ -44,6 +44,7 @@ def library() -> ctypes.CDLL:
                                ("lldpa_next_kept", c_bool, Kept)):
         function = getattr(found, name)
         function.restype, function.argtypes = answer, [c_char_p, c_size_t, POINTER(told)]
+    found.lldpa_tlv_text.restype = c_uint8
     found.lldpa_tlv_text.argtypes = [c_uint32, c_char_p, c_size_t, c_char_p, c_size_t, POINTER(c_size_t)]
     return found
 

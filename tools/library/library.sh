@@ -6,9 +6,10 @@
 # library for amd64 runs on every amd64 processor.
 #
 # tools/release/assembly.sh gives the proved functions as assembly, and they get the prefix `proved_`.
-# Programs call the functions of crates/lldpa_c/front. These check for NULL, then call malloc and the
-# proved functions. Each group of functions below is one object of liblldpa.a, with what they use. The
-# archive's global names are the functions of lldpa.h. Prints FOLDER.
+# Programs call the functions of crates/lldpa_c/front, most of which checked.awk makes of the header.
+# These check for NULL, then call malloc and the proved functions. Each group of functions below is one
+# object of liblldpa.a, with what they use. The archive's global names are the functions of lldpa.h.
+# Prints FOLDER.
 set -eu
 export LC_ALL=C # in Turkish a-z does not have each letter
 cd "$(dirname "$0")/../.."
@@ -31,7 +32,7 @@ groups() {
 }
 
 . tools/library/arch.sh
-for command in "${tools}gcc" "${tools}ar" "${tools}ld" "${tools}nm" "${tools}objcopy" sha256sum; do
+for command in awk "${tools}gcc" "${tools}ar" "${tools}ld" "${tools}nm" "${tools}objcopy" sha256sum; do
     command -v "$command" > /dev/null || fail "there is no $command"
 done
 folder=$(realpath -m -- "${folder:-crates/lldpa_c/out/lib}")
@@ -40,7 +41,7 @@ trap 'rm -rf "$room"' EXIT
 
 # Each function of the front gets a section of its own.
 compile() {
-    "${tools}gcc" -std=gnu99 -O2 -fPIC -ffunction-sections -Wall -Wextra -Werror -I"$header" -c "$@"
+    "${tools}gcc" -std=gnu99 -O2 -fPIC -ffunction-sections -Wall -Wextra -Werror -I"$header" -I"$room" -c "$@"
 }
 
 "${tools}gcc" -c "$(tools/release/assembly.sh "$arch" lldpa_c)" -o "$room/proved.o"
@@ -48,6 +49,7 @@ compile() {
 "${tools}objcopy" --redefine-syms="$room/names" "$room/proved.o"
 "${tools}ar" rcsD "$room/proved.a" "$room/proved.o"
 echo 'LLDPA_1 { global: lldpa_*; local: *; };' > "$room/exports"
+"${tools}gcc" -E -P $header/lldpa.h | awk -f $front/checked.awk > "$room/checked.h"
 # The archive's functions are hidden, so a shared object that contains them does not export them.
 compile -fvisibility=hidden $front/lldpa.c -o "$room/front.o"
 compile $front/memory.c -o "$room/memory.o"

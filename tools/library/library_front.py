@@ -1,111 +1,91 @@
-"""Makes wrong versions of the library's front, crates/lldpa_c/front/lldpa.c, which checks for NULL.
-tools/library/c/nulls.c or ranges.c must fail with each of them."""
+"""Tests the front of the library, crates/lldpa_c/front, with nulls.c and rows that are made of lldpa.h.
+
+A row is a call with NULL in the place of a pointer, with a handle that is not open, or with a port that
+the agent does not have. The rows and the front are made of the header by scripts that share nothing.
+nulls.c must fail with each wrong front below.
+"""
 from __future__ import annotations
 
-from library_parts import TOP, Counts, Library, fault_of, ran
+import re
+from typing import Iterator
 
-FRONT = TOP / "crates" / "lldpa_c" / "front" / "lldpa.c"
-PROGRAMS = [TOP / "tools" / "library" / "c" / f"{name}.c" for name in ("nulls", "ranges")]
+from library_header import bare, functions
+from library_parts import CHECKED, FRONT, TOP, Counts, Library, fault_of, ran, write_front
 
-# Each edit of the front: its fault, a text that occurs once there, and the wrong text for it.
+NULLS = TOP / "tools" / "library" / "c" / "nulls.c"
+# What nulls.c tests itself.
+OTHERS = ("lldpa_version", "lldpa_open", "lldpa_close")
+MAY_BE_NULL = ("lldpa_news *news",)
+
+# Each wrong front: its fault, a text that occurs once in checked.awk or lldpa.c, and the wrong text for it.
 EDITS = (
-    ("lldpa_frame_pdu does not check the place", "is_missing(frame, length) || pdu == NULL",
-     "is_missing(frame, length)"),
-    ("lldpa_examine does not check where to write", "is_missing(pdu, length) || told == NULL",
-     "is_missing(pdu, length)"),
-    ("lldpa_build does not check the bodies", "lacks_octets(tlvs, tlv_count)",
-     "is_missing(tlvs, tlv_count)"),
-    ("lldpa_escape does not check the text", "is_missing(text, text_length) || is_missing(room",
-     "is_missing(room"),
-    ("lldpa_leave returns another number", "LLDPA_NULL, (agent, marks)", "LLDPA_OK, (agent, marks)"),
-    ("lldpa_open does not check the hostname",
-     " && is_copied(&given.hostname, &options->hostname)", ""),
+    ("a pointer is not checked", 'check = variable " == NULL"', 'check = "false"'),
+    ("an array is not checked", '"lacks_octets" : "is_missing"', '"lacks_octets" : "false && is_missing"'),
+    ("the bodies of TLVs are not checked", '"lacks_octets" : "is_missing"', '"is_missing" : "is_missing"'),
+    ("another number is returned", '"LLDPA_NULL" : "false"', '"LLDPA_OK" : "false"'),
+    ("another bool is returned", '"LLDPA_NULL" : "false"', '"LLDPA_NULL" : "true"'),
+    ("a handle that is only read is written", '"COPY(" variable ")"', '"(lldpa_agent *)" variable'),
+    ("NULL with a length of 0 is refused", "return at == NULL && count > 0;", "return at == NULL;"),
+    ("lldpa_open accepts options of another size", "options->size < FIRST_OPTIONS ||", "options->size == 0 ||"),
+    ("lldpa_open accepts options of a later library", "|| options->size > sizeof given", ""),
+    ("lldpa_open does not check the hostname", " && is_whole(&given.hostname)", ""),
+    ("lldpa_open does not check the names", "is_there = is_whole(&names[at]);", ""),
     ("lldpa_open reads at most 64 names", "#define MOST_NAMES 65", "#define MOST_NAMES 64"),
-    ("lldpa_ticks returns another number",
-     "marks == NULL || told == NULL, LLDPA_NULL", "marks == NULL || told == NULL, LLDPA_NOT_OPEN"),
-    ("lldpa_due does not check the seconds", "agent == NULL || seconds == NULL", "agent == NULL"),
-    ("lldpa_frame writes news if none are wanted", "news == NULL ? proved_lldpa_frame",
-     "news != NULL ? proved_lldpa_frame"),
-    ("lldpa_open accepts options of another size", "if (options->size != sizeof *options)",
-     "if (options->size == 0)"),
-    ("lldpa_frame_of writes to the handle that it reads", "(COPY(agent), port, mark",
-     "((lldpa_agent *)agent, port, mark"),
+    ("lldpa_frame does not check the octets", "is_missing(octets, length) || marks", "marks"),
+    ("lldpa_frame writes news if none are wanted", "news == NULL ? proved", "news != NULL ? proved"),
     ("lldpa_close does not check the agent", "if (agent != NULL)", "if (true)"),
-    ("NULL with a length of 0 is refused", "return at == NULL && count > 0;",
-     "return at == NULL;"),
-    ("lldpa_open accepts options of a later library", "if (options->size != sizeof *options)",
-     "if (options->size < sizeof *options)"),
-    ("lldpa_escape refuses more than 255 octets", "(octets(text), text_length, room_at(room)",
-     "(octets(text), text_length > 255 ? 512 : text_length, room_at(room)"),
-    ("lldpa_build leaves out TLVs after the 64th", "tlvs != NULL ? tlvs : &nowhere, tlv_count,",
-     "tlvs != NULL ? tlvs : &nowhere, tlv_count > 64 ? 64 : tlv_count,"),
-    ("lldpa_ticks counts seconds modulo 65,536", "(agent, count, marks, told))",
-     "(agent, (uint16_t)count, marks, told))"),
-    ("lldpa_command leaves the show as it was", "(agent, octets(line), length, show, marks))",
-     "(agent, octets(line), length, &(uint32_t){0}, marks))"),
-    ("lldpa_link checks the port first", "agent == NULL || marks == NULL, LLDPA_NULL, (agent, port, up",
-     "port > 63, LLDPA_NO_PORT, (agent, port, up"),
-    ("lldpa_show_lines checks the handle first", "(COPY(agent), show, from,",
-     "(COPY(agent), agent->open ? show : 1, from,"),
-    ("lldpa_frame_of checks the room before the port", "(COPY(agent), port, mark, room_at",
-     "(COPY(agent), room_length > 0 ? port : 0, mark, room_at"),
-    ("lldpa_neighbor_count counts those of the first port",
-     "LLDPA_NULL, (COPY(agent), port, count))\n\nCHECKED(uint8_t, lldpa_neighbor,",
-     "LLDPA_NULL, (COPY(agent), port < 2 ? 0 : port, count))\n\nCHECKED(uint8_t, lldpa_neighbor,"),
-    ("lldpa_aged_count counts those of the first port",
-     "LLDPA_NULL, (COPY(agent), port, count))\n\nCHECKED(uint8_t, lldpa_aged,",
-     "LLDPA_NULL, (COPY(agent), port < 2 ? 0 : port, count))\n\nCHECKED(uint8_t, lldpa_aged,"),
-    ("lldpa_neighbor_count writes 0 if it is refused",
-     "agent == NULL || count == NULL, LLDPA_NULL, (COPY(agent), port, count))\n\nCHECKED(uint8_t, lldpa_neighbor,",
-     "agent == NULL || count == NULL || (*count = 0), LLDPA_NULL, (COPY(agent), port, count))\n\n"
-     "CHECKED(uint8_t, lldpa_neighbor,"),
-    ("lldpa_build checks the number of faults first",
-     "is_missing(room, room_length) || length == NULL, LLDPA_NULL,\n        (octets(chassis)",
-     "is_missing(room, room_length) || length == NULL || fault_count < tlv_count,\n"
-     "        length != NULL && fault_count < tlv_count ? LLDPA_NO_ROOM : LLDPA_NULL, (octets(chassis)"),
-    ("lldpa_open counts the ports first", "return is_whole ? proved_lldpa_open(&given, agent)",
-     "return is_whole ? given.port_count > 64 ? LLDPA_TOO_MANY_PORTS : proved_lldpa_open(&given, agent)"),
-    ("lldpa_chassis tells 255.255.255.255 for no address",
-     "lldpa_chassis_told *told),\n        agent == NULL || told == NULL, LLDPA_NULL, (COPY(agent), told))",
-     "lldpa_chassis_told *told),\n        agent == NULL || told == NULL, LLDPA_NULL, (COPY(agent), told)\n"
-     "        ?: (told->managed ? 0 : (__builtin_memset(told->management, 255, 4), 0)))"),
-    ("lldpa_examine counts discarded TLVs modulo 256", "(octets(pdu), length, told))",
-     "(octets(pdu), length, told) ?: (told->discarded %= 256, 0))"),
-    ("lldpa_examine counts unrecognized TLVs modulo 256", "(octets(pdu), length, told))",
-     "(octets(pdu), length, told) ?: (told->unrecognized %= 256, 0))"),
-    ("lldpa_examine tells the TTL modulo 32,768", "(octets(pdu), length, told))",
-     "(octets(pdu), length, told) ?: (told->ttl %= 32768, 0))"),
-    ("lldpa_statistics tells no drops", "(COPY(agent), port, told))",
-     "(COPY(agent), port, told) ?: (told->drops = 0))"),
-    ("lldpa_neighbor_count counts modulo 64",
-     "LLDPA_NULL, (COPY(agent), port, count))\n\nCHECKED(uint8_t, lldpa_neighbor,",
-     "LLDPA_NULL, (COPY(agent), port, count) ?: (*count %= 64, 0))\n\nCHECKED(uint8_t, lldpa_neighbor,"),
-    ("lldpa_neighbor tells 0 seconds left",
-     "(COPY(agent), port, index, room_at(room), room_length, told))\n\nCHECKED(uint8_t, lldpa_aged_count,",
-     "(COPY(agent), port, index, room_at(room), room_length, told) ?: (told->left = 0))\n\n"
-     "CHECKED(uint8_t, lldpa_aged_count,"),
-    ("lldpa_next_kept begins anew after the last TLV", "(octets(extent), length, walk))",
-     "(octets(extent), length, walk) || (walk->next = 0))"),
 )
 
 
-def fault_of_edit(library: Library, old: str, new: str) -> str | None:
-    """Returns None if a program fails with a wrong front, or else what went wrong."""
-    text = FRONT.read_text()
-    if text.count(old) != 1:
-        return f"{old!r} does not occur once in {FRONT.name}"
-    source, built = library.room / "front.c", library.room / "front"
-    source.write_text(text.replace(old, new))
-    for program in PROGRAMS:
-        fault = fault_of(["cc", "-std=gnu99", f"-I{library.folder}", source, program,
-                          library.folder / "proved.a", "-o", built])
-        if fault is not None:
-            return fault
-        if ran([built]).returncode != 0:
-            return None
-    return "it is not noticed"
+def values(parameters: list[str]) -> list[str]:
+    """Returns an argument for each parameter: memory for a pointer, its length behind it, the first port, or the number 1."""
+    known = {"lldpa_agent": "&agent", "const lldpa_agent": "&agent", "const uint8_t": "frame", "const lldpa_tlv": "tlvs"}
+    lengths = {"frame": "9", "tlvs": "2"}
+    found: list[str] = []
+    for at, one in enumerate(parameters):
+        if "*" in one:
+            found.append(known.get(one.split(" *")[0], f"AT({at})"))
+        else:
+            found.append(lengths.get(found[-1], "sizeof *now.any") if one.startswith("size_t ") else
+                         "0" if one == "uint32_t port" else "1")
+    return found
+
+
+def rows(header: str) -> Iterator[str]:
+    """Yields rows for nulls.c: a call and its answer, or two calls with the same result."""
+    for name, (answer, *parameters) in functions(bare(header)).items():
+        given = values(parameters)
+
+        def call(at: int, *others: str) -> str:
+            return f"{name}({', '.join([*given[:at], *others, *given[at + len(others):]])})"
+
+        for at, one in enumerate([] if name in OTHERS else parameters):
+            if "*" in one and one not in MAY_BE_NULL:
+                yield f"ANSWERS({'LLDPA_NULL' if answer == 'uint8_t' else 'false'}, {call(at, 'NULL')})"
+            if "*" in one and re.match("size_t [^*]", "".join(parameters[at + 1:at + 2])):
+                yield f"SAME({call(at, 'NULL', '0')}, {call(at, given[at], '0')})"
+            if one.endswith("lldpa_agent *agent"):
+                yield f"ANSWERS(LLDPA_NOT_OPEN, {call(at, '&none' if one.startswith('const') else '&closed')})"
+            if one == "uint32_t port":
+                yield f"ANSWERS(LLDPA_NO_PORT, {call(at, '256')})"
+
+
+def write_rows(library: Library) -> str:
+    """Writes the rows for nulls.c. Returns the option with which the compiler finds them."""
+    found = rows((library.folder / "lldpa.h").read_text())
+    (library.room / "nulls.rows").write_text("".join(f"{row}\n" for row in found))
+    return f"-I{library.room}"
 
 
 def check_front(library: Library, counts: Counts) -> None:
+    """Checks that nulls.c fails with each wrong front."""
+    header, front, rules = (path.read_text() for path in (library.folder / "lldpa.h", FRONT, CHECKED))
+    tests, built = library.room / "nulls.o", library.room / "front"
+    compile = ["cc", "-std=gnu99", f"-I{library.room}"]
+    write_rows(library)
+    counts.judge(fault_of([*compile, f"-I{library.folder}", "-c", NULLS, "-o", tests]), "building nulls.c")
     for what, old, new in EDITS:
-        counts.judge(fault_of_edit(library, old, new), f"a wrong front: {what}")
+        write_front(library.room, header, front.replace(old, new), rules.replace(old, new))
+        fault = fault_of([*compile, library.room / "front.c", tests, library.folder / "proved.a", "-o", built])
+        is_seen = (front + rules).count(old) == 1 and fault is None and ran([built]).returncode != 0
+        counts.judge(None if is_seen else fault or "it is not noticed", f"a wrong front: {what}")

@@ -3,7 +3,6 @@ from __future__ import annotations
 
 import os
 import pathlib
-import re
 import subprocess
 import sys
 import warnings
@@ -13,6 +12,8 @@ TOP = pathlib.Path(__file__).resolve().parents[2]
 sys.path.append(str(TOP / "tools" / "gate"))
 from counts import Counts  # noqa: E402
 
+FRONT = TOP / "crates" / "lldpa_c" / "front" / "lldpa.c"
+CHECKED = FRONT.with_name("checked.awk")
 WARNINGS = ["-pedantic", "-Wall", "-Wextra", "-Werror"]
 
 # The most seconds that a command may take. The longest one proves the library on a slow machine.
@@ -47,6 +48,15 @@ def count_of(command: Sequence[object], what: str, counts: Counts) -> None:
     ended = ran(command)
     fault = f"status {ended.returncode}, {ended.stdout[-500:]} {ended.stderr[-1500:]}"
     counts.judge(fault if ended.returncode or ended.stderr or not ended.stdout else None, what)
+
+
+def write_front(folder: pathlib.Path, header: str, front: str, rules: str = CHECKED.read_text()) -> None:
+    """Writes the sources of a front as library.sh makes them: lldpa.h, checked.h and front.c."""
+    (folder / "lldpa.h").write_text(header)
+    (folder / "front.c").write_text(front)
+    declared = ran(["cc", "-E", "-P", folder / "lldpa.h"]).stdout
+    made = subprocess.run(["awk", rules], input=declared, stdout=subprocess.PIPE, text=True, check=True)
+    (folder / "checked.h").write_text(made.stdout)
 
 
 class Library:

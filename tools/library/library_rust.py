@@ -13,6 +13,8 @@ from library_parts import TOP, Counts, Library, fault_of, ran, skip
 from library_transcripts import check_transcripts
 
 CRATE = TOP / "rust" / "lldpa"
+# Debian's compiler, the oldest that the crate supports.
+OLDEST = {"CARGO": "/usr/bin/cargo", "RUSTC": "/usr/bin/rustc"}
 
 
 def strange_archive(library: Library) -> pathlib.Path:
@@ -32,12 +34,12 @@ def strange_archive(library: Library) -> pathlib.Path:
     return library.room
 
 
-def cargo(words: list[str], folder: pathlib.Path, library: Library, program: str = "cargo",
-          crate: pathlib.Path = CRATE, **more: str) -> subprocess.CompletedProcess[str]:
+def cargo(words: list[str], folder: pathlib.Path, library: Library,
+          **more: str) -> subprocess.CompletedProcess[str]:
     """Runs cargo in the crate, with the archive of a folder. A warning is an error."""
-    settings = os.environ | {"LLDPA_LIB_DIR": str(folder), "RUSTFLAGS": "-D warnings",
-                             "CARGO_TARGET_DIR": str(library.room / "target"), **more}
-    return ran([program, words[0], "--offline", "--locked", "--quiet", *words[1:]], crate, settings)
+    settings = os.environ | {"LLDPA_LIB_DIR": str(folder), "RUSTFLAGS": "-D warnings", "CARGO_INCREMENTAL": "0",
+                             "CARGO_PROFILE_DEV_DEBUG": "0", "CARGO_TARGET_DIR": str(library.room / "target"), **more}
+    return ran([more.get("CARGO", "cargo"), words[0], "--offline", "--locked", "--quiet", *words[1:]], CRATE, settings)
 
 
 def check_crate(words: list[str], folder: pathlib.Path, library: Library, counts: Counts) -> None:
@@ -48,28 +50,30 @@ def check_crate(words: list[str], folder: pathlib.Path, library: Library, counts
     counts.judge(None if is_right else f"{ended.stdout[-1500:]}{ended.stderr[-1500:]}", f"cargo {' '.join(words)}")
 
 
+def check_threads(library: Library, counts: Counts) -> None:
+    """Runs the test in which agents wander between threads with AddressSanitizer's malloc and free."""
+    found = ran(["cc", "-print-file-name=libasan.so"]).stdout.strip()
+    if not found.startswith("/"):
+        skip("sanitizers", "agents that wander between threads")
+        return
+    runner = f"target.'cfg(unix)'.runner=['env', 'LD_PRELOAD={found}']"
+    ended = cargo(["test", "--config", runner, "--test", "agents", "wander"], library.folder, library)
+    is_right = ended.returncode == 0 and "1 passed" in ended.stdout
+    counts.judge(None if is_right else f"{ended.stdout[-700:]}{ended.stderr[-1500:]}", "agents that wander between threads")
+
+
 def check_versions(library: Library, counts: Counts) -> None:
-    """Checks that the crate accepts an archive of its release and of later ones of 1.x, and no other."""
+    """Checks that the crate's build accepts an archive of its release and of later ones of 1.x, and no other."""
+    script = next((library.room / "target" / "debug" / "build").glob("lldpa-*/build-script-build"))
     octets, at = (library.folder / "liblldpa.a").read_bytes(), b"liblldpa version\0\0\0\0"
     for number, fits in ((10000, True), (10042, True), (10100, True), (19900, True), (9900, False), (20000, False)):
         folder = library.room / str(number)
         folder.mkdir()
         end = octets.index(at) + len(at)
         (folder / "liblldpa.a").write_bytes(octets[:end] + number.to_bytes(4, "little") + octets[end + 4:])
-        ended = cargo(["check"], folder, library)
-        is_right = ended.returncode == 0 if fits else "this crate needs 1.0" in ended.stderr
-        counts.judge(None if is_right else ended.stderr[-1500:], f"the crate for Rust with an archive of version {number}")
-
-
-def check_bindings(library: Library, counts: Counts) -> None:
-    """Checks that the declarations for Rust are those that bindgen writes for the header."""
-    if shutil.which("bindgen") is None:
-        skip("bindgen", "the declarations for Rust")
-        return
-    written, kept = ran([TOP / "tools" / "library" / "bindings.sh"]).stdout, (CRATE / "src" / "sys.rs").read_text()
-    # bindgen's layout depends on whether rustfmt is installed, so it is not compared.
-    bare = [re.sub(r"\s+|,(?=\s*[)}])", "", text) for text in (written, kept)]
-    counts.judge(None if bare[0] == bare[1] != "" else "bindgen writes something else", "rust/lldpa/src/sys.rs")
+        said = ran([script], env=os.environ | {"LLDPA_LIB_DIR": str(folder)}).stdout
+        is_right = ("cargo:rustc-link-lib=static=lldpa" if fits else "this crate needs 1.0") in said
+        counts.judge(None if is_right else said, f"the crate for Rust with an archive of version {number}")
 
 
 def check_examples(library: Library, counts: Counts) -> None:
@@ -115,44 +119,12 @@ def fault_of_agents(program: str) -> str | None:
 
 
 def check_oldest(library: Library, counts: Counts) -> None:
-    """Checks that the crate builds with the system's compiler, if there is one."""
-    if not pathlib.Path("/usr/bin/rustc").exists() or not pathlib.Path("/usr/bin/cargo").exists():
+    """Checks that the oldest compiler takes the crate, its tests and examples, if there is one."""
+    if not all(map(os.path.exists, OLDEST.values())):
         skip("rustc", "the crate for Rust with Debian's compiler")
         return
-    ended = cargo(["build", "--all-targets"], library.folder, library, "/usr/bin/cargo",
-                  RUSTC="/usr/bin/rustc", CARGO_TARGET_DIR=str(library.room / "oldest"))
+    ended = cargo(["check", "--all-targets"], library.folder, library, **OLDEST)
     counts.judge(ended.stderr[-1500:] if ended.returncode else None, "the crate for Rust with the system's compiler")
-
-
-# Each edit of the crate: its fault, the file below src, a text that occurs once there, and the wrong
-# text for it.
-EDITS = (
-    ("the same octets are a change", "neighbors.rs", "6 => News::Same(msap)", "6 => News::Changed(msap)"),
-    ("a refused LLDPDU has no fault", "neighbors.rs", ".map_or(News::Unexpected, News::Refused)",
-     ".map_or(News::Unexpected, |_| News::Unexpected)"),
-    ("a setting asks for a show", "agent.rs", "(show != 0).then(|| Show::of(show))", "Some(Show::of(show.max(1)))"),
-    ("every port has the neighbors of the first", "agent.rs", "lldpa_neighbor_count(&*self.handle, port.into(),",
-     "lldpa_neighbor_count(&*self.handle, u32::from(port) * 0,"),
-    ("every port has those that aged out on the first", "agent.rs", "lldpa_aged_count(&*self.handle, port.into(),",
-     "lldpa_aged_count(&*self.handle, u32::from(port) * 0,"),
-    ("those that aged out are those that are held", "neighbors.rs", "Which::Aged => sys::lldpa_aged(",
-     "Which::Aged => sys::lldpa_neighbor("),
-    ("a dropped agent keeps its memory", "agent.rs", "unsafe { sys::lldpa_close(&mut *self.handle) };", ""),
-)
-
-
-def check_edits(library: Library, counts: Counts) -> None:
-    """Checks that the crate's tests fail with each wrong version of the crate."""
-    copy = library.room / "edited" / "rust" / "lldpa"
-    shutil.copytree(CRATE, copy)
-    for what, name, old, new in EDITS:
-        text, file = (CRATE / "src" / name).read_text(), copy / "src" / name
-        file.write_text(text.replace(old, new))
-        settings = {"RUSTFLAGS": "-A warnings", "CARGO_TARGET_DIR": str(library.room / "edited" / "target")}
-        ended = cargo(["test", "--test", "agents"], library.folder, library, crate=copy, **settings)
-        is_seen = text.count(old) == 1 and "test result: FAILED" in ended.stdout
-        counts.judge(None if is_seen else f"{ended.stdout[-700:]}{ended.stderr[-700:]}", f"a wrong crate: {what}")
-        file.write_text(text)
 
 
 def check_rust(library: Library, counts: Counts) -> None:
@@ -161,13 +133,13 @@ def check_rust(library: Library, counts: Counts) -> None:
         skip("cargo", "the crate for Rust")
         return
     check_crate(["test"], library.folder, library, counts)
+    check_threads(library, counts)
     if fault_of(["cargo", "clippy", "--version"]) is None:
         for words in (["--all-targets"], ["--no-default-features"]):
             check_crate(["clippy", *words, "--", "-D", "warnings"], library.folder, library, counts)
     else:
         skip("cargo-clippy", "warnings about the crate for Rust")
     check_crate(["test", "--test", "strange", "--", "--ignored"], strange_archive(library), library, counts)
-    check_edits(library, counts)
     check_versions(library, counts)
     check_examples(library, counts)
     check_oldest(library, counts)

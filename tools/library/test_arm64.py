@@ -61,12 +61,12 @@ def test_program(folder: pathlib.Path, name: str) -> None:
     assert fault_of([sys.executable, MODEL / "fuzz.py", "--program", script, "--traces", TRACES, "--seed", "1"]) is None
 
 
-@pytest.mark.parametrize("name,linked", [("vectors", "a"), ("vectors", "so.1"), ("nulls", "a"), ("limits", "a"),
+@pytest.mark.parametrize("name,linked", [("vectors", "a"), ("vectors", "so.1"), ("nulls", "a"),
                                          ("ranges", "a"), ("refused", "a"), ("transcript", "a")])
 def test_library(folder: pathlib.Path, tmp_path: pathlib.Path, name: str, linked: str) -> None:
     """Runs a C program with the archive, or with the shared object."""
     library, counts = folder / "lib", Counts()
-    more = NATIVE.WRAPPED if name == "refused" else []
+    more = [*(NATIVE.WRAPPED if name == "refused" else []), NATIVE.write_rows(NATIVE.Library(library, tmp_path))]
     assert fault_of([COMPILER, "-std=c99", "-O2", *WARNINGS, *more, f"-I{library}", TOOLS / f"{name}.c",
                      library / f"liblldpa.{linked}", "-o", tmp_path / name]) is None
     NATIVE.run_program(name, [*QEMU, "-E", f"LD_LIBRARY_PATH={library}", str(tmp_path / name)], tmp_path, counts)

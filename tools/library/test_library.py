@@ -6,8 +6,9 @@
 Programs of tools/library/c run with the library, most with the compiler's sanitizers. vectors.c
 runs the rows of examples/vectors.rows, and reads cut and altered LLDPDUs. transcript.c runs the
 transcripts of examples/ and long shows. nulls.c passes NULL for each pointer, and values out of
-range. limits.c tries small buffers and random octets, and ranges.c the ends of ranges, long lists and
-long waits. refused.c refuses memory to the library.
+range. ranges.c tries the ends of ranges, small buffers, random octets, long lists and long waits.
+pause.c lets an example pause for a day. refused.c refuses memory to the library. With `-k` a part runs
+alone, such as `-k check_front`.
 
 LLDPA_LIB_DIR, by default crates/lldpa_c/out/lib, has liblldpa.a, liblldpa.so.1 and lldpa.h. Checks that need a
 missing program, such as cargo, are skipped.
@@ -22,13 +23,11 @@ from typing import Callable
 
 import pytest
 
-from library_abi import check_abi
 from library_examples import check_page, check_receive, check_sd_lldp_rx, check_who
-from library_front import check_front
-from library_layout import check_layout
-from library_machine import check_machine
+from library_front import check_front, write_rows
+from library_header import check_layout, check_releases
 from library_parts import TOP, WARNINGS, Counts, Library, count_of, fault_of, ran, skip
-from library_rust import check_bindings, check_rust
+from library_rust import check_rust
 from library_transcripts import check_rows, check_transcripts
 
 FOLDER = pathlib.Path(os.environ.get("LLDPA_LIB_DIR") or TOP / "crates" / "lldpa_c" / "out" / "lib")
@@ -107,10 +106,11 @@ def has_sanitizers(room: pathlib.Path) -> bool:
 
 def check_programs(library: Library, counts: Counts) -> None:
     """Runs the C programs, with the sanitizers if the compiler has them."""
-    flags = SANITIZERS if has_sanitizers(library.room) else []
+    flags = [*SANITIZERS] if has_sanitizers(library.room) else []
     if not flags:
         skip("sanitizers", "memory and arithmetic of the C programs")
-    for name in ("vectors", "transcript", "nulls", "limits", "ranges"):
+    flags.append(write_rows(library))
+    for name in ("vectors", "transcript", "nulls", "ranges", "pause"):
         fault = library.compiled(TOOLS / f"{name}.c", name, *flags)
         counts.judge(fault, f"building {name}")
         if fault is None:
@@ -158,10 +158,34 @@ def check_stack(library: Library, counts: Counts) -> None:
         count_of([library.room / "stack"], "stack", counts)
 
 
+def check_machine(library: Library, counts: Counts) -> None:
+    """Checks that no function branches before the loop that touches the pages of a large stack frame:
+    the branch would spoil the loop's register."""
+    code = ran(["objdump", "-d", "--no-show-raw-insn", library.folder / "liblldpa.a"]).stdout
+    found = []
+    for function in re.split(r"\n(?=[0-9a-f]+ <)", code):
+        before, _, _ = function.rpartition("sub    $0x1000,%rsp")
+        if re.search(r"\sj(?!mp)\w+\s", before):
+            found.append(function.split(":")[0])
+    counts.judge(f"{found} branch before they probe" if found else None, "the machine code of the archive")
+
+
+def check_state(library: Library, counts: Counts) -> None:
+    """Checks that the library has no thread-local storage and no memory that it writes, so that an agent
+    may move to another thread (`Send` in rust/lldpa)."""
+    said = ran(["readelf", "--wide", "--segments", library.folder / "liblldpa.so.1"]).stdout
+    is_well = "LOAD" in said and " TLS " not in said
+    counts.judge(None if is_well else said, "the segments of the shared object")
+    said = ran(["readelf", "--wide", "--sections", library.folder / "liblldpa.a"]).stdout
+    written = re.findall(r"\] (\S+) +\w+ +\w+ \w+ (?!0+ )\w+ \w+ +(?=\w*W)\w+ ", said)
+    is_well = ".text" in said and all(name.startswith(".data.rel.ro") for name in written)
+    counts.judge(None if is_well else f"{written}", "the sections of the archive that are written")
+
+
 # The checks that take longest come first.
 CHECKS = (check_programs, check_rust, check_front, check_refused, check_receive, check_layout, check_header,
-          check_processor, check_functions, check_needs, check_abi, check_plug_in,
-          check_bindings, check_size, check_machine, check_stack, check_page, check_who, check_sd_lldp_rx)
+          check_processor, check_functions, check_needs, check_releases, check_plug_in,
+          check_size, check_machine, check_state, check_stack, check_page, check_who, check_sd_lldp_rx)
 
 
 @pytest.mark.parametrize("check", CHECKS, ids=lambda check: check.__name__)

@@ -7,12 +7,12 @@ struct memory {
     void *at;
 };
 
-/* The address of this variable is the result if there was no memory. */
-static char nowhere;
+/* The address of this variable is the result if there was no memory. Nothing is written here. */
+static const char nowhere;
 
 static struct memory found(void *at)
 {
-    return (struct memory){at != NULL, at != NULL ? at : &nowhere};
+    return (struct memory){at != NULL, at != NULL ? at : (void *)&nowhere};
 }
 
 /* Allocates `align` octets instead of 0, so that each result has an address of its own. */

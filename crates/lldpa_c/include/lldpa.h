@@ -24,12 +24,14 @@
  * it. Texts that a function writes have no 0 at the end.
  *
  * Threads: the library has no state of its own, never waits, and starts no threads. Calls on different memory may run
- * at the same time, but calls on the same lldpa_machine or lldpa_agent may not. Use and close an agent on the thread
- * that opened it. Do not call its functions in a signal handler, or in a forked child of a process with threads.
+ * at the same time, but calls on the same lldpa_machine or lldpa_agent may not, even if both only read. Any thread may
+ * use or close an agent, after the calls of other threads on it have returned. Do not call its functions in a signal
+ * handler, or in a forked child of a process with threads.
  *
  * ABI: in all releases 1.x, existing functions, parameters, numbers and fields of structs stay the same. A release may
  * add functions and fault numbers, so treat a number that you do not know as a fault. Only lldpa_options may get new
- * fields, at its end: its `size` says which fields your program was compiled with.
+ * fields, at its end: its `size` says which fields your program was compiled with, and a later library takes the values
+ * of its LLDPA_OPTIONS_INIT for the others.
  */
 #ifndef LLDPA_H
 #define LLDPA_H
@@ -334,10 +336,10 @@ typedef struct lldpa_agent {
 
 /*
  * Opens an agent, and allocates all memory that it will ever need: about 1.6 KB for each of max_neighbors neighbors on
- * each port. At first the link of each port is up. Returns the first of these that applies: LLDPA_OUT_OF_RANGE if the
- * library does not know an lldpa_options of this `size`; LLDPA_IS_OPEN; LLDPA_OUT_OF_RANGE for role, max_neighbors,
- * credit_max, fast_init or reinit, or for a text that is not UTF-8; the first fault, 22 to 26; LLDPA_MEMORY;
- * otherwise 0, and the agent is open. An error leaves the handle unchanged. With more than 64 names the call fails, and
+ * each port. At first the link of each port is up. Returns the first of these that applies: LLDPA_OUT_OF_RANGE if
+ * `size` is less than in 1.0.0 or more than the library knows; LLDPA_IS_OPEN; LLDPA_OUT_OF_RANGE for role,
+ * max_neighbors, credit_max, fast_init or reinit, or for a text that is not UTF-8; the first fault, 22 to 26;
+ * LLDPA_MEMORY; otherwise 0, and the agent is open. An error leaves the handle unchanged. With more than 64 names the call fails, and
  * names after the 65th are not read.
  */
 uint8_t lldpa_open(const lldpa_options *options, lldpa_agent *agent);
@@ -365,8 +367,11 @@ typedef struct lldpa_ticks_taken {
  * sends or a neighbor ages out. Returns 0 or LLDPA_NOT_OPEN.
  *   count  the seconds that passed; LLDPA_NEVER waits for the next event, and ends soon if nothing is ever due
  *   marks  the frames to send at the last second counted, on success
- *   told   written on success. Send the frames of marks; then, if told->taken is less than count, call lldpa_ticks
- *          again for the remaining seconds. lldpa_aged writes the neighbors that aged out.
+ *   told   written on success. If told->taken is less than count, call lldpa_ticks again for the remaining seconds.
+ *          lldpa_aged writes the neighbors that aged out
+ * Take the seconds from a clock that nobody sets and that goes on while the machine sleeps, such as CLOCK_BOOTTIME of
+ * Linux. When all of them are reported, send the frame of the last mark of each port. After a pause of a day there were
+ * marks for each tx-interval that has passed, and neighbors need only the last of these frames.
  */
 uint8_t lldpa_ticks(lldpa_agent *agent, uint32_t count, lldpa_marks *marks, lldpa_ticks_taken *told);
 

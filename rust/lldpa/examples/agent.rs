@@ -60,15 +60,17 @@ fn main() -> Result<(), Box<dyn Error>> {
     while !over.load(SeqCst) {
         socket.set_read_timeout(Some(Duration::from_secs(agent.due().map_or(3600, u64::from))))?;
         let came = socket.recv_from(&mut frame);
-        // First report the seconds that passed, and send what became due. Then the frame.
-        let mut left = now.elapsed().as_secs();
+        // First report the seconds that passed, and send what became due: after a pause only the last frame.
+        // Then the frame that came.
+        let (mut left, mut due) = (now.elapsed().as_secs(), Vec::new());
         now += Duration::from_secs(left);
         while left > 0 {
-            let ticks = agent.ticks(left as u32);
+            let ticks = agent.ticks(u32::try_from(left).unwrap_or(u32::MAX));
             left -= u64::from(ticks.taken);
-            send(&agent, &socket, &there, &ticks.sent)?;
+            due = if ticks.sent.is_empty() { due } else { ticks.sent };
             print_aged(&agent)?;
         }
+        send(&agent, &socket, &there, &due)?;
         let length = match came {
             Ok((length, _)) => length,
             Err(fault) if matches!(fault.kind(), ErrorKind::WouldBlock | ErrorKind::TimedOut) => continue,

@@ -1,7 +1,7 @@
 //! Reads events for an agent, and prints what the program lldpa would print. Arguments and input
 //! are those of tools/library/c/transcript.c. A show command also compares structs with shows.
 
-use lldpa::{Agent, Chassis, CommandFault, Neighbor, News, Options, Role, Sent, Show, Statistics};
+use lldpa::{Agent, Chassis, CommandFault, Neighbor, News, Options, Role, Sent, Show, Statistics, Status};
 use std::io::{stdin, BufRead};
 use std::str::from_utf8;
 
@@ -43,11 +43,9 @@ fn write(agent: &Agent, ports: &[&str], sent: &[Sent]) {
     }
 }
 
-/// Returns the lines of `show statistics` for a port, from the `Debug` text of its counters.
+/// Returns the lines of `show statistics` for a port.
 fn counter_lines(port: &str, told: &Statistics) -> String {
-    let text = format!("{told:?}").replace('_', "-").replace(": ", "=");
-    let fields = text.trim_start_matches("Statistics { ").trim_end_matches(" }").split(", ");
-    fields.map(|field| format!("lldp.{port}.{field}\n")).collect()
+    told.by_key().map(|(key, number)| format!("lldp.{port}.{key}={number}\n")).collect()
 }
 
 /// Returns the lines of `show chassis` for these values.
@@ -71,10 +69,13 @@ fn see_structs(agent: &Agent, ports: &[&str]) {
         counters += &counter_lines(name, &agent.statistics(port as u8).expect("a port"));
     }
     assert_eq!(agent.show(Show::Statistics), counters);
-    let settings = agent.show(Show::Configuration);
     let told = agent.configuration();
     assert_eq!(told.status.len(), ports.len());
-    let lines = format!(
+    let words = ["rx-and-tx", "rx-only", "tx-only", "disabled"];
+    let status = |(port, status): (&&str, &Status)| {
+        format!("configuration.{port}.status={}\n", words[*status as usize])
+    };
+    let numbers = format!(
         "configuration.tx-interval={}\nconfiguration.tx-hold={}\nconfiguration.ttl={}\n\
         configuration.reinit-delay={}\nconfiguration.tx-fast-init={}\nconfiguration.tx-credit-max={}\n\
         configuration.max-neighbors={}\nconfiguration.ports={}\n",
@@ -87,7 +88,8 @@ fn see_structs(agent: &Agent, ports: &[&str]) {
         told.max_neighbors,
         told.status.len()
     );
-    assert!(settings.starts_with(&lines));
+    let statuses: String = ports.iter().zip(&told.status).map(status).collect();
+    assert_eq!(agent.show(Show::Configuration), numbers + &statuses);
     assert_eq!(agent.show(Show::Chassis), chassis_lines(&agent.chassis()));
     assert!(agent.statistics(ports.len() as u8).is_err());
 }

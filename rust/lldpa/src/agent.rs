@@ -15,12 +15,17 @@ use core::ptr;
 /// An open agent, whose memory [`Agent::open`] allocates. Dropping the agent frees the memory, and
 /// sends no shutdown frames. Calls allocate their results, and fail if the port does not exist.
 ///
-/// An agent is neither `Send` nor `Sync`, and stays on the thread that opened it. It owns memory
-/// through a raw pointer, and there is no proof that another thread may use or free this memory.
+/// An agent may move to another thread, but is not `Sync`: two threads may not use it at the same
+/// time, even if both only read.
+///
+/// ```
+/// fn moves<T: Send>() {}
+/// moves::<lldpa::Agent>();
+/// ```
 ///
 /// ```compile_fail,E0277
-/// fn crosses<T: Send>() {}
-/// crosses::<lldpa::Agent>();
+/// fn is_shared<T: Sync>() {}
+/// is_shared::<lldpa::Agent>();
 /// ```
 ///
 /// ```
@@ -225,6 +230,10 @@ impl Agent {
         Ok(frame)
     }
 }
+
+// SAFETY: the memory of an agent is all that its calls read and write. It comes from malloc, so another
+// thread may free it. The library has no thread-local storage, which its check reads from the built files.
+unsafe impl Send for Agent {}
 
 impl Drop for Agent {
     fn drop(&mut self) {

@@ -11,7 +11,7 @@
 //!
 //! Without the feature `std` the crate needs only `alloc`.
 //!
-//! All types except [`Agent`] and its [`Neighbors`] are `Send` and `Sync`:
+//! All types except [`Agent`], which is only `Send`, and its [`Neighbors`] are `Send` and `Sync`:
 //!
 //! ```
 //! fn crosses<T: Send + Sync>() {}

@@ -387,10 +387,10 @@ impl Default for lldpa_agent {
 }
 extern "C" {
     #[doc = " Opens an agent, and allocates all memory that it will ever need: about 1.6 KB for each of max_neighbors neighbors on"]
-    #[doc = " each port. At first the link of each port is up. Returns the first of these that applies: LLDPA_OUT_OF_RANGE if the"]
-    #[doc = " library does not know an lldpa_options of this `size`; LLDPA_IS_OPEN; LLDPA_OUT_OF_RANGE for role, max_neighbors,"]
-    #[doc = " credit_max, fast_init or reinit, or for a text that is not UTF-8; the first fault, 22 to 26; LLDPA_MEMORY;"]
-    #[doc = " otherwise 0, and the agent is open. An error leaves the handle unchanged. With more than 64 names the call fails, and"]
+    #[doc = " each port. At first the link of each port is up. Returns the first of these that applies: LLDPA_OUT_OF_RANGE if"]
+    #[doc = " `size` is less than in 1.0.0 or more than the library knows; LLDPA_IS_OPEN; LLDPA_OUT_OF_RANGE for role,"]
+    #[doc = " max_neighbors, credit_max, fast_init or reinit, or for a text that is not UTF-8; the first fault, 22 to 26;"]
+    #[doc = " LLDPA_MEMORY; otherwise 0, and the agent is open. An error leaves the handle unchanged. With more than 64 names the call fails, and"]
     #[doc = " names after the 65th are not read."]
     pub fn lldpa_open(options: *const lldpa_options, agent: *mut lldpa_agent) -> u8;
 }
@@ -433,8 +433,11 @@ extern "C" {
     #[doc = " sends or a neighbor ages out. Returns 0 or LLDPA_NOT_OPEN."]
     #[doc = "   count  the seconds that passed; LLDPA_NEVER waits for the next event, and ends soon if nothing is ever due"]
     #[doc = "   marks  the frames to send at the last second counted, on success"]
-    #[doc = "   told   written on success. Send the frames of marks; then, if told->taken is less than count, call lldpa_ticks"]
-    #[doc = "          again for the remaining seconds. lldpa_aged writes the neighbors that aged out."]
+    #[doc = "   told   written on success. If told->taken is less than count, call lldpa_ticks again for the remaining seconds."]
+    #[doc = "          lldpa_aged writes the neighbors that aged out"]
+    #[doc = " Take the seconds from a clock that nobody sets and that goes on while the machine sleeps, such as CLOCK_BOOTTIME of"]
+    #[doc = " Linux. When all of them are reported, send the frame of the last mark of each port. After a pause of a day there were"]
+    #[doc = " marks for each tx-interval that has passed, and neighbors need only the last of these frames."]
     pub fn lldpa_ticks(
         agent: *mut lldpa_agent,
         count: u32,

@@ -3,7 +3,7 @@
 use crate::machine::Mark;
 use crate::numbers::numbered;
 use crate::options::Role;
-use crate::sys;
+use crate::sys::{self, Statistics};
 use alloc::string::String;
 use alloc::vec::Vec;
 
@@ -48,6 +48,24 @@ pub struct Ticks {
     pub aged_out: u32,
     /// The frames to send at the last of these seconds.
     pub sent: Vec<Sent>,
+}
+
+impl Statistics {
+    /// Returns each counter with its key, as `show statistics` names and orders them.
+    pub fn by_key(&self) -> impl Iterator<Item = (&'static str, u32)> {
+        let all = [
+            ("sent", self.sent),
+            ("shutdowns", self.shutdowns),
+            ("received", self.received),
+            ("discarded", self.discarded),
+            ("errors", self.errors),
+            ("tlvs-discarded", self.tlvs_discarded),
+            ("unrecognized", self.unrecognized),
+            ("ageouts", self.ageouts),
+            ("drops", self.drops),
+        ];
+        IntoIterator::into_iter(all)
+    }
 }
 
 numbered! {

@@ -1,6 +1,12 @@
 //! Tests what an agent says of frames and commands, and that its memory is freed.
 
 use lldpa::{Agent, Mark, Msap, News, Options, PduFault, Show};
+use std::future::Future;
+use std::pin::Pin;
+use std::sync::mpsc::{channel, Receiver, Sender};
+use std::sync::Arc;
+use std::task::{Context, Poll, Wake};
+use std::thread;
 
 /// An Ethernet header, and a Chassis ID and a Port ID whose last octet is `port`.
 fn frame(port: u8, ttl: u8, more: &[u8]) -> Vec<u8> {
@@ -107,6 +113,69 @@ fn an_agent_says_when_it_acts_next() {
     agent.command("configure ports eth0 lldp status rx-only").expect("a setting");
     agent.frame(0, &frame(b'0', 90, b"")).expect("the first port");
     assert_eq!(agent.due(), Some(90));
+}
+
+/// A future that is ready when it is polled for the second time.
+struct Later(bool);
+
+impl Future for Later {
+    type Output = ();
+
+    fn poll(mut self: Pin<&mut Self>, _: &mut Context<'_>) -> Poll<()> {
+        let is_ready = std::mem::replace(&mut self.0, true);
+        if is_ready {
+            Poll::Ready(())
+        } else {
+            Poll::Pending
+        }
+    }
+}
+
+struct Nobody;
+
+impl Wake for Nobody {
+    fn wake(self: Arc<Self>) {}
+}
+
+/// Opens an agent, and uses and drops it, each time after another thread may have taken over.
+async fn keep_agents(done: Sender<usize>) {
+    for _ in 0..20 {
+        let mut agent = opened(4);
+        for second in 0..20 {
+            Later(false).await;
+            agent.frame(second % 8, &frame(second % 3, 9, b"")).expect("a port");
+            Later(false).await;
+            let sent = agent.tick().len();
+            done.send(sent + agent.show(Show::Neighbors).len()).expect("the test");
+        }
+        Later(false).await;
+    }
+}
+
+type Task = Pin<Box<dyn Future<Output = ()> + Send>>;
+
+/// Polls the tasks that come, and passes each to the next thread until it has ended.
+fn work(tasks: &Receiver<Task>, next: &Sender<Task>) {
+    let waker = Arc::new(Nobody).into();
+    for mut task in tasks {
+        if task.as_mut().poll(&mut Context::from_waker(&waker)).is_ready() || next.send(task).is_err() {
+            return;
+        }
+    }
+}
+
+/// As in a runtime whose tasks wander: three threads open, use and drop an agent in turn.
+#[test]
+fn agents_wander_between_threads() {
+    let (done, results) = channel();
+    let (senders, receivers): (Vec<_>, Vec<_>) = (0..3).map(|_| channel::<Task>()).unzip();
+    senders[0].send(Box::pin(keep_agents(done))).expect("the first thread");
+    let nexts = senders.into_iter().cycle().skip(1);
+    for (tasks, next) in receivers.into_iter().zip(nexts) {
+        thread::spawn(move || work(&tasks, &next));
+    }
+    let told: Vec<usize> = results.iter().collect();
+    assert!(told.len() == 400 && told.chunks(20).all(|agent| agent == &told[..20]));
 }
 
 /// An agent of eight ports with 128 neighbors each has more than 1.6 MB.

@@ -2,7 +2,7 @@
  * Calls each function of the library with NULL for each pointer, with handles that are not
  * open, and with numbers, ports and buffers that are out of range, also two of these at once. A
  * call must report the first and write nothing. NULL with a length of 0 means no octets, no TLVs,
- * no ports or no buffer.
+ * no ports or no buffer. tools/library/library_front.py makes nulls.rows of lldpa.h.
  *     nulls
  * Failed checks are reported; the last line is `N passed, M failed`.
  */
@@ -13,7 +13,6 @@
 typedef struct written {
     lldpa_place place;
     lldpa_examined examined;
-    lldpa_kept kept;
     lldpa_capabilities capabilities;
     lldpa_management management;
     lldpa_machine machine;
@@ -22,28 +21,24 @@ typedef struct written {
     uint8_t room[1514];
     uint8_t faults[2];
     uint8_t octet;
-    uint32_t number;
-    lldpa_ticks_taken ticks;
-    lldpa_statistics_told statistics;
-    lldpa_configuration_told configuration;
-    lldpa_chassis_told chassis;
-    lldpa_news news;
-    lldpa_held held;
     size_t length;
+    uint64_t any[12][512]; /* what each parameter of a row of nulls.rows points to */
 } written;
 
 static written now;
 static written before;
 static lldpa_agent agent;
 
+#define AT(parameter) ((void *)now.any[parameter])
+
 static const uint8_t frame[] = "\1\200\302\0\0\16\0\21\"3DU\210\314\2\7\4\0\21\"3DU\4\5\5eth0\6\2\0x\0";
 
-/* Fills all that a call may write to with an octet. What a call also reads is valid: the machine, and the bools of a
- * walk. */
+/* Fills all that a call may write to with an octet. What a call also reads is valid: the machine, and the bools of a row,
+ * which are 0 or 1. */
 static void fill(uint8_t octet)
 {
     memset(&now, octet, sizeof now);
-    memset(now.kept.met, 1, sizeof now.kept.met);
+    memset(now.any, octet & 1, sizeof now.any);
     lldpa_transmit_new(&now.machine, 5, 4, 2, true);
     memcpy(&before, &now, sizeof now);
 }
@@ -96,22 +91,6 @@ static uint8_t built(const lldpa_tlv *tlvs, size_t count, uint8_t *faults, size_
 
 /* What cannot be read. */
 #define READS(CALL)                                                                                                    \
-    CALL(false, lldpa_frame_pdu(NULL, 33, &now.place))                                                                 \
-    CALL(false, lldpa_frame_pdu(NULL, 0, &now.place))                                                                  \
-    CALL(false, lldpa_frame_pdu(frame, sizeof frame, NULL))                                                            \
-    CALL(LLDPA_NULL, lldpa_examine(NULL, 19, &now.examined))                                                           \
-    CALL(LLDPA_TRUNCATED, lldpa_examine(NULL, 0, &now.examined))                                                       \
-    CALL(LLDPA_NULL, lldpa_examine(frame + 14, sizeof frame - 14, NULL))                                               \
-    CALL(LLDPA_NULL, lldpa_examine(NULL, 0, NULL))                                                                     \
-    CALL(false, lldpa_next_kept(NULL, 19, &now.kept))                                                                  \
-    CALL(false, lldpa_next_kept(NULL, 0, &now.kept))                                                                   \
-    CALL(false, lldpa_next_kept(frame + 14, sizeof frame - 14, NULL))                                                  \
-    CALL(false, lldpa_caps(NULL, 4, &now.capabilities))                                                                \
-    CALL(false, lldpa_caps(NULL, 0, &now.capabilities))                                                                \
-    CALL(false, lldpa_caps((const uint8_t *)"\0\4\0\4", 4, NULL))                                                      \
-    CALL(false, lldpa_mgmt(NULL, 12, &now.management))                                                                 \
-    CALL(false, lldpa_mgmt(NULL, 0, &now.management))                                                                  \
-    CALL(false, lldpa_mgmt((const uint8_t *)"\5\1\n\0\0\1\2\0\0\0\1\0", 12, NULL))                                     \
     CALL(false, lldpa_caps((const uint8_t *)"\0\4\0\24", 4, &now.capabilities))                                        \
     CALL(false, lldpa_mgmt((const uint8_t *)"\5\1\n\0\0\1\2\0\0\0\1", 11, &now.management))                            \
     CALL(false, lldpa_frame_pdu(frame, 13, &now.place))
@@ -120,130 +99,38 @@ static const lldpa_tlv two_tlvs[2] = {{frame, 4, 5}, {NULL, 1, 6}};
 
 /* What cannot be built. The last rows have two errors each. */
 #define BUILDS(CALL)                                                                                                   \
-    CALL(LLDPA_NULL, lldpa_build(NULL, 7, frame, 5, 120, NULL, 0, NULL, 0, now.room, 1500, &now.length))               \
-    CALL(LLDPA_NULL, lldpa_build(frame, 7, NULL, 5, 120, NULL, 0, NULL, 0, now.room, 1500, &now.length))               \
-    CALL(LLDPA_OUT_OF_RANGE, lldpa_build(NULL, 0, frame, 5, 120, NULL, 0, NULL, 0, now.room, 1500, &now.length))       \
-    CALL(LLDPA_OUT_OF_RANGE, lldpa_build(frame, 7, NULL, 0, 120, NULL, 0, NULL, 0, now.room, 1500, &now.length))       \
-    CALL(LLDPA_NULL, built(NULL, 1, now.faults, 1, now.room, 1500, &now.length))                                       \
-    CALL(LLDPA_NULL, built(two_tlvs, 2, now.faults, 2, now.room, 1500, &now.length))                                   \
-    CALL(LLDPA_NULL, built(two_tlvs, 1, NULL, 1, now.room, 1500, &now.length))                                         \
-    CALL(LLDPA_NO_ROOM, built(two_tlvs, 1, NULL, 0, now.room, 1500, &now.length))                                      \
-    CALL(LLDPA_NULL, built(NULL, 0, NULL, 0, NULL, 1500, &now.length))                                                 \
-    CALL(LLDPA_NO_ROOM, built(NULL, 0, NULL, 0, NULL, 0, &now.length))                                                 \
-    CALL(LLDPA_NULL, built(NULL, 0, NULL, 0, now.room, 1500, NULL))                                                    \
-    CALL(LLDPA_NO_ROOM, built(NULL, 0, NULL, 0, now.room, 21, &now.length))                                            \
-    CALL(LLDPA_NULL, lldpa_build(NULL, 1, frame, 257, 120, two_tlvs, 1, now.faults, 0, now.room, 0, &now.length))      \
-    CALL(LLDPA_NULL, lldpa_build(frame, 1, frame, 5, 120, two_tlvs, 2, now.faults, 1, now.room, 0, &now.length))       \
     CALL(LLDPA_OUT_OF_RANGE, lldpa_build(frame, 1, frame, 5, 120, two_tlvs, 1, now.faults, 0, now.room,                \
          1500, &now.length))                                                                                           \
     CALL(LLDPA_OUT_OF_RANGE, lldpa_build(frame, 7, frame, 1, 120, two_tlvs, 1, now.faults, 0, now.room,                \
          1500, &now.length))                                                                                           \
     CALL(LLDPA_OUT_OF_RANGE, lldpa_build(frame, 7, frame, 257, 120, two_tlvs, 1, now.faults, 1, now.room,              \
          21, &now.length))                                                                                             \
-    CALL(LLDPA_NO_ROOM, built(two_tlvs, 1, now.faults, 0, now.room, 21, &now.length))
-
-/* Machines and marks that are missing. */
-#define MACHINES(CALL)                                                                                                 \
-    CALL(LLDPA_NULL, lldpa_transmit_new(NULL, 5, 4, 2, true))                                                          \
-    CALL(LLDPA_NULL, lldpa_transmit_event(NULL, LLDPA_CAUSE_TICK, 30, &now.octet))                                     \
-    CALL(LLDPA_NULL, lldpa_transmit_event(&now.machine, LLDPA_CAUSE_TICK, 30, NULL))
-
-/* What lacks an agent, octets, or a place to write to. */
-#define EVENTS(CALL)                                                                                                   \
-    CALL(LLDPA_NULL, lldpa_leave(NULL, &now.marks))                                                                    \
-    CALL(LLDPA_NULL, lldpa_leave(&agent, NULL))                                                                        \
-    CALL(LLDPA_NULL, lldpa_ticks(NULL, 1, &now.marks, &now.ticks))                                                     \
-    CALL(LLDPA_NULL, lldpa_ticks(&agent, 1, NULL, &now.ticks))                                                         \
-    CALL(LLDPA_NULL, lldpa_ticks(&agent, 1, &now.marks, NULL))                                                         \
-    CALL(LLDPA_NULL, lldpa_due(NULL, &now.number))                                                                     \
-    CALL(LLDPA_NULL, lldpa_due(&agent, NULL))                                                                          \
-    CALL(LLDPA_NULL, lldpa_statistics(NULL, 0, &now.statistics))                                                       \
-    CALL(LLDPA_NULL, lldpa_statistics(&agent, 0, NULL))                                                                \
-    CALL(LLDPA_NULL, lldpa_configuration(NULL, &now.configuration))                                                    \
-    CALL(LLDPA_NULL, lldpa_configuration(&agent, NULL))                                                                \
-    CALL(LLDPA_NULL, lldpa_chassis(NULL, &now.chassis))                                                                \
-    CALL(LLDPA_NULL, lldpa_chassis(&agent, NULL))                                                                      \
-    CALL(LLDPA_NULL, lldpa_frame(NULL, 0, frame, 33, &now.marks, &now.news))                                           \
-    CALL(LLDPA_NULL, lldpa_frame(&agent, 0, NULL, 33, &now.marks, &now.news))                                          \
-    CALL(LLDPA_NULL, lldpa_frame(&agent, 0, frame, 33, NULL, &now.news))                                               \
-    CALL(LLDPA_NULL, lldpa_neighbor_count(NULL, 0, &now.number))                                                       \
-    CALL(LLDPA_NULL, lldpa_neighbor_count(&agent, 0, NULL))                                                            \
-    CALL(LLDPA_NULL, lldpa_neighbor(NULL, 0, 0, now.room, 1500, &now.held))                                            \
-    CALL(LLDPA_NULL, lldpa_neighbor(&agent, 0, 0, NULL, 1500, &now.held))                                              \
-    CALL(LLDPA_OUT_OF_RANGE, lldpa_neighbor(&agent, 0, 0, NULL, 0, &now.held))                                         \
-    CALL(LLDPA_OUT_OF_RANGE, lldpa_neighbor(&agent, 0, 0, now.room, 1500, &now.held))                                  \
-    CALL(LLDPA_NULL, lldpa_neighbor(&agent, 0, 0, now.room, 1500, NULL))                                               \
-    CALL(LLDPA_NULL, lldpa_aged_count(NULL, 0, &now.number))                                                           \
-    CALL(LLDPA_NULL, lldpa_aged_count(&agent, 0, NULL))                                                                \
-    CALL(LLDPA_NULL, lldpa_aged(NULL, 0, 0, now.room, 1500, &now.held))                                                \
-    CALL(LLDPA_NULL, lldpa_aged(&agent, 0, 0, NULL, 1500, &now.held))                                                  \
-    CALL(LLDPA_OUT_OF_RANGE, lldpa_aged(&agent, 0, 0, NULL, 0, &now.held))                                             \
-    CALL(LLDPA_OUT_OF_RANGE, lldpa_aged(&agent, 0, 0, now.room, 1500, &now.held))                                      \
-    CALL(LLDPA_NULL, lldpa_aged(&agent, 0, 0, now.room, 1500, NULL))                                                   \
-    CALL(LLDPA_NULL, lldpa_link(NULL, 0, false, &now.marks))                                                           \
-    CALL(LLDPA_NULL, lldpa_link(&agent, 0, false, NULL))                                                               \
-    CALL(LLDPA_NULL, lldpa_command(NULL, (const uint8_t *)"update", 6, &now.number, &now.marks))                       \
-    CALL(LLDPA_NULL, lldpa_command(&agent, NULL, 6, &now.number, &now.marks))                                          \
-    CALL(LLDPA_UNKNOWN, lldpa_command(&agent, NULL, 0, &now.number, &now.marks))                                       \
-    CALL(LLDPA_NULL, lldpa_command(&agent, (const uint8_t *)"update", 6, NULL, &now.marks))                            \
-    CALL(LLDPA_NULL, lldpa_command(&agent, (const uint8_t *)"update", 6, &now.number, NULL))
-
-/* What lacks octets, an agent, or room. */
-#define SHOWS(CALL)                                                                                                    \
-    CALL(LLDPA_NULL, lldpa_tlv_text(5, NULL, 3, now.room, 1058, &now.length))                                          \
-    CALL(LLDPA_NULL, lldpa_tlv_text(5, frame, 3, NULL, 1058, &now.length))                                             \
-    CALL(LLDPA_NO_ROOM, lldpa_tlv_text(5, NULL, 0, NULL, 0, &now.length))                                              \
-    CALL(LLDPA_NULL, lldpa_tlv_text(5, frame, 3, now.room, 1058, NULL))                                                \
-    CALL(LLDPA_NULL, lldpa_escape(NULL, 3, now.room, 12, &now.length))                                                 \
-    CALL(LLDPA_NULL, lldpa_escape(frame, 3, NULL, 12, &now.length))                                                    \
-    CALL(LLDPA_NULL, lldpa_escape(frame, 3, now.room, 12, NULL))                                                       \
-    CALL(LLDPA_NULL, lldpa_fault_text(LLDPA_MEMORY, NULL, 65, &now.length))                                            \
-    CALL(LLDPA_NO_ROOM, lldpa_fault_text(LLDPA_MEMORY, NULL, 0, &now.length))                                          \
-    CALL(LLDPA_OUT_OF_RANGE, lldpa_fault_text(9, now.room, 65, &now.length))                                           \
-    CALL(LLDPA_NULL, lldpa_fault_text(LLDPA_MEMORY, now.room, 65, NULL))                                               \
-    CALL(LLDPA_NULL, lldpa_show_lines(NULL, 3, 0, now.room, 1514, &now.lines))                                         \
-    CALL(LLDPA_NULL, lldpa_show_lines(&agent, 3, 0, NULL, 1514, &now.lines))                                           \
-    CALL(LLDPA_NO_ROOM, lldpa_show_lines(&agent, 3, 0, NULL, 0, &now.lines))                                           \
-    CALL(LLDPA_NULL, lldpa_show_lines(&agent, 3, 0, now.room, 1514, NULL))                                             \
-    CALL(LLDPA_NULL, lldpa_frame_of(NULL, 0, LLDPA_ORDINARY, now.room, 1514, &now.length))                             \
-    CALL(LLDPA_NULL, lldpa_frame_of(&agent, 0, LLDPA_ORDINARY, NULL, 1514, &now.length))                               \
-    CALL(LLDPA_NO_ROOM, lldpa_frame_of(&agent, 0, LLDPA_ORDINARY, NULL, 0, &now.length))                               \
-    CALL(LLDPA_NULL, lldpa_frame_of(&agent, 0, LLDPA_ORDINARY, now.room, 1514, NULL))
+    CALL(LLDPA_NO_ROOM, built(two_tlvs, 1, now.faults, 0, now.room, 21, &now.length))                                  \
+    CALL(LLDPA_NULL, built(two_tlvs, 2, now.faults, 2, now.room, 1500, &now.length))                                   \
+    CALL(LLDPA_NULL, lldpa_build(frame, 1, frame, 5, 120, two_tlvs, 2, now.faults, 1, now.room, 0, &now.length))
 
 /* Calls that only read accept a handle in read-only memory. */
 static const lldpa_agent none = {NULL, false};
 static lldpa_agent closed;
 
-/* Calls on handles that are not open. */
-#define CLOSED(CALL)                                                                                                   \
-    CALL(LLDPA_NOT_OPEN, lldpa_neighbor_count(&none, 0, &now.number))                                                  \
-    CALL(LLDPA_NOT_OPEN, lldpa_neighbor(&none, 0, 0, now.room, 1500, &now.held))                                       \
-    CALL(LLDPA_NOT_OPEN, lldpa_aged_count(&none, 0, &now.number))                                                      \
-    CALL(LLDPA_NOT_OPEN, lldpa_aged(&none, 0, 0, now.room, 1500, &now.held))                                           \
-    CALL(LLDPA_NOT_OPEN, lldpa_due(&none, &now.number))                                                                \
-    CALL(LLDPA_NOT_OPEN, lldpa_statistics(&none, 0, &now.statistics))                                                  \
-    CALL(LLDPA_NOT_OPEN, lldpa_configuration(&none, &now.configuration))                                               \
-    CALL(LLDPA_NOT_OPEN, lldpa_show_lines(&none, 3, 0, now.room, 1514, &now.lines))                                    \
-    CALL(LLDPA_NOT_OPEN, lldpa_frame_of(&none, 0, LLDPA_ORDINARY, now.room, 1514, &now.length))                        \
-    CALL(LLDPA_NOT_OPEN, lldpa_chassis(&none, &now.chassis))                                                           \
-    CALL(LLDPA_NOT_OPEN, lldpa_leave(&closed, &now.marks))                                                             \
-    CALL(LLDPA_NOT_OPEN, lldpa_ticks(&closed, 9, &now.marks, &now.ticks))                                              \
-    CALL(LLDPA_NOT_OPEN, lldpa_frame(&closed, 0, frame, 33, &now.marks, NULL))                                         \
-    CALL(LLDPA_NOT_OPEN, lldpa_frame(&closed, 0, frame, 33, &now.marks, &now.news))                                    \
-    CALL(LLDPA_NOT_OPEN, lldpa_link(&closed, 0, true, &now.marks))                                                     \
-    CALL(LLDPA_NOT_OPEN, lldpa_command(&closed, (const uint8_t *)"update", 6, &now.number, &now.marks))
+static const lldpa_tlv tlvs[2] = {{frame, 4, 5}, {frame, 0, 9}};
 
-/* Calls on a port that the agent does not have. */
-#define PORTS(CALL)                                                                                                    \
-    CALL(LLDPA_NO_PORT, lldpa_frame(&agent, port, frame, 0, &now.marks, NULL))                                         \
-    CALL(LLDPA_NO_PORT, lldpa_frame(&agent, port, frame, 0, &now.marks, &now.news))                                    \
-    CALL(LLDPA_NO_PORT, lldpa_link(&agent, port, true, &now.marks))                                                    \
-    CALL(LLDPA_NO_PORT, lldpa_frame_of(&agent, port, LLDPA_ORDINARY, now.room, 1514, &now.length))                     \
-    CALL(LLDPA_NO_PORT, lldpa_neighbor_count(&agent, port, &now.number))                                               \
-    CALL(LLDPA_NO_PORT, lldpa_statistics(&agent, port, &now.statistics))                                               \
-    CALL(LLDPA_NO_PORT, lldpa_neighbor(&agent, port, 0, now.room, 1500, &now.held))                                    \
-    CALL(LLDPA_NO_PORT, lldpa_aged_count(&agent, port, &now.number))                                                   \
-    CALL(LLDPA_NO_PORT, lldpa_aged(&agent, port, 0, now.room, 1500, &now.held))
+/* Checks that two calls have the same answer and write the same. */
+#define SAME(one, other)                                                                                               \
+    do {                                                                                                               \
+        static written then;                                                                                           \
+        begin();                                                                                                       \
+        int answer = (one);                                                                                            \
+        memcpy(&then, &now, sizeof now);                                                                               \
+        begin();                                                                                                       \
+        holds(answer == (other) && memcmp(&then, &now, sizeof now) == 0, #one);                                        \
+    } while (0);
+
+/* Calls with NULL, handles that are not open, and ports that the agent does not have. */
+static void call_all(void)
+{
+#include "nulls.rows"
+}
 
 /* Checks that a TLV with NULL for its body is treated like one with a body of no octets. */
 static void build_empty_bodies(void)
@@ -376,7 +263,9 @@ static void open_doubly(void)
 static void open_nulls(void)
 {
     lldpa_text names[66] = {{(const uint8_t *)"eth0", 4}, {NULL, 4}};
-    lldpa_options options = {sizeof options, names, 1, {NULL, 0}, {2, 0, 0, 0, 0, 1}, {0}, false, false, 0, 2, 5, 4, 2};
+    lldpa_options options = LLDPA_OPTIONS_INIT;
+    options.ports = names;
+    options.port_count = 1;
     ANSWERS(LLDPA_NULL, lldpa_open(NULL, &agent));
     ANSWERS(LLDPA_NULL, lldpa_open(&options, NULL));
     options.hostname.length = 1;
@@ -392,9 +281,11 @@ static void open_nulls(void)
     REFUSES(&options, LLDPA_NULL);
     options.port_count = 0;
     REFUSES(&options, LLDPA_NO_PORTS);
-    options.size--;
+    options.size += 8; /* a later library */
     REFUSES(&options, LLDPA_OUT_OF_RANGE);
-    options.size++;
+    options.size = 71; /* those of 1.0.0 have 72 octets */
+    REFUSES(&options, LLDPA_OUT_OF_RANGE);
+    options.size = sizeof options;
     options.ports = names;
     options.port_count = 1;
     open_numbers(options);
@@ -409,15 +300,10 @@ static void open_nulls(void)
     ANSWERS(LLDPA_OUT_OF_RANGE, lldpa_open(&options, &agent));
 }
 
-/* Uses ports, marks and shows that do not exist, and buffers that are one octet too small. */
+/* Uses marks and shows that do not exist, and buffers that are one octet too small. */
 static void use_badly(void)
 {
-    static const uint32_t ports[] = {1, 255, 256, 65536, UINT32_MAX};
     uint8_t *room = now.room;
-    for (size_t at = 0; at < sizeof ports / sizeof *ports; at++) {
-        uint32_t port = ports[at];
-        PORTS(ANSWERS)
-    }
     for (uint32_t mark = 0; mark < 256; mark += 3) { /* neither LLDPA_ORDINARY nor LLDPA_SHUTDOWN */
         ANSWERS(LLDPA_OUT_OF_RANGE, lldpa_frame_of(&agent, 0, mark, room, 1514, &now.length));
         ANSWERS(LLDPA_OUT_OF_RANGE, lldpa_show_lines(&agent, mark == 0 ? 0 : mark + 2, 0, room, 1514, &now.lines));
@@ -449,14 +335,11 @@ int main(void)
     READS(ANSWERS)
     read_headers();
     build_badly();
-    MACHINES(ANSWERS)
     open_nulls();
     size_t length = shown(first, sizeof first);
-    EVENTS(ANSWERS)
-    SHOWS(ANSWERS)
+    call_all();
     begin();
     holds(lldpa_escape(NULL, 0, NULL, 0, &now.length) == LLDPA_OK && now.length == 0, "no octets, escaped");
-    CLOSED(ANSWERS)
     lldpa_close(&closed);
     holds(!closed.open, "a handle is open after it was closed");
     use_badly();

@@ -1,6 +1,7 @@
 /*
- * Tests the ends of ranges, and long lists and waits: what the rows and transcripts of examples/
- * leave out. Each number and its limit is from lldpa.h.
+ * Tests what the rows and transcripts of examples/ leave out: the ends of ranges, long lists and waits,
+ * the texts of faults, TLVs and texts in buffers that are just too small, and octets that are not an
+ * LLDPDU, a frame or a command. Each number and its limit is from lldpa.h.
  *     ranges
  * Failed checks are reported; the last line is `N passed, M failed`.
  */
@@ -43,11 +44,6 @@ static void try_options(void)
     options.hostname.length = 256;
     opens(&options, LLDPA_TEXT, "a hostname of 256 octets");
     options.hostname.length = 0;
-    options.size += 8;
-    opens(&options, LLDPA_OUT_OF_RANGE, "options of a later library");
-    options.size -= 16;
-    opens(&options, LLDPA_OUT_OF_RANGE, "options of an earlier library");
-    options.size += 8;
     options.max_neighbors = 129;
     options.port_count = 0;
     opens(&options, LLDPA_OUT_OF_RANGE, "a number out of range, and no port");
@@ -266,6 +262,130 @@ static void try_aged(void)
     holds(aged_on(1) == 1 && lldpa_ticks(&agent, 1, &marks, &told) == LLDPA_OK && aged_on(1) == 0, "a second later");
 }
 
+/* Checks that the longest fault text just fits LLDPA_FAULT_ROOM. A contract fixes the texts. */
+static void try_words(void)
+{
+    uint8_t room[LLDPA_FAULT_ROOM];
+    size_t length = 0, longest = 0;
+    for (uint32_t fault = 0; fault < 300; fault++) {
+        if (lldpa_fault_text(fault, room, sizeof room, &length) == LLDPA_OK) {
+            longest = length > longest ? length : longest;
+            holds(lldpa_fault_text(fault, room, length - 1, &length) == LLDPA_NO_ROOM, "a buffer too small for a fault's text");
+        }
+    }
+    holds(longest == LLDPA_FAULT_ROOM, "the longest text of a fault");
+    holds(lldpa_fault_text(256 + LLDPA_MEMORY, room, sizeof room, &length) == LLDPA_OUT_OF_RANGE, "a fault over 255");
+    holds(lldpa_fault_text(LLDPA_NO_CHASSIS, room, sizeof room, &length) == LLDPA_OK && length == 33 &&
+              memcmp(room, "the first TLV is not a Chassis ID", 33) == 0, "the text of a fault");
+}
+
+/* Writes a TLV, or a text if the type is 0. */
+static uint8_t value_of(uint32_t kind, octets body, uint8_t *room, size_t room_length, size_t *length)
+{
+    return kind == 0 ? lldpa_escape(body.at, body.length, room, room_length, length)
+                     : lldpa_tlv_text(kind, body.at, body.length, room, room_length, length);
+}
+
+/* Tests TLVs and texts. The output was worked out by hand; NULL means that the TLV is refused. */
+static void try_values(void)
+{
+    static const struct {
+        uint32_t kind;
+        const char *body;
+        size_t length;
+        const char *wanted;
+    } rows[] = {
+        {1, "\4\0\x11\x22\x33\x44\x55", 7, "chassis.mac=00:11:22:33:44:55"},
+        {1, "\4\0\x11", 3, "chassis.unhandled=040011"},
+        {1, "\5\1\xc0\0\2\1", 6, "chassis.ip=192.0.2.1"},
+        {1, "\7a\n\\", 4, "chassis.local=a\\x0a\\\\"},
+        {1, "\7", 1, NULL},
+        {2, "\5eth0", 5, "port.ifname=eth0"},
+        {2, "\3\0\x11\x22\x33\x44\x55", 7, "port.mac=00:11:22:33:44:55"},
+        {2, "", 0, NULL},
+        {3, "\0x", 2, NULL},
+        {4, "\x1b[2J", 4, "port.descr=\\x1b[2J"},
+        {5, "", 0, "chassis.name="},
+        {7, "\0\x14\0\4", 4, "chassis.caps=Bridge:on,Router:off"},
+        {7, "\0\4\0\x14", 4, NULL},
+        {8, "\5\1\xc0\0\2\1\2\0\0\0\3\0", 12, "chassis.mgmt=192.0.2.1,2,3,"},
+        {8, "\5\1\xc0\0\2\1\2\0\0\0\3", 11, NULL},
+        {127, "\0\x80\xc2\1\0\1", 6, "org.0080c2.1=0001"},
+        {126, "\1", 1, "unknown.126=01"},
+        {128, "", 0, NULL}, {257, "\4a", 2, NULL}, {UINT32_MAX, "", 0, NULL},
+        {0, "sw1\t\xff ~\\", 8, "sw1\\x09\\xff ~\\\\"},
+        {0, "", 0, ""},
+    };
+    uint8_t room[LLDPA_VALUE_ROOM];
+    for (size_t at = 0; at < sizeof rows / sizeof *rows; at++) {
+        uint32_t kind = rows[at].kind;
+        octets body = copied(rows[at].body, rows[at].length);
+        size_t length = 77, wanted = rows[at].wanted != NULL ? strlen(rows[at].wanted) : 0;
+        uint8_t answer = value_of(kind, body, room, sizeof room, &length);
+        if (rows[at].wanted == NULL) {
+            holds(answer == LLDPA_OUT_OF_RANGE && length == 77, "a TLV that is not well formed");
+        } else {
+            int is_so = length == wanted && memcmp(room, rows[at].wanted, wanted) == 0;
+            holds(answer == LLDPA_OK && is_so, rows[at].wanted);
+            holds(wanted == 0 || value_of(kind, body, room, wanted - 1, &length) == LLDPA_NO_ROOM, "a buffer that is too small");
+        }
+        free(body.at);
+    }
+}
+
+/* Returns random octets, the same ones in each run. */
+static uint8_t odd(void)
+{
+    static uint32_t state = 1;
+    state = state * 1664525u + 1013904223u;
+    return (uint8_t)(state >> 24);
+}
+
+static octets odd_octets(size_t length)
+{
+    octets block = {taken(length), length};
+    for (size_t at = 0; at < length; at++) {
+        block.at[at] = odd() < 64 ? 0 : odd();
+    }
+    return block;
+}
+
+/* Checks that a walk over random octets, from any start, ends and returns bodies within them. */
+static void try_odd_walks(void)
+{
+    for (unsigned done = 0; done < 500; done++) {
+        octets block = odd_octets(odd() % 64u);
+        lldpa_kept walk = LLDPA_KEPT_INIT, last;
+        lldpa_examined told;
+        size_t steps = 0;
+        int is_so = lldpa_examine(block.at, block.length, &told) <= LLDPA_REPEATED;
+        walk.next = done % 2 == 0 ? 0 : odd();
+        for (last = walk; steps <= block.length && lldpa_next_kept(block.at, block.length, &walk); steps++) {
+            is_so = is_so && walk.body.start <= block.length && walk.body.length <= block.length - walk.body.start;
+            last = walk;
+        }
+        holds(is_so && steps <= block.length, "a walk over other octets");
+        holds(last.body.start == walk.body.start && last.next == walk.next, "a walk that has ended");
+        free(block.at);
+    }
+}
+
+static void try_odd_events(void)
+{
+    lldpa_options options = options_of(names, 1);
+    lldpa_agent odd_one = {0};
+    holds(lldpa_open(&options, &odd_one) == LLDPA_OK, "an agent");
+    for (unsigned done = 0; done < 300; done++) {
+        octets block = odd_octets(done % 100);
+        uint32_t show = 0;
+        holds(lldpa_frame(&odd_one, 0, block.at, block.length, &marks, NULL) == LLDPA_OK, "odd octets as a frame");
+        uint8_t answer = lldpa_command(&odd_one, block.at, block.length, &show, &marks);
+        holds(answer == LLDPA_UNKNOWN || answer == LLDPA_QUOTE, "odd octets as a command");
+        free(block.at);
+    }
+    lldpa_close(&odd_one);
+}
+
 int main(void)
 {
     lldpa_options options = options_of(names, 2);
@@ -284,5 +404,9 @@ int main(void)
     try_many_seconds();
     try_aged();
     lldpa_close(&agent);
+    try_words();
+    try_values();
+    try_odd_walks();
+    try_odd_events();
     return end();
 }

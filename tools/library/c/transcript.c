@@ -3,8 +3,8 @@
  *     transcript MAC ADDRESS HOSTNAME ROLE MAX-NEIGHBORS CREDIT-MAX FAST-INIT REINIT RECEIVE-ONLY PORT ..
  * MAC and ADDRESS are hexadecimal, ADDRESS may be empty, ROLE and RECEIVE-ONLY are numbers. A line
  * of standard input is an event: `tick SECONDS`, `rx PORT FRAME`, `link PORT UP`, `leave` or
- * `command LINE`, with port numbers and hexadecimal octets. At each show, the structs of statistics
- * and of the configuration are compared with the agent's lines. If a check fails, the status is 2.
+ * `command LINE`, with port numbers and hexadecimal octets. If a check fails, the status is 2.
+ * rust/lldpa/examples/transcript.rs, which runs the same, compares structs with shows.
  */
 #define _POSIX_C_SOURCE 200809L
 #include "checks.h"
@@ -82,87 +82,6 @@ static void see_line(uint32_t show, uint32_t line, const char *wanted, size_t le
     must(lldpa_show_lines(&agent, show, line, room.at, length, &one) == LLDPA_OK && one.length == length &&
              one.next == line + 1 && memcmp(room.at, wanted, length) == 0, "a line of a show differs");
     free(room.at);
-}
-
-/*
- * Checks that the lines of a show from `line` on have the numbers of a struct, in the order of its
- * fields. rust/lldpa/examples/transcript.rs compares the names of the fields with the keys.
- */
-static void see_numbers(uint32_t show, uint32_t line, const uint32_t *numbers, uint32_t count)
-{
-    static char room[LLDPA_LINE_ROOM];
-    lldpa_lines lines;
-    char wanted[80];
-    for (uint32_t at = 0; at < count; at++) {
-        uint8_t answer = lldpa_show_lines(&agent, show, line + at, (uint8_t *)room, sizeof room, &lines);
-        must(answer == LLDPA_OK && lines.length > 0, "a show has fewer lines");
-        int length = snprintf(wanted, sizeof wanted, "%.*s=%lu\n", (int)strcspn(room, "="), room,
-                              (unsigned long)numbers[at]);
-        see_line(show, line + at, wanted, (size_t)length);
-    }
-}
-
-static void see_statistics(uint32_t port)
-{
-    const uint32_t count = sizeof(lldpa_statistics_told) / sizeof(uint32_t);
-    lldpa_statistics_told told;
-    must(lldpa_statistics(&agent, port, &told) == LLDPA_OK, "the statistics of a port");
-    see_numbers(LLDPA_SHOW_STATISTICS, count * port, (const uint32_t *)&told, count);
-}
-
-static void see_configuration(void)
-{
-    static const char *const words[] = {"rx-and-tx", "rx-only", "tx-only", "disabled"};
-    const uint32_t count = offsetof(lldpa_configuration_told, status) / sizeof(uint32_t);
-    lldpa_configuration_told told;
-    char wanted[64];
-    must(lldpa_configuration(&agent, &told) == LLDPA_OK, "the configuration");
-    see_numbers(LLDPA_SHOW_CONFIGURATION, 0, (const uint32_t *)&told, count);
-    for (uint32_t port = 0; port < port_count; port++) {
-        int length = snprintf(wanted, sizeof wanted, "configuration.%.*s.status=%s\n", (int)names[port].length,
-                              (const char *)names[port].octets, words[told.status[port] & 3]);
-        see_line(LLDPA_SHOW_CONFIGURATION, count + port, wanted, (size_t)length);
-    }
-    for (uint32_t port = port_count; port < 64; port++) {
-        must(told.status[port] == 0, "a status after the last port");
-    }
-}
-
-/* Checks a line of `show chassis`: this key, and this text with its escapes. Zeros follow the text. */
-static void see_text(uint32_t line, const char *key, const uint8_t text[255], size_t length)
-{
-    static uint8_t room[4 * 255];
-    static char wanted[LLDPA_LINE_ROOM];
-    size_t size = 0;
-    must(lldpa_escape(text, length, room, sizeof room, &size) == LLDPA_OK, "a text is too long");
-    int end = snprintf(wanted, sizeof wanted, "local-chassis.%s=%.*s\n", key, (int)size, (const char *)room);
-    see_line(LLDPA_SHOW_CHASSIS, line, wanted, (size_t)end);
-    for (size_t at = length; at < 255; at++) {
-        must(text[at] == 0, "an octet after a text");
-    }
-}
-
-static void see_chassis(void)
-{
-    static const char *const words[] = {"Station", "Bridge", "Router"};
-    lldpa_chassis_told told;
-    char wanted[64];
-    must(lldpa_chassis(&agent, &told) == LLDPA_OK && told.role < 3, "the chassis");
-    const uint8_t *mac = told.mac, *host = told.management;
-    int length = snprintf(wanted, sizeof wanted, "local-chassis.mac=%02x:%02x:%02x:%02x:%02x:%02x\n", mac[0], mac[1],
-                          mac[2], mac[3], mac[4], mac[5]);
-    see_line(LLDPA_SHOW_CHASSIS, 0, wanted, (size_t)length);
-    see_text(1, "name", told.hostname, told.hostname_length);
-    see_text(2, "descr", told.description, told.description_length);
-    length = snprintf(wanted, sizeof wanted, "local-chassis.caps=%s:on\n", words[told.role]);
-    see_line(LLDPA_SHOW_CHASSIS, 3, wanted, (size_t)length);
-    if (told.managed) {
-        length = snprintf(wanted, sizeof wanted, "local-chassis.mgmt=%u.%u.%u.%u,1,0,\n", host[0], host[1], host[2],
-                          host[3]);
-        see_line(LLDPA_SHOW_CHASSIS, 4, wanted, (size_t)length);
-    } else {
-        must(memcmp(host, "\0\0\0\0", 4) == 0, "an address that is not there");
-    }
 }
 
 /* Writes a show, in parts of as many lines as fit into a buffer. Checks each line alone. */
@@ -300,11 +219,6 @@ static void command(const char *line, size_t length)
     }
     write_marks(answer, &marks);
     if (show != LLDPA_SHOW_NOTHING) {
-        for (uint32_t port = 0; port < port_count; port++) {
-            see_statistics(port);
-        }
-        see_configuration();
-        see_chassis();
         write_show(show);
     }
 }
