@@ -60,6 +60,7 @@ prometheus                promtool              the metrics and the alerts
 mandoc                    mandoc                manual pages
 groff                     groff                 manual pages
 systemd                   systemd-analyze       the rights of the service
+systemd-container         systemd-nspawn        the service under a systemd that boots
 linux-libc-dev            /usr/include/*/asm/unistd_64.h  the calls that the service may make
 zsh                       zsh                   completions
 bash-completion           /usr/share/bash-completion/bash_completion  completions
@@ -84,6 +85,7 @@ memory-cgroups  the memory of lldpa-live at its worst
 link-tun      interfaces that are no Ethernet
 loop-mounts   disks that stand still
 user-namespaces  capabilities in a new user namespace
+booted-systemd  the service under a systemd that boots
 x86-64        what writes registers of this processor, or runs its older ones
 sanitizers    the library under the compiler's sanitizers
 END
@@ -106,6 +108,7 @@ has_feature() {
         loop-mounts) mounts_a_file ;;
         landlock) has_landlock ;;
         memory-cgroups) limits_memory ;;
+        booted-systemd) PYTHONPATH=rust/live/tests:python/tests:python python3 -B rust/live/tests/booted.py > /dev/null 2>&1 ;;
         user-namespaces) unshare --user true 2> /dev/null ;;
         x86-64) [ "$(uname -m)" = x86_64 ] ;;
         sanitizers) runs_sanitized ;;

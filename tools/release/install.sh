@@ -4,8 +4,10 @@
 # The default prefix is /usr/local; DESTDIR, if set, is put before all paths. It copies the programs
 # with their Python packages, manual pages, completions, the service with its configuration, alerts
 # for Prometheus, and the pages; with --library only the C library, to LIBDIR (default PREFIX/lib).
-# --uninstall removes them, and says what stays: a configuration that was changed, settings that
-# somebody added, logs and the state. It does not stop the service. `import lldpa` works for a
+# Without DESTDIR root also makes the user of an lldpa-live that is started by hand.
+# --uninstall removes what was copied, and says what stays: a configuration that was changed, what
+# somebody added, logs and the state, and the user. It removes nothing while systemd runs the service
+# or would start it at a boot. `import lldpa` works for a
 # python3 that searches PYTHON_FOLDER (default: the first folder below the prefix that python3
 # searches). LLDPA names the program (default crates/lldpa/out/lldpa), LLDPA_LIVE names lldpa-live
 # (default rust/live/out/lldpa-live), and LLDPA_LIB_DIR the folder that tools/library/library.sh made
@@ -135,6 +137,17 @@ else
     put_service
     put_pages
 fi
+# Succeeds if systemd runs the service of this prefix, or starts it at a boot.
+serves() {
+    [ -d /run/systemd/system ] &&
+        [ "$(systemctl show --value -p FragmentPath lldpa)" -ef "$destination$prefix/lib/systemd/system/lldpa.service" ] &&
+        { systemctl is-active --quiet lldpa || systemctl is-enabled --quiet lldpa; }
+}
+
+if [ -n "$uninstall" ] && [ -z "$library" ] && serves; then
+    echo "systemd has the service lldpa: first run: systemctl disable --now lldpa" >&2
+    exit 1
+fi
 (cd "$tree" && find . ! -type d) | sed 's/^\.//' | while read -r name; do
     new=$tree$name there=$destination$name
     if [ "${name#"$etc/"}" != "$name" ] && [ -e "$there" ] && ! cmp -s "$new" "$there"; then
@@ -143,16 +156,22 @@ fi
         rm -f "$there"
     else
         mkdir -p "$(dirname "$there")"
-        cp -P --preserve=mode "$new" "$there.new"
+        cp -PT --remove-destination --preserve=mode "$new" "$there.new"
         mv -T "$there.new" "$there"
     fi
 done
 if [ -n "$uninstall" ] && [ -n "$library" ]; then
     rm -rf "$destination$prefix/share/doc/liblldpa-dev"
 elif [ -n "$uninstall" ]; then # also what Python has compiled
-    rm -rf "$destination$private" "$destination$prefix/share/lldpa" "$destination$documents"
-    [ ! -d "$destination$etc/lldpa.d" ] || rmdir --ignore-fail-on-non-empty "$destination$etc/lldpa.d"
-    [ ! -d "$destination$etc/lldpa.d" ] || echo "$destination$etc/lldpa.d has settings of yours, so it stays"
+    rm -rf "$destination$private" "$destination$documents"
+    for folder in "$prefix/share/lldpa" "$etc/lldpa.d"; do
+        [ ! -d "$destination$folder" ] || rmdir --ignore-fail-on-non-empty "$destination$folder"
+        [ ! -d "$destination$folder" ] || echo "$destination$folder has files of yours, so it stays"
+    done
     [ ! -e "$destination/var/lib/lldpa" ] || echo "$destination/var/lib/lldpa has the logs and the state, so it stays"
+    [ -n "$destination" ] || ! id _lldpa > /dev/null 2>&1 || echo "the user _lldpa stays: userdel _lldpa removes it"
+elif [ -z "$library$destination" ] && [ "$(id -u)" -eq 0 ]; then
+    systemd-sysusers "$prefix/lib/sysusers.d/lldpa.conf" 2> "$room/said" ||
+        echo "there is no user _lldpa: an lldpa-live that is started by hand becomes nobody ($(tail -n 1 "$room/said"))"
 fi
 echo "${uninstall:+un}installed under $destination$prefix"

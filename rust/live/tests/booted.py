@@ -45,7 +45,9 @@ class Booted:
     """A container with this host's /usr, which it cannot change, a new and small /etc, and the links of `wires.here`.
     systemd starts nothing of this host but its own basic services."""
 
-    def __init__(self, wires: Wires) -> None:
+    def __init__(self, wires: Wires, *bound: str) -> None:
+        """Each of `bound` is a path of this host and one of the container, joined by a colon."""
+        self.bound = bound
         self.folder = Path(tempfile.mkdtemp(prefix="lldpa-booted-"))
         self.root = self.folder / self.folder.name
         self.said = self.folder / "said"
@@ -58,6 +60,8 @@ class Booted:
                 (self.root / link.name).symlink_to(f"usr/{link.name}")
         etc = self.root / "etc"
         shutil.copy("/etc/os-release", etc)
+        if Path("/etc/alternatives").is_dir():  # Debian's awk
+            shutil.copytree("/etc/alternatives", etc / "alternatives", symlinks=True)
         for name, text in (("machine-id", uuid.uuid4().hex), ("passwd", USERS), ("group", GROUPS)):
             (etc / name).write_text(text)
         (etc / "systemd/system/default.target").symlink_to("/usr/lib/systemd/system/basic.target")
@@ -65,7 +69,8 @@ class Booted:
     def boot(self) -> str:
         """Boots. Returns an empty text, or why it does not."""
         words = [NSPAWN, "--quiet", "--register=no", "--keep-unit", f"--directory={self.root}", "--boot",
-                 f"--network-namespace-path=/run/netns/{self.wires.here}", "--bind-ro=/usr"]
+                 f"--network-namespace-path=/run/netns/{self.wires.here}", "--bind-ro=/usr",
+                 *(f"--bind-ro={paths}" for paths in self.bound)]
         with self.said.open("wb") as said:
             self.process = subprocess.Popen(
                 ["unshare", "--mount", "--pid", "--fork", "--kill-child", "sh", "-c", BOOT, "sh",

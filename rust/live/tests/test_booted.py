@@ -1,5 +1,5 @@
-"""Tests the unit of the service under a systemd that boots in a container: what it does to an lldpa-live that hangs,
-that is killed, or that has wrong options."""
+"""Tests the service under a systemd that boots in a container: what it does to an lldpa-live that hangs, that is killed,
+or that has wrong options, and how it is installed and removed without packages."""
 
 import os
 import shutil
@@ -11,10 +11,15 @@ import unittest
 from booted import NSPAWN, Booted
 from patience import HANGS, eventually
 from running_live import LIVE, is_built
-from served import REPOSITORY
-from wires import Peer, Wires
+from served import PROGRAM, REPOSITORY
+from wires import Peer, Wires, ttl_of
 
 PREFIX = "/opt/lldpa"
+SCRIPT = "/src/tools/release/install.sh"
+INSTALL = f"""
+LLDPA=/built/lldpa LLDPA_LIVE=/built/lldpa-live {SCRIPT} {PREFIX}
+systemctl link {PREFIX}/lib/systemd/system/*
+"""
 CTL = f"{PREFIX}/bin/lldpa-ctl"
 MOST_RESTARTS = 5  # within ten seconds: systemd starts a unit that ends more often no more
 
@@ -23,36 +28,36 @@ MOST_RESTARTS = 5  # within ten seconds: systemd starts a unit that ends more of
 @unittest.skipUnless(os.geteuid() == 0, "root: only root boots a container")
 @unittest.skipUnless(shutil.which("ip"), "ip: it is not installed")
 @unittest.skipUnless(shutil.which(NSPAWN), f"{NSPAWN}: it is not installed")
-class TestUnit(unittest.TestCase):
+class Installed(unittest.TestCase):
+    """A container in which root has installed lldpa, and started the service for eth0."""
+
     @classmethod
     def setUpClass(cls) -> None:
         cls.wires = Wires()
         cls.addClassCleanup(cls.wires.close)
-        cls.host = Booted(cls.wires)
+        cls.host = Booted(cls.wires, f"{REPOSITORY}:/src", f"{PROGRAM}:/built/lldpa", f"{LIVE}:/built/lldpa-live")
         cls.addClassCleanup(cls.host.close)
-        cls.install()
         fault = cls.host.boot()
         if fault:
             raise unittest.SkipTest(f"booted-systemd: {fault}")
-
-    @classmethod
-    def install(cls) -> None:
-        """Installs the programs and the unit, which systemd finds by a link."""
-        root = cls.host.root
-        settings = {"DESTDIR": str(root), "LLDPA": "/bin/true", "LLDPA_LIVE": LIVE, "PYTHON_FOLDER": "/opt/python"}
-        subprocess.run([REPOSITORY / "tools/release/install.sh", PREFIX], env={**os.environ, **settings},
-                       stdout=subprocess.DEVNULL, check=True)
-        for unit in (root / PREFIX[1:] / "lib/systemd/system").iterdir():
-            (root / "etc/systemd/system" / unit.name).symlink_to(f"{PREFIX}/lib/systemd/system/{unit.name}")
-        cls.options = root / PREFIX[1:] / "etc/default/lldpa"
-        cls.settings = root / PREFIX[1:] / "etc/lldpa.d"
+        installed = cls.host.run("sh", "-euc", INSTALL)
+        assert installed.returncode == 0, installed
+        folder = cls.host.root / PREFIX[1:] / "etc"
+        cls.options, cls.settings = folder / "default/lldpa", folder / "lldpa.d"
         cls.given = cls.options.read_text().replace("PORTS=", "PORTS=eth0 # ")
         cls.options.write_text(cls.given)
 
     def setUp(self) -> None:
-        self.run_in_it("systemctl", "restart", "lldpa")
+        self.run_in_it("systemctl", "stop", "lldpa")
         self.peer = Peer(self.wires, "peer0")
         self.addCleanup(self.peer.close)
+        self.run_in_it("systemctl", "start", "lldpa")
+        self.hears_it()
+
+    def hears_it(self) -> None:
+        """Waits until the peer hears the service, and not its goodbye."""
+        while not ttl_of(self.peer.hears(HANGS) or self.fail("it sends nothing")):
+            pass
 
     def run_in_it(self, *words: str) -> str:
         """Runs a command that must succeed in the container. Returns what it writes."""
@@ -72,6 +77,8 @@ class TestUnit(unittest.TestCase):
         """True if another process than `old` answers."""
         return self.process() not in (0, old) and self.host.run(CTL, "show", "chassis").returncode == 0
 
+
+class TestUnit(Installed):
     def test_start(self) -> None:
         """`systemctl start` ends when the service answers, and not before."""
         self.run_in_it("systemctl", "stop", "lldpa")
@@ -114,7 +121,7 @@ class TestUnit(unittest.TestCase):
     def test_stop(self) -> None:
         """A stop says goodbye. One that cannot end is killed soon."""
         self.run_in_it("systemctl", "stop", "lldpa")
-        self.assertIsNotNone(self.peer.hears(ttl=0), "no goodbye")
+        self.assertIsNotNone(self.peer.hears(HANGS, ttl=0), "no goodbye")
         self.run_in_it("systemctl", "start", "lldpa")
         frozen = subprocess.Popen(
             ["nsenter", "--all", f"--target={self.host.first()}", "sh", "-c",
@@ -123,6 +130,22 @@ class TestUnit(unittest.TestCase):
         self.run_in_it("systemctl", "stop", "lldpa")
         frozen.wait(HANGS)
         self.assertLess(time.monotonic() - began, 60, "systemd's own limit is 90 seconds")
+
+
+class TestRemoval(Installed):
+    def test_uninstall(self) -> None:
+        """Nothing is removed while systemd runs the service. What stays is named."""
+        self.assertIn("_lldpa", self.run_in_it("id", "_lldpa"))
+        refused = self.host.run(SCRIPT, "--uninstall", PREFIX)
+        self.assertEqual((refused.returncode, refused.stdout), (1, ""))
+        self.assertIn("systemctl disable --now lldpa", refused.stderr)
+        self.run_in_it(CTL, "show", "chassis")
+        self.run_in_it("systemctl", "disable", "--now", "lldpa")
+        said = self.run_in_it(SCRIPT, "--uninstall", PREFIX)
+        self.assertIn("/opt/lldpa/etc/default/lldpa was changed, so it stays", said)
+        self.assertIn("the user _lldpa stays: userdel _lldpa removes it", said)
+        left = self.run_in_it("find", PREFIX, "!", "-type", "d").splitlines()
+        self.assertEqual(left, [f"{PREFIX}/etc/default/lldpa"])
 
 
 if __name__ == "__main__":
