@@ -46,7 +46,7 @@ $(live): $(library) $(rust)
 
 # Cheap checks
 pages:
-	$(PYTEST) tools/gate/test_pages.py
+	$(PYTEST) tools/gate/test_pages.py tools/gate/test_help.py
 	$(with) mandoc -- mandoc -T lint -W warning $(pages)
 	$(with) groff -- bash -ec 'for page; do [ -z "$$(groff -mandoc -ww -z $$page 2>&1)" ]; done' groff $(pages)
 	$(with) rsvg-convert -- bash -ec 'for svg in docs/*.svg; do rsvg-convert $$svg > /dev/null; done'

@@ -8,6 +8,7 @@ Two links join two namespaces, leaf1 and host01, each with an lldpd. leaf1 also 
 a second sender joins. Needs Linux, root, and Debian's packages lldpd, snmp, snmpd and iproute2.
 If something is missing, a line says so, and the status is 77.
 """
+import argparse
 import contextlib
 import json
 import os
@@ -71,6 +72,7 @@ class Trial:
 
 
 def main():
+    argparse.ArgumentParser(description=__doc__, formatter_class=argparse.RawDescriptionHelpFormatter).parse_args()
     lack = next((f"{name} is not installed" for name in NEEDED if not shutil.which(name)), "")
     if lack or os.geteuid() != 0:
         print(f"skipped: {lack or 'it needs root'}")

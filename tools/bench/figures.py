@@ -13,6 +13,7 @@ the program and a C compiler.
 """
 from __future__ import annotations
 
+import argparse
 import pathlib
 import subprocess
 import sys
@@ -75,7 +76,10 @@ TESTS = {"memory": (Memory, "test_memory"), "time": (Time, "test_time"),
 
 
 def main() -> int:
-    suite = unittest.TestSuite(TESTS[name][0](TESTS[name][1]) for name in sys.argv[1:] or TESTS)
+    parser = argparse.ArgumentParser(description=__doc__, formatter_class=argparse.RawDescriptionHelpFormatter)
+    parser.add_argument("names", nargs="*", metavar="NAME")
+    names = parser.parse_args().names or TESTS
+    suite = unittest.TestSuite(TESTS[name][0](TESTS[name][1]) for name in names)
     return 0 if unittest.TextTestRunner(verbosity=0).run(suite).wasSuccessful() else 1
 
 

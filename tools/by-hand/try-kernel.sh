@@ -8,6 +8,7 @@
 # which linux-image-VERSION and busybox-static were unpacked; without it apt fetches them. ACCEL=kvm is
 # faster, where it works.
 # The last line is `N passed, M failed`. If something is missing, the status is 77.
+. "$(dirname "$0")/../help.sh"
 set -u
 skip() {
     echo "skipped: $1"

@@ -9,6 +9,7 @@ near end, `lldpd -r` and lldpa-live receive the same frames. Each command runs i
 keyvalue, json and json0. All keys and values are compared, except ages. A difference fails unless
 docs/LLDPD.md lists it. It needs Linux, root, and Debian's packages lldpd and iproute2.
 """
+import argparse
 import collections
 import contextlib
 import json
@@ -325,6 +326,7 @@ def odd_frames():
 
 
 def main():
+    argparse.ArgumentParser(description=__doc__, formatter_class=argparse.RawDescriptionHelpFormatter).parse_args()
     os.makedirs("/run/lldpd", exist_ok=True)
     comparison, lab = Comparison(), Lab()
     try:

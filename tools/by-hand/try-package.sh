@@ -11,6 +11,7 @@
 # debootstrap. LLDPA_BUILT names what was built, as for tools/release/package.sh. If NODE_EXPORTER
 # names that program, it reads the metrics.
 # The last line is `N passed, M failed`. If something is missing, the status is 77.
+. "$(dirname "$0")/../help.sh"
 set -u
 skip() {
     echo "skipped: $1"

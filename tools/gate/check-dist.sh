@@ -6,6 +6,7 @@
 # a release, its arm64 programs are tested too, by qemu. With --packages only the archive is checked,
 # and the packages that are built from it. Prints the seconds from `tar` to `lldpa-ctl --version`, and
 # those of `make tests`. Needs root, the kit, and what the Makefile names.
+. "$(dirname "$0")/../help.sh"
 set -u
 cd "$(dirname "$0")/../.." || exit 2
 . tools/gate/parts.sh

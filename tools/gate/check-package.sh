@@ -5,6 +5,7 @@
 #     tools/gate/check-package.sh [PROGRAM]
 # It installs nothing on this host. Only as root it also installs the package, in a chroot. It needs lldpa-live
 # (tools/release/live.sh --dynamic) and what the Makefile names.
+. "$(dirname "$0")/../help.sh"
 set -u
 LLDPA=$(realpath -- "${1:-$(dirname "$0")/../../crates/lldpa/out/lldpa}")
 export LLDPA

@@ -19,6 +19,7 @@ may differ. A block that takes too long fails, and its processes are killed.
 tools/by-hand/try-package.sh runs the blocks whose commands begin with sudo; --as-root lists these
 commands. A block with commands of both kinds fails.
 """
+import argparse
 import array
 import contextlib
 import fcntl
@@ -255,7 +256,8 @@ def fault_of_block(lines, folder):
 
 
 if __name__ == "__main__":
-    if sys.argv[1:] != ["--as-root"]:
-        sys.exit(__doc__)
+    parser = argparse.ArgumentParser(description=__doc__, formatter_class=argparse.RawDescriptionHelpFormatter)
+    parser.add_argument("--as-root", action="store_true", required=True)
+    parser.parse_args()
     shown = (command for _, lines in blocks() for command in commands(lines))
     print(*(one.removeprefix(AS_ROOT) for one in shown if one.startswith(AS_ROOT)), sep="\n")

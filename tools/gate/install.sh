@@ -9,6 +9,7 @@
 # without it. --lacks looks whether the package or the feature of this name, or the package with this
 # command, is missing here. If it is, it prints `package: ` or `feature: ` and what for, and the status
 # is 0. It is 1 if it is there, and 2 if the list does not have this name.
+. "$(dirname "$0")/../help.sh"
 set -u
 
 # Prints each package, the command, the file or the plugin of pytest that shows that it is installed, and what it is

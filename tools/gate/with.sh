@@ -3,6 +3,7 @@
 # set and a package is missing.
 #     tools/gate/with.sh NAME.. -- COMMAND [WORD..]
 # A NAME is a package or a feature of tools/gate/install.sh --list, or the command of such a package.
+. "$(dirname "$0")/../help.sh"
 set -u
 list=$(dirname "$0")/install.sh
 for name; do

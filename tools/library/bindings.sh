@@ -3,6 +3,7 @@
 #     tools/library/bindings.sh > rust/lldpa/src/sys.rs
 # It needs bindgen. test_library.py checks that sys.rs is up to date. Comments are
 # kept, and lldpa_statistics_told becomes Statistics, its name in the crate.
+. "$(dirname "$0")/../help.sh"
 set -eu
 cd "$(dirname "$0")/../.."
 bindgen crates/lldpa_c/include/lldpa.h --disable-header-comment --use-core --size_t-is-usize --no-layout-tests \

@@ -10,6 +10,7 @@
 # These check for NULL, then call malloc and the proved functions. Each group of functions below is one
 # object of liblldpa.a, with what they use. The archive's global names are the functions of lldpa.h.
 # Prints FOLDER.
+. "$(dirname "$0")/../help.sh"
 set -eu
 export LC_ALL=C # in Turkish a-z does not have each letter
 cd "$(dirname "$0")/../.."

@@ -1,4 +1,3 @@
-#!/usr/bin/env python3
 """Runs the examples of docs/LIBRARY.md and of examples/ with the library, for test_library.py.
 
     python3 tools/library/library_examples.py --hear|--meet PROGRAM [WORD ..]

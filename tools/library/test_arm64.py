@@ -1,4 +1,3 @@
-#!/usr/bin/env python3
 """Builds the program and the library for arm64, and runs them with qemu.
 
     pytest -n 4 tools/library/test_arm64.py

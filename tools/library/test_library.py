@@ -1,4 +1,3 @@
-#!/usr/bin/env python3
 """Checks the library for C, the crate rust/lldpa, and the examples of docs/LIBRARY.md and examples.
 
     pytest -n 3 tools/library/test_library.py

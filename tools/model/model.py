@@ -1,4 +1,3 @@
-#!/usr/bin/env python3
 """A model of lldpa that is short enough to be read in one sitting.
 
     python3 tools/model/model.py WORDS.. < TRACE

@@ -5,6 +5,7 @@
 # A release has these files in the folder `assembly`, and needs no kit. Elsewhere the kit's compiler
 # writes crates/CRATE/out/ARCH/CRATE.s, unless the head of that file names the sources and the kit of
 # now.
+. "$(dirname "$0")/../help.sh"
 set -eu
 export LC_ALL=C # in Turkish a-z does not have each letter
 cd "$(dirname "$0")/../.."

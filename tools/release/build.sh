@@ -11,6 +11,7 @@
 #     lib            what tools/library/library.sh makes
 # Both are made from assembly that tools/release/assembly.sh gives: in a release without the kit, else
 # with it. `lldpa` and `lldpa_c` are proved for this architecture, and the crates that they use for all.
+. "$(dirname "$0")/../help.sh"
 set -eu
 cd "$(dirname "$0")/../.."
 fail() {

@@ -6,6 +6,7 @@
 # (tools/release/assembly.sh), and the crate libc (tools/release/vendor.sh). The same commit, the same kit and
 # Debian's package of this crate give the same octets. Needs the kit, git, GNU tar and xz. Prints the name of
 # the archive.
+. "$(dirname "$0")/../help.sh"
 set -eu
 archive=
 folder=$PWD

@@ -12,6 +12,7 @@
 # searches). LLDPA names the program (default crates/lldpa/out/lldpa), LLDPA_LIVE names lldpa-live
 # (default rust/live/out/lldpa-live), and LLDPA_LIB_DIR the folder that tools/library/library.sh made
 # (default crates/lldpa_c/out/lib).
+. "$(dirname "$0")/../help.sh"
 set -eu
 export LC_ALL=C # in Turkish A-Z does not have each letter
 uninstall=

@@ -9,6 +9,7 @@
 # tools/release/vendor.sh finds; a release has it.
 # Another architecture needs its gcc and its standard library of Rust, such as libstd-rust-dev:arm64
 # for Debian's cargo. Without such a library the status is 3.
+. "$(dirname "$0")/../help.sh"
 set -eu
 cd "$(dirname "$0")/../.."
 fail() {

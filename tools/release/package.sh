@@ -4,6 +4,7 @@
 # The options are those of dpkg-buildpackage, such as `-a arm64`. LLDPA_BUILT names the folder that
 # tools/release/build.sh filled, by default crates/lldpa/out/ARCH. The sources stay as they are, and no build dependency is checked,
 # since cargo need not be Debian's. Needs debhelper and dh-python, but not root.
+. "$(dirname "$0")/../help.sh"
 set -eu
 [ $# -gt 0 ] || { echo "usage: tools/release/package.sh FOLDER [OPTION..]" >&2; exit 2; }
 folder=$(realpath -m -- "$1")

@@ -9,6 +9,7 @@ knows. HEAD is a file of comments for the top; what precedes its first space beg
 """
 from __future__ import annotations
 
+import argparse
 import pathlib
 import re
 import sys
@@ -54,7 +55,9 @@ def plain_lines(text: str, comment: str) -> Iterator[str]:
 
 
 def main() -> int:
-    head = pathlib.Path(sys.argv[1]).read_text()
+    parser = argparse.ArgumentParser(description=__doc__, formatter_class=argparse.RawDescriptionHelpFormatter)
+    parser.add_argument("head", metavar="HEAD", type=pathlib.Path)
+    head = parser.parse_args().head.read_text()
     sys.stdout.write(head)
     for line in plain_lines(sys.stdin.read(), head.split(maxsplit=1)[0]):
         print(line)

@@ -3,9 +3,9 @@
 #     tools/release/vendor.sh
 # The files are those of Debian's package librust-libc-dev, if its version is that of Cargo.lock. Otherwise cargo
 # fetches them from crates.io.
+. "$(dirname "$0")/../help.sh"
 set -eu
 cd "$(dirname "$0")/../../rust"
-[ $# -eq 0 ] || { sed -n '2,5s/^# \{0,1\}//p' "../tools/release/vendor.sh" && exit 2; }
 [ ! -d vendor ] || exit 0
 room=$(mktemp -d ./vendor.XXXXXX)
 trap 'rm -rf "$room"' EXIT

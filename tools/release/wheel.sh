@@ -4,6 +4,7 @@
 # It writes the wheel to FOLDER (default: the current one) and prints its name. The wheel is for the
 # machine of the program: linux_x86_64 or linux_aarch64. LLDPA names the program (default
 # crates/lldpa/out/lldpa). `pip install ./python` makes a wheel without the program.
+. "$(dirname "$0")/../help.sh"
 set -eu
 [ $# -le 1 ] || { echo "usage: tools/release/wheel.sh [FOLDER]" >&2; exit 2; }
 folder=$(realpath -- "${1:-.}")

@@ -8,6 +8,7 @@ the page with what this writes.
 """
 from __future__ import annotations
 
+import argparse
 import pathlib
 import re
 import sys
@@ -54,9 +55,12 @@ def parts(crate: str) -> Iterator[str]:
 
 
 def main() -> int:
+    parser = argparse.ArgumentParser(description=__doc__, formatter_class=argparse.RawDescriptionHelpFormatter)
+    parser.add_argument("file", metavar="FILE", type=pathlib.Path)
+    file = parser.parse_args().file
     crates = [line.split(":")[0].split()[0] for line in (TOP / "crates.txt").read_text().splitlines()]
     found = [HEAD.rstrip(), *(part for crate in crates if files_of(crate) for part in parts(crate))]
-    pathlib.Path(sys.argv[1]).write_text("\n\n".join(found) + "\n")
+    file.write_text("\n\n".join(found) + "\n")
     return 0
 
 

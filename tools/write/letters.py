@@ -8,6 +8,7 @@ Another version of Unicode has other characters, so a Python with another versio
 """
 from __future__ import annotations
 
+import argparse
 import pathlib
 import sys
 import unicodedata
@@ -54,11 +55,13 @@ def table(name: str, text: str, found: list[tuple[int, int]]) -> str:
 
 
 def main() -> int:
+    parser = argparse.ArgumentParser(description=__doc__, formatter_class=argparse.RawDescriptionHelpFormatter)
+    parser.add_argument("file", nargs="?", metavar="FILE", type=pathlib.Path, default=FILE)
+    file = parser.parse_args().file
     if unicodedata.unidata_version != VERSION:
         print(f"this Python has Unicode {unicodedata.unidata_version}, not {VERSION}", file=sys.stderr)
         return 1
     parts = [table(name, text, list(ranges(is_in))) for name, (text, is_in) in TABLES.items()]
-    file = pathlib.Path(sys.argv[1]) if len(sys.argv) > 1 else FILE
     file.write_text(HEAD.format(version=VERSION) + "\n".join(parts))
     return 0
 

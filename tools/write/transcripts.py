@@ -10,6 +10,7 @@ too: it states the row's counters in `show statistics` after the transcript's in
 FILE is crates/lldpa/proofs/Transcripts.antt by default. A transcript of more than MOST_TICKS ticks
 is left out, because for each moment the definitions look at all earlier moments.
 """
+import argparse
 import pathlib
 import re
 import sys
@@ -281,6 +282,9 @@ def ticks(trace):
 
 
 if __name__ == "__main__":
+    parser = argparse.ArgumentParser(description=__doc__, formatter_class=argparse.RawDescriptionHelpFormatter)
+    parser.add_argument("file", nargs="?", metavar="FILE", type=pathlib.Path, default=FILE)
+    file = parser.parse_args().file
     shown = HEAD + "".join(theorems(one for one in transcripts() if ticks(one[3]) <= MOST_TICKS))
     shown += "".join(theorems_of_rows())
-    pathlib.Path(sys.argv[1] if sys.argv[1:] else FILE).write_text(shown)
+    file.write_text(shown)

@@ -4,6 +4,7 @@
 # Prints the case of each transcript whose output differs, and what differs. Transcripts with a
 # filter are left out. The last line counts the cases. `rt run` builds the program only when all
 # transcripts are theorems, so run this first if a change alters the output.
+. "$(dirname "$0")/../help.sh"
 set -eu
 cd "$(dirname "$0")/../.."
 room=$(mktemp -d)

@@ -7,9 +7,9 @@ FILE is crates/lldp_pdu/proofs/Vectors/Rows.antt by default.
 """
 from __future__ import annotations
 
+import argparse
 import pathlib
 import re
-import sys
 from itertools import groupby
 
 TOP = pathlib.Path(__file__).resolve().parents[2]
@@ -126,4 +126,6 @@ def proofs() -> str:
 
 
 if __name__ == "__main__":
-    pathlib.Path(sys.argv[1] if sys.argv[1:] else FILE).write_text(proofs())
+    parser = argparse.ArgumentParser(description=__doc__, formatter_class=argparse.RawDescriptionHelpFormatter)
+    parser.add_argument("file", nargs="?", metavar="FILE", type=pathlib.Path, default=FILE)
+    parser.parse_args().file.write_text(proofs())
