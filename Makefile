@@ -17,12 +17,13 @@ served = $(if $(shell command -v cargo),$(live)) # for tests, which can do witho
 pages = man/*.[1-8] audit/*.1 crates/lldpa_c/include/*.3
 
 all: $(program) $(library) $(live)                ## proves and builds everything
-check: pages generated types named rights         ## what needs no program: after a change of anything
+# In a release, which has no kit, `check` runs all tests that need none.
+checks = $(if $(wildcard assembly),examples model c-library live audit,pages generated types named rights)
+check: $(checks)                                  ## what needs no program: after a change of anything
 crates: $(program) examples model instructions    ## after a change of crates or examples
 	cd crates/lldp_tests && rt try --test --seconds 600
 library: c-library arm64                          ## after a change of the library
 live: rust-live rust-people completions services  ## after a change of rust, python, bin, share or man
-tests: examples model c-library live audit        ## what a release can test without the kit
 
 front = $(wildcard crates/lldpa_c/front/* crates/lldpa_c/include/*) tools/library/library.sh
 ifeq ($(wildcard assembly),)
@@ -46,7 +47,7 @@ $(live): $(library) $(rust)
 
 # Cheap checks
 pages:
-	$(PYTEST) tools/gate/test_pages.py tools/gate/test_help.py
+	$(PYTEST) tools/gate/test_pages.py tools/gate/test_help_of_scripts.py
 	$(with) mandoc -- mandoc -T lint -W warning $(pages)
 	$(with) groff -- bash -ec 'for page; do [ -z "$$(groff -mandoc -ww -z $$page 2>&1)" ]; done' groff $(pages)
 	$(with) rsvg-convert -- bash -ec 'for svg in docs/*.svg; do rsvg-convert $$svg > /dev/null; done'
@@ -141,4 +142,4 @@ help:
 	@sed -n 's/^\([a-z-]*\):.*## /    make \1\t/p' Makefile | expand -t 28
 
 .PHONY: all check crates library live pages generated types named rights examples model instructions c-library arm64 \
-	rust-live rust-people completions services audit alone proofs wrong-bodies package release-check tests install uninstall clean beside gate help
+	rust-live rust-people completions services audit alone proofs wrong-bodies package release-check install uninstall clean beside gate help

@@ -2,10 +2,10 @@
 # Makes a release, and builds and tests it where there is no kit, as a user who is not root.
 #     tools/gate/check-dist.sh [--arm64 | --packages]
 # In a mount namespace an empty folder covers the kit's, and the user is `nobody`. There the archive is
-# unpacked, built, tested (make tests), installed in a folder, and packed for Debian. With --arm64, for
+# unpacked, built, tested (make check), installed in a folder, and packed for Debian. With --arm64, for
 # a release, its arm64 programs are tested too, by qemu. With --packages only the archive is checked,
 # and the packages that are built from it. Prints the seconds from `tar` to `lldpa-ctl --version`, and
-# those of `make tests`. Needs root, the kit, and what the Makefile names.
+# those of `make check`. Needs root, the kit, and what the Makefile names.
 . "$(dirname "$0")/../help.sh"
 set -u
 cd "$(dirname "$0")/../.." || exit 2
@@ -174,8 +174,8 @@ fi
 check_build
 if [ "$failed" -eq 0 ]; then
     began=$(date +%s)
-    check "make tests" inside make --silent -C "$tree" tests
-    echo "make tests: $(($(date +%s) - began)) s (aim: 600)"
+    check "make check" inside make --silent -C "$tree" check
+    echo "make check: $(($(date +%s) - began)) s (aim: 600)"
     check_missing
     check_language
     check_library_first
