@@ -154,7 +154,9 @@ fn refuses_less(rt: &impl Abort, alloc: Global, limit: u8) -> Result<(), Fail>
 }
 
 /// Makes each call that changes an empty table.
-fn fills<A: Allocator>(rt: &impl Abort, table: &mut Table<A>, limit: u8) {
+fn fills<A: Allocator>(rt: &impl Abort, table: &mut Table<A>, limit: u8)
+    requires { 0 < limit }
+{
     for port in 0..limit {
         learns(rt, table, &lldpdu(port, 9), Learned::New);
     }
