@@ -179,7 +179,10 @@ def grown(library: Library) -> pathlib.Path:
         assert count == 1, old
     folder = library.room / "grown"
     folder.mkdir()
-    write_front(folder, header, re.sub(r"SIZE\(options, \d+\)", "", front) + PROVED_MORE)
+    front = re.sub(r"SIZE\(options, \d+\)", "", front)
+    front, count = re.subn(r"is_there \? proved", "is_there && given.more == 7 && given.most == NULL ? proved", front)
+    assert count == 1, "the defaults of later fields"
+    write_front(folder, header, front + PROVED_MORE)
     built = fault_of(["cc", "-std=gnu99", "-shared", "-fPIC", f"-I{folder}", folder / "front.c",
                       library.folder / "proved.a", "-o", folder / "liblldpa.so.1"])
     assert built is None, built
