@@ -35,7 +35,8 @@ def check_level(library: Library, counts: Counts) -> None:
     for name, run in runs.items():
         program = library.room / name
         source, plain = TOOLS / f"{name}.c", library.folder / "liblldpa.so.1"
-        built = fault_of(["cc", "-std=c99", "-O2", *WARNINGS, f"-I{library.folder}", write_rows(library), source, plain, "-o", program])
+        built = fault_of(["cc", "-std=c99", "-O2", *WARNINGS, f"-I{library.folder}", write_rows(library), source,
+                          plain, "-o", program])
         counts.judge(built, f"building {name} with the shared object")
         if built is None:
             check_loaded(library.folder, program, fast, counts)

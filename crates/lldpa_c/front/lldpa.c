@@ -10,7 +10,7 @@
 #include "lldpa.h"
 #include <string.h>
 
-/* ---- The sizes that the structs have in the proved functions, on each platform ------------------------------------- */
+/* ---- The sizes that the structs have in the proved functions, on each platform ----------------------------------- */
 
 #define SIZE(name, octets) _Static_assert(sizeof(lldpa_##name) == (octets), "the size of lldpa_" #name);
 
@@ -22,7 +22,7 @@ SIZE(chassis_told, 524)
 /* The size of the first lldpa_options, of 1.0.0. */
 #define FIRST_OPTIONS 72
 
-/* ---- NULL ---------------------------------------------------------------------------------------------------------- */
+/* ---- NULL -------------------------------------------------------------------------------------------------------- */
 
 /* The proved lldpa_open reads at most this many names of ports. */
 #define MOST_NAMES 65
@@ -55,7 +55,7 @@ static bool lacks_octets(const lldpa_tlv *tlvs, size_t count)
 
 #include "checked.h"
 
-/* ---- The functions with other rules -------------------------------------------------------------------------------- */
+/* ---- The functions with other rules ------------------------------------------------------------------------------ */
 
 /* The build of the Rust crate searches the archive for these words, and reads the number after them. */
 static const struct {
