@@ -25,6 +25,8 @@ EDITS = (
     ("another number is returned", '"LLDPA_NULL" : "false"', '"LLDPA_OK" : "false"'),
     ("another bool is returned", '"LLDPA_NULL" : "false"', '"LLDPA_NULL" : "true"'),
     ("a handle that is only read is written", '"COPY(" variable ")"', '"(lldpa_agent *)" variable'),
+    ("NULL with a length of 0 is passed on", '"SOME(" variable ")"', "variable"),
+    ("lldpa_frame passes NULL on", "lldpa_frame(agent, port, SOME(octets)", "lldpa_frame(agent, port, octets"),
     ("NULL with a length of 0 is refused", "return at == NULL && count > 0;", "return at == NULL;"),
     ("lldpa_open accepts options of another size", "options->size < FIRST_OPTIONS ||", "options->size == 0 ||"),
     ("lldpa_open accepts options of a later library", "|| options->size > sizeof given", ""),
@@ -38,8 +40,9 @@ EDITS = (
 
 
 def values(parameters: list[str]) -> list[str]:
-    """Returns an argument for each parameter: memory for a pointer, its length behind it, the first port, or the number 1."""
-    known = {"lldpa_agent": "&agent", "const lldpa_agent": "&agent", "const uint8_t": "frame", "const lldpa_tlv": "tlvs"}
+    """Returns an argument for each parameter: memory for a pointer, its length behind it, the first port, or 1."""
+    known = {"lldpa_agent": "&agent", "const lldpa_agent": "&agent",
+             "const uint8_t": "frame", "const lldpa_tlv": "tlvs"}
     lengths = {"frame": "9", "tlvs": "2"}
     found: list[str] = []
     for at, one in enumerate(parameters):
@@ -78,14 +81,16 @@ def write_rows(library: Library) -> str:
 
 
 def check_front(library: Library, counts: Counts) -> None:
-    """Checks that nulls.c fails with each wrong front."""
+    """Checks that nulls.c passes with the front, which then passes no NULL on, and fails with each wrong front."""
     header, front, rules = (path.read_text() for path in (library.folder / "lldpa.h", FRONT, CHECKED))
     tests, built = library.room / "nulls.o", library.room / "front"
-    compile = ["cc", "-std=gnu99", f"-I{library.room}"]
+    compile = ["cc", "-std=gnu99", "-fsanitize=nonnull-attribute", "-fsanitize-undefined-trap-on-error",
+               f"-I{library.room}"]
     write_rows(library)
     counts.judge(fault_of([*compile, f"-I{library.folder}", "-c", NULLS, "-o", tests]), "building nulls.c")
-    for what, old, new in EDITS:
+    for what, old, new in (("none", "", ""), *EDITS):
         write_front(library.room, header, front.replace(old, new), rules.replace(old, new))
         fault = fault_of([*compile, library.room / "front.c", tests, library.folder / "proved.a", "-o", built])
-        is_seen = (front + rules).count(old) == 1 and fault is None and ran([built]).returncode != 0
-        counts.judge(None if is_seen else fault or "it is not noticed", f"a wrong front: {what}")
+        is_wrong = fault is None and ran([built]).returncode != 0
+        is_right = (front + rules).count(old) == 1 and is_wrong if old else fault is None and not is_wrong
+        counts.judge(None if is_right else fault or "it is not noticed", f"a wrong front: {what}")

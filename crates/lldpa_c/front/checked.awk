@@ -36,7 +36,7 @@ BEGIN { RS = ";" }
         arguments = arguments separator argument
         separator = ", "
     }
-    print "\nextern __typeof__(" name ") proved_" name ";"
+    print "\nextern __typeof__(" name ") proved_" name " PROVED;"
     print $0 "\n{"
     print "    if (" checks ") {\n        return " ($1 == "uint8_t" ? "LLDPA_NULL" : "false") ";\n    }"
     print "    return proved_" name "(" arguments ");\n}"

@@ -1,8 +1,8 @@
 /*
  * The functions that programs call. Each checks the pointers that must not be NULL, and then calls the proved function
- * with the same arguments. Only a NULL whose length is 0 is replaced by another address, since the contracts of proved
- * functions forbid NULL. tools/library/library.sh puts `proved_` before the names of the proved functions, and makes
- * checked.h, which has most of the functions here, of lldpa.h by checked.awk.
+ * with the same arguments. Only a NULL whose length is 0 is replaced by another address. checked.awk makes checked.h,
+ * which has most of the functions, of lldpa.h. tools/library/library.sh puts `proved_` before the names of the proved
+ * functions.
  *
  * A proved function takes the agent out of its handle and puts it back. A function that only reads passes a copy of the
  * handle, so that nothing is written through the caller's pointer to const.
@@ -10,7 +10,7 @@
 #include "lldpa.h"
 #include <string.h>
 
-/* ---- The sizes that the structs have in the proved functions, on each platform ------------------------------------- */
+/* ---- The sizes that the structs have in the proved functions, on each platform ----------------------------------- */
 
 #define SIZE(name, octets) _Static_assert(sizeof(lldpa_##name) == (octets), "the size of lldpa_" #name);
 
@@ -22,7 +22,7 @@ SIZE(chassis_told, 524)
 /* The size of the first lldpa_options, of 1.0.0. */
 #define FIRST_OPTIONS 72
 
-/* ---- NULL ---------------------------------------------------------------------------------------------------------- */
+/* ---- NULL -------------------------------------------------------------------------------------------------------- */
 
 /* The proved lldpa_open reads at most this many names of ports. */
 #define MOST_NAMES 65
@@ -47,12 +47,15 @@ static bool lacks_octets(const lldpa_tlv *tlvs, size_t count)
     return is_lacking;
 }
 
+/* The contracts of proved functions forbid NULL. */
+#define PROVED __attribute__((nonnull))
+
 /* The address of a copy of a handle, for a function that only reads it. */
 #define COPY(agent) (&(lldpa_agent){(agent)->held, (agent)->open})
 
 #include "checked.h"
 
-/* ---- The functions with other rules -------------------------------------------------------------------------------- */
+/* ---- The functions with other rules ------------------------------------------------------------------------------ */
 
 /* The build of the Rust crate searches the archive for these words, and reads the number after them. */
 static const struct {
@@ -75,7 +78,7 @@ static bool is_whole(lldpa_text *text)
     return is_there;
 }
 
-extern __typeof__(lldpa_open) proved_lldpa_open;
+extern __typeof__(lldpa_open) proved_lldpa_open PROVED;
 uint8_t lldpa_open(const lldpa_options *options, lldpa_agent *agent)
 {
     /* Fields that the caller's release does not have keep these defaults. */
@@ -103,8 +106,8 @@ uint8_t lldpa_open(const lldpa_options *options, lldpa_agent *agent)
 
 /* The first of these proved functions writes no news, and the second writes news. */
 extern uint8_t proved_lldpa_frame(lldpa_agent *agent, uint32_t port, const uint8_t *octets, size_t length,
-                                  lldpa_marks *marks);
-extern __typeof__(lldpa_frame) proved_lldpa_frame_news;
+                                  lldpa_marks *marks) PROVED;
+extern __typeof__(lldpa_frame) proved_lldpa_frame_news PROVED;
 uint8_t lldpa_frame(lldpa_agent *agent, uint32_t port, const uint8_t *octets, size_t length, lldpa_marks *marks,
                     lldpa_news *news)
 {
@@ -115,7 +118,7 @@ uint8_t lldpa_frame(lldpa_agent *agent, uint32_t port, const uint8_t *octets, si
                         : proved_lldpa_frame_news(agent, port, SOME(octets), length, marks, news);
 }
 
-extern __typeof__(lldpa_close) proved_lldpa_close;
+extern __typeof__(lldpa_close) proved_lldpa_close PROVED;
 void lldpa_close(lldpa_agent *agent)
 {
     if (agent != NULL) {

@@ -25,9 +25,10 @@ ALL(DECLARE)
 static uint8_t room[4096], faults[2];
 static int failed;
 
-/* A frame with two unknown TLVs, a System Name, System Capabilities, a Management Address and a second System Name. */
+/* A frame with two unknown TLVs, a System Name, System Capabilities, a Management Address and another System Name. */
 static uint8_t frame[] = "\1\200\302\0\0\16\0\21\"3DU\210\314" "\2\7\4\0\21\"3DU" "\4\5\5eth7" "\6\2\0\3"
-                         "\22\1x" "\24\1y" "\12\3sw1" "\16\4\0\24\0\4" "\20\15\5\1\300\0\2\1\2\0\0\0\3\1+" "\12\3sw2" "\0\0";
+                         "\22\1x" "\24\1y" "\12\3sw1" "\16\4\0\24\0\4" "\20\15\5\1\300\0\2\1\2\0\0\0\3\1+"
+                         "\12\3sw2" "\0\0";
 static const uint8_t *const pdu = frame + 14;
 static const size_t pdu_length = sizeof frame - 15;
 
@@ -68,7 +69,8 @@ static void read_all(void)
 static void write_texts(void)
 {
     static const lldpa_tlv tlvs[] = {{(const uint8_t *)"sw1", 3, 5}, {(const uint8_t *)"a", 1, 3}};
-    HOLDS(lldpa_tlv_text(2, frame + 25, 5, room, LLDPA_VALUE_ROOM, &length.told) == 0 && is_written("port.ifname=eth7"));
+    HOLDS(lldpa_tlv_text(2, frame + 25, 5, room, LLDPA_VALUE_ROOM, &length.told) == LLDPA_OK);
+    HOLDS(is_written("port.ifname=eth7"));
     HOLDS(lldpa_escape((const uint8_t *)"a\n", 2, room, 8, &length.told) == LLDPA_OK && is_written("a\\x0a"));
     HOLDS(lldpa_fault_text(LLDPA_NO_TTL, room, LLDPA_FAULT_ROOM, &length.told) == LLDPA_OK);
     HOLDS(is_written("the third TLV is not a Time To Live"));
