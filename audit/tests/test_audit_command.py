@@ -2,6 +2,7 @@
 import gzip
 import json
 import os
+import re
 import socket
 import subprocess
 import sys
@@ -11,6 +12,7 @@ from pathlib import Path
 from unittest import mock
 
 import rack
+import vendors
 from auditing import (AUDIT, HEAD, WITH_AGENT, InAFolder, neighbor, run, run_whole,
                       without_ages)
 from lldpa_audit.names import End, Names
@@ -18,6 +20,7 @@ from lldpa_audit.plan import Link, Plan
 from lldpa_audit.seen.gather import Gathering
 from lldpa_audit.seen.tables import Tables
 from lldpa_audit.what import What, placed
+from patience import HANGS
 from served import REPOSITORY, Served
 
 RIGHT = "1 cable: 1 right, 0 wrong\n"
@@ -183,11 +186,11 @@ class Captures(Audits):
                 (rack.pcapng({"swp1": rack.frames("swp1")})[:-7], "", "it ends at octet ")):
             path = self.file("file", octets)
             status, out, err = self.audit(f"{port}{path}")
-            self.assertEqual(status, 1)
+            self.assertEqual(status, 3)
             self.assertIn(f"swp1  no data: wants host01 eth0 ({path}: {why}", out)
             self.assertIn(f"lldpa-audit: {path}: {why}", err)
         status, out, _ = self.audit(self.capture("a"), f"swp9={path}")
-        self.assertEqual((status, out), (1, RIGHT))
+        self.assertEqual((status, out), (3, RIGHT))
 
     def test_frames(self) -> None:
         own, peer = rack.lldp_frame("leaf1", "swp1"), rack.lldp_frame("host01", "eth0")
@@ -196,7 +199,7 @@ class Captures(Audits):
         for words, status, said in (
                 ([self.capture("a", own, peer, own, peer)], 0, RIGHT),
                 ([self.capture("b", own)], 1, "swp1  silent"),
-                ([self.capture("c", tagged)], 1, "swp1  no data: wants host01 eth0 ("),
+                ([self.capture("c", tagged)], 3, "swp1  no data: wants host01 eth0 ("),
                 ([self.capture("d", tagged, peer)], 0, RIGHT),
                 ([self.capture("e", start=rack.START + 121), first], 0, RIGHT),
                 ([self.capture("f", start=rack.START + 119), first], 1, "swp1  extra: host99 eth0"),
@@ -236,13 +239,39 @@ class Sources(Audits):
         many = self.file("many", json.dumps({"leaf2": {"swp1": [{"hostname": "host02",
                                                                  "port": "eth0"}]}}))
         show = self.file("leaf1", neighbor("swp1", "host01", "eth0"))
-        self.assertRegex(run_whole(self.plan, show, many).stdout, r"; sources \d+ seconds? old\n$")
+        self.assertTrue(run_whole(self.plan, show, many).stdout.endswith(
+            "; sources of unknown age\n"))
+        words = [self.plan, show, many, "--stale-after"]
+        self.assertRegex(run_whole(*words, "file:1d").stdout, r"; sources \d+ seconds? old\n$")
         for path, host in ((show, "leaf1"), (many, "leaf2")):
             os.utime(path, (time.time() - 400.5 * 86400,) * 2)
-            self.assertRegex(run_whole(self.plan, show, many).stdout, r"400 days old\n$")
-            status, out, _ = self.audit(show, many, "--stale-after", "1d")
-            self.assertEqual(status, 1)
-            self.assertRegex(out, rf"{host} swp1  no data: wants .*{path}: it is 400 days old\)")
-        self.assertEqual(self.audit(show, many, "--stale-after", "401d")[0], 0)
-        for word in ("1w", "", "-1", "d"):
+            ran = run_whole(*words, "file:1d")
+            self.assertEqual(ran.returncode, 3)
+            self.assertRegex(ran.stdout, r"400 days old\n$")
+            self.assertRegex(ran.stdout,
+                             rf"{host} swp1  no data: wants .*{path}: it is 400 days old\)")
+        self.assertEqual(run_whole(*words, "file:401d").returncode, 0)
+        for word in ("1w", "", "-1", "d", "file:", "file:x", "x:1d"):
             self.assertEqual(self.audit(show, f"--stale-after={word}")[0], 2, word)
+
+    def test_the_newest_and_the_oldest(self) -> None:
+        """Checks which of three sources is the newest, and which the oldest, in each form."""
+        plan = self.file("p", HEAD + "".join(f"h{at},swp1,x{at},e0\n" for at in range(4)))
+        ages = (3.5 * 86400, 10.5 * 3600, 4.5 * 86400)
+        for at, age in enumerate((*ages, None)):
+            heard = vendors.eos({"swp1": [(f"x{at}", "e0")]})
+            if age is not None:
+                one, = heard["lldpNeighbors"]["swp1"]["lldpNeighborInfo"]
+                one["lastContactTime"] = time.time() - age
+            self.file(f"lists/h{at}", json.dumps(heard))
+        metrics = self.folder / "metrics"
+        words = [plan, f"{self.folder}/lists", "--metrics", str(metrics)]
+        self.assertEqual(run_whole(*words).stdout, "4 cables: 4 right, 0 wrong; sources 10 hours "
+                                                   "to 4 days old, 1 of unknown age\n")
+        told = json.loads(run_whole(*words, "--json").stdout)["sources"]
+        found = {name: float(text) for name, text in re.findall(
+            'source_timestamp_seconds{source="(.*)"} (.*)', metrics.read_text())}
+        for name, age in (("newest", ages[1]), ("oldest", ages[2])):
+            self.assertAlmostEqual(told[name], age, delta=HANGS)
+            self.assertAlmostEqual(time.time() - found[name], age, delta=HANGS)
+        self.assertEqual(told["undated"], 1)
