@@ -90,7 +90,9 @@ class PlanFile:
             if at and len(away) == len(at):
                 yield "of another site"
             elif any(self._devices.key(end.host) in here for end in away):
-                self.unclear[ELSEWHERE].append([end for end, _ in at])
+                ends = [end for end, _ in at]
+                if ends not in self.unclear[ELSEWHERE]:
+                    self.unclear[ELSEWHERE].append(ends)
             else:
                 yield cable
 
