@@ -8,6 +8,7 @@ from typing import NoReturn, Optional, Sequence
 from lldpa.texts import printable
 from lldpa.version import add_version
 
+from . import __version__
 from .ages import Limit, limit_of, seconds_of
 from .columns import COLUMNS
 from .report.pipelines import write_failure
@@ -20,8 +21,8 @@ WORDS = """\
 PLAN is CSV, the cables that NetBox exports or its API returns, or a topology in DOT. Each WHAT is:
   FOLDER          files of many hosts, each named after its host: leaf1.json, or files in leaf1/
   HOST:FILE       a host's list of neighbors: the JSON of a switch (EOS, NX-OS, Junos, Cumulus),
-                  NAPALM, lldpcli, OpenConfig, Prometheus or lldpa; rows of ntc-templates; the
-                  output of snmpwalk; or a capture that names its interfaces
+                  NAPALM, lldpcli, networkctl, OpenConfig, Prometheus or lldpa; rows of
+                  ntc-templates; the output of snmpwalk; or a capture that names its interfaces
   HOST:FOLDER     several files of a host
   FILE            a list or capture of the host that the file is named after or, if the plan has
                   no such host, of this host
@@ -67,7 +68,7 @@ def read_words(words: Optional[Sequence[str]]) -> argparse.Namespace:
                         "may be omitted with --live")
     add_words_of_input(parser)
     add_words_of_report(parser)
-    add_version(parser)
+    add_version(parser, __version__)
     words = sys.argv[1:] if words is None else words
     parser.junit = junit_in(words)
     given = parser.parse_intermixed_args([f"{LIVE}={DEFAULT_PATH}" if word == LIVE else word

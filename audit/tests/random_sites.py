@@ -114,7 +114,8 @@ class Sites:
         mac, form = f"02:00:00:00:00:{number:02x}", self.forms[at[:2]]
         is_address = box[1][0].isdecimal()
         name = f"host{number}" if is_address else f"new{number}" if box in self.renamed else box[1]
-        chassis = at.host if form == "c" else box[1] if box in self.renamed else mac
+        # a renamed box keeps its planned name here, since it would have none otherwise
+        chassis = box[1] if box in self.renamed else at.host if form == "c" else mac
         address = box[1] if is_address else f"192.0.2.{number}"
         if is_address and form == "c":
             chassis = mac

@@ -3,11 +3,11 @@ import gzip
 import json
 import os
 import re
-import socket
 import subprocess
 import sys
 import threading
 import time
+import unittest
 from pathlib import Path
 from unittest import mock
 
@@ -21,10 +21,9 @@ from lldpa_audit.seen.gather import Gathering
 from lldpa_audit.seen.tables import Tables
 from lldpa_audit.what import What, placed
 from patience import HANGS
-from served import REPOSITORY, Served
+from served import REPOSITORY
 
 RIGHT = "1 cable: 1 right, 0 wrong\n"
-STARTS = "is lldpa-live running? (sudo systemctl start lldpa starts the service)"
 
 
 class Audits(InAFolder):
@@ -54,17 +53,9 @@ class Forms(Audits):
         captures = [f"{port}={self.file(port, rack.pcap(rack.frames(port)))}"
                     for port in rack.PORTS]
         whole = self.file("whole", rack.pcapng({port: rack.frames(port) for port in rack.PORTS}))
-        with Served(rack.PORTS) as served:
-            for port in rack.PORTS:
-                for octets in rack.frames(port):
-                    served.frame(port, octets)
-            asked = [f"{REPOSITORY}/bin/lldpa-ctl", "--control", served.path, "--json", "neighbors"]
-            told = subprocess.run(asked, capture_output=True, text=True, check=True).stdout
-            ours = f"leaf1:{self.file('ours.json', told)}"
-            for words in (captures, [whole], [show], [f"leaf1:{show}"], [ours],
-                          [f"--live={served.path}"]):
-                status, out, err = self.audit(*words)
-                self.assertEqual((status, out.splitlines(), err), (1, rack.LINES, ""))
+        for words in (captures, [whole], [show], [f"leaf1:{show}"]):
+            status, out, err = self.audit(*words)
+            self.assertEqual((status, out.splitlines(), err), (1, rack.LINES, ""))
 
     def test_wait(self) -> None:
         """Checks that an audit asks until the port hears somebody, twice a second at most, and that
@@ -77,16 +68,20 @@ class Forms(Audits):
             gathering.add_live("leaf1", "", plan, 0.9)
         self.assertLess(ask.call_count, 4)
         self.assertEqual(gathering.tables.times, [gathering.now])
-        with Served(rack.PORTS) as served:
-            words = [f"--live={served.path}", "--planned-only", "--wait"]
-            begin = time.monotonic()
-            self.assertEqual(self.audit(*words, "1")[1],
-                             "swp1  silent: wants host01 eth0\n1 cable: 0 right, 1 wrong\n")
-            self.assertGreater(time.monotonic() - begin, 1)
-            heard = threading.Timer(1, served.frame, ["swp1", rack.lldp_frame("host01", "eth0")])
-            heard.start()
-            self.assertEqual(self.audit(*words, "50")[:2], (0, RIGHT))
-            heard.join()
+
+    def test_lldpa_ctl_beside_the_program(self) -> None:
+        """Checks that --live finds the lldpa-ctl of a clone, which nobody has installed."""
+        for name in ("audit", "python"):
+            (self.folder / name).symlink_to(REPOSITORY / name)
+        program = self.file("bin/lldpa-audit", (REPOSITORY / "bin" / "lldpa-audit").read_text())
+        ctl = self.file("bin/lldpa-ctl", "#!/bin/sh\nprintf 'lldp.swp1.%s\\n' neighbors=0 octets=0 "
+                        "too-many=no\n")
+        os.chmod(ctl, 0o755)
+        ran = subprocess.run([sys.executable, "-I", program, "--host", "leaf1", "--live", self.plan],
+                             env={"PATH": "/usr/bin:/bin"}, capture_output=True, text=True,
+                             check=False)
+        self.assertEqual((ran.returncode, without_ages(ran.stdout), ran.stderr), (
+            1, "swp1  silent: wants host01 eth0\n1 cable: 0 right, 1 wrong\n", ""))
 
     def test_what_is_read_once(self) -> None:
         octets, show = rack.pcap([rack.lldp_frame("host01", "eth0")]), rack.text_of_show(["swp1"])
@@ -109,9 +104,7 @@ class Forms(Audits):
 
 class Words(Audits):
     def test_what_is_refused(self) -> None:
-        none, left = f"{self.folder}/none", f"{self.folder}/left"
-        with socket.socket(socket.AF_UNIX) as ended:
-            ended.bind(left)
+        none = f"{self.folder}/none"
         bad = self.file("bad", f"{HEAD}a,1,b\n")
         capture = self.capture("a")
         some_named = self.file("some", rack.pcapng({"swp1": rack.frames("swp1"), "": []}))
@@ -122,9 +115,6 @@ class Words(Audits):
                 (f"swp1={self.folder}", "Is a directory"),
                 ("--wait x swp1=a", "'x' is not a time such as 90, 15m, 12h or 1d"),
                 ("--columns from swp1=a", "'from' is not like host=NAME,port=NAME"),
-                (f"--live={none}", f"lldpa-audit: nobody answers at {none}: {STARTS}\n"),
-                (f"--live={left}", f"lldpa-audit: nobody answers at {left}: {STARTS}\n"),
-                ("--live", "/run/lldpa/control: "),
                 ("--live=", "the name of a file is missing"),
                 ("--liv", "unrecognized arguments: --liv"),
                 (capture[5:], "it does not name the port of its frames: write PORT="),
@@ -275,3 +265,17 @@ class Sources(Audits):
             self.assertAlmostEqual(told[name], age, delta=HANGS)
             self.assertAlmostEqual(time.time() - found[name], age, delta=HANGS)
         self.assertEqual(told["undated"], 1)
+
+
+class Worked(unittest.TestCase):
+    """The example of the page, by both of its plans."""
+
+    def test_each_plan(self) -> None:
+        folder = REPOSITORY / "audit" / "worked"
+        expected = (folder / "expected.txt").read_text()
+        captures = [f"swp{number}=swp{number}.pcap" for number in range(1, 9)]
+        for plan, lines in (("plan.csv", expected),
+                            ("plan.dot", re.sub(r" \[[^]]*\]$", "", expected, flags=re.M))):
+            ran = run_whole("--host", "leaf1", plan, *captures, folder=str(folder))
+            told = re.sub("sources .* old", "sources N days old", ran.stdout)
+            self.assertEqual((ran.returncode, told), (1, lines))

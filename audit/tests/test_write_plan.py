@@ -223,7 +223,6 @@ class Files(Planless):
                 ("--since lists", "nothing to audit: give captures"),
                 ("--since none lists", "none: No such file or directory"),
                 ("--write-plan x none", "none: No such file or directory"),
-                ("--write-plan x --live=none", "nobody answers at none: is lldpa-live running? ("),
                 ("--write-plan  lists", "the name of a file is missing"),
                 ("", "the following arguments are required: PLAN")):
             ran = run(*(words.split(" ") if words else ()), folder=str(self.folder))
