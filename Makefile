@@ -100,10 +100,10 @@ rust-people:
 completions: $(live)
 	python3 tools/gate/completions.py
 services: $(live) rust-people
-	$(PYTEST) -n $$(($(N) * 6)) --dist loadfile -m "not alone" rust python tools/release
-audit: $(live)                                    ## after a change of audit or python/lldpa
-	$(PYTEST) -n $$(($(N) * 2)) --dist loadfile audit/tests
-	python3 audit/tools/check.py --program $(program)
+	$(PYTEST) -n $$(($(N) * 6)) --dist loadfile -m "not alone" rust python tools/release audit/tests/test_asking.py \
+	    audit/tests/test_audit_command.py
+audit:                                            ## after a change of audit or python/lldpa: needs Python alone
+	$(MAKE) -C audit house N=$$(($(N) * 2))
 alone: $(live)                                    ## what needs the machine for itself
 	$(PYTEST) -m alone rust
 	python3 tools/bench/bench.py --program $(program) --check
