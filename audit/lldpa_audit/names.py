@@ -179,16 +179,16 @@ class Names:
     def by(self, neighbor: Seen, end: End) -> str:
         """Returns by which weaker names a neighbor answers to this planned end, such as `address
         and description`: it also announces stronger ones, which no plan has."""
-        if neighbor.port_id == end.port and neighbor.hosts[0] == end.host:  # quicker
-            return ""
-        name, first, chassis = map(plain, (self._strict.heeded_hosts(neighbor)[0],
-                                           neighbor.hosts[0], neighbor.chassis))
-        host = "" if name == first else "chassis ID" if name == chassis else "address"
-        port = ""
-        if neighbor.port_id and end.port not in self.ports(end.host, neighbor.port_id):
+        host = port = ""
+        if self.host(neighbor.hosts[0]) != end.host:
+            name, first, chassis = map(plain, (self._strict.heeded_hosts(neighbor)[0],
+                                               neighbor.hosts[0], neighbor.chassis))
+            host = "" if name == first else "chassis ID" if name == chassis else "address"
+        if neighbor.port_id not in ("", end.port) and (
+                end.port not in self.ports(end.host, neighbor.port_id)):
             is_named = any(end.port in self.ports(end.host, one) for one in self.heeded(neighbor))
             port = "description" if is_named else "aggregate"
-        return " and ".join(filter(None, (host, port)))
+        return f"{host} and {port}" if host and port else host or port
 
     def heeded(self, neighbor: Seen) -> Sequence[str]:
         """Returns the names of a neighbor's port that count: only the Port ID if that is a planned

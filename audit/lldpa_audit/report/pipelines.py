@@ -5,7 +5,6 @@ import time
 from collections import Counter
 from contextlib import suppress
 from html import escape
-from pathlib import Path
 from typing import Iterator, Mapping, Optional, Sequence
 
 from lldpa.texts import printable
@@ -73,14 +72,16 @@ def write_failure(file: str, texts: Sequence[str]) -> None:
     """Writes a JUnit report of an audit that failed, so that none of an earlier audit seems to be of
     this one. Does not replace a file of another kind, since with wrong arguments it may be the
     plan."""
-    if file:
-        with suppress(OSError):
-            if not os.path.isfile(file) or is_replaced(Path(file).read_bytes()[:MOST_READ]):
-                write(file, [*begin_of(file, Counter(error=len(texts))),
-                             *map(case_of_fault, texts), END])
+    with suppress(OSError):
+        if file and (not os.path.isfile(file) or is_report(file)):
+            write(file, [*begin_of(file, Counter(error=len(texts))),
+                         *map(case_of_fault, texts), END])
 
 
-def is_replaced(front: bytes) -> bool:
+def is_report(file: str) -> bool:
+    """Returns whether a file is empty, or begins like a JUnit report of an audit."""
+    with open(file, "rb") as opened:
+        front = opened.read(MOST_READ)
     return not front or BEGIN.encode() in front
 
 
