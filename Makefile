@@ -5,7 +5,8 @@ MAKEFLAGS += --output-sync=target --no-builtin-rules
 export PYTHONDONTWRITEBYTECODE = 1
 # Skips what needs a tool that is not here, and says so; with CI it fails.
 with = $(CURDIR)/tools/gate/with.sh
-PYTEST = $(with) python3-pytest{,-xdist,-timeout,-rerunfailures} -- pytest -q $(if $(CI),--whole)
+PYTESTS = python3-pytest{,-xdist,-timeout,-rerunfailures}
+PYTEST = $(with) $(PYTESTS) -- pytest -q $(if $(CI),--whole)
 N ?= $(shell nproc)
 
 program = crates/lldpa/out/lldpa
@@ -100,10 +101,10 @@ rust-people:
 completions: $(program) $(served)
 	$(PYTEST) -n $(N) tools/gate/test_help.py
 services: $(served) rust-people
-	$(PYTEST) -n $$(($(N) * 6)) --dist loadfile -m "not alone" rust python tools/release
-audit: $(served)                                  ## after a change of audit or python/lldpa
-	$(PYTEST) -n $$(($(N) * 2)) --dist loadfile audit/tests
-	python3 audit/tools/check.py --program $(program)
+	$(PYTEST) -n $$(($(N) * 6)) --dist loadfile -m "not alone" rust python tools/release audit/tests/test_asking.py \
+	    audit/tests/test_audit_command.py
+audit:                                            ## after a change of audit or python/lldpa: needs Python alone
+	$(with) $(PYTESTS) -- $(MAKE) -C audit house N=$$(($(N) * 2))
 alone: $(served)                                  ## what needs the machine for itself
 	$(PYTEST) -m alone rust
 

@@ -2,7 +2,7 @@
 from collections import defaultdict
 from typing import Callable, Iterable, Iterator, Mapping, NamedTuple, Optional, Sequence
 
-from .ages import Ages
+from .ages import Ages, ages_of
 from .heard import Link, links_of
 from .names import End, Seen, shown
 from .order import Key, in_turn, natural
@@ -39,7 +39,7 @@ class Changes(NamedTuple):
     now: int
     not_compared: int
     hosts: Sequence[str]
-    ages: tuple[Optional[Ages], Optional[Ages]] = (None, None)
+    ages: tuple[Ages, Ages]
 
 
 class Side(NamedTuple):
@@ -85,7 +85,8 @@ def compared(before: Tables, now: Tables) -> Changes:
     hosts = [side.tables.hosts[host] for side, other in ((old, new), (new, old))
              for host in side.tables.with_data() - other.tables.with_data()]
     return Changes(sorted(changes, key=place_of), len(old.links), len(new.links),
-                   len(lost) + len(added), sorted(hosts, key=natural))
+                   len(lost) + len(added), sorted(hosts, key=natural),
+                   (ages_of(before.times), ages_of(now.times)))
 
 
 def missing(side: Side, other: Side) -> tuple[list[Link], list[Link]]:

@@ -2,7 +2,7 @@
 import re
 from typing import Mapping, Optional, Sequence, Union
 
-from .netbox import Cable, Pair, Side, between
+from .netbox import Cable, Place, Side, between
 from .plan import FIRST, Faults
 
 COLUMNS = ("host", "port", "peer", "peer_port")
@@ -40,6 +40,8 @@ class Columns:
         self.has_headings = self._is_of_netbox and tuple(self._columns) in NETBOX[2:]
         self._type, self._status = self._place_of("type"), self._place_of("status")
         self._position = self._place_of("rear_port_position", "position")
+        self._sites = [self._place_of("side_a_site", "site_a", "site"),
+                       self._place_of("side_b_site", "site_b", "peer_site", "site")]
         self._others = [at for at, name in enumerate(header) if at not in self._places and name]
         self.others = [header[at].strip() for at in self._others]
 
@@ -80,30 +82,39 @@ class Columns:
             self._faults.add(line, f"its {self._columns[row.index('')]} is missing")
             return None
         texts = self._texts(fields) if self.others else ()
-        if self._position is None:
+        if self._position is None and self._sites == [None, None]:
             return Cable((row,), line, texts)
-        return Cable((row,), line, texts, position=fields[self._position].strip() or FIRST)
+        one, other = self._sites_of(fields)
+        position = FIRST if self._position is None else fields[self._position].strip() or FIRST
+        return Cable((row,), line, texts, position=position, devices=[(("", one), ("", other))])
 
     def _of_netbox(self, line: int, fields: Sequence[str], row: Sequence[str]
                    ) -> Union[Cable, str, None]:
         """Returns a cable of NetBox, or a reason to leave it out."""
         kinds = [[] if at is None else [plain(fields[at])] for at in self._sides]
-        one, other = Side(ends_of(*row[:2]), kinds[0]), Side(ends_of(*row[2:]), kinds[1])
+        sites = self._sites_of(fields)
+        one = Side(ends_of(row[0], row[1], sites[0]), kinds[0])
+        other = Side(ends_of(row[2], row[3], sites[1]), kinds[1])
         kind, status = ["" if at is None else plain(fields[at])
                         for at in (self._type, self._status)]
         return between(one, other, kind, status, line, self._texts(fields))
+
+    def _sites_of(self, fields: Sequence[str]) -> Sequence[str]:
+        """Returns the site of each side in a row, or empty texts."""
+        return ["" if at is None else fields[at].strip() for at in self._sites]
 
     def _texts(self, fields: Sequence[str]) -> Sequence[str]:
         """Returns the texts of the further columns of a row."""
         return tuple([fields[at].strip() for at in self._others])
 
 
-def ends_of(hosts: str, ports: str) -> Sequence[Pair]:
+def ends_of(hosts: str, ports: str, site: str) -> Sequence[Place]:
     """Returns each port of a side with its host, or () if hosts and ports do not pair up."""
     some, names = re.split(r"\s*,\s*", hosts), re.split(r"\s*,\s*", ports)
     if len(some) not in (1, len(names)):
         return ()
-    return list(zip(some if len(some) > 1 else some * len(names), names))
+    return [(host, name, ("", site))
+            for host, name in zip(some if len(some) > 1 else some * len(names), names)]
 
 
 def plain(text: str) -> str:

@@ -20,14 +20,13 @@ from .planless import Planless
 from .report.files import need_apart, write
 from .report.objects import json_of
 from .report.page import page_of
-from .report.pipelines import junit_of, metrics_of
+from .report.pipelines import junit_of, metrics_of, write_failure
 from .report.report import Report
 from .report.whole_hosts import several_chassis
-from .run import NAME, Run, harmless
-from .seen.files import read_files
+from .run import NAME, WRONG, Run, harmless
 from .seen.folders import hold_pipes, read_whats
 from .seen.tables import Tables
-from .what import of_hosts, placed
+from .what import placed
 from .words import read_words
 
 KEPT: list[object] = []  # what `end` need not free
@@ -39,16 +38,15 @@ class Audit(Run):
         gc.disable()  # all objects live to the end; looking for garbage costs a third of the time
         given = self.given
         plan, known, tables = self.read()
-        self.progress.show("comparing")
         findings = audit(plan, tables, given.planned_only)
         self.say_all(advice_on_panels(plan, tables, findings))
         if known.rows:
             findings = [known.applied(one, tables.names) for one in findings]
         self.say_all((*known.unplanned(plan), *several_chassis(findings, tables.several)))
-        report = Report(plan, tables, findings)
-        self.show(report)
-        self.report = report
-        return self.status or (0 if report.count.is_right(given.all) else 1)
+        self.report = Report(plan, tables, findings)
+        self.show(self.report)
+        return self.status(self.report.count.faults > 0,
+                           self.report.count.is_complete(given.partial))
 
     def read(self) -> tuple[Plan, Known, Tables]:
         """Reads the plan, the known faults and what was seen."""
@@ -57,13 +55,12 @@ class Audit(Run):
         hold_pipes(whats)
         need_apart((given.html, given.junit, given.metrics), (
             given.plan, given.panels, given.known, given.aliases, *(one.file for one in whats)))
-        files = read_files(of_hosts(whats), given.platform)  # begins to, while the plan is read
-        plan = read_plan(given.plan, names, given.columns, given.panels, self.progress)
+        plan = read_plan(given.plan, names, given.columns, given.panels, given.site)
         today = datetime.date.today()
         known = read_known(given.known, plan.names, today) if given.known else NOTHING_KNOWN
         self.say_all((*plan.notes, *known.notes))
         whats = [placed(what, plan, given.host) for what in whats]
-        tables = self.gather(whats, files, plan)
+        tables = self.gather(whats, plan)
         self.say_all(unplanned_hosts(tables, plan, {plan.names.host(what.host): what.file
                                                     for what in whats}))
         self.say_all(join_lanes(plan, tables))
@@ -72,7 +69,6 @@ class Audit(Run):
     def show(self, report: Report) -> None:
         """Prints the report, and writes the files that were asked for, even if nobody reads what
         is printed."""
-        self.progress.clear()
         try:
             if self.given.json:
                 sys.stdout.writelines(json_of(report))
@@ -88,7 +84,7 @@ class Audit(Run):
         if given.html:
             write(given.html, page_of(report))
         if given.junit:
-            write(given.junit, junit_of(report, given.all))
+            write(given.junit, junit_of(report, given.partial, [*self.damaged, *self.twice]))
         if given.metrics:
             write(given.metrics, metrics_of(report))
 
@@ -139,15 +135,17 @@ def status_of(words: Optional[Sequence[str]]) -> int:
         why = [str(fault)]
     except MemoryError:
         pass  # what takes the memory becomes free at the end of this block
-    finally:
-        program.progress.clear()
+    except KeyboardInterrupt:
+        write_failure(given.junit, ["it was interrupted"])
+        raise
     program.say_all(why)
-    return 2
+    write_failure(given.junit, why)
+    return WRONG
 
 
 def main(words: Optional[Sequence[str]] = None) -> int:
-    """Runs the program. Returns 0 if all is right, 1 if something is not, 2 if it cannot audit."""
-    return output.run(NAME, lambda: status_of(words), 2, errors="backslashreplace")
+    """Runs the program. Returns the exit status, as lldpa-audit(1) defines it."""
+    return output.run(NAME, lambda: status_of(words), WRONG, errors="backslashreplace")
 
 
 def end() -> NoReturn:

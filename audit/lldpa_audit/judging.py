@@ -30,10 +30,15 @@ class Verdict(Enum):
     KNOWN = "known"
 
 
+# the verdicts on an end that hears the end that it wants
+HEARD = (Verdict.RIGHT, Verdict.EXTRA, Verdict.ONE_SIDED, Verdict.DISAGREES)
+
+
 class Finding(NamedTuple):
     """The verdict on `end`. `expected` is the end it should see, None if `end` is unplanned. `has`
     lists its neighbors, `partner` is the end it is swapped with, and `reason` excuses its fault.
-    If its cable was moved, `moved_to` is the unplanned port where the cable is."""
+    If its cable was moved, `moved_to` is the unplanned port where the cable is. `by` says by which
+    weaker names the expected end is heard."""
 
     end: End
     verdict: Verdict
@@ -42,6 +47,7 @@ class Finding(NamedTuple):
     partner: Optional[End] = None
     reason: str = ""
     moved_to: Optional[End] = None
+    by: str = ""
 
 
 class Judge:
@@ -95,8 +101,10 @@ class Judge:
                 self.tables.several.add(host)
         elif verdict is Verdict.WRONG:
             partner = self.partner(end, planned.peer, known.neighbors[0])
+        its = self.tables.heard(end, planned.peer) if verdict in HEARD else None
         return Finding(planned.end, Verdict.SWAPPED if partner else verdict, planned.expected,
-                       known.neighbors, partner)
+                       known.neighbors, partner,
+                       by=self.names.by(its, planned.peer) if its is not None else "")
 
     def has_only(self, known: KnownPort, end: End) -> bool:
         """Returns whether a port has exactly one neighbor, which may be this end."""

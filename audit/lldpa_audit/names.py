@@ -3,7 +3,7 @@ from __future__ import annotations
 
 import ipaddress
 from contextlib import suppress
-from typing import Collection, Iterable, Mapping, NamedTuple, Optional, Sequence, Set
+from typing import Collection, Iterable, Mapping, NamedTuple, Optional, Sequence
 
 from lldpa.texts import CUT, escaped, printable
 
@@ -35,10 +35,6 @@ class Seen(NamedTuple):
     aggregated: bool = False
     is_named: bool = False
 
-    def __reduce__(self) -> tuple[type, tuple[object, ...]]:
-        """Returns how another process makes a copy, as tuples do it but in less time."""
-        return Seen, (*self,)
-
     def __str__(self) -> str:
         if self == NAMELESS:
             return "a neighbor that did not fit in the table"
@@ -62,19 +58,21 @@ NO_ALIASES = Aliases({}, {})
 
 class Names:
     """The rules for comparing names, which never change. Two names are the same if their normalized
-    forms are equal. `domains` has the domains of planned hosts by short names. If a Port ID is
-    in `planned`, the normalized ends of the plan, the Port Description does not count, since people
-    write it by hand. Looser rules ask the rules `strict` for that."""
+    forms are equal. `domains` has the domains of planned hosts by short names, if any. Of a neighbor's
+    names, the strongest one that is in `planned`, the normalized ends of the plan, counts: people
+    write descriptions by hand, and an old name may stay as a chassis ID. Looser rules ask the
+    rules `strict` for that."""
 
     def __init__(self, ignore_case: bool = False, short_names: bool = False,
                  vendor_names: bool = False, aliases: Aliases = NO_ALIASES,
-                 domains: Mapping[str, Set[str]] = {}, planned: Collection[End] = (),
+                 domains: Mapping[str, str] = {}, planned: Collection[End] = (),
                  strict: Optional[Names] = None) -> None:
         self._given = ignore_case, short_names, vendor_names
         self.ignore_case, self.short_names, self.vendor_names = self._given
         self.aliases = aliases
         self.domains = domains
         self.planned = planned
+        self._planned_hosts = {end.host for end in planned}
         self._planned_ports = {end.port for end in planned}
         self._strict = strict or self
         self._is_strict = not (ignore_case or short_names or vendor_names or any(aliases))
@@ -92,15 +90,18 @@ class Names:
         return key
 
     def hosts_of(self, neighbor: Seen) -> Sequence[str]:
-        """Returns the normalized hosts that a neighbor may be. With `short_names`, a name without a
-        domain may mean the host with this name in any planned domain."""
-        if self._is_strict:
-            return neighbor.hosts
-        keys = [self.host(name) for name in neighbor.hosts]
-        if self.short_names:
-            keys += [f"{key}.{domain}" for key in keys
-                     for domain in self.domains.get(key, ()) if domain]
-        return keys
+        """Returns the normalized hosts that a neighbor may be, by the names that count."""
+        names = self._strict.heeded_hosts(neighbor)
+        return names if self._is_strict else [self.host(name) for name in names]
+
+    def heeded_hosts(self, neighbor: Seen) -> Sequence[str]:
+        """Returns the names of a neighbor's host that count: only the strongest one that is the
+        name of a planned host, or all if none is."""
+        planned = self._planned_hosts
+        for name in neighbor.hosts:
+            if self.host(name) in planned:
+                return (name,)
+        return neighbor.hosts
 
     def plain_host(self, name: str) -> str:
         """Returns a host's name, normalized except for aliases."""
@@ -116,17 +117,13 @@ class Names:
     def _with_planned_domain(self, name: str) -> str:
         """Returns a name without its domain, unless the plan has this host in another domain."""
         short = without_domain(name)
-        domains = self.domains.get(short, {""})
-        is_only = "" in domains or domains == {name[len(short) + 1:]}
-        return short if is_only else name
+        domains = {self.domains.get(short, ""), name[len(short) + 1:]}
+        return name if len(domains - {""}) > 1 else short
 
     def with_domains_of(self, hosts: Iterable[str]) -> Names:
         """Returns the same rules with the domains of planned hosts, so that hosts in different
         domains differ."""
-        domains: dict[str, set[str]] = {}
-        for host in set(hosts):
-            short = without_domain(self.whole_host(host))
-            domains.setdefault(short, set()).add(self.domain(host))
+        domains = {without_domain(self.whole_host(host)): self.domain(host) for host in hosts}
         return Names(*self._given, self.aliases, domains)
 
     def with_planned(self, ends: Collection[End], shared: Mapping[End, tuple[str, ...]] = {}
@@ -172,12 +169,26 @@ class Names:
     def answers(self, neighbor: Seen, end: End) -> bool:
         """Returns whether a neighbor may be this normalized end, by the names that it announces."""
         if self._is_strict:
-            return end.host in neighbor.hosts and (end.port == neighbor.port_id
-                                                   or end.port in self.heeded(neighbor))
+            return (end.host in neighbor.hosts and end.host in self.heeded_hosts(neighbor)
+                    and (end.port == neighbor.port_id or end.port in self.heeded(neighbor)))
         if end.host not in self.hosts_of(neighbor):
             return False
         return (self.is_any_member(neighbor, end.host)
                 or any(end.port in self.ports(end.host, port) for port in self.heeded(neighbor)))
+
+    def by(self, neighbor: Seen, end: End) -> str:
+        """Returns by which weaker names a neighbor answers to this planned end, such as `address
+        and description`: it also announces stronger ones, which no plan has."""
+        host = port = ""
+        if self.host(neighbor.hosts[0]) != end.host:
+            name, first, chassis = map(plain, (self._strict.heeded_hosts(neighbor)[0],
+                                               neighbor.hosts[0], neighbor.chassis))
+            host = "" if name == first else "chassis ID" if name == chassis else "address"
+        if neighbor.port_id not in ("", end.port) and (
+                end.port not in self.ports(end.host, neighbor.port_id)):
+            is_named = any(end.port in self.ports(end.host, one) for one in self.heeded(neighbor))
+            port = "description" if is_named else "aggregate"
+        return f"{host} and {port}" if host and port else host or port
 
     def heeded(self, neighbor: Seen) -> Sequence[str]:
         """Returns the names of a neighbor's port that count: only the Port ID if that is a planned
@@ -193,7 +204,7 @@ class Names:
         if self._is_strict:  # quicker
             if neighbor.is_named and port_id in self._planned_ports:
                 return True
-            for host in neighbor.hosts:
+            for host in self.heeded_hosts(neighbor):
                 if (host, port_id) in self.planned:
                     return True
             return False
@@ -221,7 +232,7 @@ class Names:
         """Returns each normalized end that a neighbor may be, by the names of its port."""
         ports = self.heeded(neighbor)
         if self._is_strict:  # quicker
-            return [End(host, port) for host in neighbor.hosts for port in ports]
+            return [End(host, port) for host in self.heeded_hosts(neighbor) for port in ports]
         return [End(host, key) for host in self.hosts_of(neighbor) for port in ports
                 for key in self.ports(host, port)]
 
@@ -230,8 +241,8 @@ class Names:
         rules = (self.ignore_case or "case" in differences,
                  self.short_names or "domain" in differences,
                  self.vendor_names or "spelling" in differences, self.aliases)
-        hosts = [f"{short}.{domain}".rstrip(".") for short in self.domains
-                 for domain in self.domains[short]] if "domain" not in differences else ()
+        hosts = [f"{short}.{domain}".rstrip(".") for short, domain in self.domains.items()
+                 ] if "domain" not in differences else ()
         return Names(*rules, Names(*rules).with_domains_of(hosts).domains, strict=self)
 
     def of_whole_hosts(self) -> Names:

@@ -2,9 +2,9 @@
 import json
 import re
 from itertools import product
-from typing import Any, Iterable, Iterator, NamedTuple, Optional, Sequence, Union
+from typing import Any, Iterator, NamedTuple, Optional, Sequence, Union
 
-from .plan import FIRST, NO_END, Faults
+from .plan import FIRST, Faults
 
 # the further fields of a cable that are reported with its faults
 DETAILS = ("id", "label", "type", "color", "length", "length_unit", "status", "description")
@@ -26,29 +26,34 @@ COMMENTED = "in a line that begins with #"
 POWER, ABSENT, FREE = ("for power or consoles", "with the status planned or decommissioning",
                        "with an end that is not a port of a device")
 
-# the host and the port of an end
-Pair = tuple[str, str]
+# a device's ID in NetBox and its site, if known
+Device = tuple[str, str]
+# the host and the port of an end, and its device
+Place = tuple[str, str, Device]
 AT_NO_PANEL = (False, False)
+NO_PLACE: Place = ("", "", ("", ""))
 
 
 class Cable(NamedTuple):
     """A cable of a plan, or a panel's pair of ports with the `position` at the rear port. `rows`
     has host, port, peer and peer's port of each link in the cable, `line` is its line in the
     file, and `texts` are its further columns. `at_panels` says which sides are at a panel. If
-    its ends cannot be paired, `rows` is empty, and `unpaired` has them."""
+    its ends cannot be paired, `rows` is empty, and `unpaired` has them. `devices` has the two
+    devices of each row, if the plan tells them."""
 
     rows: Sequence[Sequence[str]]
     line: Optional[int] = None
     texts: Sequence[str] = ()
     at_panels: tuple[bool, bool] = AT_NO_PANEL
     position: str = FIRST
-    unpaired: Sequence[Pair] = ()
+    unpaired: Sequence[Place] = ()
+    devices: Sequence[tuple[Device, Device]] = ()
 
 
 class Side(NamedTuple):
     """The ends at one side of a cable, and their types in NetBox, if known."""
 
-    ends: Sequence[Pair]
+    ends: Sequence[Place]
     kinds: Sequence[str]
 
     @property
@@ -66,16 +71,17 @@ def between(one: Side, other: Side, kind: str, status: str, line: Optional[int],
         return ABSENT
     if kind == "power" or any(its and not its.endswith((*PORTS, CIRCUIT)) for its in kinds):
         return POWER
-    if any("" in end for end in ends) or any(its.endswith(CIRCUIT) for its in kinds):
+    if any("" in end[:2] for end in ends) or any(its.endswith(CIRCUIT) for its in kinds):
         return FREE
-    if not kinds and any(OTHER_PORT.fullmatch(port) for _, port in ends):
+    if not kinds and any(OTHER_PORT.fullmatch(port) for _, port, _ in ends):
         return POWER
-    pairs: Iterable[tuple[Pair, Pair]] = product(one.ends, other.ends)
+    pairs = [*product(one.ends, other.ends)]
     if len(one.ends) != 1 and len(other.ends) != 1:
-        pairs = zip(one.ends, other.ends) if len(one.ends) == len(other.ends) else ()
-    rows = [(*near, *far) for near, far in pairs]
+        pairs = [*zip(one.ends, other.ends)] if len(one.ends) == len(other.ends) else []
+    rows = [(*near[:2], *far[:2]) for near, far in pairs]
     at_panels = one.is_at_panel, other.is_at_panel
-    return Cable(rows, line, texts, at_panels, unpaired=() if rows else ends)
+    return Cable(rows, line, texts, at_panels, unpaired=() if rows else ends,
+                 devices=[(near[2], far[2]) for near, far in pairs])
 
 
 def without_tags(cables: Sequence[Union[Cable, str]]) -> Iterator[Union[Cable, str]]:
@@ -136,16 +142,18 @@ def side_of(terminations: Any) -> Side:
     some = terminations if isinstance(terminations, list) else ()
     nodes = [one for one in some if isinstance(one, dict)]
     kinds = [str(node.get("object_type")).partition(".")[2] for node in nodes]
-    return Side([end_of(node.get("object")) for node in nodes] or [NO_END], kinds)
+    return Side([end_of(node.get("object")) for node in nodes] or [NO_PLACE], kinds)
 
 
-def end_of(port: Any) -> Pair:
+def end_of(port: Any) -> Place:
     """Returns the host and the port of an end, both empty if it is not a port of a device."""
     device = port.get("device") if isinstance(port, dict) else None
     if not isinstance(device, dict):
-        return NO_END
+        return NO_PLACE
     host, name = (one.get("name") or one.get("display") or "" for one in (device, port))
-    return str(host), str(name)
+    site = device.get("site")
+    site = site.get("name") if isinstance(site, dict) else site
+    return str(host), str(name), (text_of(device.get("id")), text_of(site))
 
 
 def text_of(value: Any) -> str:

@@ -5,7 +5,7 @@ from typing import Iterable, Mapping, NamedTuple, Optional, Sequence, Set
 
 from lldpa.faults import LldpaFault
 
-from .names import End, Names, shown
+from .names import End, Names, shown, without_domain
 
 MOST_TOLD = 20
 MOST_LANES = 16  # no port has more
@@ -86,8 +86,9 @@ NOT_PLANNED = PlannedEnd(NO_END, NO_END, NO_END)
 class Plan:
     """`ends` has the planned ends by normalized name, in the plan's order, with the two ends of a
     link adjacent. `breakouts` has a breakout cable's links by the end in `whole` that they
-    share. `columns` names the texts of a detail, `notes` says what is left out, `not_judged`
-    counts the links that cannot be judged, and `unknown` has their ends. If `is_untyped`, nothing
+    share. `columns` names the texts of a detail, `notes` says what is left out, `repeated` has
+    each link that an earlier line has too, with that line, `not_judged` counts the links that
+    cannot be judged, and `unknown` has their ends. If `is_untyped`, nothing
     says which hosts are patch panels. `names` compares names with those that are planned. Raises
     PlanFault."""
 
@@ -99,6 +100,7 @@ class Plan:
         self.columns: Sequence[str] = ()
         self.notes: Sequence[str] = ()
         self.not_judged = 0
+        self.repeated: list[tuple[Link, Optional[int]]] = []
         self.unknown: Set[End] = set()
         self.is_untyped = False
         faults = faults or Faults(file)
@@ -115,7 +117,7 @@ class Plan:
         for key, some in self.breakouts.items():
             self.hosts.update((names.host(end.host), end.host) for link in some for end in link[:2])
         if names.short_names:
-            self._need_hosts_apart(names.of_whole_hosts(), faults)
+            self._need_hosts_apart(names, faults)
         faults.end()
         self.names = names.with_planned(self.planned(names) if self.breakouts else self.ends)
 
@@ -124,14 +126,16 @@ class Plan:
         far = (names.end(link.other) for some in self.breakouts.values() for link in some)
         return {*self.ends, *self.breakouts, *far}
 
-    def _need_hosts_apart(self, whole: Names, faults: Faults) -> None:
-        """Refuses two planned hosts that --short-names would make one."""
-        firsts: dict[str, str] = {}
-        for key, planned in self.ends.items():
-            first = firsts.setdefault(key.host, planned.end.host)
-            if whole.host(planned.end.host) != whole.host(first):
-                faults.add(planned.line, f"{shown(planned.end.host)} and {shown(first)} are "
-                                         "planned, and would be one host with --short-names")
+    def _need_hosts_apart(self, names: Names, faults: Faults) -> None:
+        """Refuses two planned hosts of one name in two domains, which --short-names ignores."""
+        firsts: dict[str, PlannedEnd] = {}
+        for planned in self.ends.values():
+            name = names.whole_host(planned.end.host)
+            first = firsts.setdefault(without_domain(name), planned)
+            if names.whole_host(first.end.host) != name:
+                faults.add(planned.line, f"{shown(planned.end.host)} would be one host with "
+                                         f"{shown(first.end.host)} in line {first.line} with "
+                                         "--short-names")
 
     def _add(self, link: Link, names: Names, faults: Faults) -> None:
         """Plans a link, unless it is already planned."""
@@ -145,6 +149,8 @@ class Plan:
         elif before is None or before.peer != other_key:
             first = (before or other_before or NOT_PLANNED).line
             faults.add(line, planned_twice(one if before else other, first, line))
+        elif not detail.path:  # else a link through panels comes from both of its ends
+            self.repeated.append((link, before.line))
 
     def _add_breakout(self, link: Link, whole: Set[End], names: Names, faults: Faults) -> None:
         """Adds a link of a breakout cable: its end in `whole` has several links."""

@@ -1,33 +1,39 @@
 """Reads plans: links in DOT, CSV or NetBox's JSON, followed through patch panels."""
-from collections import Counter
+from collections import Counter, defaultdict
 from typing import Container, Iterable, Iterator, Mapping, Optional, Sequence, Union
 
 from .columns import Columns
+from .devices import Devices, places_of
 from .dot import edges_of, is_dot
-from .names import LONGEST, MOST_NAMED, End, Names
+from .names import LONGEST, MOST_NAMED, End, Names, shown
 from .netbox import COMMENTED, DETAILS, Cable, cables_of, without_tags
 from .panels import Panels, fewest_links
 from .plan import NO_DETAIL, Detail, Faults, Link, Plan
-from .progress import Progress
 from .rows import rows_of, text_of
+
+
+UNPAIRED = "the ends cannot be paired"
+ELSEWHERE = "a device of another site has the name of one here"
 
 
 class PlanFile:
     """Reads the links of a file. `left_out` counts the cables that are left out, by reason.
     `at_panels` maps each end that the file calls a panel's port to the cable's other end,
-    `breakouts` has the ends with several links, and `unpaired` the ends of each cable whose ends
-    cannot be paired."""
+    `breakouts` has the ends with several links, and `unclear` the ends of each cable that cannot
+    be judged, by the reason. With `site`, only the cables of this site are read."""
 
     def __init__(self, file: str, columns: Optional[Mapping[str, str]] = None,
-                 has_panels: bool = True) -> None:
+                 has_panels: bool = True, names: Names = Names(), site: str = "") -> None:
         self.text = text_of(file)
         self.faults = Faults(file)
         self.left_out: Counter[str] = Counter()
         self.others: Sequence[str] = ()
         self.at_panels: dict[End, End] = {}
         self.breakouts: set[End] = set()
-        self.unpaired: list[Sequence[End]] = []
+        self.unclear: dict[str, list[Sequence[End]]] = defaultdict(list)
         self.is_untyped = False
+        self._devices = Devices(names, self.faults)
+        self._site = site
         self._given = columns
         self._names: dict[str, str] = {}
         self._has_panels = has_panels
@@ -46,10 +52,10 @@ class PlanFile:
         """Returns each cable, or why it is left out."""
         if self.text.lstrip()[:1] in ("{", "["):  # CSV and DOT do not begin with these
             self.others = DETAILS
-            return cables_of(self.text, self.faults)
+            return self._of_site(cables_of(self.text, self.faults))
         if is_dot(self.text):
             self.is_untyped = True
-            return edges_of(self.text, self.faults)
+            return self._of_site(edges_of(self.text, self.faults))
         return self._cables_of_rows()
 
     def _cables_of_rows(self) -> Iterator[Union[Cable, str]]:
@@ -60,17 +66,46 @@ class PlanFile:
         columns = Columns(header, line, self.faults, self._given)
         self.others, self.is_untyped = columns.others, columns.is_untyped
         if columns.can_read:
-            found = cables_in(rows, columns, marked if columns.has_host_first else ())
+            found = self._of_site(cables_in(rows, columns,
+                                            marked if columns.has_host_first else ()))
             yield from without_tags(list(found)) if columns.has_headings else found
+
+    def _of_site(self, cables: Iterable[Union[Cable, str]]) -> Iterator[Union[Cable, str]]:
+        """Yields the cables of the chosen site, or all if none is chosen."""
+        if not self._site:
+            yield from cables
+            return
+        whole = list(cables)
+        places = [place for cable in whole if isinstance(cable, Cable)
+                  for place in places_of(cable)]
+        here = {self._devices.key(end.host) for end, device in places if device[1] == self._site}
+        if not here:
+            sites = ", ".join(sorted({shown(device[1]) for _, device in places if device[1]}))
+            self.faults.add(None, f"it has no cable of the site {shown(self._site)}, only of {sites}"
+                            if sites else "it does not say the sites of devices, so --site cannot "
+                                          "be given")
+        for cable in whole:
+            at = () if isinstance(cable, str) else list(places_of(cable))
+            away = [end for end, device in at if device[1] != self._site]
+            if at and len(away) == len(at):
+                yield "of another site"
+            elif any(self._devices.key(end.host) in here for end in away):
+                ends = [end for end, _ in at]
+                if ends not in self.unclear[ELSEWHERE]:
+                    self.unclear[ELSEWHERE].append(ends)
+            else:
+                yield cable
 
     def _links_of(self, cable: Cable) -> Sequence[Link]:
         """Returns the links of a cable. Remembers ends at panels and ends with several links."""
-        rows, line, texts, at_panels, position, unpaired = cable
+        rows, line, texts, at_panels, position, unpaired, devices = cable
         if unpaired:
-            self.unpaired.append([End(*pair) for pair in unpaired])
+            self.unclear[UNPAIRED].append([End(*place[:2]) for place in unpaired])
         detail = Detail(texts) if texts else NO_DETAIL
         links, kept = [], self._names
-        for row in rows:
+        for at, row in enumerate(rows):
+            if devices and not self._devices.are_clear(row, devices[at], line):
+                continue
             host, port, peer, peer_port = [kept.get(name) or self._kept(name, line) for name in row]
             links.append(Link(End(host, port), End(peer, peer_port), line, None, detail, None,
                               position))
@@ -105,12 +140,11 @@ def cables_in(rows: Iterable[tuple[int, Sequence[str]]], columns: Columns,
 
 
 def read_plan(file: str, names: Names, columns: Optional[Mapping[str, str]] = None,
-              panels: Optional[str] = None, progress: Optional[Progress] = None) -> Plan:
-    """Reads a plan, and follows its links through listed panels. Raises PlanFault and OSError."""
-    read = PlanFile(file, columns, panels is not None)
+              panels: Optional[str] = None, site: str = "") -> Plan:
+    """Reads a plan, and follows its links through listed panels. With `site`, only the cables of
+    this site are read. Raises PlanFault and OSError."""
+    read = PlanFile(file, columns, panels is not None, names, site)
     links: Iterable[Link] = read.links()
-    if progress is not None:
-        links = progress.over(links, read.text.count("\n"), "lines of the plan")
     followed = None
     if panels is not None:
         of_panels = PlanFile(panels)
@@ -123,11 +157,12 @@ def read_plan(file: str, names: Names, columns: Optional[Mapping[str, str]] = No
         read.faults.end()
     begins = ([begin for begin, _ in followed.dead_ends] if followed else
               [end for end in read.at_panels.values() if end not in read.at_panels])
-    plan.not_judged = fewest_links([plan.names.end(end) for end in begins]) + len(read.unpaired)
-    unknown = (begins, () if followed else read.at_panels, *read.unpaired)
+    unclear = [ends for some in read.unclear.values() for ends in some]
+    plan.not_judged = fewest_links([plan.names.end(end) for end in begins]) + len(unclear)
+    unknown = (begins, () if followed else read.at_panels, *unclear)
     plan.unknown = {plan.names.end(end) for some in unknown for end in some}
     plan.columns, plan.is_untyped = read.others, read.is_untyped and followed is None
-    plan.notes = [*notes_of(file, read), *notes_of_unpaired(file, read),
+    plan.notes = [*notes_of(file, read), *notes_of_repeated(plan), *notes_of_unclear(file, read),
                   *notes_of_panels(file, read, followed)]
     return plan
 
@@ -141,12 +176,21 @@ def notes_of(file: str, read: PlanFile) -> list[str]:
     return [f"{file}: {count} {'cable is' if count == 1 else 'cables are'} left out: {reasons}"]
 
 
-def notes_of_unpaired(file: str, read: PlanFile) -> list[str]:
-    """Returns a note on the cables whose ends cannot be paired, if there are any."""
-    count = len(read.unpaired)
-    some = ", ".join(map(str, read.unpaired[0][:MOST_NAMED])) if count else ""
-    return [f"{file}: {count} {'cable' if count == 1 else 'cables'} cannot be judged, since the "
-            f"ends cannot be paired; the first ends are {some}"] if count else []
+def notes_of_repeated(plan: Plan) -> list[str]:
+    """Returns a note on the links that the plan has more than once: they may be of two sites."""
+    if not plan.repeated:
+        return []
+    count, (link, first) = len(plan.repeated), plan.repeated[0]
+    lines = f" in lines {first} and {link.line}" if link.line else ""
+    return [f"{plan.file}: {count} {'link is' if count == 1 else 'links are'} repeated, such as "
+            f"{link.one} with {link.other}{lines}"]
+
+
+def notes_of_unclear(file: str, read: PlanFile) -> list[str]:
+    """Returns a note for each reason for which cables cannot be judged."""
+    return [f"{file}: {len(some)} {'cable' if len(some) == 1 else 'cables'} cannot be judged, since "
+            f"{why}; the first ends are {', '.join(map(str, some[0][:MOST_NAMED]))}"
+            for why, some in read.unclear.items()]
 
 
 def notes_of_panels(file: str, read: PlanFile, followed: Optional[Panels]) -> list[str]:

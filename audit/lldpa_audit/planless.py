@@ -10,10 +10,9 @@ from .names import Names
 from .plan import Plan
 from .report.changed import json_of, lines_of
 from .run import Run, harmless
-from .seen.files import read_files
 from .seen.folders import hold_pipes, read_whats
 from .seen.tables import Tables
-from .what import of_hosts, placed
+from .what import placed
 from .writing import need_new, rows_of, summary_of, write_new
 
 
@@ -34,20 +33,18 @@ class Planless(Run):
             raise ValueError("no link was seen, so no plan is written")
         write_new(file, rows)
         print(harmless(summary_of(file, rows, ages_of(tables.times))))
-        return self.status
+        return self.status(False, True)
 
     def compare(self) -> int:
         """Reports the links that have changed since the earlier lists."""
         before = self.read([self.given.since], self.names(), is_now=False)
         now = self.read(self.given.what, self.names())
-        found = compared(before, now)._replace(ages=(ages_of(before.times), ages_of(now.times)))
-        self.progress.clear()
+        found = compared(before, now)
         if self.given.json:
             sys.stdout.writelines(json_of(found))
         else:
             print("\n".join(map(harmless, lines_of(found))))
-        is_complete = not (self.given.all and found.hosts)
-        return self.status or (0 if is_complete and not found.changes else 1)
+        return self.status(bool(found.changes), self.given.partial or not found.hosts)
 
     def read(self, words: Sequence[str], names: Names, is_now: bool = True) -> Tables:
         """Reads what is seen. Raises ValueError if it is of no host."""
@@ -55,8 +52,7 @@ class Planless(Run):
         whats = [placed(what, plan, self.given.host)
                  for what in read_whats(words, self.given.host, self.say)]
         hold_pipes(whats)
-        files = read_files(of_hosts(whats), self.given.platform)
-        tables = self.gather(whats, files, plan, is_now)
+        tables = self.gather(whats, plan, is_now)
         if not tables.hosts:
             raise ValueError(f"no file has neighbors of a host: {' '.join(words)}")
         tables.names = names.with_planned(tables.ends)  # a Port ID that is a listed port is meant

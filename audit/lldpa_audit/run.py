@@ -1,7 +1,7 @@
 """What all runs of lldpa-audit do: compare names, read what is seen, and say what is wrong."""
 import argparse
 from math import inf
-from typing import Iterable, Iterator, Optional, Sequence
+from typing import Iterable, Sequence
 
 from lldpa import output
 from lldpa.ctl import CtlFault
@@ -10,13 +10,13 @@ from lldpa.texts import printable
 from .aliases import read_aliases
 from .names import NO_ALIASES, Names
 from .plan import Plan
-from .progress import Progress
+from .seen.files import read_file
 from .seen.gather import Gathering
-from .seen.listing import Listing
 from .seen.tables import Tables
-from .what import What
+from .what import What, of_hosts
 
 NAME = "lldpa-audit"
+REPAIR, WRONG, AGAIN = 1, 2, 3  # exit statuses
 PROGRAM = "lldpa"  # the agent that reads captures
 HOW_TO_START = " (sudo systemctl start lldpa starts the service)"
 
@@ -24,8 +24,17 @@ HOW_TO_START = " (sudo systemctl start lldpa starts the service)"
 class Run:
     def __init__(self, given: argparse.Namespace) -> None:
         self.given = given
-        self.progress = Progress(NAME)
-        self.status = 0  # 1 if a source is damaged, 2 if two overlap
+        self.damaged: list[str] = []  # what is wrong with sources
+        self.twice: list[str] = []  # which sources overlap
+
+    def status(self, needs_repair: bool, is_complete: bool) -> int:
+        """Returns the exit status: wrong arguments come before repairs, and these before sources
+        that must be collected again."""
+        if self.twice:
+            return WRONG
+        if needs_repair:
+            return REPAIR
+        return 0 if is_complete and not self.damaged else AGAIN
 
     def names(self) -> Names:
         """Returns the rules by which names are compared."""
@@ -34,14 +43,14 @@ class Run:
         aliases = read_aliases(given.aliases, Names(*rules)) if given.aliases else NO_ALIASES
         return Names(*rules, aliases)
 
-    def gather(self, whats: Sequence[What], files: Iterator[Optional[Listing]], plan: Plan,
-               is_now: bool = True) -> Tables:
+    def gather(self, whats: Sequence[What], plan: Plan, is_now: bool = True) -> Tables:
         """Returns the tables of the audited hosts, from files and from lldpa-live. If not `is_now`,
         the files may be old, and lldpa-live is not asked."""
         given, names, tables = self.given, plan.names, Tables(plan.names)
-        gathering = Gathering(tables, PROGRAM, self.say, given.stale_after if is_now else inf,
-                              plan.hosts)
-        gathering.add_files(whats, self.progress.over(files, len(whats), "files"))
+        oldest = given.stale_after if is_now else given.stale_after._replace(seconds=inf)
+        gathering = Gathering(tables, PROGRAM, self.say, oldest, plan.hosts)
+        files = (read_file(what, given.platform) for what in of_hosts(whats))
+        gathering.add_files(whats, files)
         for what in whats:
             key = names.host(what.host)
             if what.host != given.host and key in plan.hosts and key not in tables.hosts:
@@ -53,12 +62,12 @@ class Run:
                 how = HOW_TO_START if fault.text.startswith("nobody answers") else ""
                 raise ValueError(f"{fault}{how}") from None
         tables.discard_forgotten()
-        self.status = max(self.status, gathering.status)
+        self.damaged += gathering.damaged
+        self.twice += gathering.twice
         return tables
 
     def say(self, text: str) -> None:
         """Writes a line on standard error."""
-        self.progress.clear()
         output.complain(NAME, harmless(text))
 
     def say_all(self, texts: Iterable[str]) -> None:

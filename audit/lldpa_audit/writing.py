@@ -3,7 +3,7 @@ import csv
 import os
 from collections import Counter, defaultdict
 from contextlib import suppress
-from typing import Iterable, Iterator, Mapping, NamedTuple, Optional, Sequence
+from typing import Iterable, Iterator, Mapping, NamedTuple, Sequence
 
 from lldpa.texts import printable
 
@@ -127,9 +127,9 @@ def write_new(file: str, rows: Iterable[Row]) -> None:
         raise
 
 
-def summary_of(file: str, rows: Sequence[Row], ages: Optional[Ages]) -> str:
+def summary_of(file: str, rows: Sequence[Row], ages: Ages) -> str:
     """Returns how many links a plan has, and how sure they are."""
     counts = Counter(row.seen for row in rows)
     kinds = ", ".join(f"{counts[seen]} seen {seen}" for seen in (BOTH, ONE))
     links = "link" if len(rows) == 1 else "links"
-    return f"{file}: {len(rows)} {links}: {kinds}{f'; sources {ages}' if ages else ''}"
+    return f"{file}: {len(rows)} {links}: {kinds}; sources {ages}"

@@ -65,7 +65,7 @@ def run(*words: str, folder: Optional[str] = None) -> "subprocess.CompletedProce
 
 def without_ages(text: str) -> str:
     """Returns the output of an audit without the ages of its sources."""
-    return re.sub(r"; sources [^\n<]* old$", "", text, flags=re.M)
+    return re.sub(r"; sources [^\n<]*$", "", text, flags=re.M)
 
 
 def run_whole(*words: str, folder: Optional[str] = None) -> "subprocess.CompletedProcess[str]":

@@ -8,7 +8,7 @@ from typing import Any
 
 from auditing import HEAD, Row
 from shapes import cable_between
-from situations import CABLES, DC, SIDES, SW1, TYPED, situation
+from situations import CABLES, SIDES, SW1, TYPED, situation
 
 TWO = HEAD + "leaf1,swp7,host07,eth0\nleaf1,swp8,host08,eth0\n"
 ONE_LIST = {"leaf1": "swp7\nswp8 host08 eth0\nswp17 host07 eth0"}
@@ -63,11 +63,11 @@ BREAKOUTS = (
     situation("the port beside a breakout is not a lane of it",
               OF_1 + "a,Ethernet1/2,c,1,aoc,connected\n",
               {"a": "Ethernet1/1/1 b 1\nEthernet1/2 c 1"}, 1, [
-                  "Ethernet1/1:?1  silent: wants b 2", "3 cables: 2 right, 1 wrong"], "--all"),
+                  "Ethernet1/1:?1  silent: wants b 2", "3 cables: 2 right, 1 wrong"]),
     situation("a lane's cable in the port beside it", OF_1,
               {"a": "Ethernet1/1/1 b 1\nEthernet1/3 b 2"}, 1, [
                   "Ethernet1/1:?1  moved: b 2 is at Ethernet1/3, wants Ethernet1/1:?1",
-                  "2 cables: 1 right, 1 wrong"], "--all"),
+                  "2 cables: 1 right, 1 wrong"]),
     situation("and seen from its side", OF_1, {"b": "1 a Ethernet1/1/1\n2 a Ethernet1/3"}, 1, [
         "2  wrong: wants a Ethernet1/1:?1, has a Ethernet1/3", "2 cables: 1 right, 1 wrong"]),
     situation("a planned port is not a lane", OF_1 + "a,Ethernet1/1/2,c,1,aoc,connected\n",
@@ -81,24 +81,24 @@ BREAKOUTS = (
     situation("EOS' lanes, the first of which has the name of the whole port",
               CABLES + 'a,Ethernet49/1,b,"1,2,3,4",aoc,connected\n',
               {"a": "".join(f"Ethernet49/{at} b {at}\n" for at in range(1, 5))}, 0,
-              ["4 cables: 4 right, 0 wrong"], "--all"),
+              ["4 cables: 4 right, 0 wrong"]),
     *[situation(f"lanes of another speed of {whole}", CABLES + f'a,{whole},b,"1,2",aoc,connected\n',
                 {"a": f"{lane.format(0)} b 1\n{lane.format(1)} b 2"}, 0,
-                ["2 cables: 2 right, 0 wrong"], "--all")
+                ["2 cables: 2 right, 0 wrong"])
       for whole, lane in (("et-0/0/48", "xe-0/0/48:{}"),
                           ("HundredGigE0/0/0/1", "TenGigE0/0/0/1/{}"),
                           ("100GE1/0/1", "25GE1/0/1:1{}"),
                           ("FortyGigE1/0/1", "Ten-GigabitEthernet1/0/1:1{}"))],
     situation("lanes of SONiC, by their sums", CABLES + 'a,Ethernet4,b,"1,2",aoc,connected\n',
-              {"a": "Ethernet4 b 1\nEthernet6 b 2"}, 0, ["2 cables: 2 right, 0 wrong"], "--all"),
+              {"a": "Ethernet4 b 1\nEthernet6 b 2"}, 0, ["2 cables: 2 right, 0 wrong"]),
     *[situation(f"it is unknown whether {port} is a lane of {whole}",
                 CABLES + f'a,{whole},b,"1,2",aoc,connected\n', {"a": f"{first} b 1\n{port} b 2"},
                 status, [f"plan: {links}", *lines])
       for whole, first, port, status, links, lines in (
-          ("foo7", "foo7.1", "foo7.2", 0, "2 links of breakout cables cannot be judged, since it "
+          ("foo7", "foo7.1", "foo7.2", 3, "2 links of breakout cables cannot be judged, since it "
            "is unknown how the lanes are named: a foo7 with b 1, a foo7 with b 2",
            ["2 cables: 0 right, 0 wrong, 2 not judged"]),
-          ("swp1", "swp1s0", "swp1_1", 0, "1 link of breakout cables cannot be judged, since it is "
+          ("swp1", "swp1s0", "swp1_1", 3, "1 link of breakout cables cannot be judged, since it is "
            "unknown how the lanes are named: a swp1 with b 2",
            ["2 cables: 1 right, 0 wrong, 1 not judged"]))],
     situation("two ends hear the same lane", OF_1,
@@ -119,8 +119,6 @@ BREAKOUTS = (
               ["plan: line 2: a 1 has more than 16 lanes"]),
 )
 CISCO = {"a": "1 sw1.lab p1 001c.7341.2b3c -\n2 sw1.lab p2 001c.7341.2b3d -"}
-ONE_DEVICE = "doubled: one device is heard for sw1.dc1 (at a 1) and sw1.dc2 (at a 2)"
-BOTH_WRONG = "2 cables: 0 right, 2 wrong"
 DOMAINS = (
     situation("a chassis ID of Cisco's has no domain", SW1, CISCO, 0, [
         "sw1 is heard with 2 chassis IDs (001c.7341.2b3c at a 1 and 001c.7341.2b3d at a 2): two "
@@ -133,18 +131,6 @@ DOMAINS = (
               {"a": "1 001c.9999.9999 1"}, 1, [
                   "1  wrong: wants 001c.7341.2b3c 1, has 001c.9999.9999 1",
                   "1 cable: 0 right, 1 wrong"], "--short-names"),
-    situation("one device for hosts of two domains", DC, {"a": "1 sw1 p1\n2 sw1 p1"}, 1,
-              [f"sw1  {ONE_DEVICE}", BOTH_WRONG], "--short-names"),
-    situation("that one has two spellings of its chassis ID", DC,
-              {"a": "1 sw1 p1 02:00:00:00:00:01 -\n2 sw1 p1 0200.0000.0001 -"}, 1,
-              [f"sw1  {ONE_DEVICE}", BOTH_WRONG], "--short-names"),
-    situation("that one is heard with a chassis ID and without", DC,
-              {"a": "1 sw1 p1 02:00:00:00:00:01 -", "a2": "2 sw1 p1"}, 1,
-              ["sw1  doubled: one device is heard for sw1.dc1 (at a 1) and sw1.dc2 (at a2 2)",
-               BOTH_WRONG], "--short-names", {"plan": DC.replace("a,2", "a2,2")}),
-    situation("two devices for hosts of two domains", DC,
-              {"a": "1 sw1 p1 02:00:00:00:00:01 -\n2 sw1 p1 02:00:00:00:00:02 -"}, 0,
-              ["2 cables: 2 right, 0 wrong"], "--short-names"),
 )
 SPELLINGS = ("02:00:00:00:00:B2", "02:00:00:00:00:b2", "0200.0000.00b2", "02-00-00-00-00-B2",
              "0x0200000000b2", "02 00 00 00 00 b2", "")
@@ -184,7 +170,7 @@ def page(ids: range, count: int, following: Any = None) -> Any:
 
 def of_the_api(name: str, tree: Any, status: int, lines: Any) -> Row:
     seen = json.dumps({str(at): [{"hostname": "b", "port": str(at)}] for at in range(3)})
-    return Row(name, {"plan": json.dumps(tree), "a": seen}, "--all plan a", status, lines)
+    return Row(name, {"plan": json.dumps(tree), "a": seen}, "plan a", status, lines)
 
 
 def old_list(path: Path) -> None:
@@ -197,10 +183,9 @@ def old_list(path: Path) -> None:
 GET_ALL = "ask NetBox with ?limit=0, or put all pages into one list"
 SENDS_NONE = {"known": "host,port,reason,until\nsrv1,,sends no LLDP,\n"}
 ALL_MEANS_ALL = (
-    situation("ends that cannot be paired", UNPAIRED, {"a": "1 b 1\n7 b 8"}, 0,
-              [NOT_PAIRED, NOT_JUDGED]),
-    situation("ends that cannot be paired, with --all", UNPAIRED, {"a": "1 b 1"}, 1,
-              [NOT_PAIRED, NOT_JUDGED], "--all"),
+    situation("ends that cannot be paired, in an audit of a part", UNPAIRED,
+              {"a": "1 b 1\n7 b 8"}, 0, [NOT_PAIRED, NOT_JUDGED], "--partial"),
+    situation("ends that cannot be paired", UNPAIRED, {"a": "1 b 1"}, 3, [NOT_PAIRED, NOT_JUDGED]),
     of_the_api("a whole answer", page(range(3), 3), 0, ["3 cables: 3 right, 0 wrong"]),
     of_the_api("all pages of an answer", [page(range(2), 3, "x"), page(range(2, 3), 3)], 0,
                ["3 cables: 3 right, 0 wrong"]),
@@ -242,13 +227,13 @@ ALL_MEANS_ALL = (
                   "3 cables: 0 right, 2 wrong, 1 not looked at (nas3, srv9)"]),
     Row("an old list is not excused by a known server", {
         "plan": HEAD + "leaf1,swp1,srv1,e0\n", "leaf1": old_list, **SENDS_NONE},
-        "--stale-after 1d --known known plan leaf1", 1, [
+        "--stale-after file:1d --known known plan leaf1", 3, [
             "swp1  no data: wants srv1 e0 (leaf1: it is 2 days old)",
             "1 cable: 0 right, 0 wrong, 1 not looked at (srv1)"]),
     situation("silence at the same end is", HEAD + "leaf1,swp1,srv1,e0\n", {"leaf1": ""}, 0,
               ["1 cable: 0 right, 0 wrong, 1 known"], "--known known", SENDS_NONE),
     situation("a list of another host that cannot be read is not", HEAD + "leaf1,swp1,srv1,e0\n",
-              {"leaf1": "{"}, 1, [
+              {"leaf1": "{"}, 3, [
                   "lists/leaf1: it begins like JSON, but is not valid JSON",
                   "swp1  no data: wants srv1 e0 (lists/leaf1: it begins like JSON, but is not "
                   "valid JSON)", "1 cable: 0 right, 0 wrong, 1 not looked at (srv1)"],

@@ -97,16 +97,16 @@ DATA = "<rpc-reply><data>{}</data></rpc-reply>"
 IN_DATA = DATA.format(vendors.junos_xml(RIGHT).partition("\n")[2].replace(
     "</rpc-reply>\n", "").replace("junos:", ""))
 PARTS = (
-    Row("what NETCONF returns, which has an element named data", {"l": IN_DATA}, "leaf1:l", 0, [
+    Row("what NETCONF returns, which has an element named data", {"l": IN_DATA}, "leaf1:l", 3, [
         "3 cables: 2 right, 0 wrong, 1 not looked at (host04, leaf2.lab)"]),
     Row("one that has no neighbors", {"l": DATA.format("<x/>"), "leaf2.lab": LEAF2},
-        "leaf1:l leaf2.lab", 1, [
+        "leaf1:l leaf2.lab", 3, [
             f"l: {NO_LIST}", f"leaf1  no data at 2 of 2 ports (l: {NO_LIST})",
             "3 cables: 1 right, 0 wrong, 2 not looked at (host01, host02)"]),
-    *(Row(point, {"l": tree}, "leaf1:l", 1, [
+    *(Row(point, {"l": tree}, "leaf1:l", 3, [
         f"l: {cause}", f"leaf1  no data at 2 of 2 ports (l: {cause})", NOT_LOOKED_AT])
       for point, tree, cause in REFUSED),
-    *(Row(point, {"l": {"leaf1": LEAF1, "leaf2.lab": tree}}, "l", 1, [
+    *(Row(point, {"l": {"leaf1": LEAF1, "leaf2.lab": tree}}, "l", 3, [
         f"l: leaf2.lab: {cause}",
         f"leaf2.lab swp1  no data: wants host04 eth0 (l: leaf2.lab: {cause})",
         "3 cables: 2 right, 0 wrong, 1 not looked at (host04)"]) for point, tree, cause in FAILED),
@@ -122,12 +122,12 @@ PARTS = (
     Row("12: a list of words", {"lists/leaf1.json": LEAF1, "lists/leaf2.lab.json": LEAF2},
         "lists/leaf1.json lists/leaf2.lab.json", 0, ALL_RIGHT),
     Row("12: a file of no planned host", {"lists/leaf1.json": LEAF1, "lists/x.json": {}},
-        "lists/leaf1.json lists/x.json", 0,
+        "lists/leaf1.json lists/x.json", 3,
         ["plan.csv has no cable of the host x that can be judged: if the file is of another host, "
          "write HOST:FILE, such as leaf1:lists/x.json",
          "3 cables: 2 right, 0 wrong, 1 not looked at (host04, leaf2.lab)"]),
     *(Row(f"a file that tells nothing: {why}", {"l": text, "leaf2.lab": LEAF2}, "leaf1:l leaf2.lab",
-          1, [*(f"plan.csv has no cable of the host {one} that can be judged" for one in unplanned),
+          3, [*(f"plan.csv has no cable of the host {one} that can be judged" for one in unplanned),
               f"leaf1  no data at 2 of 2 ports (l: {why})",
               "3 cables: 1 right, 0 wrong, 2 not looked at (host01, host02)"])
       for text, unplanned, why in (
@@ -135,18 +135,18 @@ PARTS = (
           (rack.section() + rack.block(1, b"\x71" + bytes(7)), (), "it has no Ethernet interface"),
           ({"leafX": {"swp1": []}}, ("leafX",), "it has lists of other hosts only"),
           ({"swp1": {}, "swp2": {}}, ("swp1", "swp2"), "it has lists of other hosts only"))),
-    Row("two lists in one file", {"l": [vendors.eos(RIGHT), vendors.eos(OF_LEAF2)]}, "leaf1:l", 1, [
+    Row("two lists in one file", {"l": [vendors.eos(RIGHT), vendors.eos(OF_LEAF2)]}, "leaf1:l", 3, [
         "l: it has 2 lists of neighbors, as entries 1 and 2: give only one",
         "leaf1  no data at 2 of 2 ports (l: it has 2 lists of neighbors, as entries 1 and 2: give "
         "only one)", NOT_LOOKED_AT]),
     *(Row(f"gnmic of {source} in a file of leaf1", {"l": [{"source": source, "updates": [
-        {"Path": "a", "values": {"a": vendors.openconfig(RIGHT)}}]}]}, "leaf1:l", 1, [
+        {"Path": "a", "values": {"a": vendors.openconfig(RIGHT)}}]}]}, "leaf1:l", 3, [
             f"l: it is of {name}, not of leaf1",
             f"leaf1  no data at 2 of 2 ports (l: it is of {name}, not of leaf1)", NOT_LOOKED_AT])
       for source, name in (("leaf2:57400", "leaf2"), ("leaf2.lab", "leaf2.lab"),
                            ("LEAF2.other:9339", "LEAF2.other"))),
     *(Row(f"gnmic of {source} in a file of leaf1", {"l": [{"source": source, "updates": [
-        {"Path": "a", "values": {"a": vendors.openconfig(RIGHT)}}]}]}, "leaf1:l", 0, [
+        {"Path": "a", "values": {"a": vendors.openconfig(RIGHT)}}]}]}, "leaf1:l", 3, [
             "3 cables: 2 right, 0 wrong, 1 not looked at (host04, leaf2.lab)"])
       for source in ("leaf1:57400", "leaf1.lab", "192.0.2.1:57400", "[2001:db8::1]:57400", "sw1")),
     *(Row(f"a file that is named {name}", {name: LEAF1}, name, 2, [
@@ -155,7 +155,7 @@ PARTS = (
     Row("gnmic of the host with this name in another domain", {
         "plan.csv": f"{HEAD}sw.a,swp1,host01,eth0\nsw.b,swp1,host02,eth0\n",
         "l": [{"source": "sw.b:57400", "updates": [{"Path": "a", "values": {
-            "a": vendors.openconfig({"swp1": [("host01", "eth0")]})}}]}]}, "sw.a:l", 1, [
+            "a": vendors.openconfig({"swp1": [("host01", "eth0")]})}}]}]}, "sw.a:l", 3, [
                 "l: it is of sw.b, not of sw.a",
                 "swp1  no data: wants host01 eth0 (l: it is of sw.b, not of sw.a)",
                 "2 cables: 0 right, 0 wrong, 2 not looked at (host01, host02, sw.b)"]),
@@ -163,7 +163,7 @@ PARTS = (
         {"source": f"{host}:57400", "updates": [{
             "Path": "a", "values": {"a": vendors.openconfig(ports)}}]}
         for host, ports in (("leaf1", RIGHT), ("leaf2.lab", OF_LEAF2))]}, "l", 0, ALL_RIGHT),
-    Row("a walk that stopped", {"l": vendors.walk(RIGHT).rpartition("iso.")[0]}, "leaf1:l", 1, [
+    Row("a walk that stopped", {"l": vendors.walk(RIGHT).rpartition("iso.")[0]}, "leaf1:l", 3, [
         STOPPED, f"swp2  no data: wants host02 eth0 ({STOPPED})",
         "3 cables: 1 right, 0 wrong, 2 not looked at (host02, host04, leaf2.lab)"]),
     Row("rows with a column for the host", {"l": [
@@ -187,7 +187,7 @@ PARTS = (
         "seen/fifo": os.mkfifo, "seen/gone.json": lambda path: path.symlink_to("nowhere"),
         "seen/leaf1.json~": "{", "seen/leaf1/list": LEAF1,
         "seen/self": lambda path: path.symlink_to("self"),
-        "seen/leaf1/latest": lambda path: path.symlink_to("..")}, "seen", 0, [
+        "seen/leaf1/latest": lambda path: path.symlink_to("..")}, "seen", 3, [
             "seen/fifo: it is not a file, and is skipped",
             "seen/gone.json: it is a link that leads nowhere, and is skipped",
             "seen/leaf1/latest: it is a link to a folder, and is skipped",
@@ -195,7 +195,7 @@ PARTS = (
             "seen/self: it is a link that leads nowhere, and is skipped",
             "3 cables: 2 right, 0 wrong, 1 not looked at (host04, leaf2.lab)"]),
     Row("12: one of two files of a host is damaged", {
-        "a": vendors.napalm({"swp1": RIGHT["swp1"]}), "b": "{"}, "leaf1:a leaf1:b", 1, [
+        "a": vendors.napalm({"swp1": RIGHT["swp1"]}), "b": "{"}, "leaf1:a leaf1:b", 3, [
             "b: it begins like JSON, but is not valid JSON",
             "swp2  no data: wants host02 eth0 (b: it begins like JSON, but is not valid JSON)",
             "3 cables: 1 right, 0 wrong, 2 not looked at (host02, host04, leaf2.lab)"]),

@@ -16,7 +16,7 @@ EMPTY = "lldp.{0}.neighbors=0\nlldp.{0}.octets=0\nlldp.{0}.too-many=no\n"
 FIELDS = ("remote_system_name", "remote_port", "remote_chassis_id")
 STRANGER = End("stranger", "p1")
 OPTIONS = ("--ignore-case", "--short-names", "--vendor-names", "--aliases aliases",
-           "--planned-only", "--all", "--known known")
+           "--planned-only", "--partial", "--known known")
 
 
 class Box(NamedTuple):

@@ -61,7 +61,7 @@ def measured(words: Sequence[str]) -> Ran:
             text=True, errors="replace").stdout
         seconds, kilobytes, status = told.read().split()
     used, megabytes = float(seconds) * 2 / (before + slowness()), int(kilobytes) >> 10
-    faults = [f"status {status}"] if status not in ("0", "1", "2") else []
+    faults = [f"status {status}"] if status not in ("0", "1", "2", "3") else []
     faults += [f"{used:.0f} s"] if used > SECONDS else []
     faults += [f"{megabytes} MB"] if megabytes > MEGABYTES else []
     faults += ["a traceback"] if "Traceback" in output else []

@@ -41,14 +41,14 @@ RED = "8 cables: 4 right, 0 wrong, 4 not looked at (leaf2, srv1, srv2, 2 more)"
 
 BY_LINK = (
     situation("servers without lists are no gap", HEAD + RACK, {"leaf1": LEAF1, "leaf2": LEAF2}, 0,
-              ["8 cables: 8 right, 0 wrong"], "--all"),
-    situation("a switch without a list, not red", HEAD + RACK, {"leaf1": LEAF1}, 0, [RED]),
-    situation("a switch without a list, red", HEAD + RACK, {"leaf1": LEAF1}, 1, [RED], "--all"),
-    situation("the servers are known, and a switch has no list", HEAD + RACK, {"leaf1": LEAF1}, 1,
-              [RED], "--all --known known",
+              ["8 cables: 8 right, 0 wrong"]),
+    situation("a switch without a list", HEAD + RACK, {"leaf1": LEAF1}, 3, [RED]),
+    situation("one in an audit of a part", HEAD + RACK, {"leaf1": LEAF1}, 0, [RED], "--partial"),
+    situation("the servers are known, and a switch has no list", HEAD + RACK, {"leaf1": LEAF1}, 3,
+              [RED], "--known known",
               {"known": KNOWN + "".join(f"srv{at},,sends no LLDP,\n" for at in range(1, 5))}),
     situation("both sides of what nobody looked at are known", HEAD + RACK, {"leaf1": LEAF1}, 0,
-              ["8 cables: 4 right, 0 wrong, 4 known"], "--all --known known",
+              ["8 cables: 4 right, 0 wrong, 4 known"], "--known known",
               {"known": KNOWN + "leaf2,,off,\n" + "".join(f"srv{at},eth1,off,\n"
                                                           for at in range(1, 5))}),
 )
@@ -81,7 +81,7 @@ PANELED = HEAD + "".join(f"leaf1,swp{at},pp1,F{at}\npp1,R{at},pp2,R{at}\npp2,F{a
 TRUNK = HEAD + "pp1,R1,pp2,R1\nleaf1,swp5,pp1,F5\npp2,F1,srv1,e0\nleaf1,swp6,srv6,e0\n"
 PAIR_ROWS = [f"pp{panel},F{at},R{at},\n" for panel in (1, 2) for at in range(1, 5)]
 PANELS = (
-    situation("half of the rows are missing", PANELED, {"leaf1": "swp1 srv1 e0\nswp2 srv2 e0"}, 0, [
+    situation("half of the rows are missing", PANELED, {"leaf1": "swp1 srv1 e0\nswp2 srv2 e0"}, 3, [
         "leaf1 swp3 cannot be judged: panels has no row for pp1 F3",
         "srv3 e0 cannot be judged: panels has no row for pp2 F3",
         "leaf1 swp4 cannot be judged: panels has no row for pp1 F4",
@@ -89,29 +89,29 @@ PANELS = (
         "4 cables: 2 right, 0 wrong, 2 not judged"], "--panels panels",
         {"panels": PAIRS + "".join(PAIR_ROWS[:2] + PAIR_ROWS[4:6])}),
     situation("and all are needed", PANELED,
-              {"leaf1": "swp1 srv1 e0\nswp2 srv2 e0\nswp3 srv3 e0"}, 1, [
+              {"leaf1": "swp1 srv1 e0\nswp2 srv2 e0\nswp3 srv3 e0"}, 3, [
                   "leaf1 swp4 cannot be judged: panels has no row for pp1 F4",
                "srv4 e0 cannot be judged: panels has no row for pp1 R4",
-               "4 cables: 3 right, 0 wrong, 1 not judged"], "--all --panels panels",
+               "4 cables: 3 right, 0 wrong, 1 not judged"], "--panels panels",
               {"panels": PAIRS + "".join(PAIR_ROWS[:3] + PAIR_ROWS[4:])}),
     situation("position 5 finds position 1 alone", TRUNK,
-              {"leaf1": "swp5 srv1 e0\nswp6 srv6 e0"}, 1, [
+              {"leaf1": "swp5 srv1 e0\nswp6 srv6 e0"}, 3, [
                   "leaf1 swp5 cannot be judged: panels has no position 5 at pp2 R1",
                "srv1 e0 cannot be judged: panels has no position 1 at pp1 R1",
-               "2 cables: 1 right, 0 wrong, 1 not judged"], "--all --panels panels",
+               "2 cables: 1 right, 0 wrong, 1 not judged"], "--panels panels",
               {"panels": PAIRS + "pp1,F5,R1,5\npp2,F1,R1,1\n"}),
     situation("no panels at all", TYPED + "leaf1,dcim.interface,swp1,pp1,dcim.frontport,F1\n"
               "leaf1,dcim.interface,swp2,srv2,dcim.interface,e0\n",
-              {"leaf1": "swp1 x y\nswp2 srv2 e0"}, 1, [
+              {"leaf1": "swp1 x y\nswp2 srv2 e0"}, 0, [
                   "plan: 1 cable ends at patch panels and cannot be judged: give --panels with "
                   "NetBox's export of front ports", "2 cables: 1 right, 0 wrong, 1 not judged"],
-              "--all"),
+              "--partial"),
 )
 BETWEEN_PANELS = situation(
     "a cable between panels is none of those that end at one", TYPED
     + "leaf1,dcim.interface,swp1,pp1,dcim.frontport,F1\npp1,dcim.rearport,R1,pp2,dcim.rearport,R1\n"
     + "leaf1,dcim.interface,swp2,srv2,dcim.interface,e0\n", {"leaf1": "swp1 x y\nswp2 srv2 e0"},
-    0, [
+    3, [
         "plan: 1 cable ends at patch panels and cannot be judged: give --panels with NetBox's "
         "export of front ports", "2 cables: 1 right, 0 wrong, 1 not judged"])
 CX = HEAD + "leaf1,swp5,cx1,1/1/5\nleaf1,swp6,cx1,1/1/6\n"
@@ -132,7 +132,7 @@ PORT_IDS = (
               [line.replace("1/1/", "") for line in MOVED]),
     situation("one that no plan names does not count", CX,
               {"leaf1": "swp5 cx1 17 c 1/1/5\nswp6 cx1 18 c 1/1/6"}, 0,
-              ["2 cables: 2 right, 0 wrong"]),
+              ["2 cables: 0 right, 2 right by description, 0 wrong"]),
 )
 SW1 = HEAD + "a,1,sw1,p1\na,2,sw1,p2\n"
 DC = HEAD + "a,1,sw1.dc1,p1\na,2,sw1.dc2,p1\n"
@@ -142,10 +142,10 @@ NAMES = [
         ("two domains answer by one planned name", SW1, "1 sw1.dc1 p1\n2 sw1.dc2 p2", 1,
          ["sw1  doubled: seen as sw1.dc1 at a 1, sw1.dc2 at a 2", "2 cables: 0 right, 2 wrong"]),
         ("one domain does", SW1, "1 sw1.dc1 p1\n2 sw1 p2", 0, ["2 cables: 2 right, 0 wrong"]),
-        ("domains are compared if both have one", DC, "1 sw1.dc2 p1\n2 sw1.dc1 p1", 1,
-         ["1  swapped with 2: wants sw1.dc1 p1, has sw1.dc2 p1", "2 cables: 0 right, 2 wrong"]),
-        ("and not if one has none", DC, "1 sw1 p1\n2 sw1.dc2 p1", 0,
-         ["2 cables: 2 right, 0 wrong"]),
+        ("a name without a domain would stand for two devices", DC, "1 sw1 p1\n2 sw1.dc2 p1", 2,
+         ["plan: line 3: sw1.dc2 would be one host with sw1.dc1 in line 2 with --short-names"]),
+        ("domains are not compared if one has none", DC.replace("sw1.dc2", "sw2.dc2"),
+         "1 sw1 p1\n2 sw2.dc2 p1", 0, ["2 cables: 2 right, 0 wrong"]),
         ("the domain is another one", HEAD + "a,1,sw1.dc1,p1\n", "1 sw1.dc9 p1", 1,
          ["1  wrong: wants sw1.dc1 p1, has sw1.dc9 p1 (only the domain differs)",
           "1 cable: 0 right, 1 wrong"]))]
@@ -187,7 +187,7 @@ NETBOX = (
     situation("cables that cannot be judged", CABLES + SIDES + (
         "a,2,,,cat6,connected\n,,b,2,cat6,connected\na,PSU1,pdu1,Outlet 3,,connected\n"
         "a,con 0,cs1,1,cat5,connected\na,5,b,5,cat6,Planned\na,6,b,6,cat6,decommissioning\n"
-        'a,7,b,"7,8,9",cat6,connected\n').replace("a,7,b", 'a,"7,8",b'), {"a": "1 b 1"}, 0, [
+        'a,7,b,"7,8,9",cat6,connected\n').replace("a,7,b", 'a,"7,8",b'), {"a": "1 b 1"}, 3, [
             "plan: 6 cables are left out: 2 with an end that is not a port of a device, 2 for "
             "power or consoles, 2 with the status planned or decommissioning",
             "plan: 1 cable cannot be judged, since the ends cannot be paired; the first ends are "
@@ -209,7 +209,7 @@ EXCHANGED = ["s1  exchanged with s2: each is seen at links planned for the other
 HOSTS = (
     situation("two servers in each other's place", FOUR_EACH, SEEN, 1, EXCHANGED),
     situation("seen by themselves too", FOUR_EACH, {**SEEN, **OWN}, 1, EXCHANGED),
-    situation("a list that cannot be read", FOUR_EACH, {**RIGHT, "leaf1": "{"}, 1, [
+    situation("a list that cannot be read", FOUR_EACH, {**RIGHT, "leaf1": "{"}, 3, [
         f"lists/leaf1: {NO_JSON}", f"leaf1  no data at 4 of 4 ports (lists/leaf1: {NO_JSON})",
         "8 cables: 8 right, 0 wrong"]),
     situation("a host that is down", FOUR_EACH, {"leaf1": "swp1 s1 e0\nswp2 s1 e2",
@@ -244,7 +244,7 @@ MORE = (
             "2 cables: 0 right, 2 wrong"]) for kind in ("ifname", "ifalias")],
     situation("a description beside a port that no plan names", HEAD + "leaf1,swp1,host01,eth0\n",
               {"leaf1": neighbor("swp1", "host01", "enp3s0", "eth0")}, 0,
-              ["1 cable: 1 right, 0 wrong"]),
+              ["1 cable: 0 right, 1 right by description, 0 wrong"]),
     situation("an alias of two members", BOND, {"leaf1": neighbor(
         "swp1", "host01", "bond0", aggregate=7) + neighbor("swp3", "host01", "bond0", aggregate=7)},
         1, ["swp2  no data: wants host01 eth1 (seen at swp3)",

@@ -16,6 +16,7 @@ class SlowJudge:
         self.wants = {one: other for pair in pairs for one, other in (pair, pair[::-1])}
         self.audited = audited
         self.known = known
+        self.counting: Dict[Seen, Sequence[str]] = {}
         self.ignore_case, self.short_names, self.vendor_names = rules
 
     def same_text(self, one: str, other: str) -> bool:
@@ -37,22 +38,45 @@ class SlowJudge:
     def is_one_of(self, hosts: Sequence[str], host: str) -> bool:
         return any(self.same_host(one, host) for one in hosts)
 
+    def hosts(self, neighbor: Seen) -> Sequence[str]:
+        """Returns the names of a neighbor's host that count: the first one that is planned, or
+        all."""
+        if neighbor not in self.counting:
+            planned = [name for name in neighbor.hosts
+                       if any(self.same_host(name, one.host) for one in self.wants)]
+            self.counting[neighbor] = planned[:1] or neighbor.hosts
+        return self.counting[neighbor]
+
     def heeded(self, neighbor: Seen) -> Sequence[str]:
         """Returns the names of a neighbor's port that count."""
         is_planned = any(self.same_port(neighbor.port_id, planned.port)
-                         and (neighbor.is_named or self.is_one_of(neighbor.hosts, planned.host))
+                         and (neighbor.is_named or self.is_one_of(self.hosts(neighbor),
+                                                                  planned.host))
                          for planned in self.wants)
         return (neighbor.port_id,) if is_planned else neighbor.ports
 
     def is_named(self, neighbor: Seen, end: End) -> bool:
-        return self.is_one_of(neighbor.hosts, end.host) and any(
+        return self.is_one_of(self.hosts(neighbor), end.host) and any(
             self.same_port(port, end.port) for port in self.heeded(neighbor))
+
+    def by(self, end: End) -> str:
+        """Returns by which weaker names an end hears the end that it wants, if it does."""
+        wanted, words = self.wants[end], []
+        for one in self.neighbors(end) or []:
+            if self.answers(one, wanted):
+                name = self.hosts(one)[0]
+                if name != one.hosts[0]:
+                    words.append("chassis ID" if name == one.chassis else "address")
+                if one.port_id and not self.same_port(one.port_id, wanted.port):
+                    words.append("description" if self.is_named(one, wanted) else "aggregate")
+                break
+        return " and ".join(words)
 
     def answers(self, neighbor: Seen, end: End) -> bool:
         is_any_member = (self.vendor_names and neighbor.aggregated
                          and "bond0" in self.heeded(neighbor))
         return self.is_named(neighbor, end) or (
-            is_any_member and self.is_one_of(neighbor.hosts, end.host))
+            is_any_member and self.is_one_of(self.hosts(neighbor), end.host))
 
     def neighbors(self, end: End) -> Optional[List[Seen]]:
         """Returns the neighbors of an end, or None if the end is not among the known ports."""
@@ -80,19 +104,14 @@ class SlowJudge:
                                          or self.answering(wanted, end) > 0)
 
     def is_of_several_domains(self, end: End) -> bool:
-        """Returns whether an end is right, but hosts of several domains have its peer's name, or
-        its neighbor's name is heard for planned hosts of several domains."""
+        """Returns whether an end is right, but hosts of several domains have its peer's name."""
         if not self.short_names or not self.is_right(end):
             return False
-        heard = [(self.wants[one].host, (self.neighbors(one) or [])[0].hosts[0])
+        heard = [(self.wants[one].host, self.hosts((self.neighbors(one) or [])[0])[0])
                  for one in self.wants if self.is_right(one)]
-        wanted, name = self.wants[end].host, (self.neighbors(end) or [])[0].hosts[0]
         domains = {parts(its.lower() if self.ignore_case else its)[1] for host, its in heard
-                   if self.same_host(host, wanted)}
-        hosts = [host for host, its in heard if self.same_text(its, name)
-                 and not self.same_host(host, wanted)
-                 and self.same_text(parts(host)[0], parts(wanted)[0])]
-        return len(domains - {""}) > 1 or hosts != []
+                   if self.same_host(host, self.wants[end].host)}
+        return len(domains - {""}) > 1
 
     def moved_to(self, end: End) -> Optional[End]:
         """Returns the unplanned port to which the cable of a silent end was moved, or None."""

@@ -1,11 +1,67 @@
-"""Tests that a hostile lldpa-live, or another program in its place, neither blocks an audit nor
-writes to its terminal: lldpa-ctl asks, and limits what an answer may be."""
+"""Tests audits that ask lldpa-live through lldpa-ctl. They need both as they are built.
+
+A hostile lldpa-live, or another program in its place, neither blocks an audit nor writes to its
+terminal: lldpa-ctl asks, and limits what an answer may be.
+"""
+import socket
+import subprocess
+import threading
 import time
 
-from auditing import HEAD, run
+import rack
+from auditing import HEAD, InAFolder, run
 from patience import by_the_clock
 from running_live import is_built
+from served import REPOSITORY, Served
 from support import AnsweringCase
+
+STARTS = "is lldpa-live running? (sudo systemctl start lldpa starts the service)"
+
+
+@is_built
+class Live(InAFolder):
+    def audit(self, *words: str) -> "tuple[int, str, str]":
+        ran = run(self.plan, "--host", "leaf1", *words)
+        return ran.returncode, ran.stdout, ran.stderr
+
+    def test_forms(self) -> None:
+        """Checks that the six ports give the same lines as captures do."""
+        with Served(rack.PORTS) as served:
+            for port in rack.PORTS:
+                for octets in rack.frames(port):
+                    served.frame(port, octets)
+            asked = [f"{REPOSITORY}/bin/lldpa-ctl", "--control", served.path, "--json", "neighbors"]
+            told = subprocess.run(asked, capture_output=True, text=True, check=True).stdout
+            for words in (f"leaf1:{self.file('ours.json', told)}", f"--live={served.path}"):
+                status, out, err = self.audit(words)
+                self.assertEqual((status, out.splitlines(), err), (1, rack.LINES, ""))
+
+    def test_wait(self) -> None:
+        self.plan = self.file("plan", f"{HEAD}leaf1,swp1,host01,eth0\n")
+        with Served(rack.PORTS) as served:
+            words = [f"--live={served.path}", "--planned-only", "--wait"]
+            begin = time.monotonic()
+            self.assertEqual(self.audit(*words, "1")[1],
+                             "swp1  silent: wants host01 eth0\n1 cable: 0 right, 1 wrong\n")
+            self.assertGreater(time.monotonic() - begin, 1)
+            heard = threading.Timer(1, served.frame, ["swp1", rack.lldp_frame("host01", "eth0")])
+            heard.start()
+            self.assertEqual(self.audit(*words, "50")[:2], (0, "1 cable: 1 right, 0 wrong\n"))
+            heard.join()
+
+    def test_nobody_answers(self) -> None:
+        none, left = f"{self.folder}/none", f"{self.folder}/left"
+        with socket.socket(socket.AF_UNIX) as ended:
+            ended.bind(left)
+        for word, said in ((f"--live={none}", f"nobody answers at {none}: {STARTS}\n"),
+                           (f"--live={left}", f"nobody answers at {left}: {STARTS}\n"),
+                           ("--live", "/run/lldpa/control: ")):
+            status, out, err = self.audit(word)
+            self.assertEqual((status, out), (2, ""), word)
+            self.assertIn(f"lldpa-audit: {said}" if "nobody" in said else said, err)
+        ran = run("--write-plan", f"{self.folder}/x", f"--live={none}")
+        self.assertEqual(ran.returncode, 2)
+        self.assertIn("nobody answers at ", ran.stderr)
 
 
 @is_built

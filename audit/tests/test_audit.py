@@ -6,7 +6,7 @@ import unittest
 from typing import List, Sequence
 
 from lldpa_audit.comparing import audit
-from lldpa_audit.judging import Finding, Verdict
+from lldpa_audit.judging import HEARD, Finding, Verdict
 from lldpa_audit.names import NAMELESS, End, Names, Seen
 from lldpa_audit.plan import Link, Plan, PlanFault
 from lldpa_audit.seen.tables import Tables
@@ -76,8 +76,9 @@ class Case:
 
     def with_port_id(self, seen: Seen) -> Seen:
         """Sets `is_named` at random. If set, the Port ID is the first port, else the last one."""
-        is_named = self.rng.random() < 0.5
-        return seen._replace(port_id=seen.ports[0 if is_named else -1], is_named=is_named)
+        is_named, chassis = self.rng.random() < 0.5, self.rng.choice(seen.hosts)
+        return seen._replace(port_id=seen.ports[0 if is_named else -1], is_named=is_named,
+                             chassis=chassis if self.rng.random() < 0.5 else "")
 
     def findings(self) -> Sequence[Finding]:
         plan = Plan("plan", [Link(one, other, None) for one, other in self.pairs], self.names)
@@ -119,6 +120,7 @@ class RandomPlans(unittest.TestCase):
             self.assertEqual([finding.verdict.value], verdicts[end], end)
             self.assertEqual(finding.expected, judge.wants[end])
             self.assertEqual(len(finding.has), len(judge.neighbors(end) or []))
+            self.assertEqual(finding.by, judge.by(end) if finding.verdict in HEARD else "")
             if finding.verdict is Verdict.SWAPPED:
                 self.assertEqual(finding.partner, judge.partners(end)[0])
             self.assertEqual(finding.moved_to, judge.moved_to(end) or (

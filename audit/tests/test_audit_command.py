@@ -2,15 +2,17 @@
 import gzip
 import json
 import os
-import socket
+import re
 import subprocess
 import sys
 import threading
 import time
+import unittest
 from pathlib import Path
 from unittest import mock
 
 import rack
+import vendors
 from auditing import (AUDIT, HEAD, WITH_AGENT, InAFolder, neighbor, run, run_whole,
                       without_ages)
 from lldpa_audit.names import End, Names
@@ -18,10 +20,10 @@ from lldpa_audit.plan import Link, Plan
 from lldpa_audit.seen.gather import Gathering
 from lldpa_audit.seen.tables import Tables
 from lldpa_audit.what import What, placed
-from served import REPOSITORY, Served
+from patience import HANGS
+from served import REPOSITORY
 
 RIGHT = "1 cable: 1 right, 0 wrong\n"
-STARTS = "is lldpa-live running? (sudo systemctl start lldpa starts the service)"
 
 
 class Audits(InAFolder):
@@ -51,17 +53,9 @@ class Forms(Audits):
         captures = [f"{port}={self.file(port, rack.pcap(rack.frames(port)))}"
                     for port in rack.PORTS]
         whole = self.file("whole", rack.pcapng({port: rack.frames(port) for port in rack.PORTS}))
-        with Served(rack.PORTS) as served:
-            for port in rack.PORTS:
-                for octets in rack.frames(port):
-                    served.frame(port, octets)
-            asked = [f"{REPOSITORY}/bin/lldpa-ctl", "--control", served.path, "--json", "neighbors"]
-            told = subprocess.run(asked, capture_output=True, text=True, check=True).stdout
-            ours = f"leaf1:{self.file('ours.json', told)}"
-            for words in (captures, [whole], [show], [f"leaf1:{show}"], [ours],
-                          [f"--live={served.path}"]):
-                status, out, err = self.audit(*words)
-                self.assertEqual((status, out.splitlines(), err), (1, rack.LINES, ""))
+        for words in (captures, [whole], [show], [f"leaf1:{show}"]):
+            status, out, err = self.audit(*words)
+            self.assertEqual((status, out.splitlines(), err), (1, rack.LINES, ""))
 
     def test_wait(self) -> None:
         """Checks that an audit asks until the port hears somebody, twice a second at most, and that
@@ -74,16 +68,20 @@ class Forms(Audits):
             gathering.add_live("leaf1", "", plan, 0.9)
         self.assertLess(ask.call_count, 4)
         self.assertEqual(gathering.tables.times, [gathering.now])
-        with Served(rack.PORTS) as served:
-            words = [f"--live={served.path}", "--planned-only", "--wait"]
-            begin = time.monotonic()
-            self.assertEqual(self.audit(*words, "1")[1],
-                             "swp1  silent: wants host01 eth0\n1 cable: 0 right, 1 wrong\n")
-            self.assertGreater(time.monotonic() - begin, 1)
-            heard = threading.Timer(1, served.frame, ["swp1", rack.lldp_frame("host01", "eth0")])
-            heard.start()
-            self.assertEqual(self.audit(*words, "50")[:2], (0, RIGHT))
-            heard.join()
+
+    def test_lldpa_ctl_beside_the_program(self) -> None:
+        """Checks that --live finds the lldpa-ctl of a clone, which nobody has installed."""
+        for name in ("audit", "python"):
+            (self.folder / name).symlink_to(REPOSITORY / name)
+        program = self.file("bin/lldpa-audit", (REPOSITORY / "bin" / "lldpa-audit").read_text())
+        ctl = self.file("bin/lldpa-ctl", "#!/bin/sh\nprintf 'lldp.swp1.%s\\n' neighbors=0 octets=0 "
+                        "too-many=no\n")
+        os.chmod(ctl, 0o755)
+        ran = subprocess.run([sys.executable, "-I", program, "--host", "leaf1", "--live", self.plan],
+                             env={"PATH": "/usr/bin:/bin"}, capture_output=True, text=True,
+                             check=False)
+        self.assertEqual((ran.returncode, without_ages(ran.stdout), ran.stderr), (
+            1, "swp1  silent: wants host01 eth0\n1 cable: 0 right, 1 wrong\n", ""))
 
     def test_what_is_read_once(self) -> None:
         octets, show = rack.pcap([rack.lldp_frame("host01", "eth0")]), rack.text_of_show(["swp1"])
@@ -106,9 +104,7 @@ class Forms(Audits):
 
 class Words(Audits):
     def test_what_is_refused(self) -> None:
-        none, left = f"{self.folder}/none", f"{self.folder}/left"
-        with socket.socket(socket.AF_UNIX) as ended:
-            ended.bind(left)
+        none = f"{self.folder}/none"
         bad = self.file("bad", f"{HEAD}a,1,b\n")
         capture = self.capture("a")
         some_named = self.file("some", rack.pcapng({"swp1": rack.frames("swp1"), "": []}))
@@ -119,9 +115,6 @@ class Words(Audits):
                 (f"swp1={self.folder}", "Is a directory"),
                 ("--wait x swp1=a", "'x' is not a time such as 90, 15m, 12h or 1d"),
                 ("--columns from swp1=a", "'from' is not like host=NAME,port=NAME"),
-                (f"--live={none}", f"lldpa-audit: nobody answers at {none}: {STARTS}\n"),
-                (f"--live={left}", f"lldpa-audit: nobody answers at {left}: {STARTS}\n"),
-                ("--live", "/run/lldpa/control: "),
                 ("--live=", "the name of a file is missing"),
                 ("--liv", "unrecognized arguments: --liv"),
                 (capture[5:], "it does not name the port of its frames: write PORT="),
@@ -183,11 +176,11 @@ class Captures(Audits):
                 (rack.pcapng({"swp1": rack.frames("swp1")})[:-7], "", "it ends at octet ")):
             path = self.file("file", octets)
             status, out, err = self.audit(f"{port}{path}")
-            self.assertEqual(status, 1)
+            self.assertEqual(status, 3)
             self.assertIn(f"swp1  no data: wants host01 eth0 ({path}: {why}", out)
             self.assertIn(f"lldpa-audit: {path}: {why}", err)
         status, out, _ = self.audit(self.capture("a"), f"swp9={path}")
-        self.assertEqual((status, out), (1, RIGHT))
+        self.assertEqual((status, out), (3, RIGHT))
 
     def test_frames(self) -> None:
         own, peer = rack.lldp_frame("leaf1", "swp1"), rack.lldp_frame("host01", "eth0")
@@ -196,7 +189,7 @@ class Captures(Audits):
         for words, status, said in (
                 ([self.capture("a", own, peer, own, peer)], 0, RIGHT),
                 ([self.capture("b", own)], 1, "swp1  silent"),
-                ([self.capture("c", tagged)], 1, "swp1  no data: wants host01 eth0 ("),
+                ([self.capture("c", tagged)], 3, "swp1  no data: wants host01 eth0 ("),
                 ([self.capture("d", tagged, peer)], 0, RIGHT),
                 ([self.capture("e", start=rack.START + 121), first], 0, RIGHT),
                 ([self.capture("f", start=rack.START + 119), first], 1, "swp1  extra: host99 eth0"),
@@ -236,13 +229,53 @@ class Sources(Audits):
         many = self.file("many", json.dumps({"leaf2": {"swp1": [{"hostname": "host02",
                                                                  "port": "eth0"}]}}))
         show = self.file("leaf1", neighbor("swp1", "host01", "eth0"))
-        self.assertRegex(run_whole(self.plan, show, many).stdout, r"; sources \d+ seconds? old\n$")
+        self.assertTrue(run_whole(self.plan, show, many).stdout.endswith(
+            "; sources of unknown age\n"))
+        words = [self.plan, show, many, "--stale-after"]
+        self.assertRegex(run_whole(*words, "file:1d").stdout, r"; sources \d+ seconds? old\n$")
         for path, host in ((show, "leaf1"), (many, "leaf2")):
             os.utime(path, (time.time() - 400.5 * 86400,) * 2)
-            self.assertRegex(run_whole(self.plan, show, many).stdout, r"400 days old\n$")
-            status, out, _ = self.audit(show, many, "--stale-after", "1d")
-            self.assertEqual(status, 1)
-            self.assertRegex(out, rf"{host} swp1  no data: wants .*{path}: it is 400 days old\)")
-        self.assertEqual(self.audit(show, many, "--stale-after", "401d")[0], 0)
-        for word in ("1w", "", "-1", "d"):
+            ran = run_whole(*words, "file:1d")
+            self.assertEqual(ran.returncode, 3)
+            self.assertRegex(ran.stdout, r"400 days old\n$")
+            self.assertRegex(ran.stdout,
+                             rf"{host} swp1  no data: wants .*{path}: it is 400 days old\)")
+        self.assertEqual(run_whole(*words, "file:401d").returncode, 0)
+        for word in ("1w", "", "-1", "d", "file:", "file:x", "x:1d"):
             self.assertEqual(self.audit(show, f"--stale-after={word}")[0], 2, word)
+
+    def test_the_newest_and_the_oldest(self) -> None:
+        """Checks which of three sources is the newest, and which the oldest, in each form."""
+        plan = self.file("p", HEAD + "".join(f"h{at},swp1,x{at},e0\n" for at in range(4)))
+        ages = (3.5 * 86400, 10.5 * 3600, 4.5 * 86400)
+        for at, age in enumerate((*ages, None)):
+            heard = vendors.eos({"swp1": [(f"x{at}", "e0")]})
+            if age is not None:
+                one, = heard["lldpNeighbors"]["swp1"]["lldpNeighborInfo"]
+                one["lastContactTime"] = time.time() - age
+            self.file(f"lists/h{at}", json.dumps(heard))
+        metrics = self.folder / "metrics"
+        words = [plan, f"{self.folder}/lists", "--metrics", str(metrics)]
+        self.assertEqual(run_whole(*words).stdout, "4 cables: 4 right, 0 wrong; sources 10 hours "
+                                                   "to 4 days old, 1 of unknown age\n")
+        told = json.loads(run_whole(*words, "--json").stdout)["sources"]
+        found = {name: float(text) for name, text in re.findall(
+            'source_timestamp_seconds{source="(.*)"} (.*)', metrics.read_text())}
+        for name, age in (("newest", ages[1]), ("oldest", ages[2])):
+            self.assertAlmostEqual(told[name], age, delta=HANGS)
+            self.assertAlmostEqual(time.time() - found[name], age, delta=HANGS)
+        self.assertEqual(told["undated"], 1)
+
+
+class Worked(unittest.TestCase):
+    """The example of the page, by both of its plans."""
+
+    def test_each_plan(self) -> None:
+        folder = REPOSITORY / "audit" / "worked"
+        expected = (folder / "expected.txt").read_text()
+        captures = [f"swp{number}=swp{number}.pcap" for number in range(1, 9)]
+        for plan, lines in (("plan.csv", expected),
+                            ("plan.dot", re.sub(r" \[[^]]*\]$", "", expected, flags=re.M))):
+            ran = run_whole("--host", "leaf1", plan, *captures, folder=str(folder))
+            told = re.sub("sources .* old", "sources N days old", ran.stdout)
+            self.assertEqual((ran.returncode, told), (1, lines))

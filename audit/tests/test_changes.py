@@ -180,20 +180,21 @@ class Since(Planless):
             with self.subTest(before=before, now=now):
                 status, lines, said = self.since(before, now)
                 self.assertEqual((status, [re.sub("; sources .*", "", line) for line in lines],
-                                  said), (1 if changes else 0, [*changes, count], ""))
+                                  said), (1 if changes else 3 if "not compared" in count else 0,
+                                          [*changes, count], ""))
 
-    def test_all(self) -> None:
-        """Checks that with --all, links that cannot be compared are faults."""
+    def test_what_is_not_compared(self) -> None:
+        """Checks that links that cannot be compared need new lists, except in a part."""
         seen_by_both = {"a": "1 b 2", "b": "2 a 1"}
         for before, now, status in (({"a": "1 x e0"}, {"a": "1 x e0"}, 0),
                                     (seen_by_both, seen_by_both, 0),
-                                    (seen_by_both, {"a": "1 b 2"}, 1),
-                                    ({"a": "1 b 2"}, seen_by_both, 1),
-                                    ({"a": "1 x e0", "b": ""}, {"a": "1 x e0"}, 1),
-                                    ({"a": "1 x e0", "b": "1 y e0"}, {"a": "1 x e0"}, 1),
-                                    ({"a": "1 x e0"}, {"a": "1 x e0", "b": "1 y e0"}, 1)):
-            self.assertEqual(self.since(before, now, "--all")[0], status)
-            self.assertEqual(self.since(before, now)[0], 0)
+                                    (seen_by_both, {"a": "1 b 2"}, 3),
+                                    ({"a": "1 b 2"}, seen_by_both, 3),
+                                    ({"a": "1 x e0", "b": ""}, {"a": "1 x e0"}, 3),
+                                    ({"a": "1 x e0", "b": "1 y e0"}, {"a": "1 x e0"}, 3),
+                                    ({"a": "1 x e0"}, {"a": "1 x e0", "b": "1 y e0"}, 3)):
+            self.assertEqual(self.since(before, now)[0], status)
+            self.assertEqual(self.since(before, now, "--partial")[0], 0)
 
     def test_three_vendors(self) -> None:
         """Checks one exchanged cable, in lists of three vendors at both times."""
@@ -211,7 +212,8 @@ class Since(Planless):
     def test_json(self) -> None:
         end = {name: {"host": name, "port": port} for name, port in (("y", "e0"), ("z", "e0"))}
         status, lines, _ = self.since({"a": "1 x e0 c\n2 y e0 d", "b": "1 q 1"},
-                                      {"a": "1 w e0 c\n3 y e0 d\n4 z e0"}, "--json")
+                                      {"a": "1 w e0 c\n3 y e0 d\n4 z e0"}, "--json",
+                                      "--stale-after", "file:1h")
         told = json.loads("\n".join(lines))
         jsonschema.validate(told, SCHEMA)
         self.assertEqual((status, told["links"], told["hosts_not_compared"]),
@@ -240,12 +242,12 @@ class Since(Planless):
         are old."""
         status, lines, said = self.since({"a": "1 x e0", "b": "1 y e0"}, {"a": "{", "b": "1 y e0"})
         self.assertEqual((status, [line.partition("; sources")[0] for line in lines]),
-                         (1, ["1 link, 2 before: no change; 1 not compared (a)"]))
+                         (3, ["1 link, 2 before: no change; 1 not compared (a)"]))
         self.assertIn(f"{self.folder}/now/a: ", said)
         os.utime(self.folder / "then" / "b", (0, 0))
-        status, lines, _ = self.since({"a": "1 x e0"}, {"a": "1 x e0"}, "--stale-after", "1h")
-        self.assertEqual(status, 0)
+        self.assertEqual(self.since({"a": "1 x e0"}, {"a": "1 x e0"}, "--stale-after",
+                                    "file:1h")[0], 0)
         os.utime(self.folder / "now" / "a", (0, 0))
         ran = run("--since", str(self.folder / "then"), str(self.folder / "now"), "--stale-after",
-                  "1h")
+                  "file:1h")
         self.assertIn("1 not compared (a)", ran.stdout)

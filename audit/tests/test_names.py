@@ -99,11 +99,11 @@ class Differences(unittest.TestCase):
         self.assertFalse(names.answers(bond, End("c", "eth1")))
 
     def test_domains(self) -> None:
-        names = Names(short_names=True).with_domains_of(["sw1.dc1", "sw1.dc2", "a.x", "b"])
+        names = Names(short_names=True).with_domains_of(["sw1.dc1", "a.x", "b"])
         for name, hosts in (("sw1.dc1", ["sw1.dc1"]), ("sw1.dc9", []), ("a", ["a.x"]),
-                            ("b.y", ["b"]), ("sw1", ["sw1.dc1", "sw1.dc2"]), ("a.y", []),
+                            ("b.y", ["b"]), ("sw1", ["sw1.dc1"]), ("a.y", []),
                             ("a.x", ["a.x"])):
-            found = [host for host in ("sw1.dc1", "sw1.dc2", "a.x", "b")
+            found = [host for host in ("sw1.dc1", "a.x", "b")
                      if names.answers(Seen((name,), ("1",)), names.end(End(host, "1")))]
             self.assertEqual(found, hosts, name)
 

@@ -1,22 +1,15 @@
 """Tests the page of a report: its content, and its width in a browser if one is installed."""
 import html
 import json
-import os
-import pty
 import re
 import shutil
 import subprocess
-import sys
 import unittest
 from collections import Counter
-from typing import List, Tuple
-from xml.etree import ElementTree
 
 import rack
 import shapes
-from auditing import AUDIT, HEAD, InAFolder, run
-from lldpa_audit.progress import Progress
-from lldpa_audit.report.drawing import ENDS_OF_A_PICTURE
+from auditing import HEAD, InAFolder, run
 from lldpa_audit.report.page import page_of
 from lldpa_audit.report.report import Report
 from patience import HANGS
@@ -25,11 +18,11 @@ from test_report import report_of
 BROWSER = shutil.which("chromium") or shutil.which("chromium-browser")
 LONG = "a-long-name-of-a-host-as-some-have-them.rack17.row3.dc1.example.net"
 
-# a browser reports how wide the page and its window are, and the pictures' right edge and number
+# a browser reports how wide the page and its window are, and how many tables of faults there are
 ASKED = """<script>
-const widths = [...document.querySelectorAll('svg')].map(one => one.getBoundingClientRect().right);
 parent.document.documentElement.setAttribute('data-widths', JSON.stringify([
-  document.documentElement.scrollWidth, window.innerWidth, Math.max(...widths), widths.length]));
+  document.documentElement.scrollWidth, window.innerWidth,
+  document.querySelectorAll('table.faults').length]));
 </script>"""
 
 
@@ -41,9 +34,6 @@ def many_faults(ends: int, hosts: int = 20) -> Report:
                      "; ".join(f"leaf{at % hosts} swp{at} {known[at % 6].format(at, LONG)}"
                                for at in range(ends) if at % 6 < 5))
 
-
-TOP = os.path.dirname(os.path.dirname(AUDIT))
-PATH = os.pathsep.join(f"{TOP}/{name}" for name in ("audit", "python"))
 
 
 class Elements:
@@ -65,8 +55,8 @@ class Content(InAFolder):
         for text in ("line 5", "2 swapped, 1 silent, 1 wrong, 1 extra",
                      "Hosts that were not looked at: 2", *"  ".join(rack.LINES[:4]).split("  ")):
             self.assertIn(text, elements.texts)
-        self.assertEqual((elements.tags["svg"], elements.tags["script"]), (1, 0))
-        beside = re.findall(r"</(?:h[12]|p|svg|table|tr|div|section)>([^<]*)", page.read_text())
+        self.assertEqual(elements.tags["script"], 0)
+        beside = re.findall(r"</(?:h[12]|p|table|tr|div|section)>([^<]*)", page.read_text())
         self.assertEqual({text.strip() for text in beside}, {""})
         repairs = [f"#r{number}" for number in (1, 1, 2, 3, 4)]
         self.assertEqual(elements.addresses, ["#h0", *repairs])
@@ -84,70 +74,23 @@ class Content(InAFolder):
         self.assertEqual(ran.stdout.splitlines()[:-1], [f"leaf1 swp7  {text}"])
         self.assertEqual(len(re.findall('<tr id="r', page.read_text())), 1)
         self.assertIn(text, Elements(page.read_text()).texts)
-        picture = next(one for one in re.findall("<svg.*?</svg>", page.read_text(), re.S)
-                       if ">swp7<" in one)
-        lines = re.findall(r'<line class="(has|expected)"', picture)
-        self.assertEqual((lines[:2], ">swp17<" in picture), (["expected", "has"], True))
         found = json.loads(run(plan, *lists, "--json").stdout)
         self.assertEqual([one["text"] for one in found["repairs"]], [text])
         self.assertEqual([(one["port"], one["moved_to"]["port"], one["repair"])
                           for one in found["ends"] if one["verdict"] != "right"],
                          [("eth0", "swp17", 1), ("swp7", "swp17", 1)])
 
-    def test_many_neighbors(self) -> None:
-        """Checks that a picture shows three neighbors, and says how many more there are."""
-        page = "".join(page_of(report_of("a 1 - b 1", "a 1 = c 1, c 2, c 3, c 4, c 5")))
-        texts = Elements(page[page.index("<svg"):page.index("</svg>")] + "</svg>").texts
-        self.assertEqual([text for text in texts if text in ("c 3", "c 4", "2 more")],
-                         ["c 3", "2 more"])
-
     def test_names_that_would_be_markup(self) -> None:
-        page = "".join(page_of(report_of("<b>a 1& - \"' <", "<b>a 1& = <i>\udcff\x1b </svg>")))
+        page = "".join(page_of(report_of("<b>a 1& - \"' <", "<b>a 1& = <i>\udcff\x1b </table>")))
         elements = Elements(page)
         self.assertFalse({"i", "script"} & set(elements.tags))
-        self.assertIn("<i>\\xff\\x1b </svg>", elements.texts)
+        self.assertIn("wrong: wants \"' <, has <i>\\xff\\x1b </table>", elements.texts)
         self.assertNotIn("\x1b", page)
-
-    def test_pictures_are_whole_and_narrow(self) -> None:
-        page = "".join(page_of(many_faults(1000, 7)))
-        pictures = re.findall(r"<svg.*?</svg>", page)
-        self.assertEqual(len(pictures), 7 * -(-1000 // 7 // ENDS_OF_A_PICTURE))
-        for picture in pictures:
-            root = ElementTree.fromstring(picture)
-            width, height = int(root.get("width", "")), int(root.get("height", ""))
-            self.assertEqual((root.get("viewBox"), width), (f"0 0 {width} {height}", 360))
-            self.assertLess(height, 3000)
-            for one in root.iter("rect"):
-                right = int(one.get("x", "")) + int(one.get("width", ""))
-                bottom = int(one.get("y", "")) + int(one.get("height", ""))
-                self.assertTrue(right <= width and bottom <= height)
-            key = [one for one in root if one.tag == "line" or one.get("class") == "note"]
-            ends = [int(one.get("x2") or one.get("x", "")) for one in key[-2:]]
-            self.assertLess(*ends)  # in the legend, a line ends before its meaning
-
-    def test_names_are_whole(self) -> None:
-        """Checks that the lines of each box have the whole name, in letters that fit into it, and
-        that the port with its verdict is beside the middle of its neighbors."""
-        ports = [f"TwentyFiveGigE1/0/{at}" for at in (1, 2)]
-        page = "".join(page_of(report_of(f"leaf1 {ports[0]} - {LONG} eno12399np0",
-                                         f"leaf1 {ports[0]} = {LONG} eno12399np1")))
-        picture = ElementTree.fromstring(re.findall(r"<svg.*?</svg>", page)[0])
-        groups = [one for one in picture if one.tag == "g"]
-        boxes = [["".join(part for part in one.itertext()), float(one[0].get("width", "")) - 8,
-                  max(len(text.text or "") for text in one if text.tag == "text")]
-                 for one in groups]
-        self.assertEqual([text for text, _, _ in boxes],
-                         [ports[0], f"{LONG}eno12399np1", f"{LONG}eno12399np0"])
-        self.assertTrue(all(letters * 6.6 <= width for _, width, letters in boxes), boxes)
-        port, first, last = (int(one[0].get("y", "")) for one in groups)
-        end, = (int(one.get("y", "")) for one in picture if one.text == "wrong")
-        above, below = port - first, last + int(groups[2][0].get("height", "")) - end
-        self.assertLessEqual(abs(above - below), 1)
 
 
 @unittest.skipUnless(BROWSER, "chromium: it is not installed")
 class InABrowser(InAFolder):
-    """Checks that the page and its pictures are not wider than a wide or a narrow window."""
+    """Checks that the page is not wider than a wide or a narrow window."""
 
     def test_thousand_faults(self) -> None:
         page = "".join(page_of(many_faults(1000))).replace("</body>", f"{ASKED}</body>")
@@ -161,57 +104,6 @@ class InABrowser(InAFolder):
                 capture_output=True, text=True, timeout=HANGS, check=False)
             found = re.search(r'data-widths="([^"]*)"', ran.stdout)
             assert found is not None, ran.stderr
-            wide, window, picture, pictures = json.loads(found[1])
-            self.assertEqual(window, width)
+            wide, window, tables = json.loads(found[1])
+            self.assertEqual((window, tables), (width, 20))
             self.assertLessEqual(wide, window)
-            self.assertLessEqual(picture, window)
-            self.assertEqual(pictures, 20 * -(-50 // ENDS_OF_A_PICTURE))
-
-
-class Terminal(InAFolder):
-    """Progress is shown on a terminal, and nowhere else."""
-
-    def test_progress(self) -> None:
-        ours, theirs = pty.openpty()
-        self.addCleanup(os.close, ours)
-        self.addCleanup(os.close, theirs)
-        # each file takes 0.1 seconds of this clock
-        program = ("from lldpa_audit import progress; clock = [0.0]\n"
-                   "progress.time.monotonic = lambda: clock[0]\n"
-                   "p = progress.Progress('x')\n"
-                   "for n in p.over(range(24), 24, 'files'): clock[0] += 0.1\n"
-                   "p.clear()")
-        subprocess.run([sys.executable, "-c", program], stderr=theirs, timeout=HANGS, check=True,
-                       env={**os.environ, "PYTHONPATH": PATH})
-        self.assertEqual(os.read(ours, 10_000), b"\r\x1b[Kx: 21 of 24 files"
-                         b"\r\x1b[Kx: 23 of 24 files\r\x1b[K")
-
-    def test_no_terminal(self) -> None:
-        self.assertNotIn("\x1b", run(self.plan, "--host", "leaf1", "none").stderr)
-        progress = Progress("x", is_on=False)
-        self.assertEqual(list(progress.over("abc", 3, "letters")), ["a", "b", "c"])
-
-    def screen(self, *words: str) -> Tuple[List[str], str]:
-        """Runs the program at a terminal that shows progress at once. Returns the lines that the
-        terminal shows at the end, and what was written to it."""
-        ours, its = pty.openpty()
-        program = ("import sys; from lldpa_audit import progress; progress.PATIENCE = 0.0\n"
-                   "progress.BETWEEN = 0.0; from lldpa_audit.command import main; main(sys.argv[1:])")
-        with open(ours, "rb", buffering=0) as terminal, open(its, "wb", buffering=0) as output:
-            subprocess.run([sys.executable, "-c", program, *words], stdout=output, stderr=output,
-                           env={**os.environ, "PYTHONPATH": PATH}, check=False)
-            written = terminal.read(1 << 16).decode()
-        return [re.sub(".*\r\x1b\\[K", "", line) for line in written.split("\r\n")], written
-
-    def test_progress_leaves_nothing(self) -> None:
-        """Checks that the line of the progress is removed before any other line is written."""
-        leaf1, other = (self.file(name, shapes.napalm("swp1 host01 eth0\n"))
-                        for name in ("leaf1.json", "other.json"))
-        plan = self.file("plan", f"{HEAD}leaf1,swp1,host01,eth0\n")
-        for words, shows, count in (
-                ((plan, leaf1, other), ("1 of 2 lines of the plan", "2 of 2 files", "comparing"), 4),
-                (("--since", leaf1, leaf1), ("1 of 1 files",), 2)):
-            lines, written = self.screen(*words)
-            self.assertEqual([text for text in shows if f"lldpa-audit: {text}" not in written], [])
-            self.assertEqual([line for line in lines if any(text in line for text in shows)], [])
-            self.assertEqual(len(lines), count, lines)

@@ -5,12 +5,12 @@ import subprocess
 import sys
 import unittest
 from pathlib import Path
-from typing import Any
+from typing import Any, List, Sequence, Tuple
 from xml.etree import ElementTree
 
 import schema_rules
 import situations
-from auditing import AUDIT, InAFolder, hears_two, neighbor, run
+from auditing import AUDIT, HEAD, InAFolder, hears_two, neighbor, run
 from schemas import LACKS_IT, jsonschema
 
 SCHEMA = json.loads((Path(__file__).parents[1] / "lldpa-audit.schema.json").read_text())
@@ -53,8 +53,7 @@ class Outputs(InAFolder):
                          [("right", None, 2), ("wrong", 1, 3), ("silent", 2, 4),
                           ("extra", 3, 5)])
         self.assertEqual(told["ends"][1]["has"][0]["port_id"], "y")
-        self.assertEqual(list(told["sources"]), ["newest", "oldest"])
-        self.assertLess(told["sources"]["newest"], 600)
+        self.assertEqual(told["sources"], {"newest": None, "oldest": None, "undated": 1})
         for name in ("repairs", "form"):
             with self.assertRaises(jsonschema.ValidationError):
                 jsonschema.validate({key: value for key, value in told.items() if key != name},
@@ -66,8 +65,11 @@ class Outputs(InAFolder):
         panels = self.file("panels", "panel,front,rear\npp1,F1,R1\n")
         plan = self.file("paneled", PLAN + "pp1,R1,host09,eth0,C9,,\nleaf1,swp9,pp1,F1,C8,,\n"
                          "leaf2,swp1,host11,eth0,,,\n")
-        page = self.folder / "page.html"
-        words = [plan, *self.words[1:], "--panels", panels, "--json", "--html", str(page)]
+        page, show = self.folder / "page.html", self.folder / "show"
+        show.write_text(show.read_text().replace(neighbor("swp1", "host01", "eth0"), neighbor(
+            "swp1", "host01", "p1", "eth0")))
+        words = [plan, *self.words[1:], "--panels", panels, "--json", "--html", str(page),
+                 "--stale-after", "file:1h"]
         told = json.loads(run(*words).stdout)
         self.assertIn("through pp1 F1, pp1 R1</small>", page.read_text())
         jsonschema.validate(told, SCHEMA)
@@ -95,7 +97,7 @@ class Outputs(InAFolder):
                      'lldpa_audit_repairs{kind="silent"} 1', 'lldpa_audit_repairs{kind="loop"} 0'):
             self.assertIn(line + "\n", text)
         self.assertIn("lldpa_audit_run_timestamp_seconds ", text)
-        self.assertRegex(text, r'lldpa_audit_source_timestamp_seconds{source="oldest"} 1[0-9]{9}')
+        self.assertIn("lldpa_audit_undated_sources 1\n", text)
         if shutil.which("promtool"):
             done = subprocess.run(["promtool", "check", "metrics"], input=text, text=True,
                                   capture_output=True, check=False)
@@ -107,6 +109,9 @@ class Outputs(InAFolder):
         known = self.file("known.csv", rows + "leaf1,swp4,old,2020-01-01\n")
         junit = self.folder / "junit.xml"
         ran = run(*self.words, "--known", known, "--junit", str(junit))
+        self.assertEqual([(one.get("file"), one.get("line"))
+                          for one in ElementTree.parse(junit).getroot().iter("testcase")],
+                         [(self.plan, str(line)) for line in range(2, 6)])
         root = ElementTree.parse(junit).getroot()
         why = [one.get("message") for case in root.iter("testcase") for one in case]
         self.assertEqual(why, ["new card", "sends no LLDP",
@@ -125,13 +130,13 @@ class Outputs(InAFolder):
 
 
 class NotJudged(InAFolder):
-    """JUnit has one more case, which is skipped or fails, for the cables that are not judged."""
+    """JUnit has one more case, an error or skipped, for the cables that are not judged."""
 
     def test_counts(self) -> None:
         plan = self.file("plan", f"{situations.TYPED}a,dcim.interface,1,b,dcim.interface,1\n"
                                  "a,dcim.interface,2,pp1,dcim.frontport,F1\n")
         junit = self.folder / "junit.xml"
-        for words, kind in (([], "skipped"), (["--all"], "failure")):
+        for words, kind in ((["--partial"], "skipped"), ([], "error")):
             run(plan, "--host", "a", self.file("a.json", {"1": [{"hostname": "b", "port": "1"}]}),
                 "--junit", str(junit), *words)
             root = ElementTree.parse(junit).getroot()
@@ -139,8 +144,71 @@ class NotJudged(InAFolder):
                      for one in root.iter("testcase")]
             self.assertEqual(cases, [("a", []), ("not judged", [kind])])
             for suite in (root, root[0]):
-                self.assertEqual([suite.get(name) for name in ("tests", "failures", "skipped")],
-                                 ["2", *(["0", "1"] if kind == "skipped" else ["1", "0"])])
+                self.assertEqual([suite.get(name) for name in ("tests", "failures", "errors",
+                                                               "skipped")],
+                                 ["2", "0", *(["0", "1"] if kind == "skipped" else ["1", "0"])])
+
+
+class Reports(InAFolder):
+    """A JUnit report is written at every status, so that none of yesterday's stays."""
+
+    def setUp(self) -> None:
+        super().setUp()
+        self.junit = self.folder / "junit.xml"
+        self.plan = self.file("plan", f"{HEAD}leaf1,swp1,host01,eth0\n")
+        self.list = self.file("leaf1", neighbor("swp1", "host01", "eth0"))
+        self.assertEqual(self.reported(self.plan, self.list), (0, []))
+
+    def reported(self, *words: str) -> Tuple[int, List[Sequence[Any]]]:
+        """Returns the status of an audit that reports, and each case that is not right: its
+        element, file, line and message."""
+        ran = run(*words, "--junit", str(self.junit))
+        root = ElementTree.parse(self.junit).getroot()
+        cases = list(root.iter("testcase"))
+        for suite in (root, root[0]):
+            tags = [inner.tag for one in cases for inner in one]
+            self.assertEqual([suite.get(name) for name in ("tests", "failures", "errors")], [
+                f"{number}" for number in (len(cases), tags.count("failure"), tags.count("error"))])
+        return ran.returncode, [
+            (inner.tag, one.get("file"), one.get("line"), inner.get("message") or inner.text)
+            for one in cases for inner in one]
+
+    def test_faults(self) -> None:
+        bad = self.file("bad", f"{HEAD}leaf1,swp1,host01\n")
+        why = "its peer_port is missing"
+        self.assertEqual(self.reported(bad, self.list), (2, [
+            ("error", bad, "2", f"{bad}: line 2: {why}")]))
+        self.assertEqual(self.reported(self.plan, f"{self.folder}/none"), (2, [
+            ("error", f"{self.folder}/none", None,
+             f"{self.folder}/none: No such file or directory")]))
+        self.assertEqual(self.reported(self.plan, self.list, "--wait", "soon"), (2, [
+            ("error", "wrong arguments", None, "wrong arguments: argument --wait: 'soon' is not a "
+                                               "time such as 90, 15m, 12h or 1d")]))
+
+    def test_damaged_sources(self) -> None:
+        """Checks that a source that cannot be read is no success, even if no planned port is of
+        its host."""
+        other = self.file("other", "{")
+        why = f"{other}: it begins like JSON, but is not valid JSON"
+        self.assertEqual(self.reported(self.plan, self.list, other), (3, [
+            ("error", other, None, why)]))
+
+    def test_weaker_names(self) -> None:
+        other = self.file("leaf1", neighbor("swp1", "host01", "enp3s0", "eth0"))
+        self.assertEqual(self.reported(self.plan, other), (0, [
+            ("system-out", self.plan, "2", "right by description")]))
+        (end,), right_by = [json.loads(run(self.plan, other, "--json").stdout)[name]
+                            for name in ("ends", "right_by")]
+        self.assertEqual((end["by"], right_by), ("description", {"description": 1}))
+
+    def test_other_files_stay(self) -> None:
+        """Checks that an audit that failed replaces no other file: it may be the plan, if the file's
+        name was forgotten."""
+        before = Path(self.plan).read_text()
+        for words in (("--junit", self.plan), (f"--junit={self.plan}", "--none"),
+                      (self.plan, "none", "--junit", self.plan)):
+            self.assertEqual(run(*words).returncode, 2)
+            self.assertEqual(Path(self.plan).read_text(), before)
 
 
 class Moved(InAFolder):
@@ -172,18 +240,20 @@ class Moved(InAFolder):
 
 
 class NotLookedAt(InAFolder):
-    """What is not looked at is skipped in JUnit, or fails with --all. JSON and metrics count it."""
+    """What is not looked at is an error in JUnit, or skipped with --partial. JSON and metrics count
+    it."""
 
     def test_each_form(self) -> None:
         plan = self.file("plan", "host,port,peer,peer_port\na,1,b,1\nc,1,d,1\n")
         junit, metrics = self.folder / "junit.xml", self.folder / "metrics"
         words = [plan, self.file("a", neighbor("1", "b", "1")), "--junit", str(junit),
                  "--metrics", str(metrics), "--json"]
-        for more, status, failures, skipped in (([], 0, "0", "2"), (["--all"], 1, "2", "0")):
+        for more, status, errors, skipped in ((["--partial"], 0, "0", "2"), ([], 3, "2", "0")):
             ran = run(*words, *more)
             root = ElementTree.parse(junit).getroot()
             self.assertEqual((ran.returncode, root.get("tests"), root.get("failures"),
-                              root.get("skipped")), (status, "3", failures, skipped))
+                              root.get("errors"), root.get("skipped")),
+                             (status, "3", "0", errors, skipped))
             told = json.loads(ran.stdout)
             self.assertEqual(told["cables"], {"planned": 2, "right": 1, "wrong": 0, "known": 0,
                                               "not_looked_at": 1, "not_judged": 0})

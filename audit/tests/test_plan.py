@@ -156,8 +156,8 @@ class Texts(Plans):
         self.names = Names(True, True)
         self.assertEqual(self.fault(text), "line 3: A.x P is already planned in line 2")
         self.names = Names(True, True)
-        self.assertEqual(self.fault(HEAD + "a.x,p,b,1\na,q,c,1\n"), "line 3: a and a.x are "
-                         "planned, and would be one host with --short-names")
+        self.assertEqual(self.fault(HEAD + "a.x,p,b,1\na,q,c,1\n"), "line 3: a would be one "
+                         "host with a.x in line 2 with --short-names")
 
     def test_named_columns(self) -> None:
         text = "From;Interface;To Device;To Interface;host\nleaf1;swp1;host01;eth0;x\n"

@@ -44,10 +44,11 @@ class RandomNetworks(InAFolder):
         gc.enable()  # an audit disables it
         told = json.loads(said.getvalue())
         cables = told["cables"]
-        is_right = not (cables["wrong"] or told["unplanned"]
-                        or any(end["verdict"] == "no data" for end in told["ends"]))
-        is_complete = not cables["not_looked_at"] or "--all" not in case.options
-        self.assertEqual(status, 0 if is_right and is_complete else 1)
+        has_all_data = not any(end["verdict"] == "no data" for end in told["ends"])
+        is_complete = has_all_data and (
+            not cables["not_looked_at"] or "--partial" in case.options)
+        self.assertEqual(status, 1 if cables["wrong"] or told["unplanned"] else
+                         0 if is_complete else 3)
         self.assertEqual(cables["not_judged"], 0)
         moved = sum(one["verdict"] == "moved" and not one["has"] for one in told["ends"])
         unplanned = [end for end in case.covered if case.hears(end) and end not in case.wants]

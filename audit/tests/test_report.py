@@ -2,6 +2,7 @@
 import unittest
 from typing import Sequence, Tuple
 
+from auditing import without_ages
 from lldpa_audit.comparing import audit
 from lldpa_audit.names import NAMELESS, End, Names, Seen
 from lldpa_audit.plan import Detail, Link, Plan
@@ -116,7 +117,8 @@ def report_of(links: str, known: str) -> Report:
 class Lines(unittest.TestCase):
     def test_lines(self) -> None:
         for links, known, lines in ROWS:
-            self.assertEqual(report_of(links, known).lines(), lines)
+            found = report_of(links, known).lines()
+            self.assertEqual([*found[:-1], without_ages(found[-1])], lines)
 
     def test_empty_columns(self) -> None:
         """Checks that a line shows the further columns of its cable, but not empty or long ones,

@@ -2,6 +2,8 @@
 import unittest
 from concurrent.futures import ThreadPoolExecutor
 
+import dated
+import identities
 import judged
 import list_points
 import situations
@@ -10,7 +12,8 @@ from auditing import audited
 
 class Situations(unittest.TestCase):
     def test_each(self) -> None:
-        rows = [*situations.ROWS, *list_points.ROWS, *judged.ROWS]
+        rows = [*situations.ROWS, *list_points.ROWS, *judged.ROWS, *identities.ROWS,
+                *dated.ROWS]
         with ThreadPoolExecutor() as pool:
             for row, found in zip(rows, pool.map(audited, rows)):
                 with self.subTest(name=row.name):

@@ -9,39 +9,44 @@ import re
 import tarfile
 import zipfile
 from pathlib import Path
-from typing import Any, Dict, Iterator, Optional
+from typing import Any, Dict, Optional
 
 TOP = Path(__file__).resolve().parent.parent
-NAME = "lldpa"
-SUMMARY = "An LLDP agent as a library, and programs that use it; this wheel contains "
 WITHOUT = "everything except the program lldpa itself"
-PYTHON = ">=3.9"
-# each package and the folder that contains it (in a source archive, the top folder does)
-PACKAGES = {"lldpa": "python", "lldpa_audit": "audit"}
-# lldpa-ctl and lldpctl are not in Python
-PROGRAMS = {"lldpa-capture": "lldpa.commands.capture", "lldpa-audit": "lldpa_audit.command"}
+# each package, the folder that contains it (in a source archive, the top folder does) and its
+# programs; the folder of the audit may be missing. lldpa-ctl and lldpctl are not in Python.
+PACKAGES = {"lldpa": ("python", {"lldpa-capture": "lldpa.commands.capture"}),
+            "lldpa_audit": ("audit", {"lldpa-audit": "lldpa_audit.command"})}
 # the platform of a program, by the machine number in its ELF header
 PLATFORMS = {62: "linux_x86_64", 183: "linux_aarch64"}
 MOMENT = (2026, 1, 1, 0, 0, 0)  # each file's time, so that equal sources give equal wheels
 
 
-def version() -> str:
-    """Returns the version in the package's `__init__.py`."""
-    found = re.search(r'^__version__ = "(.*)"$', (TOP / NAME / "__init__.py").read_text(), re.M)
+def field(name: str, file: str = "pyproject.toml") -> str:
+    """Returns the text of a field in a file here."""
+    found = re.search(rf'^{name} = "(.*)"$', (TOP / file).read_text(), re.M)
     assert found is not None
     return found[1]
 
 
-def folders() -> Iterator[Path]:
-    """Yields, for each package, the folder that contains it."""
-    for name, folder in PACKAGES.items():
-        yield TOP if (TOP / name).is_dir() else TOP.parent / folder
+NAME = field("name")
+
+
+def version() -> str:
+    return field("__version__", f"{NAME}/__init__.py")
+
+
+def folders() -> Dict[str, Path]:
+    """Returns the folder that contains each package that is there."""
+    found = {name: TOP if (TOP / name).is_dir() else TOP.parent / folder
+             for name, (folder, _) in PACKAGES.items()}
+    return {name: folder for name, folder in found.items() if (folder / name).is_dir()}
 
 
 def package_files() -> Dict[str, Path]:
     """Returns the packages' files, by their paths in a wheel."""
     return {str(path.relative_to(folder)): path
-            for name, folder in zip(PACKAGES, folders())
+            for name, folder in folders().items()
             for path in sorted((folder / name).rglob("*"))
             if path.suffix == ".py" or path.name == "py.typed"}
 
@@ -57,15 +62,16 @@ def platform_of(program: bytes) -> str:
 def metadata(platform: str = "any") -> Dict[str, str]:
     """Returns the metadata files. A wheel without the program lldpa has the platform `any`."""
     has = WITHOUT if platform == "any" else "the program lldpa too"
-    programs = "".join(f"{name} = {module}:main\n"
-                       for name, module in PROGRAMS.items())
+    programs = "".join(f"{name} = {module}:main\n" for package in folders()
+                       for name, module in PACKAGES[package][1].items())
     return {
         "METADATA": f"Metadata-Version: 2.1\nName: {NAME}\nVersion: {version()}\n"
-                    f"Summary: {SUMMARY}{has}\nRequires-Python: {PYTHON}\n",
+                    f"Summary: {field('description')}; this wheel contains {has}\n"
+                    f"Requires-Python: {field('requires-python')}\n",
         "WHEEL": f"Wheel-Version: 1.0\nGenerator: {NAME}\n"
                  f"Root-Is-Purelib: {str(platform == 'any').lower()}\nTag: py3-none-{platform}\n",
         "entry_points.txt": f"[console_scripts]\n{programs}",
-        "top_level.txt": "".join(f"{name}\n" for name in PACKAGES)}
+        "top_level.txt": "".join(f"{name}\n" for name in folders())}
 
 
 def write_wheel(folder: str, files: Dict[str, bytes], program: Optional[bytes] = None) -> str:
@@ -106,7 +112,7 @@ def build_wheel(wheel_directory: str, config_settings: Optional[Any] = None,
 def build_editable(wheel_directory: str, config_settings: Optional[Any] = None,
                    metadata_directory: Optional[str] = None) -> str:
     """Builds a wheel that refers to the packages in their folders (PEP 660)."""
-    lines = "".join(f"{folder}\n" for folder in dict.fromkeys(folders()))
+    lines = "".join(f"{folder}\n" for folder in dict.fromkeys(folders().values()))
     return write_wheel(wheel_directory, {f"{NAME}.pth": lines.encode()})
 
 

@@ -1,4 +1,5 @@
-"""Adds `--version` to the programs. The package has the same version as the program lldpa."""
+"""Adds `--version` to the programs. The package has the same version as the program lldpa, and the
+audit one of its own."""
 
 from __future__ import annotations
 
@@ -10,7 +11,7 @@ if TYPE_CHECKING:
     import argparse
 
 
-def add_version(parser: argparse.ArgumentParser) -> None:
+def add_version(parser: argparse.ArgumentParser, version: str = __version__) -> None:
     """Adds `--version` to a program's options."""
-    parser.add_argument("-V", "--version", action="version", version=f"{parser.prog} {__version__}",
+    parser.add_argument("-V", "--version", action="version", version=f"{parser.prog} {version}",
                         help="print the version")

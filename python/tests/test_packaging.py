@@ -8,6 +8,7 @@ import sys
 import tempfile
 import unittest
 from pathlib import Path
+from typing import Tuple
 
 import lldpa
 from running_live import LIVE, is_built
@@ -53,16 +54,21 @@ class Installed(unittest.TestCase):
         for name in ("python", "audit"):
             shutil.copytree(REPOSITORY / name, cls.folder / name,
                             ignore=shutil.ignore_patterns("tests", "worked", "__pycache__"))
+        status, cls.said = cls.pip("install", "./python")
+        if status:
+            raise AssertionError(cls.said)
+
+    @classmethod
+    def pip(cls, *words: str) -> Tuple[int, str]:
+        """Runs pip without a network. Returns its status, and what it says."""
         plain = {key: value for key, value in os.environ.items() if not key.startswith("PIP_")}
         plain["PIP_NO_INDEX"] = "1"  # even if the network cannot be taken away
         able = os.geteuid() == 0 and shutil.which("unshare")
         alone = ["unshare", "-n"] if able else []
-        done = subprocess.run(
-            [*alone, str(cls.bin("pip")), "install", "--no-cache-dir", "./python"],
-            cwd=cls.folder, env=plain, capture_output=True, text=True, check=False)
-        cls.said = done.stdout + done.stderr
-        if done.returncode:
-            raise AssertionError(cls.said)
+        done = subprocess.run([*alone, str(cls.bin("pip")), words[0], "--no-cache-dir", *words[1:]],
+                              cwd=cls.folder, env=plain, capture_output=True, text=True,
+                              check=False)
+        return done.returncode, done.stdout + done.stderr
 
     @classmethod
     def bin(cls, name: str) -> Path:
@@ -95,6 +101,20 @@ class Installed(unittest.TestCase):
             self.assertEqual({path.relative_to(library) for path in library.rglob("*.py")},
                              {path.relative_to(ours) for path in ours.rglob("*.py")})
             self.assertTrue((library / "py.typed").exists())
+
+    def test_the_audit_brings_what_it_needs(self) -> None:
+        """Checks the wheels of the audit, of the package alone, and of the audit alone."""
+        for name in ("python", "audit"):
+            shutil.copytree(self.folder / name, self.folder / "alone" / name / name)
+        for source, has in (("./audit", True), ("./alone/python/python", False)):
+            place = self.folder / "to" / source
+            status, said = self.pip("install", "--target", str(place), source)
+            self.assertEqual(status, 0, said)
+            self.assertEqual((place / "bin" / "lldpa-audit").exists(), has)
+            self.assertTrue((place / "lldpa" / "__init__.py").exists())
+        status, said = self.pip("install", "./alone/audit/audit")
+        self.assertNotEqual(status, 0)
+        self.assertIn("lldpa-audit needs the package lldpa, and there is no ", said)
 
     def test_a_wheel_may_hold_the_program(self) -> None:
         start = "from lldpa import Agent\nAgent.start(['eth0']).close()"
@@ -167,9 +187,13 @@ class Programs(unittest.TestCase):
         found = re.search(r"^## ([0-9.]+)$", changes, re.M)
         assert found is not None
         self.assertEqual(lldpa.__version__, found[1])
+        of_audit = re.search(r"^## ([0-9.]+)$", (REPOSITORY / "audit" / "CHANGELOG.md").read_text(),
+                             re.M)
+        assert of_audit is not None
         for name in SECTIONS:
+            version = (of_audit if name == "lldpa-audit" else found)[1]
             for word in ("--version", "-v" if name == "lldpctl" else "-V"):
-                self.assertEqual(self.said(name, word), f"{name} {found[1]}\n")
+                self.assertEqual(self.said(name, word), f"{name} {version}\n")
 
     def test_help_has_an_example_and_the_page(self) -> None:
         for name, section in SECTIONS.items():

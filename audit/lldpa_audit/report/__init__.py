@@ -1,1 +1,1 @@
-"""Reports what an audit has found: as lines, JSON, JUnit, metrics, and a page with pictures."""
+"""Reports what an audit has found: as lines, JSON, JUnit, metrics, and a page."""

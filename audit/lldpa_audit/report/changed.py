@@ -36,10 +36,7 @@ def count_of(found: Changes) -> str:
     texts = [f"{links(found.now)}, {found.before} before: {', '.join(kinds) or 'no change'}"]
     if found.hosts:
         texts.append(f"{found.not_compared} not compared ({', '.join(first_of(found.hosts))})")
-    before, now = found.ages
-    texts += [f"sources {now}"] if now else []
-    texts += [f"{'before: ' if now else ''}{before}"] if before else []
-    return "; ".join(texts)
+    return "; ".join([*texts, f"sources {found.ages[1]}", f"before: {found.ages[0]}"])
 
 
 def links(count: int) -> str:
@@ -49,7 +46,7 @@ def links(count: int) -> str:
 def json_of(found: Changes) -> Iterator[str]:
     """Yields the changes as audit/lldpa-audit-since.schema.json describes them."""
     head: Json = {
-        "form": 1,
+        "form": 2,
         "links": {"before": found.before, "now": found.now, "not_compared": found.not_compared},
         "hosts_not_compared": [text_of(host) for host in found.hosts],
         "sources": {"before": json_of_ages(found.ages[0]), "now": json_of_ages(found.ages[1])},

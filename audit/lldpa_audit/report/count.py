@@ -4,7 +4,7 @@ from typing import Mapping, NamedTuple, Optional, Sequence
 
 from ..ages import Ages, ages_of
 from ..judging import Finding, Verdict
-from ..names import first_of
+from ..names import End, first_of
 from ..order import natural
 from ..plan import Plan
 from ..seen.tables import Tables
@@ -16,36 +16,39 @@ NO_FAULTS = (Verdict.NO_DATA, Verdict.NOT_LOOKED_AT, Verdict.KNOWN)
 
 
 class Count(NamedTuple):
-    """How many cables are in each state, how many ports are unplanned, and how many ends have a
-    fault. `hosts` has the hosts without a source, sorted by how many of their cables nobody looked
-    at, most first."""
+    """How many cables are in each state, how many of the right ones are so by weaker names alone,
+    how many ports are unplanned, and how many ends need a repair or new data. `hosts` has the
+    hosts without a source, sorted by how many of their cables nobody looked at, most first."""
 
     cables: Mapping[str, int]
+    by: Mapping[str, int]
     unplanned: int
     faults: int
-    hosts: Sequence[str] = ()
-    ages: Optional[Ages] = None
+    without_data: int
+    hosts: Sequence[str]
+    ages: Ages
 
     def __str__(self) -> str:
         cables = "cable" if self.planned == 1 else "cables"
         hosts = f" ({', '.join(first_of(self.hosts))})" if self.hosts else ""
+        numbers = {RIGHT: self.cables[RIGHT] - sum(self.by.values()),
+                   **{f"{RIGHT} by {name}": number for name, number in self.by.items()}}
+        numbers = {**numbers, **self.cables, RIGHT: numbers[RIGHT]}
         states = [f"{number} {state}{hosts if state == NOT_LOOKED_AT else ''}"
-                  for state, number in self.cables.items() if number or state in (RIGHT, WRONG)]
+                  for state, number in numbers.items() if number or state in (RIGHT, WRONG)]
         texts = [f"{self.planned} {cables}: {', '.join(states)}"]
         if self.unplanned:
             texts.append(f"{self.unplanned} unplanned port{'' if self.unplanned == 1 else 's'}")
-        if self.ages:
-            texts.append(f"sources {self.ages}")
-        return "; ".join(texts)
+        return "; ".join([*texts, f"sources {self.ages}"])
 
     @property
     def planned(self) -> int:
         return sum(self.cables.values())
 
-    def is_right(self, needs_all: bool) -> bool:
-        """Returns whether nothing is wrong and, with `needs_all`, each cable was judged."""
-        is_complete = not self.cables[NOT_LOOKED_AT] and not self.cables[NOT_JUDGED]
-        return not self.faults and (is_complete or not needs_all)
+    def is_complete(self, is_partial: bool) -> bool:
+        """Returns whether each cable was judged or, if `is_partial`, each that was looked at."""
+        left = self.cables[NOT_LOOKED_AT] + self.cables[NOT_JUDGED]
+        return not self.without_data and (is_partial or not left)
 
 
 def count(findings: Sequence[Finding], plan: Plan, tables: Tables) -> Count:
@@ -65,10 +68,26 @@ def count(findings: Sequence[Finding], plan: Plan, tables: Tables) -> Count:
     cables[RIGHT] += len(plan.ends) // 2 - sum(cables.values())
     cables[NOT_JUDGED] = plan.not_judged
     verdicts = Counter(one.verdict for one in others.values())
-    faults = sum(verdicts.values()) - verdicts[Verdict.KNOWN] - verdicts[Verdict.NOT_LOOKED_AT]
+    faults = sum(verdicts.values()) - sum(verdicts[one] for one in NO_FAULTS)
     unseen = sorted(hosts, key=lambda host: (-hosts[host], natural(host)))
-    return Count(cables, verdicts[Verdict.UNPLANNED], faults,
-                 [plan.hosts[host] for host in unseen], ages_of(tables.times))
+    return Count(cables, by_weaker_names(findings, others, tables), verdicts[Verdict.UNPLANNED],
+                 faults, verdicts[Verdict.NO_DATA], [plan.hosts[host] for host in unseen],
+                 ages_of(tables.times))
+
+
+def by_weaker_names(findings: Sequence[Finding], others: Mapping[End, Finding], tables: Tables
+                    ) -> Mapping[str, int]:
+    """Counts the right cables neither end of which is right by the strongest names. `others` has
+    the findings that are not right."""
+    names, counts = tables.names, Counter[str]()
+    weak = {names.end(one.end): one for one in findings if one.by and one.verdict is Verdict.RIGHT}
+    for key, one in weak.items():
+        far = names.end(one.expected) if one.expected is not None else key
+        is_alone = far.host not in tables.hosts if far not in others else (
+            others[far].verdict is Verdict.NO_DATA)
+        if key < far if far in weak else is_alone:
+            counts[one.by] += 1
+    return counts
 
 
 def state_of(one: Finding, far: Optional[Finding]) -> str:

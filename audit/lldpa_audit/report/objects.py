@@ -43,17 +43,18 @@ def json_of_count(report: Report) -> Json:
     count = report.count
     cables = {state.replace(" ", "_"): number for state, number in count.cables.items()}
     return {
-        "form": 3,
+        "form": 4,
         "cables": {"planned": count.planned, **cables},
+        "right_by": {**count.by},
         "unplanned": count.unplanned,
         "hosts_not_looked_at": [text_of(host) for host in count.hosts],
         "sources": json_of_ages(count.ages),
     }
 
 
-def json_of_ages(ages: Optional[Ages]) -> Json:
-    return None if ages is None else {"newest": round(ages.newest, 3),
-                                      "oldest": round(ages.oldest, 3)}
+def json_of_ages(ages: Ages) -> Json:
+    newest, oldest = (None if age is None else round(age, 3) for age in ages[:2])
+    return {"newest": newest, "oldest": oldest, "undated": ages.undated}
 
 
 def json_of_repair(report: Report, number: int, repair: Repair) -> Json:
@@ -78,6 +79,7 @@ def json_of_finding(report: Report, finding: Finding) -> Json:
         "host": text_of(finding.end.host),
         "port": text_of(finding.end.port),
         "verdict": finding.verdict.value,
+        "by": finding.by or None,
         "wants": json_of_end(finding.expected),
         "has": [json_of_neighbor(neighbor) for neighbor in finding.has],
         "swapped_with": json_of_end(finding.partner),

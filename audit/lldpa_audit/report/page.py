@@ -8,7 +8,6 @@ from lldpa.texts import printable
 
 from ..judging import Finding
 from ..names import End, shown
-from .drawing import pictures_of
 from .repairs import TO_DO
 from .report import Report
 from .style import STYLE
@@ -84,12 +83,9 @@ def not_looked_at(hosts: Sequence[str]) -> Iterator[str]:
 
 
 def host(report: Report, number: int, faults: Sequence[Finding]) -> Iterator[str]:
-    """Yields the section of a host: its pictures, and its ends with a fault."""
-    name = faults[0].end.host
-    yield f'<section id="h{number}">\n<h2>{text(shown(name))}</h2>\n<div class="pictures">\n'
-    for picture in pictures_of(name, faults, report.names):
-        yield f"{picture}\n"
-    yield "</div>\n<table class=faults><tr><th>Port<th>Fault<th>In the plan</tr>\n"
+    """Yields the section of a host: its ends with a fault."""
+    yield (f'<section id="h{number}">\n<h2>{text(shown(faults[0].end.host))}</h2>\n'
+           "<table class=faults><tr><th>Port<th>Fault<th>In the plan</tr>\n")
     for fault in faults:
         repair = report.repair_of[report.names.end(fault.end)]
         yield (f"<tr><td><b>{text(shown(fault.end.port))}</b><td>{text(report.texts.text(fault))}"

@@ -1,26 +1,9 @@
 """Defines the style of a page: for wide screens and telephones, in light and in dark."""
 
-# colors and pictures
-PICTURES = """
-:root { --ink: #1d2329; --dim: #5c6670; --rule: #d5dade; --paper: #fff; --red: #c00a24;
-  --orange: #a86200; --box: #f4f6f7; color-scheme: light dark; }
+STYLE = """
+:root { --ink: #1d2329; --dim: #5c6670; --rule: #d5dade; --paper: #fff; color-scheme: light dark; }
 @media (prefers-color-scheme: dark) { :root { --ink: #e4e8eb; --dim: #9aa5af; --rule: #3a424a;
-  --paper: #14181c; --red: #ff6b7a; --orange: #f0a840; --box: #20262c; } }
-svg { display: block; max-width: 100%; height: auto; }
-svg text { font: 11px ui-monospace, monospace; fill: var(--ink); }
-svg text.title { font-weight: bold; }
-svg text.note { fill: var(--dim); }
-svg rect { fill: var(--box); stroke: var(--rule); }
-svg line { stroke: var(--rule); stroke-width: 1.5; }
-svg .port.fault rect { fill: var(--red); stroke: var(--red); }
-svg .port.unknown rect { fill: var(--orange); stroke: var(--orange); }
-svg .port text { fill: var(--paper); font-weight: bold; }
-svg line.has, svg .peer.has rect { stroke: var(--red); }
-svg line.has { stroke-width: 2.5; }
-svg line.expected, svg .peer.expected rect { stroke: var(--red); stroke-dasharray: 4 3; }
-svg line.unknown, svg .peer.unknown rect { stroke: var(--orange); stroke-dasharray: 4 3; }
-"""
-STYLE = PICTURES + """
+  --paper: #14181c; } }
 * { box-sizing: border-box; }
 body { margin: 0 auto; padding: 16px; max-width: 1180px; background: var(--paper);
   color: var(--ink); font: 15px/1.45 system-ui, sans-serif; overflow-wrap: anywhere; }
@@ -43,8 +26,6 @@ details { margin: 16px 0 0; color: var(--dim); }
 .repairs td:nth-child(4), .repairs td:nth-child(5) { min-width: 15em; }
 .faults td:first-child { white-space: nowrap; }
 .faults td:last-child { min-width: 22em; }
-.pictures { display: grid; grid-template-columns: repeat(auto-fill, minmax(min(100%, 360px), 1fr));
-  gap: 12px; margin: 0 0 10px; align-items: start; }
 @media (max-width: 640px) {
   .faults tr:first-child, .repairs tr:first-child { display: none; }
   .faults, .faults tbody, .faults tr, .faults td { display: block; }

@@ -17,6 +17,10 @@ class FaultTexts:
 
     def text(self, fault: Finding) -> str:
         """Returns the verdict on an end in words, or an empty text if nothing is wrong."""
+        text = self._text(fault)
+        return f"{text} (by {fault.by})" if fault.by and text else text
+
+    def _text(self, fault: Finding) -> str:
         if fault.verdict is Verdict.KNOWN:
             return f"known: {shown(fault.reason)}"
         if fault.verdict is Verdict.NOT_LOOKED_AT:

@@ -59,33 +59,21 @@ def silent_links(faults: Faults, host: str) -> Sequence[Sequence[End]]:
 
 
 def of_one_name(faults: Faults) -> Iterator[Repair]:
-    """Yields a repair for each planned name that hosts of several domains have, and for each device
-    that is heard for planned hosts of several domains."""
+    """Yields a repair for each planned name that hosts of several domains have."""
     ends: dict[str, list[End]] = {}
-    hosts: dict[str, dict[str, list[End]]] = {}
     for key, fault in faults:
         far = faults.far(key)
         if fault.verdict is Verdict.DOUBLED and len(fault.has) == 1 and far is not None:
             ends.setdefault(far.host, []).append(key)
-            name = faults.names.whole_host(fault.has[0].hosts[0])
-            hosts.setdefault(name, {}).setdefault(far.host, []).append(key)
-    for name, by_host in hosts.items():
-        if len(by_host) > 1:
-            keys = [key for some in by_host.values() for key in some]
-            first = faults.left[keys[0]]
-            text = " and ".join(f"{shown(faults.plan.hosts[host])} (at {faults.left[some[0]].end})"
-                                for host, some in by_host.items())
-            yield Repair("doubled", first.end, f"doubled: one device is heard for {text}",
-                         faults.take(keys), shown(first.has[0].hosts[0]))
     for host, keys in ends.items():
         places: dict[str, End] = {}
-        for key in filter(faults.left.__contains__, keys):
-            places.setdefault(shown(faults.left[key].has[0].hosts[0]), faults.left[key].end)
+        for key in keys:
+            name = faults.names.heeded_hosts(faults.left[key].has[0])[0]
+            places.setdefault(shown(name), faults.left[key].end)
         text = ", ".join(f"{name} at {end}" for name, end in places.items())
         name = faults.plan.hosts[host]
-        if places:
-            yield Repair("doubled", End(name, keys[0].port), f"doubled: seen as {text}",
-                         faults.take(keys), shown(name))
+        yield Repair("doubled", End(name, keys[0].port), f"doubled: seen as {text}",
+                     faults.take(keys), shown(name))
 
 
 def several_chassis(findings: Sequence[Finding], hosts: Container[str]) -> Iterator[str]:

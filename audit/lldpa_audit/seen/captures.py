@@ -23,8 +23,7 @@ MOST_UNPACKED = 1 << 27
 
 def read_captures(files: Sequence[str], port: str, program: str) -> Listing:
     """Returns the neighbors of a port from its captures or, if `port` is empty, of each interface
-    that the one capture names. If there are no packets, the time is that of the first file.
-    Large captures get more time. Raises ValueError, OSError, and Ended if the agent ends."""
+    that the one capture names. Large captures get more time. Raises ValueError, OSError, and Ended if the agent ends."""
     stats = [stat_of(file) for file in files]
     seconds = max(SECONDS, sum(one.st_size for one in stats) >> 21)
     try:
@@ -32,7 +31,7 @@ def read_captures(files: Sequence[str], port: str, program: str) -> Listing:
             found = recorded(files, port, program)
     except LimitFault as fault:
         return Listing({}, False, faults=[f"{files[0]}: {fault}"])
-    return found if found.time else found._replace(time=stats[0].st_mtime)
+    return found._replace(written=stats[0].st_mtime)
 
 
 def stat_of(file: str) -> os.stat_result:

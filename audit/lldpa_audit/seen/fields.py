@@ -9,7 +9,8 @@ class Form(NamedTuple):
     `?`, a port may lack that field. If `kind` is empty, a Port ID that looks like an interface's
     name counts as one. `aggregate` leads to the aggregate of which a port is a member. A
     neighbor needs a chassis ID and a Port ID or, with `of_names`, one name of its host and one
-    of its port. In rows, `host` is the path to the name of the host, if they are of several."""
+    of its port. In rows, `host` is the path to the name of the host, if they are of several.
+    `time` leads to when a neighbor was last heard."""
 
     sign: str
     ports: str
@@ -25,6 +26,7 @@ class Form(NamedTuple):
     of_names: bool = False
     protocol: str = ""
     host: str = ""
+    time: str = ""
 
 
 INFO = "neighborInterfaceInfo"
@@ -58,7 +60,7 @@ FORMS = (
     Form("lldpNeighbors", "lldpNeighbors *", "", "lldpNeighborInfo", "chassisId",
          f"{INFO} interfaceIdType", f"{INFO} interfaceId_v2, {INFO} interfaceId", "systemName",
          f"{INFO} interfaceDescription", "managementAddresses address",
-         f"{INFO} linkAggregationInterfaceId"),
+         f"{INFO} linkAggregationInterfaceId", time="lastContactTime"),
     # Cisco's NX-OS
     Form("TABLE_nbor_detail", "TABLE_nbor_detail ROW_nbor_detail", "l_port_id", "", "chassis_id",
          "", "port_id", "sys_name", "port_desc", "mgmt_addr, mgmt_addr_ipv6"),
@@ -71,6 +73,9 @@ FORMS = (
     Form("* lldp neighbor", "*", "", "?lldp neighbor *", "chassis chassis-id", "port type",
          "port name", "chassis system-name", "port description",
          "chassis management-address-ipv4, chassis management-address-ipv6"),
+    # systemd's networkctl
+    Form("Neighbors InterfaceName", "Neighbors", "InterfaceName", "?Neighbors", "ChassisID", "",
+         "PortID", "SystemName", "PortDescription"),
     # Nokia's SR Linux, by its YANG model srl_nokia-lldp
     Form(", ".join([*(f"{path} neighbor" for path in OF_SR_LINUX), "system lldp interface name"]),
          ", ".join(OF_SR_LINUX), "name",
@@ -106,5 +111,5 @@ ROWS = (
          "mgmt_address, management_ip, mgmt_address_v6", of_names=True, host="host"),
     # Suzieq's table lldp
     Form("peerHostname", "", "ifname", "", "", "", "peerIfname, peerMacaddr", "peerHostname", "",
-         "mgmtIP", of_names=True, host="hostname"),
+         "mgmtIP", of_names=True, host="hostname", time="timestamp"),
 )

@@ -1,12 +1,11 @@
 """Gathers what is seen into tables: lists of neighbors, captures, and a running lldpa-live."""
 import time
-from math import inf
 from typing import Callable, Iterator, Mapping, Optional, Sequence
 
 from lldpa.capture.source import opened
 from lldpa.ctl import Ctl
 
-from ..ages import worded
+from ..ages import Limit
 from ..names import End, Names, shown
 from ..plan import Plan
 from ..what import What, of_hosts
@@ -19,19 +18,20 @@ SECONDS_BETWEEN_LOOKS = 0.5
 
 
 class Gathering:
-    """Puts sources into tables, and reports damaged sources. `status` becomes 1 if a source is
-    damaged, and 2 if two sources of a host overlap. Methods raise OSError if a file cannot be
-    read, ValueError if a capture names no port, and Ended if the agent that reads captures ends."""
+    """Puts sources into tables, and reports damaged ones. `damaged` says what is wrong with each,
+    and `twice` which sources of a host overlap. Methods raise OSError if a file cannot be read,
+    ValueError if a capture names no port, and Ended if the agent that reads captures ends."""
 
     def __init__(self, tables: Tables, program: str, say: Callable[[str], None],
-                 stale_after: float = inf, planned: Mapping[str, str] = {}) -> None:
+                 oldest: Limit = Limit(), planned: Mapping[str, str] = {}) -> None:
         self.tables = tables
         self.program = program
         self.say = say
-        self.stale_after = stale_after
+        self.oldest = oldest
         self.planned = planned  # the plan's hosts, by normalized names
         self.now = time.time()
-        self.status = 0
+        self.damaged: list[str] = []
+        self.twice: list[str] = []
 
     def add_files(self, whats: Sequence[What], files: Iterator[Optional[Listing]]) -> None:
         """Adds the files `whats`. Several captures of a port count as one. `files` yields what is
@@ -61,7 +61,7 @@ class Gathering:
             self.tables.add_reason(host, port, f"{file}: {reason}")
         for reason in dict.fromkeys(listing.reasons.values()):
             self.say(f"{file}: {reason}")
-            self.status = max(self.status, 1)
+            self.damaged.append(f"{file}: {reason}")
 
     def of_its_host(self, host: str, listing: Listing, file: str) -> Listing:
         """Returns a listing with a fault if it says that it is of another planned host."""
@@ -104,21 +104,22 @@ class Gathering:
         data or, if `port` is empty, each port of the host that has no other source."""
         for fault in listing.faults:
             self.say(fault)
-            self.status = max(self.status, 1)
+            self.damaged.append(fault)
             self.tables.add_reason(host, port, fault)
         if listing.faults:
             return False
-        self.tables.times.append(listing.time)
-        age = self.now - listing.time
-        if age > self.stale_after:
-            self.tables.add_reason(host, port, f"{file}: it is {worded(age)} old")
-        return age <= self.stale_after
+        seen = listing.time or (listing.written if self.oldest.is_by_file else 0.0)
+        self.tables.times.append(seen)
+        why = self.oldest.why_not(seen, self.now)
+        if why:
+            self.tables.add_reason(host, port, f"{file}: {why}")
+        return not why
 
     def need_one(self, host: str, why: str) -> None:
         """Gives up on a host if there is a reason why it cannot be judged."""
         if why:
             self.say(why)
-            self.status = 2
+            self.twice.append(why)
             self.tables.forget(host, why)
 
     def add_live(self, host: str, path: str, plan: Plan, seconds: float) -> None:

@@ -3,6 +3,7 @@ and what is there: all interfaces, or one of them."""
 import re
 from typing import Any, Callable, Iterator, Optional
 
+from ..ages import moment_of
 from .listing import Listing, SeenFault
 
 INTERFACE = re.compile(r"(?:^|[/:])interface\[name=((?:[^\]\\]|\\.)+)\]"
@@ -19,12 +20,13 @@ def is_gnmic(tree: Any) -> bool:
 
 
 def read_gnmic(tree: Any, read: ReadTree) -> Listing:
-    """Returns the neighbors in answers of gnmic, by host if they are of several. Raises SeenFault.
-    `read` reads the values."""
+    """Returns the neighbors in answers of gnmic, by host if they are of several, each as old as its
+    oldest answer. Raises SeenFault. `read` reads the values."""
     answers: dict[str, list[Any]] = {}
     for one in tree if isinstance(tree, list) else [tree]:
         answers.setdefault(host_of(str(one.get("source", ""))), []).append(one)
-    found = {host: listing_of(some, read)._replace(source=host) for host, some in answers.items()}
+    found = {host: listing_of(some, read)._replace(source=host, time=min(
+        moment_of(str(one.get("timestamp"))) for one in some)) for host, some in answers.items()}
     return next(iter(found.values())) if len(found) == 1 else Listing({}, True, found)
 
 

@@ -17,7 +17,7 @@ class Listing(NamedTuple):
     """The neighbors of ports. If `has_all_heard`, the host's other ports have no neighbor. If a
     file is of several hosts, `hosts` has a listing for each. If there are `faults`, nothing is
     known of the ports. `notes` says what was skipped. `time` is when the neighbors were seen, in
-    seconds since 1970; 0 if unknown. `source` is the host that was asked, if the file says it.
+    seconds since 1970; 0 if it is not said. `written` is the file's time. `source` is the host that was asked, if the file says it.
     `reasons` says for a port why it has no data, though other ports have."""
 
     ports: Ports
@@ -26,5 +26,6 @@ class Listing(NamedTuple):
     faults: Sequence[str] = ()
     notes: Sequence[str] = ()
     time: float = 0.0
+    written: float = 0.0
     source: str = ""
     reasons: Mapping[str, str] = {}

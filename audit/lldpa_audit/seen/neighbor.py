@@ -20,7 +20,7 @@ def neighbor(chassis: str, kind: str, port_id: str, name: str = "", descr: str =
     return Seen(hosts, ports, chassis, port_id, aggregated, is_named)
 
 
-# many neighbors have the same texts: each text is kept only once, and sent once between processes
+# many neighbors have the same texts: each text is kept only once
 @lru_cache(MOST_KEPT)
 def names_of_host(name: str, chassis: str, *addresses: str) -> tuple[tuple[str, ...], str]:
     """Returns the names of a host, and its chassis ID. In `show neighbors`, an address ends at the

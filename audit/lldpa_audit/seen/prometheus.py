@@ -2,8 +2,10 @@
 with what `lldpa-ctl metrics` wrote at each host: `lldpa_neighbor_info` has the neighbors,
 `lldpa_too_many` has all ports, and `node_textfile_mtime_seconds` has the time."""
 from collections import defaultdict
+from math import inf
 from typing import Any, Iterator
 
+from ..ages import moment_of
 from ..names import NAMELESS, Seen
 from .gnmic import host_of
 from .listing import Listing, SeenFault
@@ -15,14 +17,15 @@ EXPORTED = "exported_"  # precedes lldpa's label if the target has a label of th
 
 
 def read_prometheus(tree: Any) -> Listing:
-    """Returns the neighbors of each host. Equal ones at a port count once. Raises SeenFault."""
+    """Returns the neighbors of each host. Equal ones at a port count once. A host with several
+    services is as old as the oldest of their files. Raises SeenFault."""
     heard: dict[str, dict[str, dict[Any, Seen]]] = {}
     times: dict[str, float] = {}
     whole = set()
     for host, labels, value in samples(tree):
         port, metric = labels["port"], labels["__name__"]
         if metric == TIMES and is_of_agent(labels["file"]):
-            times[host] = value
+            times[host] = min(times.get(host, inf), moment_of(str(value)))
         elif metric == PORTS:
             whole.add(host)
             at_port = heard.setdefault(host, {}).setdefault(port, {})

@@ -4,6 +4,7 @@ from functools import lru_cache
 from itertools import product
 from typing import Any, Iterator
 
+from ..ages import moment_of
 from ..names import NAMELESS, Seen
 from .fields import OURS, Form
 from .listing import Listing, SeenFault
@@ -78,13 +79,16 @@ def listed(node: Any, of: str) -> list[Any]:
 
 def read_form(tree: Any, form: Form) -> Listing:
     """Returns the neighbors in JSON of this form. A neighbor heard by LLDP and by another protocol
-    counts once, if both entries share a name of the host and of the port. Raises SeenFault."""
+    counts once, if both entries share a name of the host and of the port. The list is as old as
+    its latest neighbor says. Raises SeenFault."""
     ports: dict[str, list[Seen]] = {}
     others: dict[str, list[Seen]] = {}  # those heard by other protocols
-    fields = Fields(form)
+    fields, last = Fields(form), 0.0
     for port, node in ports_of(tree, form):
         heard = ports.setdefault(port, [])
         for one in neighbors_of(node, form, port):
+            if form.time:
+                last = max(last, moment_of(text(one, form.time)))
             if form.protocol and not is_by_lldp(one, form, port):
                 others.setdefault(port, []).append(fields.seen(one, port))
             else:
@@ -94,7 +98,7 @@ def read_form(tree: Any, form: Form) -> Listing:
     for port, some in others.items():
         by_lldp = {pair for one in ports[port] for pair in product(one.hosts, one.ports)}
         ports[port] += [one for one in some if by_lldp.isdisjoint(product(one.hosts, one.ports))]
-    return Listing(dict(ports), form is not OURS)
+    return Listing(dict(ports), form is not OURS, time=last)
 
 
 def is_by_lldp(node: dict[str, Any], form: Form, port: str) -> bool:

@@ -1,18 +1,20 @@
 """Reads LLDP-MIB as `snmpwalk` prints it, with names or with numbers below 1.0.8802.1.1.2."""
 import re
 from ipaddress import ip_address
+from typing import Mapping
 
 from ..names import Seen
 from .listing import Listing, SeenFault
 from .neighbor import neighbor
-from .reading import kind_of
+from .reading import kind_by_look, kind_of
 
 # a walk begins with an object's name or number and its value, without `=` after `snmpwalk -Oq`
 IS_WALK = re.compile(r"(?:[A-Z][A-Za-z0-9-]*::[a-z]\w*|lldp[A-Z][A-Za-z]*|\.?iso|\.?1)[.\[][^\n=]*"
                      r"(?: = |(?<=[0-9\]]) [^\n=])")
 # a quoted text may have line feeds, and hexadecimal may continue in further lines
 LINE = re.compile(
-    r"^(?:(?:LLDP-MIB::)?(lldp[A-Za-z]+)|\.?(?:iso|1)\.0\.8802\.1\.1\.2\.(1(?:\.[0-9]+){4}))"
+    r"^(?:(?:LLDP-MIB::)?(lldp[A-Za-z]+)|\.?(?:iso|1)\.0\.8802\.1\.1\.2\.(1(?:\.[0-9]+){4})"
+    r"|(IF-MIB::ifName|\.?(?:iso|1)\.3\.6\.1\.2\.1\.31\.1\.1\.1\.1))"
     r'\.([0-9.]+) = (?:(Hex-STRING|STRING|INTEGER): )?("[^"\\]*(?:\\(?s:.)[^"\\]*)*"$'
     r"|.*(?:\n(?:[0-9A-F]{2} ?)+$)*)", re.M)
 LOCAL = ("lldpLocPortIdSubtype", "lldpLocPortId", "lldpLocPortDesc")
@@ -31,6 +33,10 @@ IS_ERROR = re.compile(r"^(?:Timeout: |Error in packet|Error: OID|snmp[a-z]*: )",
 # what a walk prints at last, with the name of the last object, if the agent has no more to read
 END_OF_VIEW = "No more variables left in this MIB View"
 COMMAND = "use `snmpwalk -v2c -c COMMUNITY HOST 1.0.8802.1.1.2.1`"
+# the subtype of a Port ID that is any text, such as Junos' number of the interface
+LOCALLY = "7"
+NAMELESS = ("some of its ports have a description in place of a name: let the file begin with what "
+            "`snmpwalk .. 1.3.6.1.2.1.31.1.1.1.1` prints")
 # the subtypes for a MAC address and for a network address, of chassis IDs and of Port IDs
 OF_CHASSIS, OF_PORT = ("4", "5"), ("3", "4")
 
@@ -46,6 +52,7 @@ class Walk:
         self.local: dict[str, Row] = {}
         self.remote: dict[str, Row] = {}
         self.last: tuple[int, ...] = ()
+        self.names: dict[str, str] = {}  # IF-MIB's names of interfaces, by their numbers
 
     def lacks(self, index: str) -> bool:
         """Returns whether the walk stopped before it had read all of a neighbor's row. A walk reads
@@ -59,9 +66,10 @@ def read_walk(text: str) -> Listing:
     if not text.endswith("\n"):
         raise SeenFault("its last line is incomplete: it was cut short")
     walk = walk_of(text)
-    names = {number: port_name(row) for number, row in walk.local.items() if LOCAL[1] in row}
+    names = {number: port_name(row, walk.names) for number, row in walk.local.items()
+             if LOCAL[1] in row}
     ports: dict[str, list[Seen]] = {name: [] for name in names.values()}
-    if len(ports) < len(names):
+    if len(ports) < len(names) - max(0, [*names.values()].count("") - 1):
         raise SeenFault("two of its ports have the same name in lldpLocPortId or lldpLocPortDesc")
     if not ports:
         raise SeenFault(f"it has no lldpLocPortId: {COMMAND}")
@@ -79,8 +87,12 @@ def read_walk(text: str) -> Listing:
         else:
             ports[names[number]].append(seen(row, names[number]))
     why = f"the walk stopped before it had read all of some ports' neighbors: {COMMAND}"
-    return Listing({name: some for name, some in ports.items() if name not in stopped}, True,
-                   reasons=dict.fromkeys(sorted(stopped), why))
+    reasons = dict.fromkeys(sorted(stopped), why)
+    if ports.pop("", None) is not None:
+        reasons[""] = NAMELESS
+    is_sure = not any(is_described(walk.local[number], walk.names) for number in names)
+    return Listing({name: some for name, some in ports.items() if name not in stopped}, is_sure,
+                   reasons=reasons)
 
 
 def walk_of(text: str) -> Walk:
@@ -90,9 +102,12 @@ def walk_of(text: str) -> Walk:
     for found in LINE.finditer(text):
         if walk.last < AFTER and is_error(text, end, found.start()):
             return walk
-        name, number, index, kind, value = found.groups("")
+        name, number, of_interface, index, kind, value = found.groups("")
         end, name = found.end(), name or NAMES.get(number, "")
-        if not kind and value.startswith(END_OF_VIEW):
+        if of_interface:
+            if not walk.last:  # behind LLDP-MIB, a neighbor's text could pretend to be a name
+                walk.names[index] = text_of(kind, value)
+        elif not kind and value.startswith(END_OF_VIEW):
             walk.last = AFTER
         elif name in ORDER:
             add(walk, name, index, text_of(kind, value))
@@ -142,10 +157,23 @@ def text_of(kind: str, value: str) -> str:
     return value
 
 
-def port_name(row: Row) -> str:
-    """Returns a local port's name: an ID that names an interface, else its description or ID."""
+def port_name(row: Row, names: Mapping[str, str]) -> str:
+    """Returns a local port's name: an ID that names an interface, else its name in IF-MIB, its
+    description or its ID. Returns an empty text if people may have written the description."""
     subtype, port_id, descr = (row.get(column, "") for column in LOCAL)
-    return descr or port_id if kind_of(subtype) == "local" else port_id
+    if kind_of(subtype) != "local":
+        return port_id
+    if is_described(row, names):
+        return descr if kind_by_look(descr) == "ifname" else ""
+    if subtype == LOCALLY:
+        return names.get(port_id, port_id)
+    return descr or port_id  # lldpd has the interface's name beside its MAC address
+
+
+def is_described(row: Row, names: Mapping[str, str]) -> bool:
+    """Returns whether only the description of a port may be its name, and people may write it."""
+    subtype, port_id, descr = (row.get(column, "") for column in LOCAL)
+    return subtype == LOCALLY and port_id not in names and descr not in ("", port_id)
 
 
 def seen(row: Row, port: str) -> Seen:

@@ -24,7 +24,7 @@ class Tables:
         self._files: dict[str, list[str]] = {}
         self._listed: dict[str, str] = {}
         self._forgotten: dict[str, str] = {}
-        self.times: list[float] = []  # of each source, in seconds since 1970
+        self.times: list[float] = []  # of each source, in seconds since 1970; 0 if unknown
         self.several: set[str] = set()  # hosts that right links hear with several chassis IDs
 
     def add_host(self, host: str) -> None:

@@ -128,7 +128,9 @@ def listing_of_one(answers: list[Any], read_text: ReadText) -> Optional[Listing]
     if len(found) > 1:
         raise SeenFault(f"it has {len(found)} lists of neighbors, as entries {found[0][0]} and "
                         f"{found[1][0]}: give only one")
-    return found[0][1] if found else None
+    # eAPI's answer to `show hostname`
+    host = next((text(one, "hostname") for one in answers if leads(one, "fqdn")), "")
+    return found[0][1]._replace(source=host or found[0][1].source) if found else None
 
 
 def listing_or_fault(tree: Any, read_text: ReadText) -> Listing:
