@@ -77,8 +77,8 @@ pub fn calls_do_all_or_nothing()
     ensures { AreAllOrNothing }
 {}
 
-/// A call that reads a closed agent, or a port that the agent does not have, writes nothing. Nor
-/// does building with identifiers of another length, or without a number for each TLV.
+/// A call that reads an agent writes nothing if it is refused. Nor does building write to the buffer,
+/// nor the faults if an identifier has another length or there is no number for each TLV.
 pub fn refused_calls_write_nothing()
     ensures { AreSpared }
 {}

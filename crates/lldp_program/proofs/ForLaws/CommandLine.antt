@@ -1,6 +1,8 @@
 -- The options, the roles and the ranges of the command line.
-use Rattle.std.proofs.Common.{◌≡◌, ◌∙◌, ℕ, ◌≤◌, List, [], ◌∷◌, Option, Some, Ok, refl, sym, ap, Bor, option_map}
+use Rattle.std.proofs.Common.{◌≡◌, ◌∙◌, ℕ, ◌≤◌, ◌<◌, slice_index, List, [], ◌∷◌, Option, Some, Ok, refl, sym, ap, Bor, option_map}
 use Rattle.std.specs.Prelude.{unwrap_or}
+use Rattle.std.specs.Net.Grammar.{IsDotted}
+use Rattle.std.specs.Net.Text.{dotted_text}
 use Rattle.hex.specs.Hex.{decode_of, decode_pairs, pair_value}
 use Rattle.clap.specs.Walk.{Row, Text, byte_or_zero, one_of}
 use Rattle.clap.proofs.WalkLemmas.{byte_read}
@@ -8,7 +10,7 @@ use Rattle.lldp_engine.specs.declared.agent.options.Role.{Role}
 use Rattle.lldp_engine.specs.declared.agent.options.Role.TheVariants.{Station, Bridge, Router}
 use Rattle.lldp_engine.specs.Options.{Options}
 use Rattle.lldp_program.specs.CommandLine.Usage.{Asks, AsksManagement, role_named}
-use Rattle.lldp_program.specs.Laws.CommandLine.{number_to, ArePair, AreAsked, HasOptions, HasRoles, SaysAddress, SaysNumber, SpellMacs, TakesRange, word_of_role}
+use Rattle.lldp_program.specs.Laws.CommandLine.{number_to, ArePair, AreAsked, HasOptions, HasRoles, SaysAddress, SaysNumber, SeparateByColons, SpellAddresses, SpellMacs, TakesRange, word_of_role}
 
 pub has_options : (roles : Bor (List (Bor Text))) → HasOptions roles
 has_options roles =
@@ -68,6 +70,23 @@ spell_macs a b c d e f g h i j k l m n o p q r am an ao ap' aq ar = record {
 } where
   six : decode_of (a ∷ b ∷ c ∷ d ∷ e ∷ f ∷ g ∷ h ∷ i ∷ j ∷ k ∷ l ∷ []) ≡ Ok (m ∷ n ∷ o ∷ p ∷ q ∷ r ∷ [])
   six = rw (pairs 0 a b m am, pairs 2 c d n an, pairs 4 e f o ao, pairs 6 g h p ap', pairs 8 i j q aq, pairs 10 k l r ar) refl
+
+pub separate_by_colons : (text mac : List ℕ) → SeparateByColons text mac
+separate_by_colons text mac = record {
+  long = λ m. m.long;
+  first = λ m. ap (λ (xs : List ℕ). slice_index xs 0) m.colons;
+  second = λ m. ap (λ (xs : List ℕ). slice_index xs 1) m.colons;
+  third = λ m. ap (λ (xs : List ℕ). slice_index xs 2) m.colons;
+  fourth = λ m. ap (λ (xs : List ℕ). slice_index xs 3) m.colons;
+  fifth = λ m. ap (λ (xs : List ℕ). slice_index xs 4) m.colons;
+}
+
+dotted : (a b c d : ℕ) → a < 256 → b < 256 → c < 256 → d < 256 → IsDotted (dotted_text a b c d) (a ∷ b ∷ c ∷ d ∷ [])
+dotted a b c d ha hb hc hd = record { a = a; b = b; c = c; d = d; fit = (ha, hb, hc, hd); value = refl; spelled = refl }
+
+pub spell_addresses : SpellAddresses
+spell_addresses a b c d ha hb hc hd =
+    ((a ∷ b ∷ c ∷ d ∷ [], refl, dotted a b c d ha hb hc hd), λ none. none (a ∷ b ∷ c ∷ d ∷ []) (dotted a b c d ha hb hc hd))
 
 pub are_asked : (rows : List Row) (o : Options) → Asks rows o → AreAsked rows o
 are_asked rows o asks =

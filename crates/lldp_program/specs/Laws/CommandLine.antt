@@ -1,5 +1,5 @@
 -- Exactly which options the command line accepts, and what each option asks for.
-use Rattle.std.specs.Prelude.{codes, ◌≡◌, ◌<◌, ◌≤◌, ◌↔◌, ℕ, ◌+◌, ◌*◌, true, false, List, [], ◌∷◌, Option, Some, None, map, option_and_then, pos, find}
+use Rattle.std.specs.Prelude.{codes, ◌≡◌, ◌<◌, ◌≤◌, ◌↔◌, ℕ, ◌+◌, ◌*◌, true, false, List, [], ◌∷◌, length, slice_index, Option, Some, None, map, option_and_then, pos, find}
 use Rattle.std.specs.Net.Text.{dotted_text}
 use Rattle.std.specs.Str.{bytes_eq}
 use Rattle.std.specs.List.{AllByRecursion}
@@ -15,7 +15,7 @@ use Rattle.lldp_engine.specs.declared.agent.options.Role.{Role}
 use Rattle.lldp_engine.specs.declared.agent.options.Role.TheVariants.{Station, Bridge, Router}
 use Rattle.lldp_engine.specs.Options.{Options, InRange}
 use Rattle.lldp_program.specs.CommandLine.Addresses.{IsMac}
-use Rattle.lldp_program.specs.CommandLine.Usage.{AreRoles, program, role_named}
+use Rattle.lldp_program.specs.CommandLine.Usage.{AreRoles, AsksManagement, WritesNoIpv4, program, role_named}
 use Rattle.lldp_program.specs.Laws.Listening.{IsNumberIn}
 
 -- the rules of the program's command line, in the order of the help
@@ -106,6 +106,21 @@ abbrev pub SpellMacs : Type 0
 SpellMacs =
     (a b c d e f g h i j k l : ℕ) (m n o p q r : ℕ) → ArePair a b m → ArePair c d n → ArePair e f o → ArePair g h p → ArePair i j q → ArePair k l r →
     IsMac (a ∷ b ∷ 58 ∷ c ∷ d ∷ 58 ∷ e ∷ f ∷ 58 ∷ g ∷ h ∷ 58 ∷ i ∷ j ∷ 58 ∷ k ∷ l ∷ []) (m ∷ n ∷ o ∷ p ∷ q ∷ r ∷ [])
+
+-- The text of a MAC address has no other octet between its pairs of digits, and nothing before or after them.
+pub record SeparateByColons (text mac : List ℕ) : Type 0 where
+  pub long : IsMac text mac → length text ≡ 17
+  pub first : IsMac text mac → slice_index text 2 ≡ 58
+  pub second : IsMac text mac → slice_index text 5 ≡ 58
+  pub third : IsMac text mac → slice_index text 8 ≡ 58
+  pub fourth : IsMac text mac → slice_index text 11 ≡ 58
+  pub fifth : IsMac text mac → slice_index text 14 ≡ 58
+
+-- Any four numbers below 256 can be asked for as the management address, by their decimal text.
+abbrev pub SpellAddresses : Type 0
+SpellAddresses =
+    (a b c d : ℕ) → a < 256 → b < 256 → c < 256 → d < 256 →
+    AsksManagement (Some (dotted_text a b c d)) (Some (a ∷ b ∷ c ∷ d ∷ [])) × (WritesNoIpv4 (Some (dotted_text a b c d)) → ⊥)
 
 -- if the text of this option spells a number below 256, n is that number
 abbrev pub SaysNumber : Text → List Row → ℕ → Type 0

@@ -1,10 +1,10 @@
 //! What the program's arguments ask for.
-ghost use Rattle.std.specs.Prelude.{◌≡◌, List, Option, Result, length, is_err};
+ghost use Rattle.std.specs.Prelude.{◌≡◌, ℕ, List, Option, Result, length, is_err};
 ghost use Rattle.std.specs.List.{filter};
 ghost use Rattle.std.specs.Borrow.{Bor};
 ghost use Rattle.clap.specs.Walk.{Row, Text};
 ghost use Rattle.lldp_engine.specs.Options.{Options};
-ghost use Rattle.lldp_program.specs.Laws.CommandLine.{AreAsked, HasOptions, HasRoles, SpellMacs, TakesRange};
+ghost use Rattle.lldp_program.specs.Laws.CommandLine.{AreAsked, HasOptions, HasRoles, SeparateByColons, SpellAddresses, SpellMacs, TakesRange};
 ghost use Rattle.lldp_program.specs.CommandLine.Usage.{Asks};
 ghost use Rattle.lldp_program.specs.Laws.Listening.{AskByTexts, AskByWords};
 ghost use Rattle.lldp_program.specs.Serving.{faults_of};
@@ -22,12 +22,14 @@ pub fn options_are_these_alone()
 {}
 
 /// Each option has the value of its own argument, or its default. Every MAC address can be asked
-/// for, by digits of either case.
+/// for, by digits of either case with colons between them and no other text, and every IPv4 address.
 #[tactic(auto, using(crate::proofs::ForLaws::CommandLine::are_asked))]
 pub fn options_are_what_their_words_say()
     ensures asked { (rows : List Row) (options : Options) → Asks rows options →
         AreAsked rows options }
     ensures macs { SpellMacs }
+    ensures colons { (text mac : List ℕ) → SeparateByColons text mac }
+    ensures addresses { SpellAddresses }
 {}
 
 /// For all texts of `--listen` and `--connections`, the first spells the port to listen at, and the

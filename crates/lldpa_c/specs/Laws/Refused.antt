@@ -58,9 +58,8 @@ SparesNoPort before port told_before answer after told =
     (answer ≡ 103) × (after.is_open ≡ true) × (after.held.agent ≡ before.held.agent) × (told ≡ told_before))
     × (before.is_open ≡ true → port < length before.held.agent.ports → answer ≡ 0)
 
--- Calls that read an agent write nothing if it is closed or has no port of that number. What building
--- may not do it reports before it writes to the buffer: then nothing of the buffer changes, and if an
--- identifier has another length or the numbers of the faults do not fit, none of these is written.
+-- Calls that read an agent write nothing if they are refused. Nor does building write to the buffer; and if
+-- an identifier has another length or the numbers of the faults do not fit, none of these is written.
 pub record AreSpared : Type 0 where
   pub neighbor_counts : (before after : LldpaAgent) (port count_before answer count : ℕ) →
       ReadsNeighborCount before port count_before answer after count → SparesNoPort before port count_before answer after count
@@ -75,15 +74,20 @@ pub record AreSpared : Type 0 where
   pub due : (before after : LldpaAgent) (seconds_before answer seconds : ℕ) →
       ReadsDue before seconds_before answer after seconds → SparesClosed before seconds_before answer after seconds
   pub neighbors : (before after : LldpaAgent) (port index answer : ℕ) (room_before room : List ℕ) (told_before told : LldpaHeld) →
-      ReadsNeighbor before port index room_before told_before answer after room told → IsClosed before ⊎ HasNoPort before port →
+      ReadsNeighbor before port index room_before told_before answer after room told →
+      IsClosed before ⊎ HasNoPort before port ⊎ (¬ (answer ≡ 0)) →
       (room ≡ room_before) × (told ≡ told_before)
   pub aged : (before after : LldpaAgent) (port index answer : ℕ) (room_before room : List ℕ) (told_before told : LldpaHeld) →
-      ReadsAged before port index room_before told_before answer after room told → IsClosed before ⊎ HasNoPort before port →
+      ReadsAged before port index room_before told_before answer after room told →
+      IsClosed before ⊎ HasNoPort before port ⊎ (¬ (answer ≡ 0)) →
       (room ≡ room_before) × (told ≡ told_before)
   pub building : (chassis port faults_before faults room_before room : List ℕ) (ttl written_before answer written : ℕ) (tlvs : List LldpaTlv) →
       Builds chassis port ttl tlvs faults_before room_before written_before answer faults room written →
       IsNoIdentifier chassis ⊎ IsNoIdentifier port ⊎ (length faults_before < length tlvs) →
       (faults ≡ faults_before) × (room ≡ room_before) × (written ≡ written_before)
+  pub built : (chassis port faults_before faults room_before room : List ℕ) (ttl written_before answer written : ℕ) (tlvs : List LldpaTlv) →
+      Builds chassis port ttl tlvs faults_before room_before written_before answer faults room written → ¬ (answer ≡ 0) →
+      (room ≡ room_before) × (written ≡ written_before)
 
 -- An End and a TTL have no text, nor have TLVs of types from 128 on, or of more than 511 octets.
 pub record AreNotWritten : Type 0 where

@@ -34,15 +34,18 @@ module _ {A : Type 0} (IsRight : A → Type 0) (before after : LldpaAgent) (told
 
 module _ (before after : LldpaAgent) (port answer : ℕ) (room_before room : List ℕ) (told_before told : LldpaHeld) (found : Option Neighbor) where
   not_there : (b : Bool) → before.is_open ≡ b → ReadsFound (found_checks before port found (length room_before)) found before room_before told_before answer after room told
-      → IsClosed before ⊎ HasNoPort before port → (room ≡ room_before) × (told ≡ told_before)
+      → IsClosed before ⊎ HasNoPort before port ⊎ (¬ (answer ≡ 0)) → (room ≡ room_before) × (told ≡ told_before)
   not_there false is r wrong =
       let a : answer ≡ 102 = r.answer_is ∙ rw is refl in
       r.refused (λ z. absurd (omega (arith, a, z)))
   not_there true is r wrong = elim wrong [
     | inl closed ↦ absurd cc (closed, is)
-    | inr past ↦
-        let a : answer ≡ 103 = r.answer_is ∙ rw (is, le-ltb port (length before.held.agent.ports) past) refl in
-        r.refused (λ z. absurd (omega (arith, a, z)))
+    | inr others ↦ elim others [
+      | inl past ↦
+          let a : answer ≡ 103 = r.answer_is ∙ rw (is, le-ltb port (length before.held.agent.ports) past) refl in
+          r.refused (λ z. absurd (omega (arith, a, z)))
+      | inr refused ↦ r.refused refused
+    ]
   ]
 
 -- ---- building
@@ -87,4 +90,5 @@ returns c = record {
       not_there before after port answer room_before room told_before told _ _ refl r wrong;
   building = λ chassis port faults_before faults room_before room ttl written_before answer written tlvs b wrong.
       unbuilt chassis port faults_before faults room_before room ttl written_before answer written tlvs b wrong;
+  built = λ chassis port faults_before faults room_before room ttl written_before answer written tlvs b refused. b.refused refused;
 }

@@ -1,4 +1,4 @@
-use Rattle.std.proofs.Common.{◌≡◌, false, List, [], ◌∷◌, slice_get, refl, ap, arith}
+use Rattle.std.proofs.Common.{false, List, [], ◌∷◌, slice_get, refl, ap, arith}
 use Rattle.lldp_pdu.specs.Tlv.{TlvUnit}
 use Rattle.lldp_pdu.proofs.Cuts.{AreOctets-from_index}
 use Rattle.lldpa_c.proofs.Walking.{begins_whole}

@@ -1,4 +1,4 @@
-use Rattle.std.proofs.Common.{◌≡◌, length, slice_get}
+use Rattle.std.proofs.Common.{◌≡◌, slice_get}
 use Rattle.lldp_pdu.specs.Kept.{kept_of}
 use Rattle.lldpa_c.specs.Walk.{left_of}
 use Rattle.lldpa_c.proofs.callers.reading.kept_at.Given as goal
