@@ -196,8 +196,9 @@ check_control() {
     judge $? "/etc/default/lldpa is a conffile of the package, so an upgrade could ask about it"
     [ "$(field lldpa Version | sed 's/-[0-9]*$//')" = "$version" ]
     judge $? "debian/changelog has another version than CHANGELOG.md"
-    dpkg-deb --info "$room"/packages/liblldpa1_*.deb symbols | sed -n 's/^ \(lldpa_.*\)@\(LLDPA_[0-9]*\) .*/function \1 \2/p' > "$room/said"
-    ! sed -n '/^function /p' tools/library/abi/*.txt | grep -vxF -f "$room/said"
+    dpkg-deb --info "$room"/packages/liblldpa1_*.deb symbols | sed -n 's/^ \(lldpa_.*\)@LLDPA_[0-9]* .*/\1/p' > "$room/said"
+    sed -n 's/^[a-z0-9_]* \(lldpa_[a-z_]*\)(.*/\1/p' tools/library/abi/*.h | sort -u > "$room/released"
+    [ -s "$room/released" ] && ! grep -vxF -f "$room/said" "$room/released"
     judge $? "liblldpa1 lacks symbols of a release in tools/library/abi"
     dpkg-deb --info "$room"/packages/liblldpa1_*.deb shlibs | grep -q '^liblldpa 1 liblldpa1 '
     judge $? "the shlibs file of liblldpa1 does not have the name of the package"

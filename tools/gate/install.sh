@@ -29,7 +29,6 @@ python3-pytest-xdist      pytest:xdist          tests in Python
 python3-pytest-timeout    pytest:timeout        tests in Python
 python3-pytest-rerunfailures  pytest:rerunfailures  tests in Python
 bindgen                   bindgen               the declarations of the crate for Rust
-dwarves                   pahole                the binary interface of the library
 iproute2                  ip                    lldpa-live on links, and what else needs links
 util-linux                unshare               the same
 e2fsprogs                 mkfs.ext4             disks that are full, or that stand still

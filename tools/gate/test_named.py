@@ -7,7 +7,6 @@ import pytest
 TOP = pathlib.Path(__file__).resolve().parents[2]
 LINES = [line for line in (TOP / "tools/named.txt").read_text().splitlines() if line and not line.startswith("#")]
 KINDS = "transcript|counters|vector|test|shell|script"
-ROWS = {"build": "built", "machine": "machine", "open": "openings"}  # the test of lldp_tests that runs vectors
 
 
 def has(name, pattern):
