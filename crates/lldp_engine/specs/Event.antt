@@ -7,6 +7,7 @@ use Rattle.lldp_engine.specs.declared.agent.event.Event.TheVariants.{Tick, Frame
 use Rattle.lldp_engine.specs.declared.agent.event.Setting.{Setting as CodeSetting}
 use Rattle.lldp_engine.specs.declared.agent.event.Setting.TheVariants as variant
 use Rattle.lldp_engine.specs.declared.port.status.Status.{Status}
+use Rattle.lldp_engine.specs.Ranges.{most_interval, most_hold}
 
 -- The changes that a command can make.
 pub data Setting : Type 0 where
@@ -22,8 +23,8 @@ pub data Setting : Type 0 where
 abbrev pub IsInRange : Setting → Type 0
 IsInRange (hostname text) = is_text text ≡ true
 IsInRange (description text) = is_text text ≡ true
-IsInRange (interval seconds) = (1 ≤ seconds) × (seconds ≤ 3600)
-IsInRange (hold times) = (1 ≤ times) × (times ≤ 100)
+IsInRange (interval seconds) = (1 ≤ seconds) × (seconds ≤ most_interval)
+IsInRange (hold times) = (1 ≤ times) × (times ≤ most_hold)
 IsInRange setting = Unit {0}
 
 -- A second has passed; a port received octets; the link of a port came up or went down; a command

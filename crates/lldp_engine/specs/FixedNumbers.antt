@@ -1,5 +1,5 @@
 -- Fixed numbers: the ends of ranges, the sizes of lines and writers, the numbers of faults.
-use Rattle.std.specs.Prelude.{◌≡◌, ℕ, ◌<◌, ◌↔◌, [], ◌∷◌, map}
+use Rattle.std.specs.Prelude.{◌≡◌, ℕ, ◌+◌, ◌<◌, ◌↔◌, [], ◌∷◌, map}
 use Rattle.lldp_transmit.specs.declared.limits.TheConstants.{MOST_CREDIT, MOST_FAST, MOST_REINIT}
 use Rattle.lldp_engine.specs.declared.agent.options.TheConstants.{MOST_NEIGHBORS}
 use Rattle.lldp_engine.specs.declared.agent.event.TheConstants.{MOST_INTERVAL, MOST_HOLD}
@@ -9,6 +9,7 @@ use Rattle.lldp_engine.specs.declared.agent.open_fault.OpenFault.{OpenFault}
 use Rattle.lldp_engine.specs.declared.agent.open_fault.OpenFault.TheVariants as refusal
 use Rattle.lldp_engine.specs.Event.{interval, hold}
 use Rattle.lldp_engine.specs.AgentState.{AgentState, AllowsSetting}
+use Rattle.lldp_engine.specs.Ranges.{most_interval, most_hold}
 
 -- Returns the number of a fault at opening.
 abbrev pub number_of_refusal : OpenFault → ℕ
@@ -25,15 +26,15 @@ pub record AreConstants : Type 0 where
   pub credit : MOST_CREDIT ≡ 10
   pub fast : MOST_FAST ≡ 8
   pub wait : MOST_REINIT ≡ 10
-  pub interval : MOST_INTERVAL ≡ 3600
-  pub hold : MOST_HOLD ≡ 100
+  pub interval : MOST_INTERVAL ≡ most_interval
+  pub hold : MOST_HOLD ≡ most_hold
   pub lines : MOST_LINES ≡ 6127808
   pub line : LINE_ROOM ≡ 2049
   pub room : ROOM ≡ 8192
   pub refusals : map number_of_refusal (refusal.Memory ∷ refusal.NoPorts ∷ refusal.TooManyPorts ∷ refusal.PortName ∷ refusal.SamePort ∷ refusal.Text ∷ [])
       ≡ 1 ∷ 2 ∷ 3 ∷ 4 ∷ 5 ∷ 6 ∷ []
 
--- Commands may set a tx-interval from 1 to 3600 and a tx-hold from 1 to 100, and no others.
+-- Commands may set each tx-interval and each tx-hold from 1 on, up to the greatest, and no others.
 pub record MaySet (agent : AgentState) (n : ℕ) : Type 0 where
-  pub interval : AllowsSetting agent (interval n) ↔ ((0 < n) × (n < 3601))
-  pub hold : AllowsSetting agent (hold n) ↔ ((0 < n) × (n < 101))
+  pub interval : AllowsSetting agent (interval n) ↔ ((0 < n) × (n < most_interval + 1))
+  pub hold : AllowsSetting agent (hold n) ↔ ((0 < n) × (n < most_hold + 1))

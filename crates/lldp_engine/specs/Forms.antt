@@ -12,6 +12,7 @@ use Rattle.lldp_engine.specs.Place.{place_of}
 use Rattle.lldp_engine.specs.Event.{hostname, description, interval, hold, limit, status as port_status, update}
 use Rattle.lldp_text.specs.Answer.{or_fault, on_ok}
 use Rattle.lldp_engine.specs.Command.{Command, show, set}
+use Rattle.lldp_engine.specs.Ranges.{most_interval, most_hold}
 
 -- The rest of a command: nothing; a fixed word and the rest after it; or an argument, on which the
 -- rest may depend.
@@ -35,9 +36,9 @@ forms capacity =
     ∷ word (codes "configure")
     (word (codes "system") (word (codes "description") (text (λ t. complete (set (description t))))))
     ∷ word (codes "configure")
-    (word (codes "lldp") (word (codes "tx-interval") (number 1 3600 (λ n. complete (set (interval n))))))
+    (word (codes "lldp") (word (codes "tx-interval") (number 1 most_interval (λ n. complete (set (interval n))))))
     ∷ word (codes "configure")
-    (word (codes "lldp") (word (codes "tx-hold") (number 1 100 (λ n. complete (set (hold n))))))
+    (word (codes "lldp") (word (codes "tx-hold") (number 1 most_hold (λ n. complete (set (hold n))))))
     ∷ word (codes "configure")
     (word (codes "lldp") (word (codes "max-neighbors") (number 1 capacity (λ n. complete (set (limit n))))))
     ∷ word (codes "configure")

@@ -1,5 +1,6 @@
 pub mod Options
 pub mod Status
+pub mod Ranges
 pub mod Event
 pub mod Configuration
 pub mod Heard

@@ -80,7 +80,7 @@ impl Transmit {
         Some(Transmit { parts: *parts })
     }
 
-    /// Applies one event, with the tx-interval in force after it (1 to 3600 seconds), and returns
+    /// Applies one event, with the tx-interval in force after it (in seconds, from 1 on), and returns
     /// which frame is sent. The machine then represents its history with the event.
     ///
     /// Ordinary exactly if a frame is due and the window is open: the port is active, some signal

@@ -10,6 +10,7 @@ use Rattle.lldp_transmit.specs.Positions.{IsDueAndOpen, StopsAt}
 use Rattle.lldp_transmit.specs.Standing.{Stands, ForEachHistory}
 use Rattle.lldp_transmit.specs.Windows.{IsBoundedWith, StopsRarelyWith, IsEarliestWith}
 use Rattle.lldp_transmit.specs.Code.Machine.{Machine, stepped}
+use Rattle.lldp_engine.specs.Ranges.{most_interval}
 
 -- the cause with this number, if there is one
 abbrev pub cause_numbered : ℕ → Option Cause
@@ -30,11 +31,11 @@ mark_number Quiet = 0
 mark_number Ordinary = 1
 mark_number Shutdown = 2
 
--- the machine's credit is at most its credit_max, and the tx-interval is 1 to 3600 seconds
+-- the machine's credit is at most its credit_max, and the tx-interval is in its range
 pub record CanTake (machine : Machine) (interval : ℕ) : Type 0 where
   pub credit : machine.credit ≤ machine.credit_max
   pub least : 1 ≤ interval
-  pub most : interval ≤ 3600
+  pub most : interval ≤ most_interval
 
 -- The contract of an event: it changes machine `t` to `after`, and `answer` is the frame to send.
 pub record Takes (t : Machine) (cause : Cause) (interval : ℕ) (after : Machine) (answer : Mark) : Type 0 where

@@ -5,13 +5,12 @@ ghost use Rattle.lldp_transmit.specs.declared.event.Mark.{Mark};
 ghost use Rattle.lldp_transmit.specs.History.{settings};
 ghost use Rattle.lldp_transmit.specs.Standing.{AreSettings, Stands};
 ghost use Rattle.lldp_transmit.specs.Code.Machine.{opened};
+ghost use Rattle.lldp_engine.specs.Ranges.{most_interval};
 ghost use Rattle.lldpa_c.specs.Machine.{cause_numbered, mark_number, CanTake, Takes};
 
 use crate::answer::{OK, OUT_OF_RANGE};
+use lldp_engine::MOST_INTERVAL;
 use lldp_transmit::{Cause, MOST_CREDIT, MOST_FAST, MOST_REINIT, Mark, Parts, Transmit};
-
-/// The greatest tx-interval, in seconds.
-const MOST_INTERVAL: u32 = 3600;
 
 /// Returns the cause with this number, if there is one.
 fn cause_numbered(number: u32) -> Option<Cause>
@@ -84,7 +83,7 @@ pub extern "C" fn lldpa_transmit_event(
     interval: u32,
     mark: &mut u8,
 ) -> u8
-    ensures taken { machine.old.credit ≤ machine.old.credit_max → 1 ≤ interval → interval ≤ 3600 →
+    ensures taken { machine.old.credit ≤ machine.old.credit_max → 1 ≤ interval → interval ≤ most_interval →
         IsSome (cause_numbered cause) → result ≡ 0 }
     ensures step { result ≡ 0 → (c : Cause) × (m : Mark) × (cause_numbered cause ≡ Some c)
         × (mark.new ≡ mark_number m)
@@ -96,7 +95,7 @@ pub extern "C" fn lldpa_transmit_event(
     let Some(cause) = cause_numbered(cause) else {
         return OUT_OF_RANGE;
     };
-    if interval < 1 || interval > MOST_INTERVAL {
+    if interval < 1 || interval > u32::from(MOST_INTERVAL) {
         return OUT_OF_RANGE;
     }
     let Some(mut transmit) = Transmit::of_parts(machine) else {

@@ -39,6 +39,7 @@ use Rattle.lldp_engine.specs.Laws.Calls.{set_by, comes_to, words_for, Holds, IsO
 use Rattle.lldp_engine.proofs.ForLaws.InUse.{limit_allowed}
 use Rattle.lldp_engine.proofs.ForLaws.Places.{place_is_first}
 use Rattle.lldp_engine.proofs.ForLaws.OnlyForms.{only_its_words, only_said}
+use Rattle.lldp_engine.specs.Ranges.{most_interval, most_hold}
 
 -- ## Events
 
@@ -90,8 +91,8 @@ number_within word least greatest n e = number_by word least greatest n _ refl e
 is_allowed : (agent : AgentState) (words : List (List ℕ)) (given : Setting) → AreWordsOf agent (command_of (command.Set given)) words → IsNotInUse agent (command_of (command.Set given)) → Allows agent (event_of (Set given))
 is_allowed agent words (setting.Hostname text) h u = h.0
 is_allowed agent words (setting.Description text) h u = h.0
-is_allowed agent words (setting.Interval n) h u = number_within h.0 1 3600 n h.1
-is_allowed agent words (setting.Hold n) h u = number_within h.0 1 100 n h.1
+is_allowed agent words (setting.Interval n) h u = number_within h.0 1 most_interval n h.1
+is_allowed agent words (setting.Hold n) h u = number_within h.0 1 most_hold n h.1
 is_allowed agent words (setting.Limit n) h u = let w = number_within h.0 1 agent.configuration.capacity n h.1 in limit_allowed agent n (w.0, w.1, u)
 is_allowed agent words (setting.Status port given) h u =
     let first = place_is_first (names_of agent) h.0 port h.1 in

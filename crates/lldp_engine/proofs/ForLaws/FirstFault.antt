@@ -24,6 +24,7 @@ use Rattle.lldp_engine.specs.Given.{said_by}
 use Rattle.lldp_engine.specs.Laws.OnlyForms.{AreWordsOf, word_of}
 use Rattle.lldp_engine.specs.Laws.FirstFault.{choices, choices_behind, WantsMore, TakesOnly, TellsFirstFault}
 use Rattle.lldp_engine.proofs.ForLaws.OnlyForms.{one_left, status_form, own_word_read, read_by_word}
+use Rattle.lldp_engine.specs.Ranges.{most_interval, most_hold}
 
 -- True if each of these forms begins with a fixed word from this list.
 abbrev take_only : List (List ℕ) → List Form → Bool
@@ -109,8 +110,8 @@ module _ (agent : AgentState) (w : List ℕ) (behind : List (List ℕ)) where
   extra_words (show Neighbors) words e = ap (λ ws. said_by agent (ws ++ w ∷ behind)) e
   extra_words (set (hostname t)) words (is, e) = ap (λ ws. said_by agent (ws ++ w ∷ behind)) e ∙ text_extra names w behind (is_text t) (set (hostname t)) is
   extra_words (set (description t)) words (is, e) = ap (λ ws. said_by agent (ws ++ w ∷ behind)) e ∙ text_extra names w behind (is_text t) (set (description t)) is
-  extra_words (set (interval n)) words (v, is, e) = ap (λ ws. said_by agent (ws ++ w ∷ behind)) e ∙ made_extra names w behind (number_of v 1 3600) (λ n. set (interval n)) n is
-  extra_words (set (hold n)) words (v, is, e) = ap (λ ws. said_by agent (ws ++ w ∷ behind)) e ∙ made_extra names w behind (number_of v 1 100) (λ n. set (hold n)) n is
+  extra_words (set (interval n)) words (v, is, e) = ap (λ ws. said_by agent (ws ++ w ∷ behind)) e ∙ made_extra names w behind (number_of v 1 most_interval) (λ n. set (interval n)) n is
+  extra_words (set (hold n)) words (v, is, e) = ap (λ ws. said_by agent (ws ++ w ∷ behind)) e ∙ made_extra names w behind (number_of v 1 most_hold) (λ n. set (hold n)) n is
   extra_words (set (limit n)) words (v, is, e) = ap (λ ws. said_by agent (ws ++ w ∷ behind)) e ∙ made_extra names w behind (number_of v 1 agent.configuration.capacity) (λ n. set (limit n)) n is
   extra_words (set (set_status port given)) words (name, at, e) =
       ap (λ ws. said_by agent (ws ++ w ∷ behind)) e
@@ -158,8 +159,8 @@ tells_first agent w behind =
       fixed_behind = behind_port agent w behind;
       hostname = text_fault (names_of agent) w behind (is_text w) (set (hostname w));
       description = text_fault (names_of agent) w behind (is_text w) (set (description w));
-      interval = λ fault e. made_fault (names_of agent) w behind (number_of w 1 3600) (λ n. complete (set (interval n))) fault e;
-      hold = λ fault e. made_fault (names_of agent) w behind (number_of w 1 100) (λ n. complete (set (hold n))) fault e;
+      interval = λ fault e. made_fault (names_of agent) w behind (number_of w 1 most_interval) (λ n. complete (set (interval n))) fault e;
+      hold = λ fault e. made_fault (names_of agent) w behind (number_of w 1 most_hold) (λ n. complete (set (hold n))) fault e;
       limit = λ fault e. made_fault (names_of agent) w behind (number_of w 1 agent.configuration.capacity) (λ n. complete (set (limit n))) fault e;
       port = λ e. ap (λ place. with_port agent w behind place behind) e;
       extra = extra_words agent w behind;

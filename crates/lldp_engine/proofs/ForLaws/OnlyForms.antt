@@ -21,6 +21,7 @@ use Rattle.lldp_engine.specs.Given.{said_by, unless_in_use, command_said, comman
 use Rattle.lldp_text.specs.Words.{words_of}
 use Rattle.lldp_engine.specs.Laws.OnlyForms.{AreWordsOf, IsNotInUse, IsLineOf, word_of}
 use Rattle.lldp_engine.proofs.ForLaws.InUse.{held_decided}
+use Rattle.lldp_engine.specs.Ranges.{most_interval, most_hold}
 
 -- ## When one form is left
 
@@ -185,8 +186,8 @@ module _ (agent : AgentState) where
   its_words_say_it (show Neighbors) words e = ap (said_by agent) e
   its_words_say_it (set (hostname t)) words (is, e) = ap (said_by agent) e ∙ text_said names (is_text t) (set (hostname t)) is
   its_words_say_it (set (description t)) words (is, e) = ap (said_by agent) e ∙ text_said names (is_text t) (set (description t)) is
-  its_words_say_it (set (interval n)) words (w, is, e) = ap (said_by agent) e ∙ made_said names (number_of w 1 3600) (λ n. set (interval n)) n is
-  its_words_say_it (set (hold n)) words (w, is, e) = ap (said_by agent) e ∙ made_said names (number_of w 1 100) (λ n. set (hold n)) n is
+  its_words_say_it (set (interval n)) words (w, is, e) = ap (said_by agent) e ∙ made_said names (number_of w 1 most_interval) (λ n. set (interval n)) n is
+  its_words_say_it (set (hold n)) words (w, is, e) = ap (said_by agent) e ∙ made_said names (number_of w 1 most_hold) (λ n. set (hold n)) n is
   its_words_say_it (set (limit n)) words (w, is, e) = ap (said_by agent) e ∙ made_said names (number_of w 1 agent.configuration.capacity) (λ n. set (limit n)) n is
   its_words_say_it (set (set_status p given)) words (name, at, e) =
       ap (said_by agent) e

@@ -11,6 +11,7 @@ use Rattle.lldp_engine.specs.AgentState.{AgentState, names_of}
 use Rattle.lldp_engine.specs.Command.{Command}
 use Rattle.lldp_engine.specs.Given.{said_by}
 use Rattle.lldp_engine.specs.Laws.OnlyForms.{AreWordsOf, word_of}
+use Rattle.lldp_engine.specs.Ranges.{most_interval, most_hold}
 
 -- The first words of commands, and the fixed words that may follow them.
 abbrev pub Choice : Type 0
@@ -62,9 +63,9 @@ pub record TellsFirstFault (agent : AgentState) (word : List ℕ) (behind : List
       said_by agent (codes "configure" ∷ codes "system" ∷ codes "hostname" ∷ word ∷ behind) ≡ Err Text
   pub description : is_text word ≡ false →
       said_by agent (codes "configure" ∷ codes "system" ∷ codes "description" ∷ word ∷ behind) ≡ Err Text
-  pub interval : (fault : CommandFault) → number_of word 1 3600 ≡ Err fault →
+  pub interval : (fault : CommandFault) → number_of word 1 most_interval ≡ Err fault →
       said_by agent (codes "configure" ∷ codes "lldp" ∷ codes "tx-interval" ∷ word ∷ behind) ≡ Err fault
-  pub hold : (fault : CommandFault) → number_of word 1 100 ≡ Err fault →
+  pub hold : (fault : CommandFault) → number_of word 1 most_hold ≡ Err fault →
       said_by agent (codes "configure" ∷ codes "lldp" ∷ codes "tx-hold" ∷ word ∷ behind) ≡ Err fault
   pub limit : (fault : CommandFault) → number_of word 1 agent.configuration.capacity ≡ Err fault →
       said_by agent (codes "configure" ∷ codes "lldp" ∷ codes "max-neighbors" ∷ word ∷ behind) ≡ Err fault

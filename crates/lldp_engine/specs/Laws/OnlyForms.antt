@@ -11,6 +11,7 @@ use Rattle.lldp_engine.specs.AgentState.{AgentState, names_of}
 use Rattle.lldp_engine.specs.Command.{Command, show, set}
 use Rattle.lldp_engine.specs.Laws.InUse.{HoldAtMost}
 use Rattle.lldp_text.specs.Words.{words_of}
+use Rattle.lldp_engine.specs.Ranges.{most_interval, most_hold}
 
 -- Returns the word of a status.
 abbrev pub word_of : Status → List ℕ
@@ -31,9 +32,9 @@ AreWordsOf agent (set (hostname text)) words =
 AreWordsOf agent (set (description text)) words =
     (is_text text ≡ true) × (words ≡ codes "configure" ∷ codes "system" ∷ codes "description" ∷ text ∷ [])
 AreWordsOf agent (set (interval n)) words =
-    (word : List ℕ) × (number_of word 1 3600 ≡ Ok n) × (words ≡ codes "configure" ∷ codes "lldp" ∷ codes "tx-interval" ∷ word ∷ [])
+    (word : List ℕ) × (number_of word 1 most_interval ≡ Ok n) × (words ≡ codes "configure" ∷ codes "lldp" ∷ codes "tx-interval" ∷ word ∷ [])
 AreWordsOf agent (set (hold n)) words =
-    (word : List ℕ) × (number_of word 1 100 ≡ Ok n) × (words ≡ codes "configure" ∷ codes "lldp" ∷ codes "tx-hold" ∷ word ∷ [])
+    (word : List ℕ) × (number_of word 1 most_hold ≡ Ok n) × (words ≡ codes "configure" ∷ codes "lldp" ∷ codes "tx-hold" ∷ word ∷ [])
 AreWordsOf agent (set (limit n)) words =
     (word : List ℕ) × (number_of word 1 agent.configuration.capacity ≡ Ok n)
     × (words ≡ codes "configure" ∷ codes "lldp" ∷ codes "max-neighbors" ∷ word ∷ [])

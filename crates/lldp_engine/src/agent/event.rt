@@ -21,9 +21,9 @@ pub enum Setting<'a> {
     Hostname(&'a [u8]),
     /// The system description: at most 255 printable octets.
     Description(&'a [u8]),
-    /// The tx-interval in seconds, 1 to 3600.
+    /// The tx-interval in seconds, 1 to `MOST_INTERVAL`.
     Interval(u16),
-    /// The tx-hold, 1 to 100.
+    /// The tx-hold, 1 to `MOST_HOLD`.
     Hold(u8),
     /// How many neighbors each port may hold, 1 to the number given at opening.
     Limit(u8),

@@ -8,13 +8,14 @@ use Rattle.lldp_transmit.specs.Positions.{IsDueAndOpen, StopsAt}
 use Rattle.lldp_transmit.specs.Standing.{Stands}
 use Rattle.lldp_transmit.specs.Code.Machine.{Machine}
 use Rattle.lldpa_c.specs.Machine.{CanTake, Takes}
+use Rattle.lldp_engine.specs.Ranges.{most_interval}
 
--- A machine takes an event exactly if its credit is not above its most, with a tx-interval from 1 to
--- 3600. It then stands for the event too, and the mark is that of the event in each history.
+-- A machine takes an event exactly if its credit is not above its most, with a tx-interval from 1 to the
+-- greatest. It then stands for the event too, and the mark is that of the event in each history.
 pub record AreTaken : Type 0 where
   pub least : (machine : Machine) → ¬ (CanTake machine 0)
-  pub most : (machine : Machine) (n : ℕ) → ¬ (CanTake machine (3601 + n))
-  pub can : (machine : Machine) (interval : ℕ) → machine.credit ≤ machine.credit_max → 0 < interval → interval < 3601 →
+  pub most : (machine : Machine) (n : ℕ) → ¬ (CanTake machine (most_interval + 1 + n))
+  pub can : (machine : Machine) (interval : ℕ) → machine.credit ≤ machine.credit_max → 0 < interval → interval < most_interval + 1 →
       CanTake machine interval
   pub credit : (machine : Machine) (interval : ℕ) → machine.credit_max < machine.credit → ¬ (CanTake machine interval)
   pub marks : (t after : Machine) (cause : Cause) (interval : ℕ) (mark : Mark) (s : Settings) (h : History) →

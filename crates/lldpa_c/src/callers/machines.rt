@@ -6,6 +6,7 @@ ghost use Rattle.lldp_transmit.specs.History.{settings, event};
 ghost use Rattle.lldp_transmit.specs.Moments.{mark_at};
 ghost use Rattle.lldp_transmit.specs.Standing.{AreSettings, Stands as MachineStands, ForEachHistory};
 ghost use Rattle.lldp_transmit.specs.declared.event.Mark.{Mark};
+ghost use Rattle.lldp_engine.specs.Ranges.{most_interval};
 
 use crate::machine::{lldpa_transmit_event, lldpa_transmit_new};
 use lldp_transmit::{Cause, Mark, Parts};
@@ -23,7 +24,7 @@ fn machine(made: &mut Parts, credit_max: u32, fast_init: u32, reinit: u32, allow
 /// Applies an event to a machine, as `event` of lldp_transmit does.
 fn happens(machine: &mut Parts, cause: Cause, interval: u16) -> Mark
     requires credit { machine.old.credit ≤ machine.old.credit_max }
-    requires interval { (1 ≤ interval) × (interval ≤ 3600) }
+    requires interval { (1 ≤ interval) × (interval ≤ most_interval) }
     ensures next { machine.new ≡ (stepped machine.old cause interval).0 }
     ensures answer { result ≡ (stepped machine.old cause interval).1 }
     ensures stands { ForEachHistory machine.old (λ s past. MachineStands s (event cause interval ∷ past) machine.new) }
@@ -53,7 +54,7 @@ fn happens(machine: &mut Parts, cause: Cause, interval: u16) -> Mark
 /// Passes an event with any numbers to a machine.
 fn event(machine: &mut Parts, cause: u32, interval: u32, mark: &mut u8) -> u8
     ensures cause { 8 ≤ cause → (result ≡ 100) × (machine.new ≡ machine.old) × (mark.new ≡ mark.old) }
-    ensures interval { (interval ≡ 0) ⊎ (3600 < interval) → (result ≡ 100) × (machine.new ≡ machine.old) × (mark.new ≡ mark.old) }
+    ensures interval { (interval ≡ 0) ⊎ (most_interval < interval) → (result ≡ 100) × (machine.new ≡ machine.old) × (mark.new ≡ mark.old) }
     ensures credit { machine.old.credit_max < machine.old.credit → (result ≡ 100) × (machine.new ≡ machine.old) × (mark.new ≡ mark.old) }
 {
     lldpa_transmit_event(machine, cause, interval, mark)
