@@ -122,7 +122,8 @@ package: $(served)
 release-check: package                            ## before a release, and each night
 	$(PYTEST) -k packages tools/library/test_arm64.py
 	$(with) root /usr/bin/cargo xz-utils unshare locales dpkg-dev debhelper dh-python -- tools/gate/check-dist.sh
-	tools/by-hand/try-package.sh
+	$(with) root debootstrap network -- tools/gate/check-debian.sh bookworm trixie
+	$(with) root systemd-container debootstrap booted-systemd network -- tools/by-hand/try-package.sh
 
 beside: check proofs wrong-bodies crates library live audit package
 gate:                                             ## everything that a merge needs

@@ -104,7 +104,7 @@ class TestUnit(Installed):
         """Status 2 is for wrong options, which another start would not mend."""
         self.addCleanup(self.options.write_text, self.given)
         self.options.write_text(self.given.replace('LIVE_OPTIONS="', 'LIVE_OPTIONS="--no-such '))
-        self.host.run("systemctl", "restart", "lldpa")
+        self.assertNotEqual(self.host.run("systemctl", "restart", "lldpa").returncode, 0)
         self.assertTrue(eventually(lambda: self.host.show("lldpa", "ActiveState") == "failed"),
                         self.host.run("systemctl", "status", "lldpa").stdout)
         self.assertEqual([self.host.show("lldpa", name) for name in ("ExecMainStatus", "NRestarts")], ["2", "0"])
