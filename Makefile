@@ -119,13 +119,12 @@ wrong-bodies: $(program) $(library)               ## the prover refuses each wro
 
 package: $(served)
 	$(with) cargo binutils dpkg-dev debhelper dh-python lintian pkgconf unshare python3-pytest -- tools/gate/check-package.sh $(program)
-release-check: package                            ## before a release, and each night
+release-check: package                            ## before a release, and after a change of what it is made of
 	$(PYTEST) -k packages tools/library/test_arm64.py
 	$(with) root /usr/bin/cargo xz-utils unshare locales dpkg-dev debhelper dh-python -- tools/gate/check-dist.sh
 	$(with) root debootstrap network -- tools/gate/check-debian.sh bookworm trixie
-	$(with) root systemd-container debootstrap booted-systemd network -- tools/by-hand/try-package.sh
 
-beside: check proofs wrong-bodies crates library live audit package
+beside: check proofs wrong-bodies crates library live audit
 gate:                                             ## everything that a merge needs
 	+$(MAKE) -j$(N) -k beside
 	cmp $(program) out/ci/$(program)
