@@ -7,8 +7,8 @@ from .plan import Faults
 
 
 class Devices:
-    """The devices of a plan by their names. A neighbor announces a name alone, so a name that stands
-    for two devices is a fault of the plan."""
+    """The devices of a plan by their names. A neighbor announces a name alone, so a name that
+    stands for two devices is a fault of the plan."""
 
     def __init__(self, names: Names, faults: Faults) -> None:
         self.key = names.whole_host
