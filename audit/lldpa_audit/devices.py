@@ -30,7 +30,7 @@ class Devices:
             self._faults.add(line, f"{shown(host)} is a device of {shown(device[1])}, and in line "
                                    f"{first} one of {shown(before[1])}: select one with --site"
                              if line else f"{shown(host)} stands for the devices {before[0]} and "
-                                          f"{device[0]}: ask NetBox for one site, with &site=NAME")
+                                          f"{device[0]}: ask NetBox for one site, with &site=SLUG")
         return before == device
 
 
