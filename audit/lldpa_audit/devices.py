@@ -7,8 +7,8 @@ from .plan import Faults
 
 
 class Devices:
-    """The devices of a plan by their names. A neighbor announces a name alone, so a name that stands
-    for two devices is a fault of the plan."""
+    """The devices of a plan by their names. A neighbor announces a name alone, so a name that
+    stands for two devices is a fault of the plan."""
 
     def __init__(self, names: Names, faults: Faults) -> None:
         self.key = names.whole_host
@@ -30,7 +30,7 @@ class Devices:
             self._faults.add(line, f"{shown(host)} is a device of {shown(device[1])}, and in line "
                                    f"{first} one of {shown(before[1])}: select one with --site"
                              if line else f"{shown(host)} stands for the devices {before[0]} and "
-                                          f"{device[0]}: ask NetBox for one site, with &site=NAME")
+                                          f"{device[0]}: ask NetBox for one site, with &site=SLUG")
         return before == device
 
 

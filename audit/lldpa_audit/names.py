@@ -58,7 +58,7 @@ NO_ALIASES = Aliases({}, {})
 
 class Names:
     """The rules for comparing names, which never change. Two names are the same if their normalized
-    forms are equal. `domains` has the domains of planned hosts by short names, if any. Of a neighbor's
+    forms are equal. `domains` has the domains of planned hosts by short names. Of a neighbor's
     names, the strongest one that is in `planned`, the normalized ends of the plan, counts: people
     write descriptions by hand, and an old name may stay as a chassis ID. Looser rules ask the
     rules `strict` for that."""

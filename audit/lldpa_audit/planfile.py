@@ -81,9 +81,9 @@ class PlanFile:
         here = {self._devices.key(end.host) for end, device in places if device[1] == self._site}
         if not here:
             sites = ", ".join(sorted({shown(device[1]) for _, device in places if device[1]}))
-            self.faults.add(None, f"it has no cable of the site {shown(self._site)}, only of {sites}"
-                            if sites else "it does not say the sites of devices, so --site cannot "
-                                          "be given")
+            self.faults.add(None, f"it has no cable of the site {shown(self._site)}, only of "
+                                  f"{sites}" if sites else
+                            "it does not say the sites of devices, so --site cannot be given")
         for cable in whole:
             at = () if isinstance(cable, str) else list(places_of(cable))
             away = [end for end, device in at if device[1] != self._site]
@@ -188,8 +188,8 @@ def notes_of_repeated(plan: Plan) -> list[str]:
 
 def notes_of_unclear(file: str, read: PlanFile) -> list[str]:
     """Returns a note for each reason for which cables cannot be judged."""
-    return [f"{file}: {len(some)} {'cable' if len(some) == 1 else 'cables'} cannot be judged, since "
-            f"{why}; the first ends are {', '.join(map(str, some[0][:MOST_NAMED]))}"
+    return [f"{file}: {len(some)} {'cable' if len(some) == 1 else 'cables'} cannot be judged, "
+            f"since {why}; the first ends are {', '.join(map(str, some[0][:MOST_NAMED]))}"
             for why, some in read.unclear.items()]
 
 

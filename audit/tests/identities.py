@@ -27,8 +27,8 @@ def of_the_api(*ids: int) -> str:
         "b_terminations": end(number + 1, "srv1", f"eth{at}")} for at, number in enumerate(ids)]})
 
 
-API = ["plan: leaf1 stands for the devices 7 and 9: ask NetBox for one site, with &site=NAME",
-       "plan: srv1 stands for the devices 8 and 10: ask NetBox for one site, with &site=NAME"]
+API = ["plan: leaf1 stands for the devices 7 and 9: ask NetBox for one site, with &site=SLUG",
+       "plan: srv1 stands for the devices 8 and 10: ask NetBox for one site, with &site=SLUG"]
 RIGHT = ["1 cable: 1 right, 0 wrong"]
 TO_SRV1 = {"leaf1": "swp1 srv1 eth0"}
 SITES_APART = (

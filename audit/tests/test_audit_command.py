@@ -11,6 +11,7 @@ import unittest
 from pathlib import Path
 from unittest import mock
 
+import made_captures
 import rack
 import vendors
 from auditing import (AUDIT, HEAD, WITH_AGENT, InAFolder, neighbor, run, run_whole,
@@ -209,6 +210,17 @@ class Captures(Audits):
                 if f"swp{at}" in heard else [] for at in range(1, ports + 1)}))
             count = len(heard)
             self.assertEqual(self.audit(path), (0, f"{count} cables: {count} right, 0 wrong\n", ""))
+
+    def test_interfaces_that_are_no_ethernet(self) -> None:
+        """Checks that nothing is known of them, and that they need no name."""
+        self.plan = self.file("two", f"{HEAD}leaf1,swp1,host01,eth0\nleaf1,swp2,host02,eth0\n")
+        octets = rack.pcapng({"swp1": [rack.lldp_frame("host01", "eth0")]})
+        for name in ("swp2", ""):
+            octets += made_captures.interface(name=name, link_type=113)
+        status, out, err = self.audit(self.file("c.pcapng", octets))
+        self.assertEqual((status, out.splitlines(), err), (3, [
+            "swp2  no data: wants host02 eth0",
+            "2 cables: 1 right, 0 wrong, 1 not looked at (host02)"], ""))
 
     def test_names(self) -> None:
         port = "TenGigabitEthernet1/0/1.100"

@@ -22,9 +22,9 @@ MOST_READ = 200  # octets, in which such a report begins so
 
 
 def junit_of(report: Report, is_partial: bool, damaged: Sequence[str]) -> Iterator[str]:
-    """Yields a JUnit report: a failure needs a repair, and an error new data. Ends that nobody looked
-    at are errors or, if the audit `is_partial`, skipped. `damaged` says what is wrong with
-    sources."""
+    """Yields a JUnit report: a failure needs a repair, and an error new data. Ends that nobody
+    looked at are errors or, if the audit `is_partial`, skipped. `damaged` says what is wrong
+    with sources."""
     unseen = "skipped" if is_partial else "error"
     not_judged = report.count.cables[NOT_JUDGED]
     counted = Counter(element_of(one, unseen) for one in report.findings)
@@ -52,8 +52,8 @@ def begin_of(file: str, counted: Mapping[str, int]) -> Iterator[str]:
 
 def case(end: End, element: str, text: str, by: str = "", file: str = "", line: Optional[int] = None
          ) -> str:
-    """Returns a test case, with an element that has this text unless all is right. If it is right by
-    weaker names, the output says so."""
+    """Returns a test case, with an element that has this text unless all is right. If it is right
+    by weaker names, the output says so."""
     inner = f"<{element} message={quoted(text)}/>" if element else (
         f"<system-out>right by {by}</system-out>" if by else "")
     place = (f" file={quoted(file)}" if file else "") + (f' line="{line}"' if line else "")
@@ -69,9 +69,9 @@ def case_of_fault(text: str) -> str:
 
 
 def write_failure(file: str, texts: Sequence[str]) -> None:
-    """Writes a JUnit report of an audit that failed, so that none of an earlier audit seems to be of
-    this one. Does not replace a file of another kind, since with wrong arguments it may be the
-    plan."""
+    """Writes a JUnit report of an audit that failed, so that none of an earlier audit seems to be
+    of this one. Does not replace a file of another kind, since with wrong arguments it may be
+    the plan."""
     with suppress(OSError):
         if file and (not os.path.isfile(file) or is_report(file)):
             write(file, [*begin_of(file, Counter(error=len(texts))),

@@ -23,7 +23,8 @@ MOST_UNPACKED = 1 << 27
 
 def read_captures(files: Sequence[str], port: str, program: str) -> Listing:
     """Returns the neighbors of a port from its captures or, if `port` is empty, of each interface
-    that the one capture names. Large captures get more time. Raises ValueError, OSError, and Ended if the agent ends."""
+    that the one capture names. Large captures get more time. Raises ValueError, OSError, and Ended
+    if the agent ends."""
     stats = [stat_of(file) for file in files]
     seconds = max(SECONDS, sum(one.st_size for one in stats) >> 21)
     try:

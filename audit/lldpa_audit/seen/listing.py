@@ -17,8 +17,9 @@ class Listing(NamedTuple):
     """The neighbors of ports. If `has_all_heard`, the host's other ports have no neighbor. If a
     file is of several hosts, `hosts` has a listing for each. If there are `faults`, nothing is
     known of the ports. `notes` says what was skipped. `time` is when the neighbors were seen, in
-    seconds since 1970; 0 if it is not said. `written` is the file's time. `source` is the host that was asked, if the file says it.
-    `reasons` says for a port why it has no data, though other ports have."""
+    seconds since 1970; 0 if it is not said. `written` is the file's time. `source` is the host
+    that was asked, if the file says it. `reasons` says for a port why it has no data, though
+    other ports have."""
 
     ports: Ports
     has_all_heard: bool
