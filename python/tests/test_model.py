@@ -1,20 +1,14 @@
 """Tests bin/lldpa-model, which shows neighbors where lldpa is not built."""
 
-import os
-import re
-import shutil
 import subprocess
 import unittest
 from typing import List
 
-from patience import HANGS
 from served import REPOSITORY
-from wires import Peer, Wires, inside
 
 MODEL = str(REPOSITORY / "bin" / "lldpa-model")
 SWITCH = bytes.fromhex("0180c200000e02005e00530288cc020704" "02005e005302" "040505" "73777031"
                        "06020078" "0a08" "7377697463682d32" "0000")
-README = REPOSITORY / "README.md"
 
 
 def told(words: List[str], trace: bytes = b"") -> "subprocess.CompletedProcess[bytes]":
@@ -50,32 +44,6 @@ class Model(unittest.TestCase):
         command = f"yes tick | head -n 50000 | {MODEL} eth0 | head -n 1"
         ended = subprocess.run(["sh", "-c", command], capture_output=True, check=True)
         self.assertEqual((len(ended.stdout.splitlines()), ended.stderr), (1, b""))
-
-
-@unittest.skipUnless(os.geteuid() == 0, "root: only root makes links")
-@unittest.skipUnless(shutil.which("ip"), "ip: it is not installed")
-@unittest.skipUnless(shutil.which("tcpdump"), "tcpdump: it is not installed")
-class OnALink(unittest.TestCase):
-    def shown(self) -> "list[str]":
-        """Runs README's command for a live link, and returns its lines after a frame has come."""
-        command = re.findall("^sudo (tcpdump .*)$", README.read_text(), re.M)
-        self.assertEqual(len(command), 1)
-        wires = Wires()
-        self.addCleanup(wires.close)
-        with inside(wires.here):
-            shell = subprocess.Popen(["sh", "-c", command[0]], cwd=REPOSITORY, text=True,
-                                     stdout=subprocess.PIPE, stderr=subprocess.PIPE)
-        assert shell.stderr is not None
-        self.assertIn("listening on eth0", shell.stderr.readline())
-        peer = Peer(wires, "peer0")
-        self.addCleanup(peer.close)
-        peer.send(SWITCH)
-        return shell.communicate(timeout=HANGS)[0].splitlines()
-
-    def test_shows_who_sends_on_a_live_link(self) -> None:
-        shown = self.shown()
-        self.assertIn("lldp.eth0.1.chassis.name=switch-2", shown)
-        self.assertIn("lldp.eth0.1.port.ifname=swp1", shown)
 
 
 if __name__ == "__main__":

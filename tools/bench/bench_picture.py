@@ -4,7 +4,7 @@ from __future__ import annotations
 import html
 from typing import Any
 
-LEFT, WIDEST, TOP, BAR, WIDTH = 300, 330, 66, 15, 940
+LEFT, WIDEST, TOP, BAR, WIDTH = 300, 330, 85, 15, 940
 # The names of the programs in the picture, in the order of a row's bars.
 NAMES = ["lldpa", "plain C", "C that checks nothing, with vector instructions"]
 FILLS = ["#3b7dd8", "#a9b4c2", "#d9b26f"]
@@ -39,8 +39,9 @@ def head(told: dict[str, Any], height: float) -> list[str]:
             'font-family="sans-serif" font-size="13">',
             '<rect width="100%" height="100%" fill="white"/>',
             '<text x="16" y="24" font-size="16">Processor time of the agent, beside C that does the same work</text>',
-            '<text x="16" y="44" fill="#555">shorter is better; plain C is 1 in each row; at the right, what the agent '
-            f'executes; on {html.escape(told["machine"])}</text>']
+            '<text x="16" y="44" fill="#555">shorter is better; plain C, which reads digit by digit, is 1 in each row; '
+            'at the right, what the agent executes</text>',
+            f'<text x="16" y="63" fill="#555">measured on {html.escape(told["machine"])}</text>']
 
 
 def picture(told: dict[str, Any]) -> str:
