@@ -12,7 +12,7 @@ def advice_on_panels(plan: Plan, tables: Tables, findings: Iterable[Finding]) ->
     firewall looks the same, so all its ends have their verdicts."""
     if not plan.is_untyped:
         return ()
-    wrong = [one for one in findings if one.verdict in (Verdict.WRONG, Verdict.SWAPPED)]
+    wrong = [one for one in findings if one.verdict is Verdict.WRONG]  # nobody swaps unheard ends
     panels = likely_panels(plan, tables, wrong) if wrong else ()
     some = first_of([plan.hosts[host] for host in panels])
     names = f"{some[0]} is a panel" if len(some) == 1 else f"{', '.join(some)} are panels"
