@@ -11,8 +11,7 @@ import time
 import rack
 from auditing import HEAD, InAFolder, run
 from patience import by_the_clock
-from running_live import is_built
-from served import REPOSITORY, Served
+from served import REPOSITORY, Served, is_built
 from support import AnsweringCase
 
 STARTS = "is lldpa-live running? (sudo systemctl start lldpa starts the service)"

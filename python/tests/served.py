@@ -20,6 +20,9 @@ from lldpa import Agent, Ended, Refused
 REPOSITORY = Path(__file__).resolve().parents[2]
 PROGRAM = os.environ.get("LLDPA") or str(REPOSITORY / "crates" / "lldpa" / "out" / "lldpa")
 BIN = REPOSITORY / "bin"
+LIVE = os.environ.get("LLDPA_LIVE") or str(REPOSITORY / "rust" / "live" / "out" / "lldpa-live")
+is_built = unittest.skipUnless(os.access(LIVE, os.X_OK),
+                               "cargo: tools/release/live.sh builds lldpa-live with it")
 os.environ["PATH"] = os.pathsep.join(  # lldpd's lldpcli comes before ours
     [os.path.dirname(PROGRAM), os.environ.get("PATH", os.defpath), str(BIN)])
 CTL = str(BIN / "lldpa-ctl")

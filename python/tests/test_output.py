@@ -7,8 +7,7 @@ from typing import Sequence, Tuple
 
 from made_captures import LLDP, pcap, whole
 from patience import HANGS
-from running_live import is_built
-from served import CTL, Served
+from served import CTL, Served, is_built
 from support import CAPTURE, FilesCase
 
 CLOSED = "standard output: it is closed\n"

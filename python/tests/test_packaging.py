@@ -11,8 +11,7 @@ from pathlib import Path
 from typing import Tuple
 
 import lldpa
-from running_live import LIVE, is_built
-from served import PROGRAM, REPOSITORY
+from served import LIVE, PROGRAM, REPOSITORY, is_built
 
 SECTIONS = {"lldpa-audit": 1, "lldpa-capture": 1, "lldpa-ctl": 8, "lldpctl": 1}
 if os.access(LIVE, os.X_OK):

@@ -14,12 +14,8 @@ from typing import Any, Iterator, Optional, Sequence
 from asking import Client
 from lldpa import Refused
 from patience import SECONDS, eventually
-from served import REPOSITORY, ctl, numbered
+from served import LIVE, ctl, is_built, numbered
 from wires import Peer, Wires, inside
-
-LIVE = os.environ.get("LLDPA_LIVE") or str(REPOSITORY / "rust" / "live" / "out" / "lldpa-live")
-is_built = unittest.skipUnless(os.access(LIVE, os.X_OK),
-                               "cargo: tools/release/live.sh builds lldpa-live with it")
 
 NO_ADDRESS = "there is no IPv4 address to announce\n"
 

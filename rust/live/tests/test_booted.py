@@ -10,8 +10,7 @@ import unittest
 
 from booted import NSPAWN, Booted
 from patience import HANGS, eventually
-from running_live import LIVE, is_built
-from served import PROGRAM, REPOSITORY
+from served import LIVE, PROGRAM, REPOSITORY, is_built
 from wires import Peer, Wires, ttl_of
 
 PREFIX = "/opt/lldpa"

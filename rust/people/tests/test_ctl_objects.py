@@ -8,8 +8,7 @@ from pathlib import Path
 from tempfile import TemporaryDirectory
 
 from lldpa import Ctl, CtlFault, LldpaFault, read_show
-from running_live import is_built
-from served import CTL, LIVE_LINES, REPOSITORY, Program, frame, numbered, tlv
+from served import CTL, LIVE_LINES, REPOSITORY, Program, frame, is_built, numbered, tlv
 
 # the neighbor that docs/PROGRAMS.md shows as JSON
 OF_PAGE = ("0180c200000e02000000000a88cc02070402005e0053020405057377703106020078080675706c696e6b"

@@ -13,8 +13,7 @@ from pathlib import Path
 from typing import Dict, Iterator, List, Tuple
 
 from judges import with_chassis
-from running_live import is_built
-from served import BIN, REPOSITORY, Served, ctl, frame, tlv
+from served import BIN, REPOSITORY, Served, ctl, frame, is_built, tlv
 
 AGE = re.compile(r"[0-9]+ days?, [0-9:]{8}")
 JUDGED = REPOSITORY / "python" / "tests" / "judged.json"

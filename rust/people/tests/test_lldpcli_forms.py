@@ -10,8 +10,7 @@ from xml.etree import ElementTree
 import lldpd_heard
 from judges import SLIPS, flat
 from lldpa import read_show
-from running_live import is_built
-from served import BIN, LIVE_LINES, Served, frame, tlv, told_by
+from served import BIN, LIVE_LINES, Served, frame, is_built, tlv, told_by
 
 AGE = re.compile(r"[0-9]+ days?, [0-9:]{8}")
 PORTS = ("swp1", "swp2")
