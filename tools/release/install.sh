@@ -107,7 +107,7 @@ put_pages() {
     put 644 "$documents/audit" audit/README.md audit/*.schema.json
     put 644 "$documents/audit/worked" audit/worked/*
     install -m 644 CHANGELOG.md "$tree$documents/changelog"
-    sources='crates|examples|man|tools|share|python|rust|CONTRIBUTING|CHANGELOG|(audit/)?lldpa-audit\.1'
+    sources='crates|examples|man|tools|share|python|rust|Makefile|CONTRIBUTING|CHANGELOG|(audit/)?lldpa-audit\.1'
     find "$tree$documents" -name '*.md' -exec sed -zEi "s,\[([^]]*)\]\((\.\./)*($sources)[^)]*\),\1,g" {} +
 }
 
