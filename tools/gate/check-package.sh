@@ -67,6 +67,21 @@ check_uninstalling() {
         grep -qx 'PORTS="swp1"' "$room/kept/etc/default/lldpa"
 }
 
+# Nothing is written through a link that waits where install.sh writes first, and what somebody added stays.
+check_others_files() {
+    searched=/opt/python
+    install_into "$room/shared" /usr
+    echo theirs > "$room/theirs"
+    cp "$room/theirs" "$room/shared/usr/share/lldpa"
+    for name in bin/lldpa bin/lldpa-live share/man/man1/lldpa.1; do ln -s "$room/theirs" "$room/shared/usr/$name.new"; done
+    install_into "$room/shared" /usr
+    check "tools/release/install.sh writes through a link" grep -qx theirs "$room/theirs"
+    install_into "$room/shared" --uninstall /usr
+    grep -qx "$room/shared/usr/share/lldpa has files of yours, so it stays" "$room/out"
+    judge $? "tools/release/install.sh --uninstall does not name the files of others: $(cat "$room/out")"
+    check "it removes the files of others" cmp "$room/theirs" "$room/shared/usr/share/lldpa/theirs"
+}
+
 # Each program has a manual page and completions, and runs. lldpctl is not in usr/bin.
 check_programs() {
     for path in "$room"/usr/usr/bin/* "$room/usr/usr/lib/lldpa/bin/lldpctl"; do
@@ -289,6 +304,7 @@ searched=/usr/lib/python3/dist-packages
 install_into "$room/usr" /usr
 check_prefixes
 check_uninstalling
+check_others_files
 check_programs
 check_pages
 check_units
