@@ -22,7 +22,7 @@ fn arguments_of(text: &str) -> (Vec<String>, Vec<String>) {
         let has_value = word.starts_with("--") && word != "--receive-only" && !word.contains('=');
         match &word[..] {
             "--" => (),
-            "--mac" => drop(words.next()),
+            "--mac" | "--connections" => drop(words.next()),
             option if option.starts_with("--") => {
                 options.push(word);
                 options.extend(if has_value { words.next() } else { None });
