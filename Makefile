@@ -60,7 +60,6 @@ generated:
 	made() { python3 "$${@:2}" out/made && $(W) out/made $$1; }; \
 	    made crates/lldpa/proofs/Transcripts.antt tools/write/transcripts.py; \
 	    made crates/lldp_pdu/proofs/Vectors/Rows.antt tools/write/vectors.py; \
-	    made rust/people/src/letters.rs tools/write/letters.py; \
 	    made docs/bench.svg tools/bench/bench.py --svg
 	$(with) bindgen -- bash -ec 'tools/library/bindings.sh > out/made; $(W) out/made rust/lldpa/src/sys.rs'
 types:

@@ -225,7 +225,7 @@ class Texts(FilesCase):
         frames = []
         for number in range(100):
             name = "".join(dice.choices(letters, k=dice.randrange(40))).encode()
-            octets = dice.randbytes(dice.randrange(20))
+            octets = bytes(dice.choices(range(0xC0), k=dice.randrange(20)))  # hardly any is UTF-8
             port = bytes([dice.randrange(1, 8)]) + (name + b"p")[:dice.randrange(1, 40)]
             frames.append(named(number, dice.choice((name, octets)), port, tlv(4, name),
                                 management(*dice.choice(((1, octets[:4]), (2, IPV6))))))

@@ -1,28 +1,11 @@
 //! Prints texts of neighbors, which are octets that strangers chose. No control, invisible or
 //! direction-changing character reaches a terminal, and marks do not pile up.
 
-use crate::letters::{HIDDEN, MARKS, WIDE};
+use crate::letters::{columns_of, is_mark, is_shown};
 use std::fmt::Write;
 
 const CUT: char = '…';
 const MOST_MARKS: usize = 2; // above, below or around one character
-
-fn is_among(letter: char, ranges: &[(u32, u32)]) -> bool {
-    let number = u32::from(letter);
-    let place = ranges.partition_point(|(_, last)| *last < number);
-    ranges.get(place).map_or(false, |(first, _)| *first <= number)
-}
-
-/// Returns how many columns a visible character takes: 0 for a mark, 2 for a wide one, else 1.
-fn columns_of(letter: char) -> usize {
-    if letter.is_ascii() {
-        1
-    } else if is_among(letter, &MARKS) {
-        0
-    } else {
-        1 + usize::from(is_among(letter, &WIDE))
-    }
-}
 
 /// Returns the octets of a text as the agent shows it: printable ASCII, `\\` and `\x1b`.
 pub fn unescaped(shown: &str) -> Vec<u8> {
@@ -66,9 +49,8 @@ pub fn printable(octets: &[u8]) -> String {
     while !rest.is_empty() {
         let letter = first_letter(rest);
         let (this, after) = rest.split_at(letter.map_or(1, char::len_utf8));
-        let is_mark = letter.map_or(false, |letter| is_among(letter, &MARKS));
-        marks = if is_mark { marks + 1 } else { 0 };
-        match letter.filter(|letter| !is_among(*letter, &HIDDEN) && marks <= MOST_MARKS) {
+        marks = if letter.map_or(false, is_mark) { marks + 1 } else { 0 };
+        match letter.filter(|letter| is_shown(*letter) && marks <= MOST_MARKS) {
             Some(letter) => text.push(letter),
             None => push_escaped(&mut text, this),
         }
@@ -127,11 +109,6 @@ pub fn letters_of(octets: &[u8]) -> impl Iterator<Item = Result<char, u8>> + '_ 
         rest = after;
         (!first.is_empty()).then_some(letter)
     })
-}
-
-/// Returns whether a character is visible on a terminal and has no other effect.
-pub fn is_shown(letter: char) -> bool {
-    !is_among(letter, &HIDDEN)
 }
 
 /// Returns the octets of a character, escaped as the agent shows them.
@@ -328,7 +305,7 @@ mod tests {
     #[test]
     fn widths_and_cuts() {
         for (text, width) in
-            [("abc", 3), ("é", 1), ("e\u{301}", 1), ("京都", 4), ("", 0), ("ｱ", 1), ("Ａ", 2), ("…", 1)]
+            [("abc", 3), ("é", 1), ("e\u{301}", 1), ("京都", 4), ("", 0), ("ｶﾞ", 2), ("Ａ", 2), ("…", 1)]
         {
             assert_eq!(width_of(text), width, "{text}");
         }

@@ -1,9 +1,10 @@
 //! Writes a tree for people, as keys and values, as JSON, or as XML.
 
 use crate::json::{quoted, Json, Object};
+use crate::letters::is_shown;
 use crate::node::{Attribute, Node};
 use crate::ordered::Ordered;
-use crate::texts::{escaped, is_shown, letters_of, printable};
+use crate::texts::{escaped, letters_of, printable};
 
 pub const FORMS: [(&str, Form); 5] = [
     ("plain", Form::Plain),
