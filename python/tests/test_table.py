@@ -11,6 +11,7 @@ import subprocess
 import sys
 import termios
 import unittest
+from contextlib import suppress
 from fcntl import ioctl
 from pathlib import Path
 from typing import List, Tuple
@@ -137,9 +138,11 @@ class Table(FilesCase):
 
 def has_written(process: int) -> bool:
     """Returns whether a process has a temporary file with something in it."""
-    files = Path(f"/proc/{process}/fd").iterdir()
-    return any(re.search(r"/tmp.* \(deleted\)", os.readlink(file)) and file.stat().st_size
-               for file in files)
+    for file in Path(f"/proc/{process}/fd").iterdir():
+        with suppress(FileNotFoundError):  # it may close others meanwhile
+            if re.search(r"/tmp.* \(deleted\)", os.readlink(file)) and file.stat().st_size:
+                return True
+    return False
 
 
 @unittest.skipUnless(os.geteuid() == 0, "root: only root makes links")
