@@ -375,12 +375,14 @@ mod tests {
     use crate::options::AgentOptions;
     use crate::reading::Frame;
     use crate::state::Saved;
+    use crate::sys::stopped::StoppedClocks;
     use crate::time::SECOND;
     use std::io::Write;
     use std::os::unix::net::UnixStream;
 
     #[test]
     fn a_question_waits_for_the_frames_before_it_but_not_for_long() {
+        let _clocks = StoppedClocks::new();
         let folder = std::env::temp_dir().join(format!("lldpa-live-answers-{}", std::process::id()));
         let path = folder.join("control").to_string_lossy().into_owned();
         let mut live = Live::without_interfaces(Arguments::default(), &[]);

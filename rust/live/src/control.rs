@@ -312,6 +312,7 @@ impl Control {
 #[cfg(test)]
 mod tests {
     use super::*;
+    use crate::sys::stopped::StoppedClocks;
     use std::fs;
 
     fn opened(name: &str) -> (String, Control) {
@@ -330,6 +331,7 @@ mod tests {
 
     #[test]
     fn each_client_is_answered_in_turn() {
+        let _clocks = StoppedClocks::new();
         let (path, mut control) = opened("clients");
         let mut clients: Vec<_> = (0..3).map(|_| UnixStream::connect(&path).expect("a socket")).collect();
         for (number, client) in clients.iter_mut().enumerate() {
@@ -371,6 +373,7 @@ mod tests {
 
     #[test]
     fn a_slow_client_has_to_go() {
+        let _clocks = StoppedClocks::new();
         let (path, mut control) = opened("slow");
         let mut client = UnixStream::connect(&path).expect("a socket");
         client.write_all(b"live\nlive\n").expect("room");
@@ -389,6 +392,7 @@ mod tests {
 
     #[test]
     fn places_are_limited() {
+        let _clocks = StoppedClocks::new();
         let (path, mut control) = opened("places");
         let now = Moment::now();
         let clients: Vec<_> =

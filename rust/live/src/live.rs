@@ -285,12 +285,14 @@ mod tests {
     use super::*;
     use crate::options::AgentOptions;
     use crate::state::Saved;
+    use crate::sys::stopped::StoppedClocks;
     use crate::time::SECOND;
     use std::os::unix::io::OwnedFd;
     use std::os::unix::net::UnixDatagram;
 
     #[test]
     fn a_second_waits_for_a_port_that_rests() {
+        let _clocks = StoppedClocks::new();
         let words = ["--mac=02:00:00:00:00:01".to_string()];
         let agent = AgentOptions::read(&words).expect("options");
         let mut live =
@@ -320,14 +322,13 @@ mod tests {
 
     #[test]
     fn a_second_does_not_wait_long_for_frames() {
+        let clocks = StoppedClocks::new();
         let words = ["--mac=02:00:00:00:00:01".to_string()];
         let agent = AgentOptions::read(&words).expect("options");
         let mut live = Live::without_interfaces(Arguments { agent, ..Arguments::default() }, &["eth0"]);
         live.open(&Saved::default()).expect("an agent");
         let ended = live.clock.end_of(1);
-        while Moment::now() <= ended {
-            std::thread::sleep(Duration::from_millis(10));
-        }
+        clocks.pass(SECOND + Duration::from_millis(1));
         let (old, long) = (Moment::now() - 3 * SECOND, 3600 * SECOND);
         live.note_late(Moment::now() - long);
         assert_eq!(live.late, LONGEST_TURN, "this process may have been stopped");
@@ -336,7 +337,7 @@ mod tests {
         assert_eq!(live.clock.given, 0, "it waits");
         live.note_late(Moment::now() - long);
         live.give(Vec::new(), old);
-        assert!(live.clock.given >= 1, "it was given although frames may be left");
+        assert_eq!(live.clock.given, 1, "it was given although frames may be left");
         live.note_late(Moment::now());
         assert_eq!(live.late, Duration::ZERO);
     }

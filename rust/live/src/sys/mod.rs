@@ -10,6 +10,8 @@ pub mod rights;
 pub mod seccomp;
 pub mod signals;
 pub mod sockets;
+#[cfg(test)]
+pub mod stopped;
 pub mod terminal;
 pub mod wait;
 
@@ -50,8 +52,16 @@ pub enum Clock {
     Process,
 }
 
-/// Reads a clock.
+/// Reads a clock. A test may have stopped it.
 pub fn read_clock(clock: Clock) -> Duration {
+    #[cfg(test)]
+    if let Some(time) = stopped::read(clock) {
+        return time;
+    }
+    read_running(clock)
+}
+
+fn read_running(clock: Clock) -> Duration {
     let number = match clock {
         Clock::Wall => libc::CLOCK_REALTIME,
         Clock::Boot => libc::CLOCK_BOOTTIME,
