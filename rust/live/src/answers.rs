@@ -382,12 +382,13 @@ mod tests {
 
     #[test]
     fn a_question_waits_for_the_frames_before_it_but_not_for_long() {
-        let _clocks = StoppedClocks::new();
+        let clocks = StoppedClocks::new();
         let folder = std::env::temp_dir().join(format!("lldpa-live-answers-{}", std::process::id()));
         let path = folder.join("control").to_string_lossy().into_owned();
         let mut live = Live::without_interfaces(Arguments::default(), &[]);
         let turn = |began: Moment, moment: Moment| Turn { began, moment, has_signal: false, is_asked: true };
         let now = Moment::now();
+        clocks.pass(INEXACT);
         assert!(!live.is_caught_up(&turn(now, now)), "nobody asks");
         let mut control = Control::open(&path, None).expect("a socket");
         let mut client = UnixStream::connect(&path).expect("a socket");
