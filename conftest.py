@@ -11,7 +11,7 @@ TOP = pathlib.Path(__file__).resolve().parent
 signal.signal(signal.SIGINT, signal.default_int_handler)
 # modules that load the machine, need it, or need an answer within a tenth of a second
 ALONE = ("test_budget test_evil_memory test_live_flood test_load_dear test_load_floods test_load_quiet "
-         "test_load_tables test_slow_log").split()
+         "test_load_tables test_slow_record").split()
 
 
 def pytest_collection_modifyitems(items):

@@ -74,7 +74,6 @@ link-team     addresses of a team above a port
 link-bridge   addresses of a bridge
 link-macvlan  addresses of a macvlan on a port
 link-ipvlan   addresses of an ipvlan on a port
-landlock      which files an lldpa-live that was taken over can change
 memory-cgroups  the memory of lldpa-live at its worst
 link-tun      interfaces that are no Ethernet
 loop-mounts   disks that stand still
@@ -101,7 +100,6 @@ has_feature() {
         link-tun) in_namespace "ip tuntap add tried2 mode tun" ;;
         link-*) in_namespace "ip link add tried2 type ${1#link-}" ;;
         loop-mounts) mounts_a_file ;;
-        landlock) has_landlock ;;
         memory-cgroups) limits_memory ;;
         user-namespaces) unshare --user true 2> /dev/null ;;
         x86-64) [ "$(uname -m)" = x86_64 ] ;;
@@ -118,11 +116,6 @@ mounts_a_file() {
     mounted=$?
     rm -r "$tried"
     return "$mounted"
-}
-
-# Asks the kernel for its version of Landlock.
-has_landlock() {
-    python3 -c 'import ctypes, sys; sys.exit(ctypes.CDLL(None).syscall(444, None, 0, 1) < 1)'
 }
 
 # Makes a control group that limits memory, as the test does.

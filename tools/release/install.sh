@@ -5,7 +5,7 @@
 # with their Python packages, manual pages, completions, the service with its configuration, alerts
 # for Prometheus, and the pages; with --library only the C library, to LIBDIR (default PREFIX/lib).
 # --uninstall removes them, and says what stays: a configuration that was changed, settings that
-# somebody added, logs and the state. It does not stop the service. `import lldpa` works for a
+# somebody added, and records. It does not stop the service. `import lldpa` works for a
 # python3 that searches PYTHON_FOLDER (default: the first folder below the prefix that python3
 # searches). LLDPA names the program (default crates/lldpa/out/lldpa), LLDPA_LIVE names lldpa-live
 # (default rust/live/out/lldpa-live), and LLDPA_LIB_DIR the folder that tools/library/library.sh made
@@ -157,6 +157,6 @@ elif [ -n "$uninstall" ]; then # also what Python has compiled
     rm -rf "$destination$private" "$destination$prefix/share/lldpa" "$destination$documents"
     [ ! -d "$destination$etc/lldpa.d" ] || rmdir --ignore-fail-on-non-empty "$destination$etc/lldpa.d"
     [ ! -d "$destination$etc/lldpa.d" ] || echo "$destination$etc/lldpa.d has settings of yours, so it stays"
-    [ ! -e "$destination/var/lib/lldpa" ] || echo "$destination/var/lib/lldpa has the logs and the state, so it stays"
+    [ ! -e "$destination/var/lib/lldpa" ] || echo "$destination/var/lib/lldpa has records, so it stays"
 fi
 echo "${uninstall:+un}installed under $destination$prefix"

@@ -120,11 +120,6 @@ impl fmt::Display for WallTime {
     }
 }
 
-/// Returns the time since the boot, without that in suspend.
-pub fn awake() -> Duration {
-    read_clock(Kernel::Monotonic)
-}
-
 /// Returns the processor time that all threads of this process have used.
 pub fn processor_time() -> Duration {
     read_clock(Kernel::Process)

@@ -17,7 +17,7 @@ from running_live import is_built
 from served import BIN, REPOSITORY, Served, ctl, frame, tlv
 
 AGE = re.compile(r"[0-9]+ days?, [0-9:]{8}")
-JUDGED = REPOSITORY / "python" / "tests" / "judged.json"
+JUDGED = REPOSITORY / "rust" / "people" / "tests" / "judged.json"
 FOLDER = Path(__file__).parent / "expected"
 BATCH = 60
 FORMS = ("plain", "keyvalue", "json", "json0", "xml")
