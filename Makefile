@@ -132,7 +132,7 @@ export DESTDIR
 install: all                                      ## copies to $(DESTDIR)$(prefix) what install.sh names
 	tools/release/install.sh $(prefix)
 	tools/release/install.sh --library $(prefix)
-uninstall:                                        ## removes it, except a changed configuration, logs and state
+uninstall:                                        ## removes it, except a changed configuration and records
 	tools/release/install.sh --uninstall $(prefix)
 	tools/release/install.sh --uninstall --library $(prefix)
 clean:

@@ -14,7 +14,7 @@ LIVE = pathlib.Path(os.environ.get("LLDPA_LIVE") or TOP / "rust/live/out/lldpa-l
 LACKS_LIVE = pytest.mark.skip(reason="cargo: tools/release/live.sh builds lldpa-live with it")
 # modules that load the machine, need it, or need an answer within a tenth of a second
 ALONE = ("test_budget test_evil_memory test_live_flood test_load_dear test_load_floods test_load_quiet "
-         "test_load_tables test_slow_log").split()
+         "test_load_tables test_slow_record").split()
 
 
 def pytest_collection_modifyitems(items):

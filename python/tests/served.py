@@ -34,8 +34,8 @@ live.agent=running
 live.seconds=77
 live.settings-refused=2
 live.ports-refused=1
-live.log=on
-live.log-lines-lost=5
+live.recorders=1
+live.record-lines-lost=5
 """.splitlines()
 OF_PORTS = "interface link kernel-drops limit-drops other-frames unsent left-out".split()
 for name, values in (("eth0", "present up 7 6 8 4 3"), ("eth1", "awaited down 0 0 0 0 0")):

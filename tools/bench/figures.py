@@ -47,7 +47,7 @@ class Memory(OnLinks):
 
     def test_memory(self) -> None:
         ends = [f"eth{i}" for i in range(LINKS)]
-        live = self.live("--metrics", str(self.folder / "lldpa.prom"), *ends)
+        live = self.live(*ends)
         lldpd = Lldpd(self.wires.here, self.folder, "-I", ",".join(ends)) if shutil.which("lldpd") else None
         for i in range(LINKS):
             self.peer(f"peer{i}").send(numbered(i))

@@ -32,7 +32,7 @@ from senders import SENDERS  # noqa: E402
 from served import frame, tlv  # noqa: E402
 from wires import Peer, Wires  # noqa: E402
 
-JUDGED = TOP / "python" / "tests" / "judged.json"
+JUDGED = TOP / "rust" / "people" / "tests" / "judged.json"
 
 
 def sent_by_lldpd(wires):

@@ -1,6 +1,6 @@
 #!/bin/sh
 # Runs tests of rust/live/tests on a kernel of Debian in a virtual machine: it has bonds, teams, VLANs,
-# ipvlans, macvlans and Landlock, any of which the kernel of this host may lack.
+# ipvlans and macvlans, any of which the kernel of this host may lack.
 #     tools/by-hand/try-kernel.sh [MODULE..]
 # Without modules these are the tests of addresses, short losses of a link, rights and groups. The
 # machine has the files of this host, and keeps its changes in memory. Needs root, lldpa-live
@@ -20,7 +20,7 @@ top=$(realpath "$(dirname "$0")/../..")
 for name in qemu-system-x86_64 depmod; do
     command -v "$name" > /dev/null || skip "$name: it is not installed"
 done
-[ $# -gt 0 ] || set -- test_addresses test_address_above test_short_losses test_landlock test_rights \
+[ $# -gt 0 ] || set -- test_addresses test_address_above test_short_losses test_rights \
     test_unit_filter test_groups test_hanging_groups
 room=$(mktemp -d) || exit 2
 trap 'rm -rf "$room"' EXIT

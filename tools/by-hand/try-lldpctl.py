@@ -37,7 +37,7 @@ from wires import Wires, inside, ip  # noqa: E402
 
 PAGE = TOP / "docs" / "LLDPD.md"
 HEADING = "## `lldpctl`, in lldpcli's place"
-JUDGED = TOP / "python" / "tests" / "judged.json"
+JUDGED = TOP / "rust" / "people" / "tests" / "judged.json"
 FORMS = ("plain", "keyvalue", "json", "json0")
 COMMANDS = ("show neighbors", "show neighbors details", "show neighbors summary", "show neighbors details ports eth1",
             "show neighbors ports eth0,eth1", "show interfaces", "show interfaces summary", "show interfaces ports eth0",

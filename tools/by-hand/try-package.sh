@@ -83,12 +83,11 @@ cat > "$room/image.sh" <<'EOF'
 #!/bin/bash
 . /root/checks.sh
 at_first_start() { eventually systemctl is-active lldpa && [ "$(systemctl show -p NRestarts --value lldpa)" -eq 0 ]; }
-readable() { setpriv --reuid=4711 --regid=4711 --clear-groups cat /run/lldpa-metrics/lldpa.prom; }
-has_no_word_of_it() { ! grep lldpa_up $collected/lldpa.prom && [ -e $collected/lldpa.prom ]; }
-options() { sed -i "s/^LIVE_OPTIONS=.*/LIVE_OPTIONS=\"$1\"/" /etc/default/lldpa; }
+readable() { setpriv --reuid=4711 --regid=4711 --clear-groups cat $collected/lldpa.prom; }
+recorded() { grep -q '^# lldpa --' /var/lib/lldpa/*.trace; }
 restarts() { systemctl restart lldpa && shows Station:on; }
 mkdir -p $collected
-ln -s /run/lldpa-metrics/lldpa.prom $collected/lldpa.prom
+systemctl start lldpa-metrics.timer lldpa-record
 check "an image: it has no user and no group of its own" bash -c '! grep lldpa /etc/passwd /etc/group'
 check "an image: it runs at the first start" at_first_start
 check "an image: it answers" shows Station:on
@@ -102,30 +101,31 @@ check "an image: a group that the directory tells late may ask" eventually as_me
 check "an image: it may change something" as_member 61234 lldpa-ctl configure lldp tx-hold 5
 check "an image: nobody else may ask" as_nobody lldpa-ctl
 check "an image: that took no restart" at_first_start
-options --no-log
-check "an image: it restarts without a log" restarts
-check "an image: the log is off" bash -c 'lldpa-ctl live | grep -x live.log=off'
+check "an image: it is recorded" eventually recorded
+rm /etc/default/lldpa
+check "an image: it runs without its configuration" restarts
+printf 'PORTS="eth0"\nLIVE_OPTIONS=""\nAGENT_OPTIONS=""\n' > /etc/default/lldpa
+restarts > /root/said 2>&1
 # A second service, as OPERATORS makes it.
 ip link add eth1 type veth peer name far1 && ip link set eth1 up && ip link set far1 up
 bash /root/second
 sed -i 's/^PORTS=.*/PORTS="eth1"/' /etc/default/lldpa2
 systemctl daemon-reload
-ln -s /run/lldpa2-metrics/lldpa2.prom $collected/lldpa2.prom
-systemctl start lldpa2
+systemctl start lldpa2 lldpa2-metrics.timer
 second_says() { eventually grep -x "lldpa_up{service=\"lldpa2\"} $1" $collected/lldpa2.prom; }
 check "a second service: its metrics name it" second_says 1
 check "a second service: node_exporter reads both files" scraped 'lldpa_up 1' 'lldpa_up{service="lldpa2"} 1'
 systemctl stop lldpa2
 check "a second service: its end is told" second_says 0
 check "a second service: node_exporter reads that" scraped 'lldpa_up 1' 'lldpa_up{service="lldpa2"} 0'
-rm -r /etc/systemd/system/lldpa2.service $collected/lldpa2.prom
+systemctl stop lldpa2-metrics.timer
+rm -r /etc/systemd/system/lldpa2* $collected/lldpa2.prom
 mkdir -p /etc/systemd/system/lldpa.service.d
 printf '[Service]\nExecStart=\nExecStart=/usr/bin/lldpa-live --control /run/lldpa/control eth0\n' \
     > /etc/systemd/system/lldpa.service.d/own.conf
 systemctl daemon-reload
 check "an ExecStart of its own: it runs" restarts
-check "an ExecStart of its own: no file says that it is down" has_no_word_of_it
-check "an ExecStart of its own: node_exporter reads nothing about it" scraped
+check "an ExecStart of its own: the metrics tell it" published 1
 systemctl stop lldpa
 check "an ExecStart of its own: the end is told" published 0
 printf '[Service]\nExecStart=\nExecStart=/usr/bin/lldpa-live --wrong\n' > /etc/systemd/system/lldpa.service.d/own.conf
@@ -134,17 +134,6 @@ check "a wrong ExecStart: it does not run" bash -c '! systemctl start lldpa'
 check "a wrong ExecStart: the metrics tell it" published 0
 rm -r /etc/systemd/system/lldpa.service.d
 systemctl daemon-reload
-# What the service's user could do to the folder, which is its own.
-systemctl stop lldpa
-echo 'of root' > /etc/victim
-ln -sf /etc/victim /run/lldpa-metrics/lldpa.prom
-check "a link in the place of the metrics: it runs" restarts
-check "a link in the place of the metrics: they are written" published 1
-check "a link in the place of the metrics: nothing is written through it" grep -x 'of root' /etc/victim
-systemctl stop lldpa
-rm -r /run/lldpa-metrics
-touch /run/lldpa-metrics
-check "no folder for the metrics: it runs" restarts
 poweroff
 EOF
 
@@ -230,7 +219,25 @@ sender.send(bytes.fromhex("0180c200000e02000000000b88cc02070402000000000b0403057
 keeps() { eventually sh -c 'lldpa-ctl neighbors | grep keeper'; }
 is_another_active() { is_another && systemctl is-active lldpa; }
 starts_anew() { eventually is_another_active; }
-has_link() { [ "$(readlink $collected/lldpa.prom)" = /run/lldpa-metrics/lldpa.prom ]; }
+# Writes the time to live of each frame that this host sends.
+hears() {
+    python3 -uc 'import socket
+heard = socket.socket(socket.AF_PACKET, socket.SOCK_RAW, socket.htons(0x88cc))
+heard.bind(("far", 0x88cc))
+while True:
+    frame, (_, _, kind, _, _) = heard.recvfrom(2000)
+    if kind != 4:
+        place = 14
+        for _ in range(2):
+            place += 2 + frame[place + 1]
+        print(int.from_bytes(frame[place + 2:place + 4], "big"))' > /root/heard
+}
+# Succeeds if a command lets no frame with a time to live of 0 go, but another one.
+silently() {
+    : > /root/heard
+    "$@" && eventually grep -q '[1-9]' /root/heard && ! grep -x 0 /root/heard
+}
+says_goodbye() { : > /root/heard; "$@" && eventually grep -x 0 /root/heard; }
 killed() {
     kill -KILL "$(process)"
     eventually inactive
@@ -249,6 +256,7 @@ while True:
 }
 
 neighbor &
+hears &
 listed > /root/before
 check "it installs" install_all
 check "it does not run before it is enabled" inactive
@@ -261,8 +269,7 @@ while read -r command; do
 done < /root/commands
 check "systemd receives its state" notifies
 check "the journal names the new neighbor" tells
-check "its metrics are written, by the link" published 1
-check "the link is there" has_link
+check "its metrics are written" published 1
 check "node_exporter reads the metrics" scraped "lldpa_up 1"
 mkdir -p /run/systemd/system/lldpa.service.d
 printf '[Service]\nRestart=no\n' > /run/systemd/system/lldpa.service.d/once.conf
@@ -275,6 +282,7 @@ check "after a restart the metrics are new" published 1
 systemctl stop lldpa
 check "the metrics report that it does not answer" published 0
 check "node_exporter reads that it does not answer" scraped "lldpa_up 0"
+systemctl disable --now --quiet lldpa-metrics.timer lldpa-record
 rm -r /var/lib/prometheus
 systemctl restart lldpa
 check "the service answers" shows Station:on
@@ -295,8 +303,12 @@ systemctl restart lldpa
 shows Station:on > /root/said 2>&1
 say_once
 check "it sees a neighbor" keeps
-check "it restarts" systemctl restart lldpa
+check "it restarts, and says no goodbye" silently systemctl restart lldpa
 check "a restart keeps the table" keeps
+check "a stop says goodbye" says_goodbye systemctl stop lldpa
+systemctl start lldpa
+say_once
+check "it sees the neighbor again" keeps
 sleep 70
 kill -KILL "$(process)"
 check "a crash keeps the table" keeps
@@ -310,7 +322,7 @@ rm /etc/lldpa.d/a.conf
 check "the service keeps no capability" grep -q '^CapEff:\s*0*$' "/proc/$(process)/status"
 sed -i 's/^AGENT_OPTIONS=.*/AGENT_OPTIONS="--role bridge"/' /etc/default/lldpa
 old=$(process)
-check "it upgrades" dpkg -i lldpa_*-3_*.deb
+check "it upgrades, and says no goodbye" silently dpkg -i lldpa_*-3_*.deb
 check "the upgrade restarts the service" is_another
 check "an upgrade keeps the table" keeps
 check "a changed configuration stays" shows Bridge:on
@@ -368,7 +380,7 @@ printf '#!/bin/sh\necho booted\npoweroff\n' > "$image/root/try.sh"
 boot "$image"
 cp "$room/image.sh" "$image/root/try.sh"
 chmod 755 "$image/root/try.sh"
-sed -n '/^sed -e .*default.lldpa/,/^cp /p' "$tools/../docs/OPERATORS.md" > "$image/root/second"
+sed -n '/^sed -e .*default.lldpa/,/^done/p' "$tools/../docs/OPERATORS.md" > "$image/root/second"
 chroot "$image" sh -c 'mount -t proc proc /proc; dpkg -i /root/packages/lldpa_*-2_*.deb; status=$?; umount /proc
     userdel _lldpa; mkdir -p /etc/sysusers.d /var/lib/extrausers; ln -s /dev/null /etc/sysusers.d/lldpa.conf; : > /var/lib/extrausers/group; systemctl enable lldpa; exit $status' \
     > "$room/said" 2>&1 || { tail -n 5 "$room/said"; echo "FAILED: it does not install in a chroot"; exit 1; }
@@ -379,7 +391,7 @@ boot "$root"
 cat "$image/root/tried" "$root/root/tried" | tee "$room/tried"
 passed=$(grep -c '^held: ' "$room/tried")
 failed=$(grep -c '^FAILED: ' "$room/tried")
-wanted=$((28 + 46 + $(wc -l < "$root/root/commands")))
+wanted=$((23 + 47 + $(wc -l < "$root/root/commands")))
 [ $((passed + failed)) -eq "$wanted" ] || failed=$((failed + 1))
 echo "$passed passed, $failed failed"
 [ "$failed" -eq 0 ]

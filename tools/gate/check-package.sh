@@ -117,8 +117,9 @@ check_units() {
     units=$room/usr/usr/lib/systemd/system
     check "/etc/default/lldpa has options that belong in the unit" grep -qx 'LIVE_OPTIONS=""' "$room/usr/etc/default/lldpa"
     check "lldpa.service does not run lldpa-live" grep -q \
-        '^ExecStart=/usr/bin/lldpa-live .* --log ${STATE_DIRECTORY} --metrics .* --events --forget-on-down ' "$units/lldpa.service"
-    check "no group or folder for metrics, or no rules for Prometheus" ls "$room/usr/usr/lib/sysusers.d/lldpa.conf" \
+        '^ExecStart=/usr/bin/lldpa-live .* --keep-state --events --forget-on-down ' "$units/lldpa.service"
+    check "lldpa-record.service does not run lldpa-ctl" grep -q '^ExecStart=/usr/bin/lldpa-ctl .* record ' "$units/lldpa-record.service"
+    check "no unit for metrics, no user, no cleaning of records, or no rules for Prometheus" ls "$units/lldpa-metrics.timer" "$room/usr/usr/lib/sysusers.d/lldpa.conf" \
         "$room/usr/usr/lib/tmpfiles.d/lldpa.conf" "$room/usr/usr/share/lldpa/lldpa.rules.yml"
     install_into "$room/opt" /opt/lldpa
     check "there is no folder of settings" \

@@ -81,7 +81,6 @@ link-team     addresses of a team above a port
 link-bridge   addresses of a bridge
 link-macvlan  addresses of a macvlan on a port
 link-ipvlan   addresses of an ipvlan on a port
-landlock      which files an lldpa-live that was taken over can change
 memory-cgroups  the memory of lldpa-live at its worst
 link-tun      interfaces that are no Ethernet
 loop-mounts   disks that stand still
@@ -108,7 +107,6 @@ has_feature() {
         link-tun) in_namespace "ip tuntap add tried2 mode tun" ;;
         link-*) in_namespace "ip link add tried2 type ${1#link-}" ;;
         loop-mounts) mounts_a_file ;;
-        landlock) has_landlock ;;
         memory-cgroups) limits_memory ;;
         booted-systemd) PYTHONPATH=rust/live/tests:python/tests:python python3 -B rust/live/tests/booted.py > /dev/null 2>&1 ;;
         network) python3 -c 'import urllib.request as get; get.urlopen("http://deb.debian.org/debian/dists/stable/Release", timeout=20)' \
@@ -127,11 +125,6 @@ mounts_a_file() {
     mounted=$?
     rm -r "$tried"
     return "$mounted"
-}
-
-# Asks the kernel for its version of Landlock.
-has_landlock() {
-    python3 -c 'import ctypes, sys; sys.exit(ctypes.CDLL(None).syscall(444, None, 0, 1) < 1)'
 }
 
 # Makes a control group that limits memory, as the test does.

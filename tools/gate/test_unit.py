@@ -10,7 +10,7 @@ TOP = pathlib.Path(__file__).resolve().parents[2]
 UNIT, PAGE = TOP / "share/systemd/lldpa.service", (TOP / "SECURITY.md").read_text()
 # what says how the service runs, and not what it may do
 HOW = ("Type TimeoutStartSec WatchdogSec WatchdogSignal EnvironmentFile ExecStart ExecReload TimeoutStopSec Restart "
-       "RestartSec RestartPreventExitStatus RuntimeDirectory StateDirectory Environment ExecStopPost").split()
+       "RestartSec RestartPreventExitStatus RuntimeDirectory FileDescriptorStoreMax RestartKillSignal Environment").split()
 
 
 def test_rights():

@@ -6,8 +6,8 @@
 # for Prometheus, and the pages; with --library only the C library, to LIBDIR (default PREFIX/lib).
 # Without DESTDIR root also makes the user of an lldpa-live that is started by hand.
 # --uninstall removes what was copied, and says what stays: a configuration that was changed, what
-# somebody added, logs and the state, and the user. It removes nothing while systemd runs the service
-# or would start it at a boot. `import lldpa` works for a
+# somebody added, records, and the user. It removes nothing while systemd runs the service or would
+# start it at a boot. `import lldpa` works for a
 # python3 that searches PYTHON_FOLDER (default: the first folder below the prefix that python3
 # searches). LLDPA names the program (default crates/lldpa/out/lldpa), LLDPA_LIVE names lldpa-live
 # (default rust/live/out/lldpa-live), and LLDPA_LIB_DIR the folder that tools/library/library.sh made
@@ -169,7 +169,7 @@ elif [ -n "$uninstall" ]; then # also what Python has compiled
         [ ! -d "$destination$folder" ] || rmdir --ignore-fail-on-non-empty "$destination$folder"
         [ ! -d "$destination$folder" ] || echo "$destination$folder has files of yours, so it stays"
     done
-    [ ! -e "$destination/var/lib/lldpa" ] || echo "$destination/var/lib/lldpa has the logs and the state, so it stays"
+    [ ! -e "$destination/var/lib/lldpa" ] || echo "$destination/var/lib/lldpa has records, so it stays"
     [ -n "$destination" ] || ! id _lldpa > /dev/null 2>&1 || echo "the user _lldpa stays: userdel _lldpa removes it"
 elif [ -z "$library$destination" ] && [ "$(id -u)" -eq 0 ]; then
     systemd-sysusers "$prefix/lib/sysusers.d/lldpa.conf" 2> "$room/said" ||

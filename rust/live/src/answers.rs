@@ -9,13 +9,13 @@ use crate::live::{Live, Turn};
 use crate::port::Port;
 use crate::queries::{LineFault, Query};
 use crate::reports::{notice, warn};
-use crate::rights::text_of;
 use crate::status::Status;
 use crate::tables::{put_one, Lines, Tables, Writer};
 use crate::time::{processor_time, Moment, INEXACT};
 use crate::watching::{Changed, Key, Kind};
 use lldpa::{Msap, Show};
 use lldpa_people::connection::NO_PLACE;
+use std::collections::BTreeSet;
 use std::sync::{Arc, Weak};
 use std::time::Duration;
 
@@ -87,19 +87,19 @@ impl Server {
     fn let_wait(&mut self, question: &Question) {
         let changes = self.changes;
         let is_waiting = self.control.as_mut().map_or(false, |control| control.let_wait(question, changes));
-        self.refuse_unless(is_waiting, question);
+        self.refuse_unless(is_waiting, question, NO_PLACE);
     }
 
     /// Lets a client watch these ports (all if empty), unless many watch.
-    fn let_watch(&mut self, question: &Question, ports: Vec<String>, all: Vec<String>) {
+    fn let_watch(&mut self, question: &Question, ports: BTreeSet<String>, all: Vec<String>) {
         let let_in = |control: &mut Control| control.let_watch(question, ports, all, Moment::now());
         let is_watching = self.control.as_mut().map_or(false, let_in);
-        self.refuse_unless(is_watching, question);
+        self.refuse_unless(is_watching, question, NO_PLACE);
     }
 
-    fn refuse_unless(&mut self, has_place: bool, question: &Question) {
+    fn refuse_unless(&mut self, has_place: bool, question: &Question, why: &str) {
         if !has_place {
-            self.reply(question, Answer::of(&format!("error: {NO_PLACE}\n")));
+            self.reply(question, Answer::of(&format!("error: {why}\n")));
         }
     }
 
@@ -121,7 +121,6 @@ impl Server {
 impl Live {
     /// Hears and serves clients after a turn. What this costs is no part of the frames' share.
     pub fn serve(&mut self, turn: &Turn) {
-        let before = processor_time();
         self.hear_clients(turn);
         if self.is_caught_up(turn) {
             self.answer_questions();
@@ -132,7 +131,7 @@ impl Live {
         }
         self.server.told = self.server.changes;
         self.serve_watches();
-        self.ports.share.leave_out(processor_time().saturating_sub(before));
+        self.ports.share.leave_out(processor_time());
     }
 
     /// Lets the group use the control socket that was not known at the start.
@@ -142,11 +141,13 @@ impl Live {
             _ => return,
         };
         let name = &lookup.name.clone();
-        match lookup.read().map(|group| control.listening.take_group(group)) {
+        let found = lookup.read();
+        control.listening.group = found.as_ref().map(|one| one.group).or(control.listening.group);
+        match found.map(|one| one.let_in) {
             Some(Ok(())) => notice(&format!("group {name} may use the control socket from now on")),
             Some(Err(fault)) => {
                 let what = "was found, but cannot be let in after the start";
-                warn(&format!("group {name} {what}: {}; a restart lets it in", text_of(&fault)));
+                warn(&format!("group {name} {what}: {fault}; a restart lets it in"));
             }
             None => warn(&format!("group {name} is no longer looked for")),
         }
@@ -189,6 +190,16 @@ impl Live {
                     let ports = ports.iter().map(|port| port.to_string()).collect();
                     self.server.let_watch(&question, ports, self.ports.names());
                 }
+                Ok(Query::Record) if self.running.is_some() => {
+                    let record = &mut self.record;
+                    let let_in = |control: &mut Control| control.let_record(&question, record);
+                    let is_recording = self.server.control.as_mut().map_or(false, let_in);
+                    self.server.refuse_unless(is_recording, &question, "4 clients record already");
+                }
+                Ok(Query::Settings(step)) => {
+                    let answer = Answer::of(&self.take_settings(question.of, step));
+                    self.server.reply(&question, answer);
+                }
                 query => {
                     let answer = self.answer(&question.line, query);
                     self.server.reply(&question, answer);
@@ -229,15 +240,18 @@ impl Live {
     }
 
     /// Tells clients that watch what has changed, and sends the tables that they need.
-    fn serve_watches(&mut self) {
+    pub fn serve_watches(&mut self) {
         let mut control = match self.server.control.take() {
             Some(control) => control,
             None => return,
         };
         let (changed, further) = self.server.changed.take();
-        let (begin, last) = (Moment::now(), processor_time() + LONGEST_MAKING);
+        let (begin, mut last) = (Moment::now(), None);
         for (key, kind) in changed {
-            let is_told = control.is_told(&key.port) && processor_time() < last;
+            let is_told = control.is_told(&key.port) && {
+                let now = processor_time();
+                now < *last.get_or_insert(now + LONGEST_MAKING)
+            };
             match if is_told { self.lines_of(&key, kind) } else { None } {
                 Some(lines) => control.tell(&key.port, &lines, begin),
                 None => control.lose(&key.port, 1, begin),
@@ -249,7 +263,17 @@ impl Live {
             && control.send_next(Moment::now(), |port| self.watched_table(port))
         {}
         control.note_next_telling();
-        self.server.control = Some(control);
+        let mut record = std::mem::take(&mut self.record);
+        let head = self.running.as_ref().map(|running| |lost| self.record_head(running, lost));
+        control.send_records(&mut record, Moment::now(), head);
+        (self.record, self.server.control) = (record, Some(control));
+    }
+
+    /// Returns the answer with which a client that has lost so many lines begins a file.
+    fn record_head(&self, running: &Running, lost: u64) -> Answer {
+        let told = if lost > 0 { format!("live.lost={lost}\n") } else { String::new() };
+        let front = format!("{told}# lldpa {}\n", running.command_line(&self.arguments.agent));
+        Answer::of_head(&front, self.head(&self.ports.names()))
     }
 
     /// Returns the lines that tell a change. None if the neighbor is no longer as it was noted.
@@ -353,15 +377,15 @@ impl Live {
     /// Returns what `live` says, except about neighbors.
     pub fn status(&mut self, only: Option<usize>) -> Status {
         self.ports.count_drops();
+        let recorders = self.server.control.as_ref().map_or(0, Control::count_recorders);
         let own = vec![
             ("began", self.began.to_string()),
             ("agent", if self.running.is_some() { "running" } else { "waiting" }.into()),
             ("seconds", self.clock.given.to_string()),
             ("settings-refused", self.settings.count_refused().to_string()),
             ("ports-refused", self.ports.count_refused().to_string()),
-            ("log", self.log.state().into()),
-            ("log-lines-lost", self.log.lost.to_string()),
-            ("metrics-unwritten", self.metrics.unwritten.to_string()),
+            ("recorders", recorders.to_string()),
+            ("record-lines-lost", self.record.lost.to_string()),
         ];
         let ports = self.chosen(only).map(|(_, port)| (port.name.clone(), port.status()));
         Status { own, ports: ports.collect() }
@@ -375,17 +399,20 @@ mod tests {
     use crate::options::AgentOptions;
     use crate::reading::Frame;
     use crate::state::Saved;
+    use crate::sys::stopped::StoppedClocks;
     use crate::time::SECOND;
     use std::io::Write;
     use std::os::unix::net::UnixStream;
 
     #[test]
     fn a_question_waits_for_the_frames_before_it_but_not_for_long() {
+        let clocks = StoppedClocks::new();
         let folder = std::env::temp_dir().join(format!("lldpa-live-answers-{}", std::process::id()));
         let path = folder.join("control").to_string_lossy().into_owned();
         let mut live = Live::without_interfaces(Arguments::default(), &[]);
         let turn = |began: Moment, moment: Moment| Turn { began, moment, has_signal: false, is_asked: true };
         let now = Moment::now();
+        clocks.pass(INEXACT);
         assert!(!live.is_caught_up(&turn(now, now)), "nobody asks");
         let mut control = Control::open(&path, None).expect("a socket");
         let mut client = UnixStream::connect(&path).expect("a socket");

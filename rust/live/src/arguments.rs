@@ -23,28 +23,24 @@ options:
   --events               report on standard error when a neighbor comes, changes
                          or goes, or a link goes up or down
   --forget-on-down       empty the table of a port when its link goes down
-  --log FOLDER           log the session in this folder, as traces that lldpa
-                         can replay
-  --log-keep N           keep at most N megabytes of logs there (default 1024)
-  --log-most N           begin a new log file at N megabytes (default 64)
   --management-pattern PATTERNS
                          announce only an address that a pattern matches, such
                          as '192.0.2.*,!172.17.*'; '!' excludes addresses
-  --metrics FILE         write metrics for Prometheus to FILE when something
-                         changes, and each half minute
   --no-description       do not announce the operating system of this host
-  --no-log               write no log, although --log is given
   --no-management        do not announce an address of this host
   --once N               wait until each port has a neighbor, at most N seconds,
                          then print the neighbors and exit
   --only-existing        refuse to start if an interface does not exist
-  --state FILE           save the neighbors in FILE each minute and at the end,
-                         and restore them at the start
+  --keep-state           let the service manager keep the neighbors for the next
+                         start
+  --state FILE           save the neighbors in FILE.0 and FILE.1 each minute and at
+                         the end, and restore them at the start; they must be in
+                         memory (tmpfs)
   --user NAME            when started as root, become this user once the sockets
                          are open (default _lldpa if there is such a user, else
                          nobody)
 
-example: lldpa-live --log /var/lib/lldpa eth0 eth1 -- --role router
+example: lldpa-live --state /run/lldpa/state eth0 eth1 -- --role router
 lldpa-live(8) describes these options, lldpa(1) those after --.
 ";
 
@@ -62,15 +58,13 @@ pub struct Arguments {
     pub control_group: Option<String>,
     pub user: Option<String>,
     pub state: Option<String>,
-    pub log: Option<String>,
-    pub log_most: u64,
-    pub log_keep: u64,
-    pub metrics: Option<String>,
+    pub keep_state: bool,
+    /// Options of earlier versions that do nothing any more.
+    pub former: Vec<String>,
     pub once: Option<u64>,
     pub events: bool,
     pub forget_on_down: bool,
     pub no_description: bool,
-    pub no_log: bool,
     pub no_management: bool,
     pub only_existing: bool,
     pub agent: AgentOptions,
@@ -172,12 +166,7 @@ impl fmt::Display for ArgumentFault {
 impl Request {
     pub fn read(words: &[String]) -> Result<Request, ArgumentFault> {
         let end = words.iter().position(|word| word == "--").unwrap_or(words.len());
-        let mut arguments = Arguments {
-            control: "/run/lldpa/control".into(),
-            log_most: 64,
-            log_keep: 1024,
-            ..Arguments::default()
-        };
+        let mut arguments = Arguments { control: "/run/lldpa/control".into(), ..Arguments::default() };
         let mut rest = words[..end].iter();
         while let Some(word) = rest.next() {
             match word.as_str() {
@@ -194,7 +183,6 @@ impl Request {
         if arguments.selectors.is_empty() {
             return Err(ArgumentFault::NoPort);
         }
-        arguments.log = arguments.log.take().filter(|_| !arguments.no_log);
         arguments.refuse_ports();
         Ok(Request::Run(Box::new(arguments)))
     }
@@ -217,7 +205,8 @@ impl Arguments {
             ("--events", None) => self.events = true,
             ("--forget-on-down", None) => self.forget_on_down = true,
             ("--no-description", None) => self.no_description = true,
-            ("--no-log", None) => self.no_log = true,
+            ("--no-log", None) => self.former.push(name.into()),
+            ("--keep-state", None) => self.keep_state = true,
             ("--no-management", None) => self.no_management = true,
             ("--only-existing", None) => self.only_existing = true,
             ("--config", _) => self.config.push(value()?),
@@ -225,11 +214,11 @@ impl Arguments {
             ("--control-group", _) => self.control_group = Some(value()?),
             ("--user", _) => self.user = Some(value()?),
             ("--state", _) => self.state = Some(value()?),
-            ("--log", _) => self.log = Some(value()?),
-            ("--metrics", _) => self.metrics = Some(value()?),
+            ("--log" | "--log-most" | "--log-keep" | "--metrics", _) => {
+                value()?;
+                self.former.push(name.into());
+            }
             ("--management-pattern", _) => self.addresses.extend(address_patterns(&value()?)?),
-            ("--log-most", _) => self.log_most = number_of(value()?, 1_000_000)?,
-            ("--log-keep", _) => self.log_keep = number_of(value()?, 1_000_000)?,
             ("--once", _) => self.once = Some(number_of(value()?, 86_400)?),
             _ => return Err(ArgumentFault::UnknownOption(word.into())),
         }
@@ -335,24 +324,19 @@ mod tests {
     fn options_have_values_or_none() {
         let all = "--events --forget-on-down --no-description --no-management --only-existing --stay \
             --own-source --config a --config=b --control c --control-group=d --user e --state f --log g \
-            --log-most 3 --log-keep=1000000 --metrics h --once 86400 eth0";
+            --log-most 3 --log-keep=1000000 --once 86400 eth0";
         let found = read(all).expect("arguments");
         assert!(found.events && found.forget_on_down && found.no_description);
         assert!(found.no_management && found.only_existing);
         assert_eq!((found.config.join(" "), &found.control[..]), ("a b".into(), "c"));
         assert_eq!((found.control_group.as_deref(), found.user.as_deref()), (Some("d"), Some("e")));
-        assert_eq!((found.state.as_deref(), found.log.as_deref()), (Some("f"), Some("g")));
-        assert_eq!((found.log_most, found.log_keep, found.once), (3, 1_000_000, Some(86_400)));
-        assert_eq!(found.metrics.as_deref(), Some("h"));
+        assert_eq!((found.state.as_deref(), found.once), (Some("f"), Some(86_400)));
+        assert_eq!(found.former, ["--log", "--log-most", "--log-keep"]);
         let least = read("eth0").expect("arguments");
         assert!(!(least.events || least.forget_on_down || least.no_description));
         assert!(!(least.no_management || least.only_existing));
-        assert_eq!((&least.control[..], least.log_most, least.log_keep), ("/run/lldpa/control", 64, 1024));
-        assert_eq!((least.once, least.log, least.state), (None, None, None));
-        assert_eq!(least.metrics, None);
-        for line in ["--no-log --log g eth0", "--log g eth0 --no-log", "--no-log eth0"] {
-            assert_eq!(read(line).expect("arguments").log, None, "{line}");
-        }
+        assert_eq!((&least.control[..], least.once, least.state), ("/run/lldpa/control", None, None));
+        assert!(least.former.is_empty() && !least.keep_state);
     }
 
     #[test]
@@ -373,8 +357,6 @@ mod tests {
             ("eth0 --state", "--state: a value is required"),
             ("--once 0 eth0", "--once: 0 is not a number from 1 to 86400"),
             ("--once=86401 eth0", "--once: 86401 is not a number from 1 to 86400"),
-            ("--log-most 1000001 eth0", "--log-most: 1000001 is not a number from 1 to 1000000"),
-            ("--log-keep +1 eth0", "--log-keep: +1 is not a number from 1 to 1000000"),
             ("eth0 -- eth1", "eth1: only long options of lldpa may follow --"),
         ] {
             assert_eq!(read(line).err().as_deref(), Some(wanted), "{line}");

@@ -4,13 +4,9 @@
 
 /// Pieces of memory of so many octets go back to the kernel at once.
 pub const LARGE_PIECE: i32 = 1 << 18;
-/// Octets of lines that wait for the log's thread. Heads of files do not count.
-pub const MOST_WAITING: usize = 4_000_000;
-/// Heads of log files that wait, each with a copy of all tables.
-pub const MOST_HEADS: usize = 2;
+/// Octets of lines that clients that record were not sent yet.
+pub const MOST_RECORDED: usize = 4_000_000;
 /// Octets of all unread answers together.
 pub const MOST_UNREAD: usize = 32 << 20;
 /// Octets of changes that clients that watch were not sent yet. They count among the unread answers.
 pub const MOST_TOLD: usize = 2 << 20;
-/// Octets of the metrics of ports and neighbors.
-pub use lldpa_people::metrics::MOST_METRICS;

@@ -1,7 +1,9 @@
 //! A client of the control socket: the lines that it sends, and the answer that it reads.
 
+use crate::lines::Line;
 use crate::listening::Peer;
-use crate::settings::LONGEST_LINE;
+use crate::queries::LONGEST_LINE;
+use crate::recording::Recorder;
 use crate::tables::Writer;
 use crate::time::Moment;
 use crate::waiting::Awaited;
@@ -12,7 +14,7 @@ use std::os::unix::net::UnixStream;
 use std::time::Duration;
 
 /// How long a client may read nothing of its answer, and how long the whole answer may take.
-const TO_READ: Duration = Duration::from_secs(10);
+pub const TO_READ: Duration = Duration::from_secs(10);
 const TO_READ_ALL: Duration = Duration::from_secs(60);
 const MOST_READS: usize = 64; // from one client in one turn
 const PIECE: usize = 1 << 16; // octets of an answer that are written at once
@@ -24,18 +26,19 @@ pub fn counted(lines: &str, further: usize) -> String {
     format!("={count}\n{lines}")
 }
 
-/// An answer: lines, and then those of a writer, which are made as the client reads.
+/// An answer: lines, and then those of a writer and of a head, which are made as the client reads.
 #[derive(Default)]
 pub struct Answer {
     text: VecDeque<u8>,
     pub rest: Option<Writer>,
+    head: VecDeque<Line>,
 }
 
 impl Answer {
     /// Makes an answer of these lines and those of a writer. A line with their number comes first.
     pub fn new(text: &str, rest: Option<Writer>) -> Answer {
         let text = counted(text, rest.as_ref().map_or(0, Writer::count));
-        Answer { text: text.into_bytes().into(), rest }
+        Answer { text: text.into_bytes().into(), rest, ..Answer::default() }
     }
 
     /// Makes the answer to `changes`.
@@ -50,16 +53,28 @@ impl Answer {
 
     /// Makes an answer of lines that begin with their number.
     pub fn counted(text: Vec<u8>) -> Answer {
-        Answer { text: text.into(), rest: None }
+        Answer { text: text.into(), ..Answer::default() }
+    }
+
+    /// Makes an answer of a text, and of lines after it that lead to the present state.
+    pub fn of_head(text: &str, lines: Vec<Line>) -> Answer {
+        let text = counted(text, lines.len());
+        Answer { text: text.into_bytes().into(), head: lines.into(), rest: None }
     }
 
     pub fn is_empty(&self) -> bool {
-        self.text.is_empty() && self.rest.is_none()
+        self.text.is_empty() && self.rest.is_none() && self.head.is_empty()
+    }
+
+    /// True if a part of a head is left.
+    pub fn has_head(&self) -> bool {
+        !self.head.is_empty()
     }
 
     /// Returns how many octets of memory the answer takes, without tables.
     pub fn memory(&self) -> usize {
-        self.text.capacity() + self.rest.as_ref().map_or(0, Writer::memory)
+        let head: usize = self.head.iter().map(Line::memory).sum();
+        self.text.capacity() + head + self.rest.as_ref().map_or(0, Writer::memory)
     }
 
     /// Adds a piece of the rest if the text is sent.
@@ -74,6 +89,12 @@ impl Answer {
             }
             if piece.len() >= PIECE {
                 break;
+            }
+        }
+        while self.rest.is_none() && piece.len() < PIECE {
+            match self.head.pop_front() {
+                Some(line) => drop(writeln!(piece, "{line}")),
+                None => break,
             }
         }
         self.text = piece.into();
@@ -97,6 +118,8 @@ impl Answer {
 pub struct Client {
     pub stream: Awaited<UnixStream>,
     pub peer: Peer,
+    /// Its number among all that were accepted.
+    pub number: u64,
     /// What the client has sent and was not answered.
     input: Vec<u8>,
     /// True if the client sends no more.
@@ -114,12 +137,15 @@ pub struct Client {
     pub watches: bool,
     /// What a client that is told each change was told.
     pub watch: Option<Watch>,
+    /// What a client that records was sent.
+    pub record: Option<Recorder>,
 }
 
 impl Client {
-    pub fn new(stream: UnixStream, now: Moment) -> Client {
+    pub fn new(stream: UnixStream, number: u64, now: Moment) -> Client {
         Client {
             peer: Peer::of(&stream),
+            number,
             stream: Awaited::new(stream),
             input: Vec::new(),
             is_at_end: false,
@@ -130,6 +156,7 @@ impl Client {
             known: None,
             watches: false,
             watch: None,
+            record: None,
         }
     }
 
@@ -148,9 +175,9 @@ impl Client {
         self.awaits_changes() && !self.input.is_empty()
     }
 
-    /// True if the client has read all, or watches: then it loses changes if it does not read.
+    /// True if the client has read all, or watches or records: then it loses what it does not read.
     pub fn may_rest(&self) -> bool {
-        self.answer.is_empty() || self.watch.is_some()
+        self.answer.is_empty() || self.watch.is_some() || self.record.is_some()
     }
 
     pub fn reply(&mut self, answer: Answer, now: Moment) {
@@ -241,7 +268,7 @@ mod tests {
     fn connected() -> (UnixStream, Client) {
         let (theirs, ours) = UnixStream::pair().expect("two sockets");
         ours.set_nonblocking(true).expect("a socket");
-        (theirs, Client::new(ours, Moment::default()))
+        (theirs, Client::new(ours, 1, Moment::default()))
     }
 
     /// Returns the lines that a client has sent so far.

@@ -3,26 +3,65 @@
 
 use crate::live::Live;
 use crate::patterns;
+use crate::queries::Handing;
 use crate::reports::{counted, notice, warn};
-use crate::settings::{self, explained, first_word, Place, Setting, LONGEST_LINE};
 use crate::time::Moment;
 use lldpa::{CommandFault, Status};
+use lldpa_people::refused;
+use lldpa_people::settings::{self, first_word, text_of_line, Place, Setting, LONGEST_LINE};
 use std::collections::BTreeSet;
 use std::fmt;
+
+/// How many settings a client may hand over, and octets of them.
+const MOST_SETTINGS: usize = 4096;
+const MOST_OCTETS: usize = 1_000_000;
 
 /// The settings in force.
 #[derive(Default)]
 pub struct Settings {
-    /// The settings of ports in the files, kept for ports that are added later.
-    of_ports: Vec<Setting>,
-    /// How many files could not be read.
+    /// Kept for an agent and for ports that come later.
+    all: Vec<Setting>,
+    /// How many files could not be read, or lines not be sent.
     unread: usize,
     /// The places of the settings that were not applied. A setting of a port is tried again each
     /// time that the port is added.
     refused: BTreeSet<Place>,
+    coming: Coming,
 }
 
+/// The settings that a client is handing over.
+#[derive(Default)]
+struct Coming {
+    client: u64,
+    all: Vec<Setting>,
+    octets: usize,
+}
+
+impl Coming {
+    /// Adds a setting of a client. Returns why it may not.
+    fn add(&mut self, client: u64, one: Setting) -> Option<&'static str> {
+        self.octets += one.line.len();
+        match self.all.len() >= MOST_SETTINGS || self.octets > MOST_OCTETS {
+            _ if client != self.client => Some(OF_ANOTHER),
+            true => Some("error: too many settings\n"),
+            false => {
+                self.all.push(one);
+                None
+            }
+        }
+    }
+}
+
+const OF_ANOTHER: &str = "error: another client hands over settings\n";
+
 impl Settings {
+    /// Reads the settings in the files. Reports those files that cannot be read.
+    pub fn read(paths: &[String]) -> Settings {
+        let (all, unread) = settings::read(paths);
+        unread.iter().for_each(|line| warn(line));
+        Settings { all, unread: unread.len(), ..Settings::default() }
+    }
+
     pub fn count_refused(&self) -> usize {
         self.unread + self.refused.len()
     }
@@ -75,51 +114,64 @@ impl Live {
                 port.full_until = 0; // its table was emptied
             }
         }
-        self.log.write(Moment::now(), &String::from_utf8_lossy(line));
+        self.record.write(Moment::now(), &String::from_utf8_lossy(line));
         self.queue_sent(&done.sent, Moment::now());
         self.remove_gone();
         self.send();
         Ok(String::new())
     }
 
-    /// Gives the agent the settings in the files. Reports refused settings and unreadable files.
-    pub fn apply_settings(&mut self, is_first: bool) {
-        let (settings, unread) = settings::read(&self.arguments.config);
-        unread.iter().for_each(|line| warn(line));
-        let of_ports = settings.iter().filter(|setting| setting.port().is_some()).cloned().collect();
-        self.settings = Settings { of_ports, unread: unread.len(), ..Settings::default() };
-        self.apply(&settings);
+    /// Gives the agent the settings. Returns and reports why some are refused.
+    pub fn apply_settings(&mut self) -> Vec<String> {
+        self.settings.refused.clear();
+        let refusals = self.apply(&self.settings.all.clone());
         match self.settings.count_refused() {
-            0 if is_first => (),
-            0 => notice("the settings were read again"),
+            0 => (),
             1 => warn("1 setting was not applied"),
             count => warn(&format!("{} were not applied", counted(count, "setting"))),
         }
+        refusals
     }
 
     /// Gives the agent the settings of ports that were added just now.
     pub fn apply_settings_of(&mut self, names: &[String]) {
         let is_theirs = |setting: &&Setting| setting.port().map_or(false, |port| names.contains(&port));
-        let settings: Vec<Setting> = self.settings.of_ports.iter().filter(is_theirs).cloned().collect();
+        let settings: Vec<Setting> = self.settings.all.iter().filter(is_theirs).cloned().collect();
         self.apply(&settings);
     }
 
-    /// Reads the settings again.
-    pub fn reload(&mut self) {
-        if self.running.is_some() {
-            self.manager.report_reloading();
-            self.apply_settings(false);
-            self.manager.send("READY=1");
-        }
-    }
-
-    fn apply(&mut self, settings: &[Setting]) {
-        for setting in settings {
-            let why = self.why_refused(setting);
-            if self.settings.note(setting.place(), why.is_some()) {
-                warn(&setting.refused(&why.unwrap_or_default()));
+    /// Takes what a client hands over. Returns what it is answered: at the end, each setting that is refused. The
+    /// last client that begins is heard, and no other.
+    pub fn take_settings(&mut self, client: u64, step: Handing) -> String {
+        let coming = &mut self.settings.coming;
+        match step {
+            Handing::Begin => *coming = Coming { client, ..Coming::default() },
+            Handing::One(one) => return coming.add(client, one).map_or(String::new(), String::from),
+            Handing::End(_) if coming.client != client => return OF_ANOTHER.into(),
+            Handing::End(unread) => {
+                (self.settings.all, self.settings.unread) = (std::mem::take(coming).all, unread);
+                self.settings.refused.clear();
+                if self.running.is_some() {
+                    notice("the settings were read again");
+                    return self.apply_settings().into_iter().map(|line| line + "\n").collect();
+                }
             }
         }
+        String::new()
+    }
+
+    fn apply(&mut self, settings: &[Setting]) -> Vec<String> {
+        let mut refusals = Vec::new();
+        for setting in settings {
+            let why = self.why_refused(setting);
+            let is_news = self.settings.note(setting.place(), why.is_some());
+            if let Some(why) = why {
+                let line = setting.refused(&why);
+                Some(&line).filter(|_| is_news).into_iter().for_each(|line| warn(line));
+                refusals.push(line);
+            }
+        }
+        refusals
     }
 
     /// Applies a setting. Returns why it is refused, but None if a pattern may still add its port.
@@ -143,9 +195,45 @@ impl Live {
     }
 }
 
+/// Adds the wrong word and what is allowed in its place to the agent's refusal of a line: `out of
+/// range` becomes `out of range: 0 (seconds between frames, 1 to 3600)`.
+pub fn explained(line: &[u8], fault: CommandFault) -> String {
+    match fault {
+        CommandFault::Quote | CommandFault::InUse => fault.to_string(),
+        _ => refused::explained(&text_of_line(line), &fault.to_string()),
+    }
+}
+
 #[cfg(test)]
 mod tests {
     use super::*;
+
+    #[test]
+    fn settings_are_handed_over_by_one_client_and_are_not_too_many() {
+        let mut live = Live::without_interfaces(Default::default(), &[]);
+        let one = |line: &str| Handing::One(settings::settings_in("a.conf", line.as_bytes()).remove(0));
+        let long = "x".repeat(4000);
+        for (client, step, wanted) in [
+            (0, one("configure a"), ""),
+            (1, Handing::Begin, ""),
+            (1, one("configure a"), ""),
+            (2, Handing::Begin, ""),
+            (1, one("configure b"), OF_ANOTHER),
+            (1, Handing::End(0), OF_ANOTHER),
+            (2, one("configure c"), ""),
+            (2, Handing::End(3), ""),
+            (2, Handing::End(0), OF_ANOTHER),
+        ] {
+            assert_eq!(live.take_settings(client, step), wanted, "{client}");
+        }
+        let lines: Vec<&[u8]> = live.settings.all.iter().map(|one| &one.line[..]).collect();
+        assert_eq!((lines, live.settings.unread), (vec![&b"configure c"[..]], 3));
+        for (line, most) in [("a", MOST_SETTINGS), (&long[..], MOST_OCTETS / long.len())] {
+            live.take_settings(3, Handing::Begin);
+            let taken = (0..).take_while(|_| live.take_settings(3, one(line)).is_empty()).count();
+            assert_eq!(taken, most);
+        }
+    }
 
     #[test]
     fn a_setting_that_is_refused_again_counts_once() {
@@ -163,5 +251,52 @@ mod tests {
             assert_eq!(settings.count_refused(), count, "{line}");
         }
         assert!(settings.note(("b.conf".into(), 2), true), "the same line of another file");
+    }
+
+    #[test]
+    fn a_refusal_says_what_is_allowed() {
+        for (line, fault, wanted) in [
+            (
+                "configure lldp tx-interval 0",
+                CommandFault::Range,
+                "out of range: 0 (seconds between frames, 1 to 3600)",
+            ),
+            (
+                "configure lldp tx-hold",
+                CommandFault::Unknown,
+                "unknown command: a word is missing (intervals that peers keep a frame, 1 to 100)",
+            ),
+            (
+                "configure lldp hold 3",
+                CommandFault::Unknown,
+                "unknown command: hold (tx-interval or tx-hold or max-neighbors)",
+            ),
+            ("configure lldp tx-hold 3 4", CommandFault::Extra, "extra word: 4 (no word is allowed here)"),
+            (
+                "configure ports eth9 lldp status rx-only",
+                CommandFault::NoSuchPort,
+                "no such port: eth9 (must be a port of this agent)",
+            ),
+            (
+                "configure ports eth0 lldp status on",
+                CommandFault::Unknown,
+                "unknown command: on (rx-and-tx, rx-only, tx-only, disabled)",
+            ),
+            (
+                "configure system hostname \"\"",
+                CommandFault::Text,
+                "bad text: empty word (up to 255 printable characters, in quotes if it has spaces)",
+            ),
+            (
+                "configure lldp tx-hold x",
+                CommandFault::Number,
+                "not a number: x (intervals that peers keep a frame, 1 to 100)",
+            ),
+            ("set", CommandFault::Unknown, "unknown command: set (configure)"),
+            ("configure system hostname \"a", CommandFault::Quote, "bad quote"),
+            ("configure lldp max-neighbors 1", CommandFault::InUse, "too many held"),
+        ] {
+            assert_eq!(explained(line.as_bytes(), fault), wanted, "{line}");
+        }
     }
 }

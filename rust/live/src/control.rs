@@ -3,13 +3,14 @@
 //! everybody may ask, but only root, owner and group may `configure` and `update`.
 
 use crate::budget::MOST_UNREAD;
-use crate::client::{counted, Answer, Client, LONGEST_SENDING};
+use crate::client::{counted, Answer, Client, LONGEST_SENDING, TO_READ};
 use crate::listening::Listening;
+use crate::recording::{self, Recorder, Recording};
 use crate::reports::warn;
-use crate::rights::text_of;
 use crate::time::{Moment, SECOND};
 use crate::waiting::{IN, OUT};
 use crate::watching::{Next, Told, Watch};
+use std::collections::BTreeSet;
 use std::fs::File;
 use std::io::{ErrorKind, Read, Result, Write};
 use std::os::unix::net::UnixStream;
@@ -19,12 +20,15 @@ use std::time::Duration;
 const MOST_CLIENTS: usize = 64;
 const MOST_PREFERRED: usize = MOST_CLIENTS + 8; // with root and the socket's owner
 const MOST_WATCHING: usize = 16; // of root and the socket's owner, and as many of others
+const MOST_RECORDING: usize = 4; // the same
 const IDLENESS: Duration = Duration::from_secs(60);
 
 /// A client's line, and whether the client may change the agent.
 pub struct Question {
     /// The index of the client.
     client: usize,
+    /// The number of the client among all that were accepted, from 1 on.
+    pub of: u64,
     pub line: Vec<u8>,
     pub may_change: bool,
 }
@@ -32,13 +36,15 @@ pub struct Question {
 pub struct Control {
     pub listening: Listening,
     clients: Vec<Client>,
+    /// How many clients were accepted.
+    accepted: u64,
     /// The index of the client with which the search for the next question begins.
     next: usize,
     /// The index of the client to which is sent first.
     first: usize,
     /// When to accept clients again after a failure.
     pause: Moment,
-    /// True if the socket was removed and could not be made again.
+    /// True if the socket was removed.
     is_lost: bool,
     /// The changes that clients that watch are told.
     told: Told,
@@ -55,6 +61,7 @@ impl Control {
         Ok(Control {
             listening,
             clients: Vec::new(),
+            accepted: 0,
             next: 0,
             first: 0,
             pause: Moment::default(),
@@ -84,16 +91,14 @@ impl Control {
         self.clients.iter().filter_map(Client::deadline).any(|deadline| deadline <= now)
     }
 
-    /// Accepts clients, reads and sends, without waiting. Makes the socket again if it was removed.
+    /// Accepts clients, reads and sends, without waiting.
     pub fn turn(&mut self, now: Moment, is_asked: bool) {
         let _ = self.listening.watch.as_mut().map(|watch| watch.file.read(&mut [0u8; 256]));
-        if !self.listening.is_there() {
-            let renewed = self.listening.renew();
-            let was_lost = std::mem::replace(&mut self.is_lost, renewed.is_err());
-            if let (Err(fault), false) = (renewed, was_lost) {
-                let what = "the control socket was removed, and cannot be created again";
-                warn(&format!("{}: {what}: {}", self.listening.path, text_of(&fault)));
-            }
+        if !self.listening.is_there() && !std::mem::replace(&mut self.is_lost, true) {
+            warn(&format!(
+                "{}: the control socket was removed; a restart makes it again",
+                self.listening.path
+            ));
         }
         self.send_and_read(now);
         if is_asked && now >= self.pause {
@@ -141,11 +146,12 @@ impl Control {
     /// but one of root or the owner only if it is theirs too; if none has been idle for a minute, the
     /// new client is refused.
     fn admit(&mut self, stream: UnixStream, now: Moment) {
-        let mut client = Client::new(stream, now);
-        let is_preferred = client.peer.is_preferred(&self.listening.path);
+        self.accepted += 1;
+        let mut client = Client::new(stream, self.accepted, now);
+        let is_preferred = client.peer.is_preferred(&self.listening.file);
         let most = if is_preferred { MOST_PREFERRED } else { MOST_CLIENTS };
         if self.clients.iter().filter(|client| !client.is_over).count() >= most {
-            let gives_way = |client: &Client| is_preferred || !client.peer.is_preferred(&self.listening.path);
+            let gives_way = |client: &Client| is_preferred || !client.peer.is_preferred(&self.listening.file);
             let is_idle = |client: &Client| {
                 client.may_rest() && now.since(client.active_at) >= IDLENESS && gives_way(client)
             };
@@ -170,8 +176,9 @@ impl Control {
         self.next = index + 1;
         Some(Question {
             client: index,
+            of: client.number,
             line: client.next_line(),
-            may_change: client.peer.may_change(&self.listening.path, self.listening.group),
+            may_change: client.peer.may_change(&self.listening.file, self.listening.group),
         })
     }
 
@@ -191,7 +198,7 @@ impl Control {
     pub fn let_watch(
         &mut self,
         question: &Question,
-        ports: Vec<String>,
+        ports: BTreeSet<String>,
         all: Vec<String>,
         now: Moment,
     ) -> bool {
@@ -204,9 +211,107 @@ impl Control {
         has_place
     }
 
+    /// Lets a client record, from the present state on. A client that records already is sent the state once
+    /// more. False if it has no place.
+    pub fn let_record(&mut self, question: &Question, recording: &mut Recording) -> bool {
+        let is_preferred = |client: &Client| client.peer.is_preferred(&self.listening.file);
+        let of_ours = is_preferred(&self.clients[question.client]);
+        let recorders = self.clients.iter().filter(|client| client.record.is_some());
+        let taken = recorders.filter(|client| is_preferred(client) == of_ours).count();
+        let client = &mut self.clients[question.client];
+        let has_place = client.record.is_some() || taken < MOST_RECORDING;
+        if has_place {
+            recording.is_wanted = true;
+            client.record.get_or_insert_with(|| Recorder::new(recording)).wants_head = true;
+        }
+        has_place
+    }
+
+    /// Returns how many clients record.
+    pub fn count_recorders(&self) -> usize {
+        self.clients.iter().filter(|client| client.record.is_some()).count()
+    }
+
+    /// True if a client that records has not read all.
+    pub fn owes_records(&self, recording: &Recording) -> bool {
+        let owes = |client: &Client, record: &Recorder| !client.answer.is_empty() || record.is_due(recording);
+        self.clients.iter().any(|client| client.record.as_ref().map_or(false, |record| owes(client, record)))
+    }
+
+    /// Sends each client that records, and has read all, what comes next, but not for long. `head` makes the
+    /// answer with the present state; without one it waits. One head is sent at a time, since it can be large.
+    /// Forgets what all were sent.
+    pub fn send_records(
+        &mut self,
+        recording: &mut Recording,
+        now: Moment,
+        head: Option<impl Fn(u64) -> Answer>,
+    ) {
+        recording.end_piece();
+        let mut has_head = self.may_wait_for_head(recording, now);
+        for client in self.clients.iter_mut().filter(|client| !client.is_over) {
+            client.record.iter_mut().for_each(|record| record.count_lost(recording));
+            while let Some(record) = client.record.as_mut().filter(|_| client.answer.is_empty()) {
+                if has_head && record.needs_head(recording) {
+                    break;
+                }
+                let answer = match (record.take(recording, head.is_some()), &head) {
+                    (Some(recording::Next::Text(text)), _) => Answer::counted(text),
+                    (Some(recording::Next::Head(lost)), Some(head)) => head(lost),
+                    _ => break,
+                };
+                client.reply(answer, now);
+                has_head |= client.answer.has_head();
+                if Moment::now().since(now) >= LONGEST_SENDING {
+                    break;
+                }
+            }
+        }
+        let recorders = || self.clients.iter().filter_map(|client| client.record.as_ref());
+        recording.is_wanted = recorders().count() > 0;
+        recording.forget(recorders().map(|one| one.next).min().unwrap_or(u64::MAX));
+        if head.is_some() {
+            let of_records = self.next_record(recording);
+            self.next_telling = self.next_telling.into_iter().chain(of_records).min();
+        }
+        self.end_slowest();
+    }
+
+    /// True if a client is being sent a head. If it has read nothing of it for long and another one waits for
+    /// its own, it has to go.
+    fn may_wait_for_head(&mut self, recording: &Recording, now: Moment) -> bool {
+        let needs = |client: &Client| client.record.as_ref().map_or(false, |one| one.needs_head(recording));
+        let is_awaited = self.clients.iter().any(|client| client.answer.is_empty() && needs(client));
+        let mut holders =
+            self.clients.iter_mut().filter(|client| client.answer.has_head() && !client.is_over);
+        let holder = match holders.next() {
+            Some(holder) => holder,
+            None => return false,
+        };
+        if is_awaited && now.since(holder.active_at) >= TO_READ {
+            holder.is_over = true;
+            holder.answer = Answer::default();
+        }
+        !holder.is_over
+    }
+
+    /// Returns when something may be sent to a client that records and has read all.
+    fn next_record(&self, recording: &Recording) -> Option<Moment> {
+        let holder = self.clients.iter().find(|client| client.answer.has_head() && !client.is_over);
+        let resting = self.clients.iter().filter(|client| client.answer.is_empty() && !client.is_over);
+        resting
+            .filter_map(|client| client.record.as_ref())
+            .filter(|one| one.is_due(recording))
+            .map(|one| match holder {
+                Some(holder) if one.needs_head(recording) => holder.active_at + TO_READ,
+                _ => Moment::default(),
+            })
+            .min()
+    }
+
     /// Gives a client one of the places of those that watch, if one is left.
     fn take_place(&mut self, question: &Question) -> bool {
-        let is_preferred = |client: &Client| client.peer.is_preferred(&self.listening.path);
+        let is_preferred = |client: &Client| client.peer.is_preferred(&self.listening.file);
         let of_ours = is_preferred(&self.clients[question.client]);
         let watching = self.clients.iter().filter(|client| client.watches);
         let taken = watching.filter(|client| is_preferred(client) == of_ours).count();
@@ -312,6 +417,7 @@ impl Control {
 #[cfg(test)]
 mod tests {
     use super::*;
+    use crate::sys::stopped::StoppedClocks;
     use std::fs;
 
     fn opened(name: &str) -> (String, Control) {
@@ -330,6 +436,7 @@ mod tests {
 
     #[test]
     fn each_client_is_answered_in_turn() {
+        let _clocks = StoppedClocks::new();
         let (path, mut control) = opened("clients");
         let mut clients: Vec<_> = (0..3).map(|_| UnixStream::connect(&path).expect("a socket")).collect();
         for (number, client) in clients.iter_mut().enumerate() {
@@ -357,20 +464,19 @@ mod tests {
     }
 
     #[test]
-    fn a_removed_socket_is_made_again() {
+    fn a_removed_socket_is_noted() {
         let (path, mut control) = opened("removed");
-        fs::remove_file(&path).expect("a socket");
-        assert!(UnixStream::connect(&path).is_err());
         control.turn(Moment::now(), false);
-        let mut client = UnixStream::connect(&path).expect("a socket");
-        client.write_all(b"live\n").expect("room");
-        control.turn(Moment::now(), true);
-        assert_eq!(questions(&mut control), ["live"]);
+        assert!(!control.is_lost);
+        fs::remove_file(&path).expect("a socket");
+        control.turn(Moment::now(), false);
+        assert!(control.is_lost);
         fs::remove_dir_all(path.trim_end_matches("/control")).expect("a folder");
     }
 
     #[test]
     fn a_slow_client_has_to_go() {
+        let _clocks = StoppedClocks::new();
         let (path, mut control) = opened("slow");
         let mut client = UnixStream::connect(&path).expect("a socket");
         client.write_all(b"live\nlive\n").expect("room");
@@ -389,6 +495,7 @@ mod tests {
 
     #[test]
     fn places_are_limited() {
+        let _clocks = StoppedClocks::new();
         let (path, mut control) = opened("places");
         let now = Moment::now();
         let clients: Vec<_> =

@@ -2,7 +2,6 @@
 //! counts from 0, and also what rebuilds the tables of the agent that it replaces; people are shown
 //! neither.
 
-use lldpa_people::counters::Counters as Shown;
 use lldpa_people::show::Show;
 
 /// The key and the number of each counter of a port, in the order of the agent's lines.
@@ -32,6 +31,12 @@ impl Counters {
         numbers.iter().map(total).collect()
     }
 
+    /// Begins at these totals, or else at 0. `first` has the counters of the agent, which was just rebuilt.
+    pub fn begin(&mut self, totals: Option<&Numbers>, first: &[(String, u32)]) {
+        *self = Counters::default();
+        self.go_on(totals.map_or(&[], |totals| totals), first);
+    }
+
     /// Goes on with another agent. `last` has the counters of the agent before, none of which a new
     /// port has, and `first` those of the new agent, which was just rebuilt.
     pub fn go_on(&mut self, last: &[(String, u32)], first: &[(String, u32)]) {
@@ -53,13 +58,6 @@ impl Totals {
         let line = |(key, number): &(String, u32)| format!("lldp.{}.{key}={number}\n", self.port);
         self.numbers.iter().map(line).collect()
     }
-
-    /// Returns what these lines say.
-    pub fn told(&self) -> (&str, Shown<'_>) {
-        let mut told = Shown::default();
-        self.numbers.iter().for_each(|(key, number)| *told.0.value(key) = (*number).into());
-        (&self.port, told)
-    }
 }
 
 #[cfg(test)]
@@ -73,7 +71,9 @@ mod tests {
     #[test]
     fn totals_leave_out_what_rebuilds_a_table() {
         let mut counters = Counters::default();
-        counters.go_on(&[], &numbers(4, 1)); // a restored state
+        counters.begin(Some(&numbers(7, 2)), &numbers(4, 1)); // a restored state
+        assert_eq!(counters.total(&numbers(5, 1)), numbers(8, 2));
+        counters.begin(None, &numbers(4, 1)); // without counters
         assert_eq!(counters.total(&numbers(4, 1)), numbers(0, 0));
         assert_eq!(counters.total(&numbers(10, 1)), numbers(6, 0));
         counters.go_on(&numbers(10, 1), &numbers(3, 9));
@@ -96,6 +96,5 @@ mod tests {
             ["eth0", "p1"].iter().zip(read).map(|(port, numbers)| Totals { port: port.to_string(), numbers });
         let all: Vec<Totals> = all.collect();
         assert_eq!(all.iter().map(Totals::lines).collect::<String>(), lines);
-        assert_eq!(all[1].told().1.of("early-frames"), Some(u128::from(u32::MAX - 1)));
     }
 }

@@ -46,6 +46,10 @@ impl Host for System {
     fn wait(&self, stream: &UnixStream) -> Result<bool, Error> {
         terminal::wait_for(stream.as_fd())
     }
+
+    fn can_read(&self, stream: &UnixStream, patience: Option<Duration>) -> bool {
+        terminal::can_read(stream.as_fd(), patience)
+    }
 }
 
 /// Runs the program by whose name this one was called, with these arguments, and returns its status. None

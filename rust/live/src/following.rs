@@ -1,5 +1,5 @@
 //! While the agent runs, follows changes of the interfaces that patterns select, and of the host's
-//! name and address. Replaces the agent if necessary. Also begins log files and saves the state.
+//! name and address. Replaces the agent if necessary. Also saves the state.
 
 use crate::identity::management_address;
 use crate::lines::set_text;
@@ -7,19 +7,19 @@ use crate::links::Links;
 use crate::live::Live;
 use crate::options::is_text;
 use crate::patterns;
-use crate::reports::{counted, notice, warn};
+use crate::reports::{self, counted, notice, warn};
 use crate::sys;
 use crate::time::{Moment, SECOND};
 use std::net::Ipv4Addr;
 use std::time::Duration;
 
 /// How long an address must be new, or a pattern's interface new or gone, before the agent is
-/// replaced. One new agent, and one file of the log, has all changes of interfaces of this time.
+/// replaced. One new agent has all changes of interfaces of this time.
 const TO_STAY: Duration = Duration::from_secs(2);
 /// The least time between two agents for other ports: fewer than 60 in two minutes.
 const BETWEEN_AGENTS: Duration = Duration::from_millis(2100);
 const BETWEEN_TRIES: Duration = Duration::from_secs(10);
-/// The longest wait: short enough that a log has a comment with the time in each minute.
+/// The longest wait: short enough that a record has a comment with the time in each minute.
 const LONGEST_SLEEP: Duration = Duration::from_secs(30);
 const BETWEEN_STATES: Duration = Duration::from_secs(60);
 
@@ -75,6 +75,8 @@ pub struct Announced {
     /// Another address than that, which was found since.
     candidate: Option<Candidate>,
     pub host_name: String,
+    /// What describes this host.
+    pub description: Option<String>,
     /// The host's name as last given to the agent, or empty.
     pub name: String,
     /// True if it was reported that there is no IPv4 address to announce.
@@ -83,8 +85,14 @@ pub struct Announced {
 
 impl Announced {
     pub fn new(management: Option<Ipv4Addr>) -> Announced {
-        let host_name = sys::host_name();
-        Announced { management, candidate: None, host_name, name: String::new(), is_missing_reported: false }
+        Announced {
+            management,
+            candidate: None,
+            host_name: sys::host_name(),
+            description: None,
+            name: String::new(),
+            is_missing_reported: false,
+        }
     }
 
     /// Notes whether there is no address to announce. Returns true if that is news.
@@ -125,10 +133,6 @@ impl Live {
         }
         if self.ports.drop_report_at.map_or(false, |moment| now >= moment) {
             self.ports.report_drops(now);
-        }
-        self.log.turn();
-        if self.log.wants_beginning() {
-            self.begin_log();
         }
         if now >= self.next_state {
             self.next_state = now + BETWEEN_STATES;
@@ -204,7 +208,7 @@ impl Live {
     /// Adds ports that the agent has already.
     fn add_ports(&mut self, names: &[String]) {
         names.iter().for_each(|name| self.ports.add(name));
-        self.count_from_here(names);
+        self.count_from_here(names, &Default::default());
         self.apply_settings_of(names);
         self.follow_known_links();
         self.send();
@@ -273,6 +277,7 @@ impl Live {
         }
         self.manager.send_status(Moment::now());
         self.events.end_minute();
+        reports::flush();
         self.manager.send_keepalive(Moment::now());
     }
 
@@ -291,9 +296,8 @@ impl Live {
             of_agent(self.ports.drop_report_at),
             self.manager.deadline(),
             self.events.deadline(),
-            self.log.deadline(now),
-            self.metrics_deadline(),
-            of_agent(self.arguments.state.as_ref().map(|_| self.next_state)),
+            reports::deadline(now),
+            of_agent(self.slots.as_ref().map(|_| self.next_state)),
             self.server.deadline(now),
         ];
         deadlines.into_iter().flatten().fold(now + LONGEST_SLEEP, Moment::min)

@@ -2,19 +2,22 @@
 //! same inputs. For longer, with other inputs:
 //!     LLDPA_FUZZ_SECONDS=600 cargo test --release fuzz
 
+use crate::commands::explained;
 use crate::links::Links;
 use crate::netlink::messages;
 use crate::queries::Query;
+use crate::state;
 use crate::state::Times;
-use crate::{settings, state};
 use lldpa::CommandFault;
+use lldpa_people::settings;
 use std::fs::File;
 use std::time::{Duration, Instant};
 
-const STATE: &str =
-    "# lldpa-live state 1 100.000 50.000\n# since eth0 99.000 mac=02:00:00:00:00:01 ifname=p1\n\
-    rx eth0 0180c200000e00000000000088cc02070402000000000104030570310602ffff0000\n\
-    tick 2\nrx eth0 0180c200000e00000000000088cc0207040200000000010403057031060200780000\ntick\n# end\n";
+const STATE: &[u8] = b"# lldpa-live state 2 100.000 50.000\nrx eth0 34 99.000\n\
+    \x01\x80\xc2\0\0\x0e\0\0\0\0\0\0\x88\xcc\x02\x07\x04\x02\0\0\0\0\x01\x04\x03\x05p1\x06\x02\xff\xff\0\0\
+    tick 2\nrx eth0 34\n\
+    \x01\x80\xc2\0\0\x0e\0\0\0\0\0\0\x88\xcc\x02\x07\x04\x02\0\0\0\0\x01\x04\x03\x05p1\x06\x02\0\x78\0\0\
+    tick\n# end\n";
 const SETTINGS: &str =
     "\u{feff}# a comment\nconfigure system hostname \"a b\"\r\nconfigure lldp tx-hold 300\n\
     configure ports eth0 lldp status rx-only x\nshow neighbors\nupdate \"\n";
@@ -95,9 +98,9 @@ fn fuzz_settings() {
         settings.iter().for_each(|setting| drop(setting.port()));
         // one line of each input, since explaining takes longer than all else
         if let Some(setting) = settings.get(octets.len() % settings.len().max(1)) {
-            let why = settings::explained(&setting.line, CommandFault::Unknown);
+            let why = explained(&setting.line, CommandFault::Unknown);
             assert!(setting.refused(&why).len() < 4000);
-            settings::explained(&setting.line, CommandFault::Range);
+            explained(&setting.line, CommandFault::Range);
         }
     });
 }
@@ -105,8 +108,8 @@ fn fuzz_settings() {
 #[test]
 fn fuzz_state() {
     let now = Times::read("110.000 60.000").expect("times");
-    assert_eq!(state::saved_in(STATE.as_bytes(), &now).map(|saved| saved.lines.len()).ok(), Some(4));
-    feed(&[STATE.as_bytes()], |octets| {
+    assert_eq!(state::saved_in(STATE, &now).map(|saved| saved.lines.len()).ok(), Some(4));
+    feed(&[STATE], |octets| {
         let _ = state::saved_in(octets, &now);
     });
 }

@@ -14,6 +14,19 @@ pub enum Line {
     Link(String, bool),
 }
 
+impl Line {
+    /// Returns how many octets of memory the line takes.
+    pub fn memory(&self) -> usize {
+        let own = match self {
+            Line::Command(text) => text.len(),
+            Line::Frame(port, octets) => port.len() + octets.len(),
+            Line::Link(port, _) => port.len(),
+            Line::Ticks(_) => 0,
+        };
+        std::mem::size_of::<Line>() + own
+    }
+}
+
 impl fmt::Display for Line {
     fn fmt(&self, out: &mut fmt::Formatter<'_>) -> fmt::Result {
         match self {

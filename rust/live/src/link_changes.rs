@@ -30,7 +30,7 @@ impl Live {
     pub fn give_link(&mut self, port: usize, is_up: bool) {
         let (name, now) = (self.ports.all[port].name.clone(), Moment::now());
         let line = Line::Link(name.clone(), is_up);
-        self.log.write(now, &line);
+        self.record.write(now, &line);
         self.events.report(&name, &format!("{name}: the link is {}", if is_up { "up" } else { "down" }));
         if let Some(running) = &mut self.running {
             let sent = running.give(&line);

@@ -6,7 +6,7 @@ use crate::sys::{files, sockets};
 use crate::waiting::Awaited;
 use std::fs::{self, DirBuilder, File, OpenOptions, Permissions};
 use std::io::{Error, ErrorKind, Result};
-use std::os::unix::fs::{DirBuilderExt, FileTypeExt, MetadataExt, OpenOptionsExt, PermissionsExt};
+use std::os::unix::fs::{DirBuilderExt, FileTypeExt, OpenOptionsExt, PermissionsExt};
 use std::os::unix::io::AsRawFd;
 use std::os::unix::net::{UnixListener, UnixStream};
 use std::path::Path;
@@ -20,8 +20,10 @@ pub struct Listening {
     pub path: String,
     /// The group that may use the socket too.
     pub group: Option<u32>,
-    lock: Option<File>,
+    _lock: File,
     pub socket: Awaited<UnixListener>,
+    /// The file at the path, whose owner, group and mode say who may change the agent.
+    pub file: File,
     /// Becomes ready when the socket is removed.
     pub watch: Option<Awaited<File>>,
 }
@@ -35,35 +37,13 @@ impl Listening {
         let lock = locked(path)?;
         remove_stale(path)?;
         let socket = Awaited::new(listener(path, group).map_err(at(path))?);
-        Ok(Listening { path: path.into(), group, lock: Some(lock), socket, watch: watch(path) })
+        let file = opened(path).map_err(at(path))?;
+        Ok(Listening { path: path.into(), group, _lock: lock, socket, file, watch: watch(path) })
     }
 
-    /// True unless the socket is missing. Also true if this user may not look for it.
+    /// True unless the socket was removed.
     pub fn is_there(&self) -> bool {
-        !matches!(fs::symlink_metadata(&self.path), Err(fault) if fault.kind() == ErrorKind::NotFound)
-    }
-
-    /// Lets a group use the socket from now on.
-    pub fn take_group(&mut self, group: u32) -> Result<()> {
-        self.group = Some(group);
-        hand_over(&self.path, group)
-    }
-
-    /// Creates a removed socket again, with its group if this user may still set that.
-    pub fn renew(&mut self) -> Result<()> {
-        if fs::symlink_metadata(lock_path(&self.path)).is_ok() {
-            self.socket = Awaited::new(listener(&self.path, None)?);
-        } else {
-            self.lock = None;
-            *self = Listening { group: self.group, ..Listening::open(&self.path, None)? };
-        }
-        self.watch = watch(&self.path);
-        let _ = self.group.map(|group| hand_over(&self.path, group));
-        Ok(())
-    }
-
-    pub fn close(&self) {
-        let _ = fs::remove_file(&self.path);
+        files::status(&self.file).map_or(true, |found| found.links > 0)
     }
 }
 
@@ -131,13 +111,19 @@ fn listener(path: &str, group: Option<u32>) -> Result<UnixListener> {
     Ok(socket)
 }
 
-/// Lets a group use the socket at a path. Opens the socket once for all steps, since another user
-/// who may write to the folder could replace it between two steps.
-fn hand_over(path: &str, group: u32) -> Result<()> {
+/// Opens the socket at a path, but not for reading.
+fn opened(path: &str) -> Result<File> {
     let file = OpenOptions::new().read(true).custom_flags(libc::O_PATH | libc::O_NOFOLLOW).open(path)?;
     if !file.metadata()?.file_type().is_socket() {
         return Err(Error::new(ErrorKind::AlreadyExists, "this is not a socket"));
     }
+    Ok(file)
+}
+
+/// Lets a group use the socket at a path. Opens the socket once for all steps, since another user
+/// who may write to the folder could replace it between two steps.
+pub fn hand_over(path: &str, group: u32) -> Result<()> {
+    let file = opened(path)?;
     let by_number = format!("/proc/self/fd/{}", file.as_raw_fd());
     match files::give(&by_number, None, Some(group)) {
         Ok(()) => fs::set_permissions(&by_number, Permissions::from_mode(0o660)),
@@ -161,29 +147,30 @@ impl Peer {
     /// True if the client is root, or may write to the socket as its owner or by its group. (The
     /// kernel checks clients when they connect, but lets in everybody if the mode is 0666.) A group
     /// that was let in by a list of access rights is not that of the file.
-    pub fn may_change(&self, path: &str, group: Option<u32>) -> bool {
+    pub fn may_change(&self, socket: &File, group: Option<u32>) -> bool {
         let is_member = |group: u32| self.groups.contains(&group);
-        match fs::symlink_metadata(path) {
+        match files::status(socket) {
             _ if self.user == 0 => true,
-            Ok(found) if found.uid() == self.user => found.mode() & 0o200 != 0,
-            Ok(found) => found.mode() & 0o020 != 0 && is_member(group.unwrap_or_else(|| found.gid())),
+            Ok(found) if found.user == self.user => found.mode & 0o200 != 0,
+            Ok(found) => found.mode & 0o020 != 0 && is_member(group.unwrap_or(found.group)),
             Err(_) => false,
         }
     }
 
-    pub fn is_preferred(&self, path: &str) -> bool {
-        self.user == 0 || fs::symlink_metadata(path).map_or(false, |found| found.uid() == self.user)
+    pub fn is_preferred(&self, socket: &File) -> bool {
+        self.user == 0 || files::status(socket).map_or(false, |found| found.user == self.user)
     }
 }
 
 #[cfg(test)]
 mod tests {
     use super::*;
+    use std::os::unix::fs::MetadataExt;
 
     #[test]
     fn root_the_owner_and_the_group_may_change() {
         let path = std::env::temp_dir().join(format!("lldpa-live-peer-{}", std::process::id()));
-        File::create(&path).expect("a file");
+        let file = File::create(&path).expect("a file");
         let path = path.to_string_lossy().into_owned();
         if crate::rights::own_user() == 0 {
             files::give(&path, Some(54_321), None).expect("a right"); // root may change in any case
@@ -201,12 +188,11 @@ mod tests {
         ] {
             fs::set_permissions(&path, Permissions::from_mode(mode)).expect("a mode");
             let peer = Peer { user, groups };
-            assert_eq!(peer.may_change(&path, None), may_change, "{mode:o} {user}");
-            assert_eq!(peer.is_preferred(&path), user == owner || user == 0, "{user}");
+            assert_eq!(peer.may_change(&file, None), may_change, "{mode:o} {user}");
+            assert_eq!(peer.is_preferred(&file), user == owner || user == 0, "{user}");
         }
+        assert_eq!(files::status(&file).expect("a file").links, 1);
         fs::remove_file(&path).expect("a file");
-        let peer = |user| Peer { user, groups: vec![group] };
-        assert!(peer(0).may_change(&path, None) && peer(0).is_preferred(&path));
-        assert!(!peer(other).may_change(&path, None) && !peer(other).is_preferred(&path));
+        assert_eq!(files::status(&file).expect("a file").links, 0);
     }
 }

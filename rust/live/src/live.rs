@@ -8,13 +8,13 @@ use crate::control::Control;
 use crate::following::{Announced, Following};
 use crate::lines::Line;
 use crate::links::{Link, Links};
-use crate::log::Log;
 use crate::lookup::Lookup;
-use crate::metrics::Metrics;
 use crate::notify::Manager;
 use crate::outbox::Outbox;
 use crate::ports::Ports;
+use crate::recording::Recording;
 use crate::reports::Events;
+use crate::state::Slots;
 use crate::sys::signals;
 use crate::time::{processor_time, Clock, Moment, WallTime};
 use crate::waiting::{self, Awaited, IN, PRIORITY};
@@ -81,8 +81,11 @@ pub struct Live {
     pub lookup: Option<Lookup>,
     pub manager: Manager,
     pub events: Events,
-    pub log: Log,
-    pub metrics: Metrics,
+    pub record: Recording,
+    /// Where the state is saved.
+    pub slots: Option<Slots>,
+    /// True if another lldpa-live follows at once.
+    pub makes_way: bool,
     /// When to save the state next.
     pub next_state: Moment,
     /// The last number that was given to a chassis.
@@ -110,8 +113,9 @@ impl Live {
             lookup: None,
             manager: Manager::new(),
             events: Events::default(),
-            log: Log::new(arguments.log.clone(), arguments.log_most, arguments.log_keep),
-            metrics: Metrics::new(arguments.metrics.clone()),
+            record: Recording::default(),
+            slots: None,
+            makes_way: false,
             next_state: Moment::default(),
             last_chassis: 0,
             outbox: Outbox::default(),
@@ -184,6 +188,22 @@ impl Live {
         moment
     }
 
+    /// Sends clients that record the last lines, for as long as they read, but not for long.
+    pub fn end_records(&mut self, last: Moment) {
+        loop {
+            self.serve_watches();
+            let is_read =
+                self.server.control.as_ref().map_or(true, |control| !control.owes_records(&self.record));
+            let now = Moment::now();
+            if is_read || now >= last {
+                return;
+            }
+            self.await_files(now);
+            waiting::ready(&self.wakers.epoll, last.since(now));
+            self.server.control.iter_mut().for_each(|control| control.turn(now, false));
+        }
+    }
+
     /// Notes after a turn whether a second still waits.
     fn note_late(&mut self, before: Moment) {
         let now = Moment::now();
@@ -224,7 +244,7 @@ impl Live {
             return;
         }
         for before in (0..left).step_by(MOST_TICKS as usize) {
-            self.log.write(moment, &Line::Ticks((left - before).min(MOST_TICKS)));
+            self.record.write(moment, &Line::Ticks((left - before).min(MOST_TICKS)));
         }
         while let Some(running) = self.running.as_mut().filter(|_| left > 0) {
             let ticks = running.agent.ticks(left);
@@ -285,12 +305,14 @@ mod tests {
     use super::*;
     use crate::options::AgentOptions;
     use crate::state::Saved;
+    use crate::sys::stopped::StoppedClocks;
     use crate::time::SECOND;
     use std::os::unix::io::OwnedFd;
     use std::os::unix::net::UnixDatagram;
 
     #[test]
     fn a_second_waits_for_a_port_that_rests() {
+        let _clocks = StoppedClocks::new();
         let words = ["--mac=02:00:00:00:00:01".to_string()];
         let agent = AgentOptions::read(&words).expect("options");
         let mut live =
@@ -320,14 +342,13 @@ mod tests {
 
     #[test]
     fn a_second_does_not_wait_long_for_frames() {
+        let clocks = StoppedClocks::new();
         let words = ["--mac=02:00:00:00:00:01".to_string()];
         let agent = AgentOptions::read(&words).expect("options");
         let mut live = Live::without_interfaces(Arguments { agent, ..Arguments::default() }, &["eth0"]);
         live.open(&Saved::default()).expect("an agent");
         let ended = live.clock.end_of(1);
-        while Moment::now() <= ended {
-            std::thread::sleep(Duration::from_millis(10));
-        }
+        clocks.pass(SECOND + Duration::from_millis(1));
         let (old, long) = (Moment::now() - 3 * SECOND, 3600 * SECOND);
         live.note_late(Moment::now() - long);
         assert_eq!(live.late, LONGEST_TURN, "this process may have been stopped");
@@ -336,7 +357,7 @@ mod tests {
         assert_eq!(live.clock.given, 0, "it waits");
         live.note_late(Moment::now() - long);
         live.give(Vec::new(), old);
-        assert!(live.clock.given >= 1, "it was given although frames may be left");
+        assert_eq!(live.clock.given, 1, "it was given although frames may be left");
         live.note_late(Moment::now());
         assert_eq!(live.late, Duration::ZERO);
     }

@@ -13,7 +13,6 @@ mod control;
 mod counters;
 mod ctl;
 mod drops;
-mod files;
 mod following;
 #[cfg(test)]
 mod fuzz;
@@ -25,9 +24,7 @@ mod link_changes;
 mod links;
 mod listening;
 mod live;
-mod log;
 mod lookup;
-mod metrics;
 mod neighbors;
 mod netlink;
 mod notify;
@@ -42,12 +39,12 @@ mod queries;
 mod reading;
 mod rebuilding;
 mod received;
+mod recording;
 mod replacing;
 mod reports;
 mod rights;
 #[cfg(test)]
 mod same_lines;
-mod settings;
 mod share;
 mod start;
 mod state;
@@ -73,8 +70,10 @@ fn main() {
     if let Some(status) = ctl::run(&words) {
         std::process::exit(status);
     }
-    if let [lookup::WORD, name] = words.iter().map(String::as_str).collect::<Vec<_>>()[..] {
-        std::process::exit(lookup::serve(name));
+    match words.iter().map(String::as_str).collect::<Vec<_>>()[..] {
+        [lookup::WORD, name, path, user] => std::process::exit(lookup::serve(name, path, user)),
+        [reports::WORD] => std::process::exit(reports::serve()),
+        _ => (),
     }
     let status = match Request::read(&words) {
         Ok(Request::Print(text)) => i32::from(std::io::stdout().write_all(text.as_bytes()).is_err()),

@@ -2,10 +2,10 @@
 //! sd_notify(3). Never waits: a datagram that cannot be sent at once is lost.
 
 use crate::sys::sockets;
-use crate::time::{awake, Moment, SECOND};
+use crate::time::{Moment, SECOND};
 use std::env::var;
 use std::fs::File;
-use std::io::Write;
+use std::io::{Error, ErrorKind, Result, Write};
 use std::time::Duration;
 
 const LEAST_BETWEEN_STATUSES: Duration = SECOND;
@@ -14,7 +14,7 @@ const KEEPALIVES_A_SPAN: u32 = 4; // in the time that the watchdog allows
 
 /// The service manager that started this service, if there is one.
 pub struct Manager {
-    socket: Option<(File, Vec<u8>)>,
+    socket: Option<File>,
     span: Option<Duration>,
     next_keepalive: Moment,
     /// The present status, and the one that was sent last.
@@ -42,12 +42,18 @@ fn address_of(name: &str) -> Option<Vec<u8>> {
     Some(address)
 }
 
+/// Opens a socket to the manager, which keeps its own as long as this service lives.
+fn connected(address: &[u8]) -> Result<File> {
+    let socket = sockets::open_datagrams()?;
+    sockets::connect_datagrams(&socket, address)?;
+    Ok(socket)
+}
+
 impl Manager {
     pub fn new() -> Manager {
         let address = var("NOTIFY_SOCKET").ok().and_then(|name| address_of(&name));
-        let socket = address.and_then(|address| Some((sockets::open_datagrams().ok()?, address)));
         Manager {
-            socket,
+            socket: address.and_then(|address| connected(&address).ok()),
             span: watchdog_span(),
             next_keepalive: Moment::default(),
             status: String::new(),
@@ -62,15 +68,13 @@ impl Manager {
 
     /// Sends lines, such as `READY=1`.
     pub fn send(&self, lines: &str) {
-        if let Some((socket, address)) = &self.socket {
-            let _ =
-                sockets::connect_datagrams(socket, address).and_then(|()| { socket }.write(lines.as_bytes()));
-        }
+        let _ = self.socket.as_ref().map(|mut socket| socket.write(lines.as_bytes()));
     }
 
-    /// Reports that the service reads its settings again. `READY=1` must follow.
-    pub fn report_reloading(&self) {
-        self.send(&format!("RELOADING=1\nMONOTONIC_USEC={}", awake().as_micros()));
+    /// Lets the manager keep open files for the next start of this service.
+    pub fn keep(&self, name: &str, files: &[File]) -> Result<()> {
+        let socket = self.socket.as_ref().ok_or_else(|| Error::from(ErrorKind::NotConnected))?;
+        sockets::send_files(socket, &format!("FDSTORE=1\nFDNAME={name}"), files)
     }
 
     /// Sets the status that `systemctl status` shows.
@@ -115,9 +119,8 @@ mod tests {
         let heard = UnixDatagram::bind(&path).expect("a socket");
         heard.set_nonblocking(true).expect("a socket");
         let mut manager = Manager::new();
-        let socket = sockets::open_datagrams().expect("a socket");
         let address = address_of(&path.to_string_lossy()).expect("an address");
-        (manager.socket, manager.span) = (Some((socket, address)), None);
+        (manager.socket, manager.span) = (connected(&address).ok(), None);
         let at = |milliseconds: u64| Moment::after_boot(Duration::from_millis(5000 + milliseconds));
         // when a status is set, and what is then told
         for (milliseconds, status, wanted) in [

@@ -4,7 +4,7 @@
 use crate::agent::Running;
 use crate::changes;
 use crate::identifiers;
-use crate::identity::{chassis_address, description};
+use crate::identity::chassis_address;
 use crate::lines::{set_text, unsent, Line};
 use crate::links::Link;
 use crate::live::Live;
@@ -47,7 +47,7 @@ impl Live {
         self.announced.name = hostname.clone();
         let (options, management) = (&self.arguments.agent, self.announced.management);
         let running = Running::open(options, names, mac, hostname, management, &[])?;
-        self.log.begin(&running.command_line(options), Vec::new());
+        self.record.begin(&running.command_line(options), &[]);
         self.running = Some(running);
         self.clock = Clock::new();
         self.begin(saved);
@@ -56,13 +56,12 @@ impl Live {
 
     /// Gives a new agent the settings, the saved neighbors, and the state of the links.
     fn begin(&mut self, saved: &Saved) {
-        let text = if self.arguments.no_description { Some(String::new()) } else { description() };
-        if let Some(text) = text {
+        if let Some(text) = self.announced.description.clone() {
             let _ = self.command(set_text("description", &text).to_string());
         }
-        self.apply_settings(true);
+        self.apply_settings();
         self.restore(saved);
-        self.count_from_here(&self.ports.names());
+        self.count_from_here(&self.ports.names(), &saved.counters);
         self.follow_known_links();
         for number in 0..self.ports.all.len() {
             if let Some(is_up) = self.ports.all[number].await_missing() {
@@ -111,7 +110,7 @@ impl Live {
         for line in &lines {
             running.give(line);
         }
-        self.log.write_lines(lines);
+        self.record.write_lines(&lines);
         for number in 0..self.ports.all.len() {
             self.record_restored(number, saved);
         }

@@ -1,6 +1,8 @@
 //! Reads a line of a client: what it asks, or why it is refused.
 
-use crate::settings::{first_word, LONGEST_LINE};
+use lldpa_people::settings::first_word;
+use lldpa_people::settings::Setting;
+pub use lldpa_people::settings::LONGEST_LINE;
 use std::fmt;
 
 /// Why a line of a client is not answered.
@@ -37,8 +39,21 @@ pub enum Query<'a> {
     Statistics(Option<&'a str>),
     /// The tables of some ports (of all if empty), and then each change.
     Watch(Vec<&'a str>),
+    /// The present state as lines, and then each line that the agent is given. Again: the state once more.
+    Record,
+    /// What a client does to hand over the settings.
+    Settings(Handing),
     /// A line for the agent.
     Command,
+}
+
+/// A step of handing over the settings: one after another they are new, and the last step applies them.
+#[derive(Debug, PartialEq, Eq)]
+pub enum Handing {
+    Begin,
+    One(Setting),
+    /// So many files or lines could not be sent.
+    End(usize),
 }
 
 impl Query<'_> {
@@ -53,6 +68,14 @@ impl Query<'_> {
             ["changes"] => Query::Changes(None),
             ["changes", count] => count.parse().map_or(Query::Command, |count| Query::Changes(Some(count))),
             ["watch", ref ports @ ..] => Query::Watch(ports.to_vec()),
+            ["record"] => Query::Record,
+            ["settings", "begin"] => Query::Settings(Handing::Begin),
+            ["settings", "end", unsent] => {
+                Query::Settings(Handing::End(unsent.parse().map_err(|_| LineFault::Unknown)?))
+            }
+            ["settings", "line", ..] => {
+                Query::Settings(Handing::One(Setting::sent(line).ok_or(LineFault::Unknown)?))
+            }
             ["show", "neighbors"] => Query::Neighbors(None),
             ["show", "neighbors", port] => Query::Neighbors(Some(port)),
             ["show", "statistics"] => Query::Statistics(None),
@@ -72,8 +95,8 @@ fn check(line: &[u8], may_change: bool) -> Result<(), LineFault> {
     match &word[..] {
         "tick" | "rx" | "up" | "down" => Err(LineFault::ForLldpaLive),
         _ if matches!(first, None | Some(b'#')) => Err(LineFault::Blank),
-        "configure" | "update" if !may_change => Err(LineFault::NoPermission),
-        "live" | "changes" | "watch" | "show" | "configure" | "update" => Ok(()),
+        "configure" | "update" | "settings" if !may_change => Err(LineFault::NoPermission),
+        "live" | "changes" | "watch" | "record" | "show" | "configure" | "update" | "settings" => Ok(()),
         _ => Err(LineFault::Unknown),
     }
 }

@@ -222,6 +222,7 @@ impl Ports {
 mod tests {
     use super::*;
     use crate::arguments::Arguments;
+    use crate::sys::stopped::StoppedClocks;
     use crate::waiting::{epoll, ready};
     use std::os::unix::io::OwnedFd;
     use std::os::unix::net::UnixDatagram;
@@ -257,6 +258,7 @@ mod tests {
 
     #[test]
     fn a_turn_reads_some_frames_and_the_next_ones_read_the_rest() {
+        let _clocks = StoppedClocks::new();
         let ((mut ports, senders), epoll) = (ports(), epoll().expect("a file"));
         for (number, sender) in senders.iter().enumerate() {
             for place in 0..FRAMES {
@@ -285,6 +287,7 @@ mod tests {
 
     #[test]
     fn what_is_no_frame_for_the_agent_is_only_counted() {
+        let _clocks = StoppedClocks::new();
         let ((mut ports, senders), epoll) = (ports(), epoll().expect("a file"));
         senders[3].send(&frame(1)[..13]).expect("room");
         senders[3].send(&frame(1)).expect("room");

@@ -21,7 +21,7 @@ impl Live {
         self.give_seconds(frame.moment);
         let port = &self.ports.all[frame.port];
         let moment = frame.moment.max(self.clock.end_of(0)); // a second may not have waited for it
-        self.log.write_frame(moment, &port.name, &frame.octets);
+        self.record.write_frame(moment, &port.name, &frame.octets);
         let lldpdu = self.ports.digests.of_lldpdu(&frame.octets);
         let is_repeated = port.neighbors.iter().any(|one| one.lldpdu == lldpdu);
         // The agent alone examines a repeated frame.

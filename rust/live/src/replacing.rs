@@ -12,10 +12,12 @@
 //! rebuild the tables. So lldpa-live remembers for each port what to add (see `counters`).
 
 use crate::agent::Running;
+use crate::counters::Numbers;
 use crate::lines::Line;
 use crate::live::Live;
-use crate::state::{Arrival, State};
+use crate::state::State;
 use lldpa::Status;
+use std::collections::HashMap;
 use std::net::Ipv4Addr;
 
 /// Octets of memory that replacing an agent takes, beside those of the agent itself: for each
@@ -40,7 +42,7 @@ impl Live {
         };
         match Running::open(options, names, mac, hostname, management, &lines) {
             Ok(next) => {
-                self.log.begin(&next.command_line(options), lines);
+                self.record.begin(&next.command_line(options), &lines);
                 self.go_on_counting(&next);
                 self.running = Some(next);
                 self.server.forget_tables();
@@ -71,17 +73,18 @@ impl Live {
         }
     }
 
-    /// Lets the counters of new ports begin at 0: the agent has counted what rebuilt its tables.
-    pub fn count_from_here(&mut self, names: &[String]) {
+    /// Lets the counters of new ports begin at these numbers, or else at 0: the agent has counted what rebuilt its
+    /// tables.
+    pub fn count_from_here(&mut self, names: &[String], saved: &HashMap<String, Numbers>) {
         let first = self.running.as_ref().map_or(Vec::new(), Running::counted);
         let ports = self.ports.all.iter_mut().zip(&first);
         ports
             .filter(|(port, _)| names.contains(&port.name))
-            .for_each(|(port, first)| port.counters.go_on(&[], first));
+            .for_each(|(port, first)| port.counters.begin(saved.get(&port.name), first));
     }
 
     /// Returns the lines that bring a new agent of these ports to the state of the present one.
-    fn head(&self, names: &[String]) -> Vec<Line> {
+    pub fn head(&self, names: &[String]) -> Vec<Line> {
         let is_quiet = self.arguments.agent.numbers.receive_only;
         let new = if is_quiet { Status::RxOnly } else { Status::RxAndTx };
         let (mut full, mut downs) = (Vec::new(), Vec::new());
@@ -97,30 +100,21 @@ impl Live {
         self.running.as_ref().map_or(Vec::new(), |running| running.head(names, new, &full, &downs))
     }
 
-    /// Begins another file of the log, with lines that lead to the agent's present state.
-    pub fn begin_log(&mut self) {
-        let lines = self.head(&self.ports.names());
-        if let Some(running) = &self.running {
-            self.log.begin(&running.command_line(&self.arguments.agent), lines);
-        }
-    }
-
-    pub fn save_state(&mut self) {
-        if let (Some(path), Some(state)) = (self.arguments.state.clone(), self.state()) {
-            self.log.write_state(&path, state);
-        }
+    /// Saves the state for the next lldpa-live. True if it is saved.
+    pub fn save_state(&mut self) -> bool {
+        let state = self.state();
+        self.slots.as_mut().zip(state).map_or(false, |(slots, state)| slots.write(state))
     }
 
     /// Returns the present state for the next lldpa-live. None if it is not wanted.
-    pub fn state(&self) -> Option<State> {
-        let running = self.running.as_ref().filter(|_| self.arguments.state.is_some())?;
+    fn state(&self) -> Option<State> {
+        let running = self.running.as_ref().filter(|_| self.slots.is_some())?;
         let arrivals = self.ports.neighbors().map(|(port, one)| {
             let msap = one.msap();
-            let (chassis, port_id) = (msap.chassis.to_vec(), msap.port.to_vec());
-            Arrival { port: port.into(), chassis, port_id, came: one.came }
+            ((port.into(), msap.chassis.to_vec(), msap.port.to_vec()), one.came)
         });
         let (lines, _) = running.table_lines(&running.names);
-        Some(State::new(arrivals.collect(), lines))
+        Some(State::new(arrivals.collect(), self.totals(None), lines))
     }
 }
 

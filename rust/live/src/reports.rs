@@ -1,19 +1,22 @@
 //! Writes reports for people to standard error. Each is one line, and begins with a level if the
-//! journal reads it. Once lldpa-live runs, a thread writes them: standard error may be a terminal
-//! that somebody has stopped, a file on a disk that hangs, or a pipe that nobody reads. Some lines
-//! wait for this thread, and further ones are lost.
+//! journal reads it. No write waits: standard error may be a terminal that somebody has stopped, or a pipe
+//! that nobody reads. Some lines wait for it, and further ones are lost. A file, which may be on a disk that
+//! hangs, is written by a process of its own.
 
+use crate::rights::{give_up, user_of_client};
+use crate::sys::signals;
+use crate::sys::sockets::send_at_once;
 use crate::time::Moment;
-use crate::waiting::{epoll, ready, Awaited, OUT};
 use lldpa_people::texts::printable;
-use std::collections::BTreeMap;
-use std::fs::File;
-use std::io::{Result, Write};
-use std::os::unix::fs::MetadataExt;
-use std::os::unix::io::AsFd;
-use std::sync::mpsc::{channel, sync_channel, Receiver, SyncSender};
+use std::collections::{BTreeMap, VecDeque};
+use std::fs::{File, OpenOptions};
+use std::io::{ErrorKind, Result, Write};
+use std::os::unix::fs::{FileTypeExt, MetadataExt, OpenOptionsExt};
+use std::os::unix::io::{AsFd, OwnedFd};
+use std::os::unix::net::UnixStream;
+use std::os::unix::process::CommandExt;
+use std::process::{Command, Stdio};
 use std::sync::Mutex;
-use std::thread;
 use std::time::Duration;
 
 const MOST_AT_ONCE: usize = 4095; // octets that a pipe accepts whole, with a line feed
@@ -25,58 +28,118 @@ const MOST_A_MINUTE: usize = 100; // lines of a port about its neighbors
 const MINUTE: Duration = Duration::from_secs(60);
 const LONGEST: usize = 1000; // characters of such a line
 
-/// The thread that writes lines, once it is started.
-static WRITER: Mutex<Option<Writer>> = Mutex::new(None);
-const MOST_WAITING: usize = 2048; // lines
-const LONGEST_END: Duration = Duration::from_millis(200);
+/// The word of the command line of the process that copies lines.
+pub const WORD: &str = "--copy-reports";
+const MOST_WAITING: usize = 1 << 18; // octets
+const BETWEEN_TRIES: Duration = Duration::from_millis(200);
 
-struct Writer {
-    lines: SyncSender<Vec<u8>>,
-    /// Becomes disconnected when the thread has ended.
-    end: Receiver<()>,
+static OUT: Mutex<Option<Out>> = Mutex::new(None);
+
+/// How lines are written without waiting.
+enum Way {
+    /// A terminal or a pipe that was opened once more, or a pipe to a process that copies.
+    File(File),
+    Socket(File),
 }
 
-impl Writer {
-    /// Starts a thread that writes lines. All rights must have been given up: a thread keeps those
-    /// that it has.
-    fn start(mut out: impl Write + Send + 'static) -> Result<Writer> {
-        let ((lines, theirs), (ours, end)) = (sync_channel::<Vec<u8>>(MOST_WAITING), channel());
-        let work = move || {
-            let _ours = ours; // dropped at the end
-            theirs.iter().for_each(|line| drop(out.write_all(&line)));
+/// Standard error, and what it had no room for yet.
+struct Out {
+    way: Way,
+    is_journal: bool,
+    waiting: VecDeque<u8>,
+}
+
+impl Out {
+    fn open() -> Result<Out> {
+        let error = File::from(std::io::stderr().as_fd().try_clone_to_owned()?);
+        let found = error.metadata()?;
+        let kind = found.file_type();
+        let is_quick = kind.is_char_device() || kind.is_fifo();
+        let again = || {
+            let flags = libc::O_NONBLOCK | libc::O_NOCTTY;
+            OpenOptions::new().append(true).custom_flags(flags).open("/proc/self/fd/2")
         };
-        thread::Builder::new().name("reports".into()).stack_size(1 << 17).spawn(work)?;
-        Ok(Writer { lines, end })
+        let way = match if is_quick { again() } else { Err(ErrorKind::Unsupported.into()) } {
+            _ if kind.is_socket() => Way::Socket(error),
+            Ok(file) => Way::File(file),
+            Err(_) => Way::File(copier()?),
+        };
+        Ok(Out { way, is_journal: is_journal(), waiting: VecDeque::new() })
     }
 
-    /// Waits until the lines are written, but not for long.
-    fn end(self) {
-        drop(self.lines);
-        let _ = self.end.recv_timeout(LONGEST_END);
+    fn add(&mut self, line: &[u8]) {
+        if self.waiting.len() + line.len() <= MOST_WAITING {
+            self.waiting.extend(line);
+        }
+        self.flush();
+    }
+
+    /// Writes what there is room for. What fails is lost.
+    fn flush(&mut self) {
+        while !self.waiting.is_empty() {
+            let octets = self.waiting.as_slices().0;
+            let written = match &mut self.way {
+                Way::File(file) => file.write(octets),
+                Way::Socket(file) => send_at_once(file, octets),
+            };
+            match written {
+                Ok(length) => drop(self.waiting.drain(..length)),
+                Err(fault) if fault.kind() == ErrorKind::WouldBlock => return,
+                Err(_) => self.waiting.clear(),
+            }
+        }
+        self.waiting.shrink_to(1 << 12);
     }
 }
 
-/// Lets a thread write the reports from now on.
+/// Starts a process that copies lines to standard error, which may be a file on a disk that hangs. Returns a pipe
+/// to it that never waits.
+fn copier() -> Result<File> {
+    let (ours, theirs) = UnixStream::pair()?;
+    ours.set_nonblocking(true)?;
+    signals::forget_children();
+    let mut command = Command::new("/proc/self/exe");
+    command.arg0("lldpa-live").arg(WORD).stdin(Stdio::from(OwnedFd::from(theirs))).stdout(Stdio::null());
+    command.spawn()?;
+    Ok(File::from(OwnedFd::from(ours)))
+}
+
+/// Copies lines to standard error until their writer ends. Returns the exit status.
+pub fn serve() -> i32 {
+    signals::ignore_all();
+    let _ = give_up(user_of_client());
+    i32::from(std::io::copy(&mut std::io::stdin(), &mut std::io::stderr()).is_err())
+}
+
+/// Opens standard error so that no write to it waits. All rights are still needed, and nothing else is open.
 pub fn start() -> Result<()> {
-    let writer = Writer::start(std::io::stderr())?;
-    if let Ok(mut place) = WRITER.lock() {
-        *place = Some(writer);
+    let out = Out::open()?;
+    if let Ok(mut place) = OUT.lock() {
+        *place = Some(out);
     }
     Ok(())
 }
 
-/// Waits until the reports are written, but not for long. Further ones are written at once or lost.
-pub fn end() {
-    let writer = WRITER.lock().ok().and_then(|mut place| place.take());
-    writer.into_iter().for_each(Writer::end);
+/// Writes what had no room yet.
+pub fn flush() {
+    if let Ok(Some(out)) = OUT.lock().as_deref_mut() {
+        out.flush();
+    }
+}
+
+/// Returns when to try again. None if nothing waits.
+pub fn deadline(now: Moment) -> Option<Moment> {
+    let waits = OUT.lock().map_or(false, |out| out.as_ref().map_or(false, |out| !out.waiting.is_empty()));
+    waits.then(|| now + BETWEEN_TRIES)
 }
 
 pub fn report(level: u8, text: &str) {
-    let line = line_of(level, text, is_journal());
-    if let Ok(Some(writer)) = WRITER.lock().as_deref() {
-        let _ = writer.lines.try_send(line);
-    } else if can_take() {
-        let _ = std::io::stderr().write(&line);
+    match OUT.lock().as_deref_mut() {
+        Ok(Some(out)) => {
+            let line = line_of(level, text, out.is_journal);
+            out.add(&line);
+        }
+        _ => drop(std::io::stderr().write(&line_of(level, text, is_journal()))),
     }
 }
 
@@ -86,15 +149,6 @@ fn line_of(level: u8, text: &str, is_journal: bool) -> Vec<u8> {
     line.truncate(MOST_AT_ONCE);
     line.push(b'\n');
     line
-}
-
-/// True if standard error accepts a line at once. A regular file, which epoll refuses, always does.
-fn can_take() -> bool {
-    let mut errors = Awaited::new(std::io::stderr());
-    epoll().map_or(false, |epoll| {
-        errors.wait_for(&epoll, OUT);
-        !errors.is_awaited() || !ready(&epoll, Duration::ZERO).is_empty()
-    })
 }
 
 pub fn warn(text: &str) {
@@ -173,8 +227,6 @@ impl Events {
 mod tests {
     use super::*;
     use std::io::Read;
-    use std::os::unix::net::UnixStream;
-    use std::time::Instant;
 
     #[test]
     fn a_report_is_one_line_with_a_level_for_the_journal() {
@@ -194,28 +246,22 @@ mod tests {
     #[test]
     fn a_reader_that_stands_still_loses_lines_and_holds_nothing_up() {
         let (ours, mut theirs) = UnixStream::pair().expect("two sockets");
-        let writer = Writer::start(ours).expect("a thread");
-        let began = Instant::now();
-        let count = 4 * MOST_WAITING;
-        let taken = (0..count).filter(|_| writer.lines.try_send(vec![b'x'; 4096]).is_ok()).count();
-        assert!((MOST_WAITING..count).contains(&taken), "{taken}");
-        writer.end();
-        assert!(began.elapsed() < Duration::from_secs(5));
-        let read = thread::spawn(move || {
-            let mut read = Vec::new();
-            theirs.read_to_end(&mut read).map(|_| read.len())
-        });
-        assert_eq!(read.join().expect("a thread").expect("lines"), 4096 * taken, "those that waited");
-    }
-
-    #[test]
-    fn at_the_end_all_lines_are_written() {
-        let (ours, mut theirs) = UnixStream::pair().expect("two sockets");
-        let writer = Writer::start(ours).expect("a thread");
-        (0..9).for_each(|_| writer.lines.try_send(b"line\n".to_vec()).expect("room"));
-        writer.end();
-        let mut read = String::new();
-        theirs.read_to_string(&mut read).expect("lines");
-        assert_eq!(read, "line\n".repeat(9));
+        let way = Way::Socket(File::from(OwnedFd::from(ours)));
+        let mut out = Out { way, is_journal: false, waiting: VecDeque::new() };
+        (0..1000).for_each(|_| out.add(&[b'x'; 4096]));
+        assert!(out.waiting.len() > MOST_WAITING - 4096);
+        theirs.set_nonblocking(true).expect("a socket");
+        let (mut read, mut room) = (0, [0; 1 << 16]);
+        while let Ok(length) = theirs.read(&mut room) {
+            read += length;
+            out.flush();
+        }
+        assert!(
+            out.waiting.is_empty() && read % 4096 == 0 && read < 1000 * 4096,
+            "{read}: those that waited"
+        );
+        drop(theirs);
+        out.add(b"x");
+        assert!(out.waiting.is_empty(), "nobody reads");
     }
 }

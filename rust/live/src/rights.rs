@@ -1,11 +1,9 @@
 //! Gives up the rights that opened the sockets: reading strangers' frames needs none of them.
 
 use crate::arguments::ArgumentFault;
-use crate::sys::landlock;
 use crate::sys::rights as sys;
 pub use crate::sys::rights::own_user;
 use std::io::{Error, Result};
-use std::path::Path;
 
 #[derive(Clone, Copy)]
 pub struct User {
@@ -91,28 +89,6 @@ pub fn give_up(user: Option<User>) -> Result<()> {
     sys::keep_no_right(user.map(|user| (user.user, user.group)))
 }
 
-/// Lets the kernel refuse changes of files, for good, except where these paths are: in the folders that
-/// contain the folders of these files, so that a folder which was removed can be made again. Older
-/// kernels refuse nothing more. Needs no right, and must come before other threads.
-pub fn keep_to(files: &[&str]) -> Result<()> {
-    let folders: Vec<String> = files.iter().filter_map(|path| place_of(Path::new(path))).collect();
-    match landlock::restrict(&folders) {
-        Err(fault) if WITHOUT_LANDLOCK.contains(&fault.raw_os_error().unwrap_or(0)) => Ok(()),
-        restricted => restricted,
-    }
-}
-
-/// The kernel has no Landlock, or a filter of system calls, such as that of the unit, refuses it.
-const WITHOUT_LANDLOCK: [i32; 3] = [libc::ENOSYS, libc::EOPNOTSUPP, libc::EPERM];
-
-/// Returns the folder that contains a file's folder, or its nearest ancestor that there is. It is never
-/// the root folder: then rather the file's folder.
-fn place_of(file: &Path) -> Option<String> {
-    let is_able = |folder: &&Path| folder.parent().is_some() && folder.is_dir();
-    let above = file.ancestors().skip(2).find(is_able).or_else(|| file.parent().filter(|one| is_able(one)));
-    above.map(|folder| folder.to_string_lossy().into_owned())
-}
-
 /// Puts a path before the text of an error.
 pub fn at(path: &str) -> impl Fn(Error) -> Error + '_ {
     move |fault| Error::new(fault.kind(), format!("{path}: {}", text_of(&fault)))
@@ -138,19 +114,6 @@ mod tests {
         assert_eq!(at("/a")(missing).to_string(), "/a: No such file or directory");
         let own = Error::new(ErrorKind::Other, "what (os error 2)");
         assert_eq!(text_of(&own), "what (os error 2)");
-    }
-
-    #[test]
-    fn files_may_be_changed_beside_their_folder() {
-        for (file, wanted) in [
-            ("/usr/lib/lldpa/state", Some("/usr/lib")),
-            ("/usr/share/no-such/further/state", Some("/usr/share")),
-            ("/usr/state", Some("/usr")),
-            ("/no-such/further/state", None),
-            ("/state", None),
-        ] {
-            assert_eq!(place_of(Path::new(file)).as_deref(), wanted, "{file}");
-        }
     }
 
     #[test]

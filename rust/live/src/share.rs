@@ -45,9 +45,10 @@ impl Share {
         self.counted = total;
     }
 
-    /// Leaves out processor time that clients' questions have cost since the last call of `count`.
-    pub fn leave_out(&mut self, cost: Duration) {
-        self.counted += cost;
+    /// Leaves out the processor time since the last call of `count`, which clients' questions have cost. `total` is
+    /// that of the process in its life.
+    pub fn leave_out(&mut self, total: Duration) {
+        self.counted = self.counted.max(total);
     }
 
     /// Returns when frames may be read again; a moment that has passed if at once. They may borrow
@@ -103,7 +104,7 @@ mod tests {
         fn answer(&mut self, cost: Duration) {
             self.work(cost);
             self.answers += cost;
-            self.share.leave_out(cost);
+            self.share.leave_out(self.used);
         }
     }
 

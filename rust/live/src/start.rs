@@ -2,30 +2,30 @@
 
 use crate::arguments::Arguments;
 use crate::budget::LARGE_PIECE;
+use crate::commands::Settings;
 use crate::control::Control;
-use crate::files;
+use crate::identity::description;
 use crate::lines::set_status;
 use crate::links::Links;
 use crate::live::Live;
 use crate::lookup::Group;
 use crate::patterns;
 use crate::ports::{Ports, MOST_PORTS};
-use crate::reports::{self, report, warn, ERROR};
+use crate::reports::{self, notice, report, warn, ERROR};
 use crate::rights::{self, give_up, text_of, user_to_be};
-use crate::state::{self, Saved, StateFault};
+use crate::state::{Saved, Slots, StateFault};
 use crate::sys::signals::{self, Signal};
 use crate::sys::{self, seccomp};
 use crate::time::Moment;
 use crate::wrong_arguments;
 use lldpa::{OpenFault, Show, Status};
 use std::fmt;
-use std::fs::File;
 use std::io::{Error, ErrorKind, Write};
 use std::panic::{catch_unwind, AssertUnwindSafe};
 use std::time::Duration;
 
-/// The longest end, with the wait for the disk: the unit kills lldpa-live after 5 seconds.
-const LONGEST_END: Duration = Duration::from_secs(4);
+/// How long clients that record may take to read the last lines.
+const LONGEST_END: Duration = Duration::from_millis(200);
 
 /// Why lldpa-live does not start.
 enum StartFault {
@@ -69,6 +69,9 @@ impl From<OpenFault> for StartFault {
 /// Does what the command line says. Returns the exit status.
 pub fn run(arguments: Arguments) -> i32 {
     sys::give_back_pieces_of(LARGE_PIECE);
+    sys::files::hide_kept();
+    signals::ignore_file_limit();
+    let _ = reports::start();
     std::panic::set_hook(Box::new(|panic| report(ERROR, &panic.to_string())));
     match user_to_be(arguments.user.as_deref()) {
         Err(fault) => wrong_arguments(&fault),
@@ -81,79 +84,48 @@ pub fn run(arguments: Arguments) -> i32 {
 
 fn fail(why: &str) -> i32 {
     report(ERROR, why);
-    reports::end();
     1
 }
 
-/// Opens the sockets and files, gives up rights, and opens the agent if it can be opened already.
-fn begin(mut arguments: Arguments, user: Option<rights::User>) -> Result<Live, StartFault> {
-    make_absolute(&mut arguments);
+/// Opens the sockets and files, gives up rights, and opens the agent if it can be opened already. From then on
+/// no file is opened, made, renamed or removed.
+fn begin(arguments: Arguments, user: Option<rights::User>) -> Result<Live, StartFault> {
     arguments.refused.iter().for_each(|port| warn(&port.to_string()));
+    let former = |name: &String| warn(&format!("{name} does nothing any more: see `record` in lldpa-ctl(8)"));
+    arguments.former.iter().for_each(former);
     let links = Links::open()?;
     let may_grow = arguments.selectors.iter().any(|one| patterns::gives(one)) && arguments.once.is_none();
     let names = first_ports(&arguments, &links, may_grow && !arguments.only_existing)?;
     let ports = Ports::open(&names, &arguments, may_grow).map_err(StartFault::NoSocket)?;
-    let state = arguments.state.as_deref().map_or(Ok(None), |path| state::open(path, user));
+    let slots = arguments.state.as_deref().map(|path| Slots::open(path, user));
     let name = arguments.control_group.clone().filter(|_| arguments.once.is_none());
-    let group = name.as_deref().map_or_else(Group::default, Group::named);
+    let look = |name: &str| Group::named(name, &arguments.control, user);
+    let group = name.as_deref().map_or_else(Group::default, look);
     let control = match arguments.once {
         None => Some(Control::open(&arguments.control, group.number)?),
         Some(_) => None,
     };
-    arguments.log.as_deref().map_or(Ok(()), |path| files::enter(path, user))?;
     give_up(user)?;
-    arguments.log.as_deref().map_or(Ok(()), files::check)?;
     let mut live = Live::new(arguments, links, ports, control)?;
     name.filter(|_| group.number.is_none()).iter().for_each(|name| report_unknown(name));
     live.lookup = group.lookup;
-    keep_to_folders(&live.arguments);
-    if live.arguments.log.is_some() || live.arguments.state.is_some() {
-        live.log.start()?;
-    }
-    live.metrics.start()?;
-    reports::start()?;
+    let kept = || Some(Slots::kept(&live.manager).map_err(StateFault::from));
+    let slots = slots.or_else(|| if live.arguments.keep_state { kept() } else { None });
+    live.settings = Settings::read(&live.arguments.config);
+    let is_told = !live.arguments.no_description;
+    live.announced.description = if is_told { description() } else { Some(String::new()) };
     seccomp::install().unwrap_or_else(|fault| {
         warn(&format!("system calls are not filtered: {}", text_of(&fault)));
     });
-    let saved = saved(live.arguments.state.as_deref().unwrap_or(""), state);
+    let saved = live.take_slots(slots);
     live.open(&saved)?;
     Ok(live)
-}
-
-/// Lets paths stay valid after the current folder has changed.
-fn make_absolute(arguments: &mut Arguments) {
-    let absolute =
-        |path: &str| std::env::current_dir().unwrap_or_default().join(path).to_string_lossy().into_owned();
-    arguments.control = absolute(&arguments.control);
-    arguments.state = arguments.state.as_deref().map(absolute);
-    arguments.log = arguments.log.as_deref().map(absolute);
-    arguments.metrics = arguments.metrics.as_deref().map(absolute);
-    arguments.config = arguments.config.iter().map(|path| absolute(path)).collect();
-}
-
-/// Lets files be changed only where the log, the state, the metrics and the control socket are.
-fn keep_to_folders(arguments: &Arguments) {
-    let log = arguments.log.as_ref().map(|folder| format!("{folder}/log"));
-    let files = [&log, &arguments.state, &arguments.metrics, &Some(arguments.control.clone())];
-    let files: Vec<&str> = files.into_iter().filter_map(Option::as_deref).collect();
-    rights::keep_to(&files).unwrap_or_else(|fault| {
-        warn(&format!("files are not protected by Landlock: {}", text_of(&fault)));
-    });
 }
 
 /// Reports that the group which may use the control socket is not known.
 fn report_unknown(name: &str) {
     let what = "is not known, so only root and the owner may use the control socket";
     warn(&format!("group {name} {what}: {}", rights::KNOWN_GROUPS));
-}
-
-/// Reads an earlier state. Reports it if it cannot be used.
-fn saved(path: &str, state: Result<Option<File>, StateFault>) -> Saved {
-    let saved = state.and_then(|file| file.map_or(Ok(Saved::default()), state::read));
-    saved.unwrap_or_else(|fault| {
-        warn(&format!("{path}: the state is not used: {fault}"));
-        Saved::default()
-    })
 }
 
 /// Returns the ports that names and patterns select, at most 64. Named ports have priority. An
@@ -188,12 +160,12 @@ fn work(mut live: Live) -> i32 {
     while signals::next(&mut live.wakers.signals.file).is_some() {}
     signals::let_them_end(); // a second signal ends lldpa-live at once
     live.end();
-    drop(live); // closes all files, even if the disk and the log's thread hang
+    drop(live);
     let status = worked.unwrap_or_else(|_| {
         report(ERROR, "an internal fault ended lldpa-live");
         1
     });
-    reports::end();
+    reports::flush();
     status
 }
 
@@ -202,12 +174,17 @@ fn turn(live: &mut Live, last: Option<Moment>) -> bool {
     let turn = live.turn(last);
     live.serve(&turn);
     live.report_status();
-    live.publish();
     if turn.has_signal {
         while let Some(signal) = signals::next(&mut live.wakers.signals.file) {
             match signal {
                 Signal::End => return true,
-                Signal::Reload => live.reload(),
+                Signal::MakeWay => {
+                    live.makes_way = true;
+                    return true;
+                }
+                Signal::HangUp => {
+                    notice("nothing is done at SIGHUP: `lldpa-ctl reload` reads the settings again")
+                }
             }
         }
     }
@@ -231,34 +208,37 @@ fn once(live: &mut Live, seconds: u64) -> i32 {
 }
 
 impl Live {
-    /// Disables the ports, which send shutdown frames. Then saves the state for the next lldpa-live.
+    /// Reads an earlier state. Reports it if it cannot be used.
+    fn take_slots(&mut self, slots: Option<Result<Slots, StateFault>>) -> Saved {
+        let saved = slots.map_or(Ok(Saved::default()), |slots| self.slots.insert(slots?).read());
+        saved.unwrap_or_else(|fault| {
+            warn(&format!("the state is not used: {fault}"));
+            Saved::default()
+        })
+    }
+
+    /// Saves the state for the next lldpa-live. Then disables the ports, which send shutdown frames, unless the
+    /// next one follows at once and has the state.
     fn end(&mut self) {
-        let last = Moment::now() + LONGEST_END;
         self.manager.send("STOPPING=1");
-        let state = self.state(); // disabled ports have no neighbors
-        if let Some(running) = &mut self.running {
+        let is_saved = self.save_state(); // disabled ports have no neighbors
+        let names = self.running.as_ref().map_or(Vec::new(), |running| running.names.clone());
+        if let Some(running) = self.running.as_mut().filter(|_| !(self.makes_way && is_saved)) {
             let sent = running.agent.leave();
-            for name in &running.names {
-                self.log.write(Moment::now(), &set_status(name, Status::Disabled));
+            for name in &names {
+                self.record.write(Moment::now(), &set_status(name, Status::Disabled));
             }
             self.queue_sent(&sent, Moment::now());
         }
         self.send();
-        if let Some(control) = &self.server.control {
-            control.listening.close();
-        }
-        if let (Some(path), Some(state)) = (self.arguments.state.clone(), state) {
-            self.log.write_last_state(&path, state);
-        }
-        self.metrics.begin_end();
-        self.log.close(last);
-        self.metrics.end();
+        self.end_records(Moment::now() + LONGEST_END);
     }
 }
 
 #[cfg(test)]
 mod tests {
     use super::*;
+    use std::fs::File;
 
     #[test]
     fn ports_that_are_missing_are_awaited_or_refused() {

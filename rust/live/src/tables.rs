@@ -5,18 +5,12 @@
 use crate::identifiers;
 use crate::neighbors;
 use crate::time::WallTime;
-use crate::told::with_neighbor;
 use lldpa::{examine, tlv_text, Agent, Examined, Info};
-use lldpa_people::metrics::Metrics;
-use lldpa_people::show::Neighbor as Told;
 use std::mem::size_of;
 use std::sync::Arc;
 
 const SHOWN_IDENTIFIERS: usize = 4; // lines of a neighbor before its kept TLVs: two IDs, ttl, expires
 const LINES_OF_PORT: usize = 3;
-/// The kinds of TLVs that metrics tell: Port Description, System Name, Management Address, and those of
-/// organizations.
-const OF_METRICS: [u8; 4] = [4, 5, 8, 127];
 const OF_ALLOCATION: usize = 16; // octets that the allocator adds to a piece of memory
 
 /// A neighbor of a port: the octets of its LLDPDU, and the seconds until it ages out.
@@ -80,20 +74,6 @@ impl Tables {
     /// Adds the table of a port that does not exist any more.
     pub fn add_empty(&mut self, port: &str) {
         self.ports.push(Table { port: port.into(), has_too_many: false, neighbors: Vec::new() });
-    }
-
-    /// Adds each port and its neighbors to metrics.
-    pub fn add_to(&self, metrics: &mut Metrics) {
-        for table in &self.ports {
-            metrics.add_port(&table.port, table.neighbors.len() as u128, table.has_too_many);
-            for one in &table.neighbors {
-                let mut add = |told: Told<'_>| {
-                    let (port, expires) = (&table.port[..], one.left.into());
-                    metrics.add_neighbor(&Told { port, expires, ..told });
-                };
-                one.info().iter().for_each(|info| with_neighbor(info, &OF_METRICS, &mut add));
-            }
-        }
     }
 
     /// Returns how many octets of memory the tables take.

@@ -161,7 +161,7 @@ pub enum Next {
 /// How far a client that watches was told what happens.
 pub struct Watch {
     /// The ports that it watches. All if empty.
-    ports: Vec<String>,
+    ports: BTreeSet<String>,
     /// The number of the next change.
     pub next: u64,
     /// Ports whose tables it is being sent, or is as soon as it may.
@@ -180,12 +180,12 @@ pub struct Watch {
 
 impl Watch {
     /// Begins with the tables of these ports (of all that there are if empty).
-    pub fn new(ports: Vec<String>, all: Vec<String>, told: &Told, now: Moment) -> Watch {
-        let stale = if ports.is_empty() { all } else { ports.clone() };
+    pub fn new(ports: BTreeSet<String>, all: Vec<String>, told: &Told, now: Moment) -> Watch {
+        let stale = if ports.is_empty() { all.into_iter().collect() } else { ports.clone() };
         Watch {
             ports,
             next: told.end(),
-            stale: stale.into_iter().collect(),
+            stale,
             later: BTreeSet::new(),
             fresh: BTreeMap::new(),
             is_behind: true,
@@ -195,7 +195,7 @@ impl Watch {
     }
 
     fn watches(&self, port: &str) -> bool {
-        self.ports.is_empty() || self.ports.iter().any(|one| one == port)
+        self.ports.is_empty() || self.ports.contains(port)
     }
 
     /// True if it is told each change of a port.
@@ -352,7 +352,7 @@ mod tests {
     #[test]
     fn tables_come_first_and_changes_after_them() {
         let (mut told, all) = (Told::default(), names("eth1 eth0"));
-        let mut watch = Watch::new(Vec::new(), all, &told, at(0));
+        let mut watch = Watch::new(BTreeSet::new(), all, &told, at(0));
         assert_eq!(watch.take(&told, at(0)), Some(Next::Table("eth0".into())));
         tell(&mut told, &mut watch, "eth1", "in the table;", at(0));
         tell(&mut told, &mut watch, "eth0", "later;", at(0));
@@ -369,7 +369,7 @@ mod tests {
     #[test]
     fn only_changes_of_its_ports_are_sent() {
         let mut told = Told::default();
-        let mut watch = Watch::new(names("eth1"), names("eth0 eth1"), &told, at(0));
+        let mut watch = Watch::new(names("eth1").into_iter().collect(), names("eth0 eth1"), &told, at(0));
         assert_eq!(sent(&mut watch, &told, at(0)), ["eth1", "=1\nlive.lost=0\n"]);
         ["eth0", "eth1"].iter().for_each(|port| tell(&mut told, &mut watch, port, port, at(0)));
         watch.lose("eth0", 9, at(0));
@@ -381,7 +381,7 @@ mod tests {
     #[test]
     fn tables_stand_for_changes_that_are_lost() {
         let mut told = Told::default();
-        let mut watch = Watch::new(Vec::new(), names("eth0 eth1"), &told, at(0));
+        let mut watch = Watch::new(BTreeSet::new(), names("eth0 eth1"), &told, at(0));
         sent(&mut watch, &told, at(0));
         let large = "x".repeat(MOST_TOLD / 4);
         (0..5).for_each(|_| tell(&mut told, &mut watch, "eth1", &large, at(10)));
@@ -399,7 +399,7 @@ mod tests {
     #[test]
     fn a_client_that_never_has_all_gets_all_tables_before_one_again() {
         let mut told = Told::default();
-        let mut watch = Watch::new(Vec::new(), names("eth0 eth1 eth2"), &told, at(0));
+        let mut watch = Watch::new(BTreeSet::new(), names("eth0 eth1 eth2"), &told, at(0));
         for (now, wanted) in [(0, "eth0"), (400, "eth1"), (800, "eth2")] {
             assert_eq!(watch.take(&told, at(now)), Some(Next::Table(wanted.into())));
             watch.lose("eth0", 1, at(now));

@@ -39,7 +39,7 @@ class Replaced(OnLinks):
 
     def begun(self, *words: str) -> Live:
         """Starts an lldpa-live with a log. Adds four neighbors, three in different seconds."""
-        live = self.live("--log", str(self.log), "--events", *words, "eth0", "eth1")
+        live = self.recorded("--events", *words, "eth0", "eth1")
         for number in (3, 1, 2):
             self.peers[0].send(numbered(number, LONG + number, tlv(5, b"sw%d" % number)))
             self.assertTrue(eventually(lambda: f"came: sw{number}" in live.errors()))

@@ -4,6 +4,7 @@ import contextlib
 import os
 import shutil
 import signal
+import socket
 import subprocess
 import tempfile
 import time
@@ -14,9 +15,10 @@ from typing import Any, Iterator, Optional, Sequence
 from asking import Client
 from lldpa import Refused
 from patience import SECONDS, eventually
-from served import LIVE, ctl, is_built, numbered
+from served import CTL, LIVE, ctl, is_built, numbered
 from wires import Peer, Wires, inside
 
+SO_SNDBUFFORCE = 32  # asm-generic/socket.h
 NO_ADDRESS = "there is no IPv4 address to announce\n"
 
 # tests under nohup or in the background ignore these signals, and lldpa-live would, too
@@ -30,13 +32,53 @@ def run_live(*words: str) -> subprocess.CompletedProcess[str]:
                           timeout=SECONDS, check=False)
 
 
+class Recorder:
+    """An `lldpa-ctl record`, which has begun its first file."""
+
+    def __init__(self, control: str, folder: Path, *words: str, before: Sequence[str] = (),
+                 awaits: bool = True) -> None:
+        self.folder, self.errors_path = folder, Path(f"{control}-{time.monotonic_ns()}.recorder")
+        had = set(folder.glob("*.trace"))
+        with self.errors_path.open("wb") as errors:
+            self.process = subprocess.Popen(
+                [*before, CTL, "--control", control, *words, "record", str(folder)],
+                stdin=subprocess.DEVNULL, stdout=subprocess.DEVNULL, stderr=errors)
+        if awaits and not eventually(lambda: self.begun(had)):
+            raise AssertionError(f"no record: {self.said()}")
+
+    def begun(self, had: set[Path]) -> bool:
+        """True if a file that was not there is no longer empty."""
+        with contextlib.suppress(FileNotFoundError):
+            return any(path.stat().st_size > 0 for path in set(self.folder.glob("*.trace")) - had)
+        return False
+
+    def said(self) -> str:
+        return self.errors_path.read_text()
+
+    def says(self, text: str) -> bool:
+        """True if it writes this text to standard error in time."""
+        return bool(eventually(lambda: text in self.said()))
+
+    def has_all(self) -> bool:
+        """Waits until it has written all that an lldpa-live that has ended has sent."""
+        return self.process.poll() is not None or self.says("this program waits")
+
+    def close(self) -> None:
+        self.process.kill()
+        self.process.wait()
+
+
 class Live:
     def __init__(self, wires: Wires, *words: str, side: str = "here", before: Sequence[str] = (),
                  awaits: bool = True, **options: Any) -> None:
         self.control = str(wires.folder / f"control-{side}-{time.monotonic_ns()}")
-        self.errors_path = Path(self.control + ".errors")
+        self.recorder: Optional[Recorder] = None
+        self.errors_read = b""
+        self.errors_socket, errors = socket.socketpair()
+        for one in (self.errors_socket, errors):
+            one.setsockopt(socket.SOL_SOCKET, SO_SNDBUFFORCE, 8 << 20)
         own = [] if "--control" in words else ["--control", self.control]
-        with inside(getattr(wires, side)), self.errors_path.open("wb") as errors:
+        with inside(getattr(wires, side)), errors:
             streams = {"stdin": subprocess.DEVNULL, "stdout": subprocess.PIPE, "stderr": errors}
             self.process = subprocess.Popen([*before, LIVE, *own, *words],
                                             **{**streams, **options})
@@ -72,6 +114,10 @@ class Live:
     def ctl(self, *words: str) -> str:
         return ctl(self.control, *words).stdout
 
+    def reload(self, *paths: Path) -> subprocess.CompletedProcess[str]:
+        """Lets a client read these settings and hand them over."""
+        return ctl(self.control, "reload", *map(str, paths))
+
     def told(self, what: str, key: str) -> str:
         """Returns the value of a key in the answer to a question."""
         return dict(line.split("=", 1) for line in self.ask(what))[key]
@@ -99,27 +145,16 @@ class Live:
 
     def errors(self) -> str:
         """Returns lldpa-live's standard error, without lines about a missing address."""
-        eventually(self.has_reported)
         return "".join(line for line in self.said().splitlines(True) if NO_ADDRESS not in line)
 
-    def has_reported(self) -> bool:
-        """Returns whether the thread that writes reports, if there is one, waits for the next. A
-        thread has the program's name until it has begun."""
-        process = Path(f"/proc/{self.process.pid}")
-        try:
-            of_program = (process / "comm").read_text()
-            for task in (process / "task").iterdir():
-                name = (task / "comm").read_text()
-                is_begun = name != of_program or task.name == process.name
-                state = (task / "stat").read_text().rpartition(")")[2].split()[0]
-                if not is_begun or name == "reports\n" and state == "R":
-                    return False
-        except FileNotFoundError:
-            pass  # it has ended
-        return True
-
     def said(self) -> str:
-        return self.errors_path.read_text()
+        with contextlib.suppress(BlockingIOError, ConnectionResetError):
+            while self.errors_socket.fileno() >= 0:
+                octets = self.errors_socket.recv(1 << 20, socket.MSG_DONTWAIT)
+                self.errors_read += octets
+                if not octets:
+                    break
+        return self.errors_read.decode()
 
     def says(self, text: str, seconds: float = SECONDS) -> bool:
         """True if lldpa-live writes this text to standard error in time."""
@@ -145,9 +180,12 @@ class Live:
         self.signal(signal.SIGCONT)
 
     def ends(self, seconds: float = SECONDS) -> Optional[int]:
-        """Returns the status, or None if lldpa-live does not end in time."""
+        """Returns the status, or None if it does not end in time. Then its record is whole."""
         with contextlib.suppress(subprocess.TimeoutExpired):
-            return self.process.wait(seconds)
+            status = self.process.wait(seconds)
+            if self.recorder and not self.recorder.has_all():
+                raise AssertionError(f"the record is not whole: {self.recorder.said()}")
+            return status
         return None
 
     def close(self) -> None:
@@ -158,8 +196,12 @@ class Live:
                 self.ended(signal.SIGKILL)
         if self.process.stdout is not None:
             self.process.stdout.close()
-        if "panicked" in self.errors():
-            raise AssertionError(self.errors())
+        if self.recorder:
+            self.recorder.close()
+        errors = self.errors()
+        self.errors_socket.close()
+        if "panicked" in errors:
+            raise AssertionError(errors)
 
 
 @unittest.skipUnless(os.geteuid() == 0, "root: only root makes links")
@@ -177,7 +219,7 @@ class OnLinks(unittest.TestCase):
         self.log = self.folder / "log"
 
     def keep_log_in_memory(self) -> None:
-        """Moves the log to a folder in memory, so that a slow disk can't make lldpa-live lose
+        """Moves the log to a folder in memory, so that a slow disk can't make the record lose
         lines."""
         folder = tempfile.TemporaryDirectory(dir="/dev/shm")
         self.addCleanup(folder.cleanup)
@@ -189,6 +231,18 @@ class OnLinks(unittest.TestCase):
         live = Live(self.wires, *words, **options)
         self.addCleanup(live.close)
         return live
+
+    def recorded(self, *words: str, most: int = 64, keep: int = 1024, **options: Any) -> Live:
+        """Starts an lldpa-live whose agent is recorded in files of so many megabytes."""
+        live = self.live(*words, **options)
+        self.record(live, most, keep)
+        return live
+
+    def record(self, live: Live, most: int = 64, keep: int = 1024, **options: Any) -> Recorder:
+        sizes = ("--most", str(most), "--keep", str(keep))
+        live.recorder = Recorder(live.control, self.log, *sizes, **options)
+        self.addCleanup(live.recorder.close)
+        return live.recorder
 
     def peer(self, end: str = "peer0") -> Peer:
         """Opens a sender that is closed after the test."""

@@ -1,4 +1,4 @@
-"""For tests: delays the writes of one thread of a running lldpa-live, as a slow disk would."""
+"""For tests: delays system calls of a running process, as a slow disk would."""
 
 import contextlib
 import subprocess
@@ -6,37 +6,22 @@ from pathlib import Path
 from typing import Iterator
 
 from patience import eventually
-from running_live import Live
 
 
-def thread_of(live: Live, name: str) -> str:
-    """Returns the number of a thread of lldpa-live with this name."""
-    names = {path.read_text().strip(): path.parent.name
-             for path in Path(f"/proc/{live.process.pid}/task").glob("*/comm")}
-    return names[name]
-
-
-def is_traced(thread: str) -> bool:
-    return "TracerPid:\t0" not in Path(f"/proc/{thread}/status").read_text()
-
-
-def has_left(pid: int) -> bool:
-    """True if the main thread of a process has ended, or the process is gone."""
-    stat = Path(f"/proc/{pid}/stat")
-    return not stat.exists() or stat.read_text().rpartition(")")[2].split()[0] in "ZX"
+def is_traced(pid: int) -> bool:
+    return "TracerPid:\t0" not in Path(f"/proc/{pid}/status").read_text()
 
 
 @contextlib.contextmanager
-def slow_writes(live: Live, seconds: float, name: str = "log") -> Iterator[None]:
-    """Lets each `write` of this thread take so long: strace stops the thread before the call. The
-    other threads of lldpa-live run as they are."""
-    thread = thread_of(live, name)
-    delayed = f"inject=write:delay_enter={int(1e6 * seconds)}"
-    words = ["strace", "-qq", "-o", "/dev/null", "-p", thread, "-e", "trace=write", "-e", delayed]
+def slow_calls(pid: int, seconds: float, calls: str = "write") -> Iterator[None]:
+    """Lets each of these calls of a process take so long: strace stops it before the call."""
+    delayed = f"inject={calls}:delay_enter={int(1e6 * seconds)}"
+    words = ["strace", "-qq", "-o", "/dev/null", "-p", str(pid), "-e", f"trace={calls}",
+             "-e", delayed]
     with subprocess.Popen(words, stderr=subprocess.DEVNULL) as strace:
         try:
-            if not eventually(lambda: is_traced(thread)):
-                raise AssertionError("strace does not trace the thread")
+            if not eventually(lambda: is_traced(pid)):
+                raise AssertionError("strace does not trace the process")
             yield
         finally:
-            strace.kill()  # the kernel then lets the thread run
+            strace.kill()  # the kernel then lets the process run

@@ -1,13 +1,14 @@
 """Tests the memory of lldpa-live at its worst, in a control group with the limit of the unit: 64
-ports of 128 hostile neighbors that change all the time, a log, a state, metrics on a tmpfs, and 60
-clients, 16 of which watch. Two of these read slowly, and all others read nothing.
+ports of 128 hostile neighbors that change all the time, a state, four clients that record, and 60
+others, 16 of which watch. Two of these read slowly, and all others read nothing.
 LLDPA_SECONDS=600 tests ten minutes; in the gate it is one."""
 
 import os
+import signal
 import socket
-import subprocess
 import time
 
+from kept import State
 from limited import memory_group
 from loads import Sender, figure
 from patience import eventually
@@ -18,8 +19,8 @@ PORTS, NEIGHBORS = 64, 128
 SECONDS = float(os.environ.get("LLDPA_SECONDS", "60"))
 LIMIT = 256 << 20
 MOST = 200 * 10 ** 6
-MOST_OF_METRICS = 17 * 10 ** 6
 READERS = 60
+RECORDERS = 4
 MOST_WATCHING = 16
 SLOW = 2  # of those that watch: they read an octet after another
 A_SECOND = 20  # frames on each port, after the first ones of all neighbors
@@ -49,20 +50,19 @@ class Budget(OnLinks):
         assert group is not None
         self.group = group
         self.addCleanup(group.close)
-        self.collected = self.folder / "collected"
-        self.collected.mkdir()
-        subprocess.run(["mount", "-t", "tmpfs", "-o", "mode=1777", "none", str(self.collected)],
-                       check=True)
-        self.addCleanup(subprocess.run, ["umount", "-l", str(self.collected)], check=True)
-        self.folder.chmod(0o777)
         self.ends = [f"peer{number}" for number in range(PORTS)]
 
     def begun(self) -> Live:
-        live = self.live("--log", str(self.log), "--log-most", "64", "--log-keep", "1024",
-                         "--state", str(self.folder / "state"), "--metrics",
-                         str(self.collected / "lldpa.prom"), "--events", "--forget-on-down",
+        state = State()
+        self.addCleanup(state.folder.cleanup)
+        live = self.live(*state.words, "--events", "--forget-on-down",
                          *(f"eth{number}" for number in range(PORTS)), "--", "--max-neighbors",
                          str(NEIGHBORS), before=self.group.enter())
+        folder = self.log
+        for number in range(RECORDERS):  # the last one reads nothing once its head has begun
+            self.log = folder / str(number)
+            recorder = self.record(live)
+        recorder.process.send_signal(signal.SIGSTOP)
         sender = Sender(self, self.wires, self.ends, FRAMES, FILL)
         self.assertTrue(eventually(lambda: self.held(live) == PORTS * NEIGHBORS, 60), live.errors())
         sender.stop()
@@ -81,21 +81,18 @@ class Budget(OnLinks):
         client.sendall(b"watch\n" if number < MOST_WATCHING else line)
         return client
 
-    def watched(self, live: Live) -> "tuple[int, int]":
-        """Returns how many octets are used at most while 60 clients read nothing, and how large the
-        file of metrics is at most."""
-        most, metrics = 0, 0
+    def watched(self, live: Live) -> int:
+        """Returns how many octets are used at most while 60 clients read nothing."""
+        most = 0
         readers = [self.reader(live, number) for number in range(READERS)]
         for _ in range(110):  # lldpa-live ends a client that has read nothing for 10 seconds
             self.assertIsNone(live.process.poll(), live.errors()[-500:])
             most = max(most, self.group.used())
-            files = self.collected.glob("lldpa.prom")
-            metrics = max([metrics, *(path.stat().st_size for path in files)])
             self.assertTrue(all(slow.recv(1) for slow in readers[:SLOW]))
             time.sleep(0.1)
         for reader in readers:
             reader.close()
-        return most, metrics
+        return most
 
     def test_it_stays_below_its_limit(self) -> None:
         live = self.begun()
@@ -103,20 +100,10 @@ class Budget(OnLinks):
         seen, last = [], time.monotonic() + SECONDS
         while time.monotonic() < last:
             seen.append(self.watched(live))
-        most, metrics = (max(column) for column in zip(*seen))
+        most = max(seen)
         told = dict(line.split("=", 1) for line in live.ask("live") if ".since." not in line)
         resident = live.resident("VmHWM") / 1024
         figure(self, f"at most {most / 1e6:.0f} MB in {SECONDS:.0f} s, {resident:.0f} MB of them "
-                     f"of the process; metrics of {metrics / 1e6:.1f} MB; "
-                     f"{told['live.log-lines-lost']} lines of the log lost")
+                     f"of the process; {told['live.record-lines-lost']} lines lost")
         self.assertEqual(self.group.killed(), 0)
         self.assertLess(most, MOST)
-        self.assertLess(metrics, MOST_OF_METRICS)
-        text = (self.collected / "lldpa.prom").read_text()
-        left_out = [line for line in text.splitlines() if "lldpa_neighbors_left_out " in line]
-        self.assertGreater(int(left_out[-1].split()[-1]), PORTS * NEIGHBORS // 2)
-        self.assertIn(f'lldpa_neighbors{{port="eth{PORTS - 1}"}} {NEIGHBORS}\n', text)
-        self.assertIn("\nlldpa_up 1\n", text)
-        # a file may take long on a busy machine, but each is written
-        self.assertEqual(int(told["live.metrics-unwritten"]),
-                         live.errors().count("the disk makes no progress"))

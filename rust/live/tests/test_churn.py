@@ -31,12 +31,12 @@ class Guests(OnLinks):
 
     def test_they_begin_few_files_and_no_line_goes(self) -> None:
         self.keep_log_in_memory()
-        live = self.live("--log", str(self.log), "--log-most", "1", "--log-keep", "20", "eth0",
-                         "vnet*", "--", "--receive-only", "--max-neighbors", str(MOST_HELD))
+        live = self.recorded("eth0", "vnet*", "--", "--receive-only", "--max-neighbors",
+                             str(MOST_HELD), most=1, keep=20)
         span = self.churn(GUESTS, SECONDS)
         live.comes_to(f"live.vnet{GUESTS - 1}.link=up")
         self.assertTrue(eventually(lambda: live.neighbors() == min(GUESTS, MOST_HELD)))
-        self.assertEqual(live.number("log-lines-lost"), 0)
+        self.assertEqual(live.number("record-lines-lost"), 0)
         self.assertEqual(live.ended(), 0)
         texts = [path.read_text() for path in sorted(self.log.iterdir())]
         figure(self, f"{GUESTS} guests in {span:.0f} s: {len(texts)} files")
@@ -70,9 +70,8 @@ class OldFiles(OnLinks):
     @needs_strace
     def test_the_folder_is_listed_once(self) -> None:
         self.old(3000, 10)
-        calls = self.folder / "calls"
-        live = self.live("--log", str(self.log), "--log-most", "1", "eth0",
-                         before=watched(calls, "getdents64"))
+        calls, live = self.folder / "calls", self.live("eth0")
+        self.record(live, most=1, before=watched(calls, "getdents64"))
         self.assertTrue(eventually(lambda: len(os.listdir(self.log)) > 3000))
         live.spend(1)
         listed = len(calls_of(calls, "getdents64"))
@@ -85,8 +84,7 @@ class OldFiles(OnLinks):
     def test_they_go_when_their_octets_are_needed_and_not_before(self) -> None:
         self.keep_log_in_memory()
         self.old(20, 100_000)  # 2 MB
-        live = self.live("--log", str(self.log), "--log-most", "1", "--log-keep", "3", "eth0", "--",
-                         "--receive-only")
+        live = self.recorded("eth0", "--", "--receive-only", most=1, keep=3)
         self.assertTrue(eventually(lambda: len(os.listdir(self.log)) == 21))
         peer, sent = self.peer(), 0
         while len(os.listdir(self.log)) > 15:
@@ -94,7 +92,7 @@ class OldFiles(OnLinks):
                 peer.send(numbered(number, 600, tlv(5, b"n%d" % sent)).ljust(1500, b"\0"))
                 sent += 1
             live.spend(1)
-            self.assertEqual(live.number("log-lines-lost"), 0)
+            self.assertEqual(live.number("record-lines-lost"), 0)
             sizes = [path.stat().st_size for path in self.log.iterdir()]
             self.assertLessEqual(sum(sizes), 3_000_000)
             if len(sizes) < 21:  # some were removed: then without one of them less would be free

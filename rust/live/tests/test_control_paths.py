@@ -75,15 +75,16 @@ class Paths(AtAPath):
             self.fails(IN_USE)
             self.assertTrue(os.path.exists(self.path))
 
-    def test_the_end_removes_the_socket(self) -> None:
-        self.folder.chmod(0o777)
+    def test_after_the_end_nobody_answers_and_the_next_one_may_begin(self) -> None:
         live = self.at_path()
         clients = [Client(self.path) for _ in range(20)]
         self.assertEqual(live.ended(), 0)
-        self.assertFalse(os.path.exists(self.path))
         for client in clients:
             with client, self.assertRaises(Gone):
                 client.ask("show chassis")
+        with self.assertRaises(ConnectionRefusedError):  # the socket is there: nobody removes it
+            Client(self.path)
+        self.assertEqual(len(self.at_path().ask("show chassis")), 4)
 
     def test_a_folder_that_is_missing_is_made(self) -> None:
         self.path = str(self.folder / "lldpa" / "control")
@@ -91,20 +92,19 @@ class Paths(AtAPath):
         self.assertEqual(os.stat(os.path.dirname(self.path)).st_mode & 0o777, 0o755)
         self.fails("No such file or directory", str(self.folder / "a" / "b" / "control"))
 
-    def test_what_was_removed_is_made_again(self) -> None:
-        self.folder.chmod(0o777)
+    def test_what_was_removed_is_said_and_made_by_a_restart(self) -> None:
         self.path = str(self.folder / "lldpa" / "control")
-        live = self.at_path("--control-group", "daemon")
-        self.assertEqual(os.stat(self.path).st_mode & 0o777, 0o660)
-        (self.folder / "lldpa").chmod(0o777)
-        for removed in ([self.path], [self.path, self.path + ".lock"], [self.folder / "lldpa"]):
-            with live.stopped():
-                for path in removed:
-                    shutil.rmtree(path) if os.path.isdir(path) else os.unlink(path)
-            self.assertTrue(eventually(live.ask_quietly), removed)
-            # its owner, who is not root any more, lets the group in by a list of access rights
-            self.assertEqual(os.stat(self.path).st_mode & 0o777, 0o660)
-        self.fails(IN_USE)
+        for removed in (self.path, self.folder / "lldpa"):
+            live = self.at_path()
+            with Client(self.path) as client:
+                shutil.rmtree(removed) if os.path.isdir(removed) else os.unlink(removed)
+                self.assertTrue(live.says(f"{self.path}: the control socket was removed; "
+                                          "a restart makes it again"))
+                self.assertEqual(len(client.ask("show chassis")), 4)
+            self.assertEqual(live.ended(), 0)
+            live = self.at_path()
+            self.assertEqual(len(live.ask("show chassis")), 4)
+            self.assertEqual(live.ended(), 0)
 
 
 class Asking(AtAPath):

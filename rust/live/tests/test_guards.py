@@ -1,13 +1,11 @@
 """Tests that a user who may write in a folder cannot make lldpa-live change other files there."""
 
-import contextlib
 import os
 import stat
 import threading
-from pathlib import Path
-from typing import Iterator
 
 from calls import needs_strace, watched
+from kept import State
 from patience import eventually
 from replaced import LONG
 from running_live import OnLinks
@@ -23,28 +21,12 @@ class Guards(OnLinks):
     def setUp(self) -> None:
         super().setUp()
         self.folder.chmod(0o777)
-        self.state, self.calls = self.folder / "state", self.folder / "calls"
+        self.calls = self.folder / "calls"
+        self.state = State()
+        self.addCleanup(self.state.folder.cleanup)
         self.target = self.folder / "target"  # a file that lldpa-live must not change
         self.target.write_text("kept")
         self.target.chmod(0o600)
-
-    @contextlib.contextmanager
-    def put_again(self, path: Path) -> Iterator[None]:
-        """Makes a link to the target at a path, again and again as soon as it is free."""
-        over = threading.Event()
-
-        def put() -> None:
-            while not over.wait(0.001):
-                with contextlib.suppress(FileExistsError):
-                    path.symlink_to(self.target)
-
-        thread = threading.Thread(target=put, daemon=True)
-        thread.start()
-        try:
-            yield
-        finally:
-            over.set()
-            thread.join()
 
     def stands(self) -> None:
         """Checks that the target is as it was."""
@@ -60,62 +42,39 @@ class Guards(OnLinks):
 
     def made_state(self) -> bytes:
         """Returns a state with a neighbor of eth0, as lldpa-live has written it."""
-        live = self.live("--state", str(self.state), "eth0", "--", "--receive-only")
+        live = self.live(*self.state.words, "eth0", "--", "--receive-only")
         self.peer().send(numbered(1, LONG))
         self.assertTrue(eventually(lambda: live.neighbors() == 1))
         self.assertEqual(live.ended(), 0)
-        return self.state.read_bytes()
+        return self.state.read()
 
-    def test_a_state_through_a_link_is_not_read(self) -> None:
-        octets = self.made_state()
+    def test_a_state_is_neither_read_nor_written_through_a_link(self) -> None:
+        octets, first = self.made_state(), self.state.files[0]
         for user, group in ((0, 0), (NOBODY, NOBODY)):
-            other = self.folder / f"other-{user}"
+            other = first.parent / f"other-{user}"
             other.write_bytes(octets)
             other.chmod(0o600)
             os.chown(other, user, group)
-            self.state.unlink()
-            self.state.symlink_to(other)
-            live = self.live("--state", str(self.state), "eth0", "--", "--receive-only")
+            first.unlink()
+            first.symlink_to(other)
+            live = self.live(*self.state.words, "eth0", "--", "--receive-only")
             self.assertTrue(live.says("the state is not used: "))
             self.assertEqual(live.neighbors(), 0)
             self.assertEqual(live.ended(), 0)
             self.assertEqual(other.read_bytes(), octets)
-            self.assertFalse(self.state.is_symlink())
 
     def test_a_state_that_others_may_change_is_not_read(self) -> None:
         octets = self.made_state()
         for mode in (0o660, 0o620, 0o610, 0o606, 0o604, 0o602, 0o644, 0o666):
-            self.state.write_bytes(octets)
-            self.state.chmod(mode)
-            live = self.live("--state", str(self.state), "eth0", "--", "--receive-only")
+            self.state.write(octets)
+            self.state.files[0].chmod(mode)
+            live = self.live(*self.state.words, "eth0", "--", "--receive-only")
             self.assertTrue(live.says("the state is not used: "), oct(mode))
             self.assertEqual(live.neighbors(), 0, oct(mode))
             self.assertEqual(live.ended(), 0)
-        self.state.write_bytes(octets)
-        self.state.chmod(0o600)
-        live = self.live("--state", str(self.state), "eth0", "--", "--receive-only")
+        self.state.write(octets)
+        live = self.live(*self.state.words, "eth0", "--", "--receive-only")
         self.assertEqual((live.neighbors(), live.errors()), (1, ""))
-
-    def test_a_state_is_not_written_through_a_link(self) -> None:
-        self.begin(NOBODY)
-        Path(f"{self.state}.new").symlink_to(self.target)
-        live = self.live("--state", str(self.state), "eth0", "--", "--receive-only")
-        self.assertTrue(eventually(self.state.exists))
-        self.assertEqual(live.ended(), 0)
-        self.stands()
-        self.assertTrue(stat.S_ISREG(self.state.lstat().st_mode))
-
-    @needs_strace
-    def test_nor_if_the_link_comes_back_at_once(self) -> None:
-        self.begin(NOBODY)
-        slow = f"unlink,unlinkat:delay_exit={SLOWLY}"
-        with self.put_again(Path(f"{self.state}.new")):
-            live = self.live("--state", str(self.state), "eth0", "--", "--receive-only",
-                             before=watched(self.calls, "unlink,unlinkat", slow))
-            self.assertTrue(eventually(lambda: f"{self.state}.new" in self.calls.read_text()))
-            live.spend(1)
-            self.assertEqual(live.ended(), 0)
-        self.stands()
 
     @needs_strace
     def test_the_group_is_given_to_the_socket_that_was_made(self) -> None:

@@ -6,6 +6,7 @@ import subprocess
 import sys
 import time
 
+from kept import State
 from running_live import Live, OnLinks
 from patience import eventually
 from wires import ip, tlvs_of
@@ -38,7 +39,9 @@ class TestLate(OnLinks):
         self.becomes_neighbor(live)
 
     def test_it_sleeps_and_ends_while_it_waits(self) -> None:
-        live = self.live("--state", str(self.folder / "state"), "eth0", awaits=False)
+        state = State()
+        self.addCleanup(state.folder.cleanup)
+        live = self.live(*state.words, "eth0", awaits=False)
         live.comes_to("live.agent=waiting")
         before = live.used()
         time.sleep(2)

@@ -42,21 +42,6 @@ class OthersFolders(FilesCase):
 class OfRoot(OnLinks):
     """Tests symbolic links, user namespaces, the session keyring, and an empty root folder."""
 
-    def test_a_link_to_a_folder_is_followed_in_a_folder_of_the_own_user_alone(self) -> None:
-        target, theirs = self.folder / "target", self.folder / "theirs"
-        for folder in (target, theirs):
-            folder.mkdir()
-        for link in (self.log, theirs / "log"):
-            link.symlink_to(target)
-        for change in (lambda: os.chown(theirs, 12345, -1), lambda: theirs.chmod(0o777)):
-            os.chown(theirs, 0, -1)
-            change()
-            self.refuses(str(theirs / "log"), "--log", str(theirs / "log"), "eth0")
-            self.assertEqual(target.stat().st_uid, 0)
-        self.live("--log", str(self.log), "eth0")
-        self.assertEqual(target.stat().st_uid, 65534)
-        self.assertTrue(eventually(lambda: list(target.iterdir())))
-
     def test_no_link_in_the_place_of_the_socket_is_followed(self) -> None:
         target = self.folder / "target"
         for name in ("control", "control.lock"):

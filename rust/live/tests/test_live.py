@@ -14,8 +14,6 @@ class TestWords(unittest.TestCase):
     def test_words_that_are_refused(self) -> None:
         for words, text in (
                 ([], "PORT"),
-                (["--log-most", "0", "eth0"], "not a number from 1"),
-                (["--log-most", "1e3", "eth0"], "not a number from 1"),
                 (["--once", "-1", "eth0"], "--once"),
                 (["--program", "lldpa", "eth0"], "--program"),
                 (["--connect", "4711", "eth0"], "--connect"),
@@ -40,7 +38,7 @@ class TestWords(unittest.TestCase):
     def test_help(self) -> None:
         ended = run_live("--help")
         self.assertEqual(ended.returncode, 0)
-        for option in ("--only-existing", "--forget-on-down", "--log-most", "--control-group"):
+        for option in ("--only-existing", "--forget-on-down", "--keep-state", "--control-group"):
             self.assertIn(option, ended.stdout)
 
     def test_only_root_becomes_another(self) -> None:
@@ -56,18 +54,11 @@ class TestWords(unittest.TestCase):
 
 class TestStart(OnLinks):
     def test_what_keeps_it_from_starting(self) -> None:
-        folder = self.folder / "of-somebody-else"
-        folder.mkdir(mode=0o755)
-        file = folder / "file"
-        file.touch()
-        cannot = "lldpa-live's user may not create files there"
         for status, text, *words in (
                 (1, "eth5: there is no such interface", "--only-existing", "eth0", "eth5"),
                 (1, "no Ethernet interface is selected", "--only-existing", "lan*", "!lan3"),
                 (1, "no Ethernet interface is selected", "!eth*"),
                 (1, "no Ethernet interface is selected", "--once", "1", "lan*"),
-                (1, str(file), "--log", str(file), "eth0"),
-                (1, f"{folder}: {cannot}", "--log", str(folder), "eth0"),
                 # after status 2, systemd does not start lldpa-live again
                 (2, "error: user nemo is not in /etc/passwd", "--user", "nemo", "eth0")):
             self.refuses(text, *words, status=status)

@@ -7,6 +7,7 @@ import sys
 import time
 
 from asking import Client
+from kept import State
 from patience import by_the_clock, eventually, mostly
 from running_live import Live, OnLinks
 from served import numbered
@@ -139,10 +140,9 @@ class TestManyPorts(OnLinks):
     links = 64
 
     def test_64_full_tables_take_little_and_outlive_a_restart(self) -> None:
-        state = self.folder / "state"
-        words = ["--state", str(state), *(f"eth{number}" for number in range(64)), "--",
-                 "--receive-only"]
-        self.folder.chmod(0o777)
+        state = State()
+        self.addCleanup(state.folder.cleanup)
+        words = [*state.words, *(f"eth{number}" for number in range(64)), "--", "--receive-only"]
         live = self.live(*words)
         for port in range(64):
             peer = self.peer(f"peer{port}")
@@ -159,7 +159,7 @@ class TestManyPorts(OnLinks):
         self.assertLess(live.used(), 1)
 
     def test_frames_of_all_ports_go_in_by_their_stamps(self) -> None:
-        live = self.live("--log", str(self.log), "eth0", "eth1", "eth2", "--", "--receive-only")
+        live = self.recorded("eth0", "eth1", "eth2", "--", "--receive-only")
         peers = [self.peer(f"peer{number}") for number in range(3)]
         frames = [numbered(number % 250, ttl=1000 + number) for number in range(600)]
         with live.stopped():

@@ -56,8 +56,8 @@ class Quiet(OnLinks):
     @by_the_clock
     def test_a_quiet_port_and_the_log_lose_nothing_beside_a_flood(self) -> None:
         self.keep_log_in_memory()
-        live = self.live("--log", str(self.log), "--log-most", str(MOST), "--log-keep", str(KEEP),
-                         "eth0", "eth1", "--", "--receive-only", "--max-neighbors", "128")
+        live = self.recorded("eth0", "eth1", "--", "--receive-only", "--max-neighbors", "128",
+                             most=MOST, keep=KEEP)
         sender = Sender(self, self.wires, ["peer0"], LONG)
         quiet, moments, sent = self.peer("peer1"), Moments(live), 0
         for moment in range(MOMENTS):
@@ -74,7 +74,7 @@ class Quiet(OnLinks):
         sender.process.kill()
         self.assertEqual(self.lost(live, "eth1", sent), [])
         self.assertLess(moments.slowest, LATE)
-        self.assertEqual(live.number("log-lines-lost"), 0)
+        self.assertEqual(live.number("record-lines-lost"), 0)
         self.assertLessEqual(sum(path.stat().st_size for path in self.log.iterdir()),
                              KEEP * 1_000_000)
         self.assertEqual(live.ended(signal.SIGTERM), 0)
@@ -83,7 +83,7 @@ class Quiet(OnLinks):
     def unrest(self, live: Live, number: int) -> None:
         """Reloads the settings, asks wrong things, changes an address, and replaces the interface
         of a third port."""
-        live.signal(signal.SIGHUP)
+        self.assertEqual(live.reload(self.folder / "settings").returncode, 0)
         for line in REFUSED:
             with suppress(Refused, ValueError):
                 live.ask(line)

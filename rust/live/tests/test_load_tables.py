@@ -6,6 +6,7 @@ import signal
 import socket
 import time
 
+from kept import State
 from loads import figure, full_load, goodbyes, stamped, worked
 from patience import SECONDS, by_the_clock, eventually
 from running_live import Live, OnLinks
@@ -52,17 +53,17 @@ class Many(OnLinks):
 
 class Logs(Many):
     def whole(self, live: Live) -> None:
-        """Checks that no line of the log was lost, and that nothing was said of it."""
-        self.assertEqual(live.number("log-lines-lost"), 0)
-        self.assertNotIn("the log", live.errors())
+        """Checks that no line of the record was lost, and that nothing was said of it."""
+        assert live.recorder is not None
+        self.assertEqual((live.number("record-lines-lost"), live.recorder.said()), (0, ""))
 
     def sizes(self) -> "list[int]":
-        """Returns the size of each file of the log, oldest first."""
+        """Returns the size of each file of the record, oldest first."""
         files = sorted(self.log.iterdir(), key=lambda path: path.stat().st_mtime_ns)
         return [path.stat().st_size for path in files]
 
     def send_large(self, text: int) -> int:
-        """Sends 32 neighbors to each port, in pieces that leave the log's thread room."""
+        """Sends 32 neighbors to each port, in pieces that leave the recorder room."""
         for number in range(32):
             for peer in self.peers:
                 peer.send(large(number, text))
@@ -72,8 +73,7 @@ class Logs(Many):
     @by_the_clock
     def test_large_tables_lose_no_line_and_begin_no_file_early(self) -> None:
         self.keep_log_in_memory()
-        live = self.live("--log", str(self.log), "--log-most", str(MOST), "--log-keep",
-                         str(KEEP), *self.names, "--", "--receive-only")
+        live = self.recorded(*self.names, "--", "--receive-only", most=MOST, keep=KEEP)
         began, sent = time.monotonic(), 0
         while time.monotonic() < began + SPAN:
             sent += self.send_large(sent // 32 // PORTS)
@@ -86,7 +86,6 @@ class Logs(Many):
                      f"{[round(size / MEGABYTE, 1) for size in sizes]} MB")
         self.assertGreater(len(sizes), 1)
         self.assertGreaterEqual(min(sizes[:-1]), MOST * MEGABYTE)
-        self.assertNotIn("the log", live.errors())
 
 
 class FullTables(Many):
@@ -103,8 +102,9 @@ class FullTables(Many):
 
     @by_the_clock
     def test_the_end_is_said_at_once_beside_a_full_load(self) -> None:
-        state = self.folder / "state"
-        live = self.full("--state", str(state))
+        state = State()
+        self.addCleanup(state.folder.cleanup)
+        live = self.full(*state.words)
         for peer in self.peers:
             stamped(peer)
         with full_load():
@@ -114,11 +114,11 @@ class FullTables(Many):
             status = live.ends()
         ended, byes = time.time() - began, goodbyes(self.peers, began)
         figure(self, f"{len(byes)} shutdown frames in {max(byes, default=99):.2f} s, the end after "
-                     f"{ended:.2f} s, {state.stat().st_size / MEGABYTE:.1f} MB of state")
+                     f"{ended:.2f} s, {len(state.read()) / MEGABYTE:.1f} MB of state")
         self.assertEqual((status, live.errors()), (0, ""))
         self.assertEqual(len(byes), PORTS)
         self.assertLess(max(byes), GOODBYE)
-        self.assertEqual(state.read_text().count("\n# since "), PORTS * 128)
+        self.assertEqual(state.count(), PORTS * 128)
 
     def test_one_port_can_be_asked_for(self) -> None:
         live = self.full()

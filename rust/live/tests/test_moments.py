@@ -21,7 +21,7 @@ class Late(OnLinks):
         return [line for line in text.splitlines() if not line.startswith("#")]
 
     def test_seconds_that_passed_come_before_the_frame_after_them(self) -> None:
-        live = self.live("--log", str(self.log), "eth0", "--", "--receive-only")
+        live = self.recorded("eth0", "--", "--receive-only")
         peer, first, second = self.peer(), numbered(1, 1), numbered(2, LONG)
         live.spend(2)  # the kernel begins to stamp frames some time after it is asked to
         self.becomes_neighbor(live, numbered(3, 2), peer)  # it ages out at one of these seconds

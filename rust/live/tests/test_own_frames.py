@@ -8,7 +8,7 @@ from patience import by_the_clock
 from running_live import OnLinks
 from served import numbered
 from test_rights import sockets_of
-from test_state import forged
+from kept import State, forged
 
 SOL_PACKET, PACKET_IGNORE_OUTGOING = 263, 23  # linux/if_packet.h
 
@@ -24,14 +24,14 @@ class Calls(OnLinks):
 
     @needs_strace
     def test_the_state_is_read_without_rights(self) -> None:
-        calls, state = self.folder / "calls", self.folder / "state"
-        state.write_text("".join(f"{line}\n" for line in forged(10)))
-        state.chmod(0o600)
-        live = self.live("--state", str(state), "eth0",
+        calls, state = self.folder / "calls", State()
+        self.addCleanup(state.folder.cleanup)
+        state.write(b"".join(forged(10)))
+        live = self.live(*state.words, "eth0",
                          before=watched(calls, "read,pread64,setresuid,capset"))
         self.assertEqual(live.neighbors(), 10)
         lines = calls_of(calls, "read", "pread64", "setresuid", "capset")
-        reads = [place for place, line in enumerate(lines) if f"<{state}>" in line]
+        reads = [place for place, line in enumerate(lines) if f"<{state.files[0]}>" in line]
         given_up = [place for place, line in enumerate(lines)
                     if line.startswith(("setresuid(", "capset("))]
         self.assertTrue(reads and given_up)

@@ -9,6 +9,7 @@ import subprocess
 from pathlib import Path
 from typing import Callable, Dict, Optional, Tuple
 
+from asking import Client
 from patience import eventually
 from running_live import Live, OnLinks
 from seized import Seized, can_seize
@@ -16,6 +17,8 @@ from seized import Seized, can_seize
 # numbers of x86-64 (asm/unistd_64.h), and values of the kernel's headers
 WRITE, SOCKET, SETSOCKOPT, CLONE, EXECVE, PTRACE, MKNOD, KEYCTL = 1, 41, 54, 56, 59, 101, 133, 250
 MKNODAT, UNSHARE, BPF, EXECVEAT, IO_URING = 259, 272, 321, 322, 425
+OPENAT, MKDIR, RENAME, DUP = 257, 83, 82, 32
+CONNECT, SENDTO, SENDMSG, RECVMSG, SENDMMSG, PIDFD_GETFD = 42, 44, 46, 47, 307, 438
 SOL_PACKET, PACKET_RX_RING, PACKET_TX_RING, PACKET_VERSION, PACKET_FANOUT = 263, 5, 13, 10, 18
 CLONE_NEWUSER = 0x10000000
 PACKET_ADD_MEMBERSHIP, PACKET_MR_PROMISC = 1, 1
@@ -43,20 +46,18 @@ class RefusedCalls(OnLinks):
         self.folder.chmod(0o777)
 
     def begun(self) -> "Tuple[Live, Seized]":
-        live = self.live("--log", str(self.log), "--state", str(self.folder / "state"), "eth0")
+        live = self.live("eth0")
         self.addCleanup(live.signal, signal.SIGKILL)  # a seized one does not end otherwise
-        self.assertTrue(eventually(lambda: list(self.log.iterdir())))
         self.packet_socket = packet_socket(live)
         return live, Seized(live)
 
-    def test_a_filter_is_in_force_for_each_thread_also_by_hand(self) -> None:
-        writing = ["--log", str(self.log), "--metrics", str(self.folder / "lldpa.prom")]
-        for words in ([*writing, "eth0"], ["eth0"], ["--user", "daemon", "eth0"], ["eth7"]):
+    def test_a_filter_is_in_force_for_its_one_thread_also_by_hand(self) -> None:
+        for words in (["eth0"], ["--user", "daemon", "eth0"], ["eth7"]):
             live = self.live(*words, awaits=words != ["eth7"])
             self.assertTrue(eventually(lambda: live.has("live.agent=running")
                                        or live.has("live.agent=waiting")))
-            for status in Path(f"/proc/{live.process.pid}/task").glob("*/status"):
-                self.assertIn("\nSeccomp:\t2\n", status.read_text(), words)
+            status, = Path(f"/proc/{live.process.pid}/task").glob("*/status")
+            self.assertIn("\nSeccomp:\t2\n", status.read_text(), words)
             live.close()
 
     def not_refused(self, calls: "Dict[str, Call]") -> "Dict[str, Optional[int]]":
@@ -90,6 +91,9 @@ class RefusedCalls(OnLinks):
             "io_uring": lambda put: (IO_URING, 1, put(bytes(120))),
             "ptrace": lambda _: (PTRACE, 0, 0, 0, 0),
             "bpf": lambda put: (BPF, 0, put(bytes(64)), 64),
+            "a file": lambda put: (OPENAT, -100, put(b"/etc/passwd\0"), 0, 0),
+            "a folder": lambda put: (MKDIR, put(made), 0o777),
+            "a name": lambda put: (RENAME, put(made), put(made)),
             "execveat": lambda put: (EXECVEAT, -100, put(b"/bin/none\0"), 0, 0, 0),
             "execve": lambda put: (EXECVE, put(b"/bin/true\0"), 0, 0)}), {})
         self.assertFalse(os.path.exists(f"{self.folder}/made"))
@@ -101,6 +105,52 @@ class RefusedCalls(OnLinks):
                  (socket.AF_VSOCK, socket.SOCK_STREAM, 0))
         self.assertEqual(self.not_refused({f"{one}": lambda _, kind=one: (SOCKET, *kind)
                                            for one in kinds}), {})
+
+    def test_no_open_file_can_be_given_away(self) -> None:
+        """An accomplice listens, with whom a packet socket would leave the filter."""
+        with socket.socket(socket.AF_UNIX, socket.SOCK_DGRAM) as accomplice:
+            accomplice.bind(path := str(self.folder / "accomplice"))
+            os.chmod(path, 0o777)
+            address = struct.pack("H", socket.AF_UNIX) + path.encode() + b"\0"
+            client = Client(self.begun_with().control)
+            self.addCleanup(client.close)
+            live, thread = self.watched, Seized(self.watched)
+            ours = min(int(name) for name in os.listdir(f"/proc/{live.process.pid}/fd")
+                       if self.is_stream(live, name))
+            for socket_ in (ours, self.packet_socket):
+                message = self.with_file(thread, self.packet_socket)
+                self.assertEqual(thread.call(SENDMSG, socket_, message, 0), -errno.EPERM)
+            self.assertEqual(thread.call(CONNECT, ours, thread.put(address), len(address)),
+                             -errno.EPERM)
+            self.assertEqual(thread.call(SENDTO, ours, thread.put(b"x"), 1, 0,
+                                         thread.put(address), len(address)), -errno.EPERM)
+            for call in (SENDMMSG, RECVMSG, DUP, PIDFD_GETFD):
+                self.assertEqual(thread.call(call, ours, 0, 0, 0), -errno.EPERM, call)
+            thread.release()
+            accomplice.settimeout(0)
+            with self.assertRaises(BlockingIOError):
+                accomplice.recvmsg(100, 100)
+        self.becomes_neighbor(live)
+
+    def begun_with(self) -> Live:
+        self.watched = self.live("eth0")
+        self.addCleanup(self.watched.signal, signal.SIGKILL)
+        self.packet_socket = packet_socket(self.watched)
+        return self.watched
+
+    def is_stream(self, live: Live, name: str) -> bool:
+        """True if a descriptor is a socket of AF_UNIX."""
+        target = os.readlink(f"/proc/{live.process.pid}/fd/{name}")
+        lines = Path(f"/proc/{live.process.pid}/net/unix").read_text().splitlines()
+        numbers = {line.split()[6] for line in lines[1:]}
+        return target.removeprefix("socket:[").rstrip("]") in numbers
+
+    def with_file(self, thread: Seized, descriptor: int) -> int:
+        """Puts a message with an open file into lldpa-live's memory, as unix(7) says."""
+        piece = thread.put(struct.pack("PN", thread.put(b"x"), 1))
+        note = struct.pack("NiiiI", 20, socket.SOL_SOCKET, socket.SCM_RIGHTS, descriptor, 0)
+        return thread.put(struct.pack("PIxxxxPNPNixxxx", 0, 0, piece, 1, thread.put(note),
+                                      len(note), 0))
 
     def test_a_packet_ring_and_other_options_are_refused(self) -> None:
         options = {"a ring": (PACKET_RX_RING, RING), "a ring to send": (PACKET_TX_RING, RING),

@@ -39,7 +39,7 @@ class TestTime(OnLinks):
         self.assertGreater(seconds_left(shown), 120 - (now() - sent) - 1)
 
     def test_no_second_is_lost_or_told_twice(self) -> None:
-        live = self.live("--log", str(self.log), "eth0")
+        live = self.recorded("eth0")
         begins = begins_of_its_seconds(live)
         with live.stopped():
             time.sleep(2.5)

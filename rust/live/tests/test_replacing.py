@@ -31,8 +31,7 @@ class Everything(Replaced):
 
     def changed(self, *words: str) -> Live:
         """Starts an lldpa-live, and changes all that can be changed."""
-        live = self.live("--events", "--log", str(self.log), *words, *(f"eth{one}" for one in
-                                                                       range(5)), "--", *OPTIONS)
+        live = self.recorded("--events", *words, *(f"eth{one}" for one in range(5)), "--", *OPTIONS)
         self.speak(live)
         for line in SETTINGS:
             self.assertEqual(live.ask(line), [], line)
@@ -104,7 +103,7 @@ class Everything(Replaced):
         live.comes_to("live.eth2.link=up")
 
     def test_counters_go_on_without_the_replay(self) -> None:
-        live = self.live("eth0", "eth1", "--log", str(self.log))
+        live = self.recorded("eth0", "eth1")
         for number in (1, 2, 3, 1):
             self.peers[0].send(numbered(number, LONG, tlv(5, b"%d" % number)))
         self.peers[0].send(numbered(4)[:20])

@@ -124,7 +124,7 @@ class TestFilter(OnLinks):
 
 class TestSets(OnLinks):
     def test_bounding_set_is_empty(self) -> None:
-        live = self.live("--log", str(self.log), "eth0")
+        live = self.live("eth0")
         pid = live.process.pid
         self.assertEqual(Path(f"/proc/{pid}/task/{pid}/children").read_text(), "")
         for thread in os.listdir(f"/proc/{pid}/task"):

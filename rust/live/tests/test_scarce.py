@@ -1,19 +1,15 @@
-"""Tests want of memory and of room on a disk."""
+"""Tests want of memory."""
 
-import contextlib
-import re
 import resource
-import subprocess
 import time
 
 from patience import eventually
 from replaced import LONG, Replaced
-from running_live import Live, OnLinks
+from running_live import Live
 from served import numbered, tlv
 from wires import ip
 
 PAGE = 4096
-NO_ROOM = "No space left on device"
 
 
 class Memory(Replaced):
@@ -59,41 +55,3 @@ class Memory(Replaced):
     def size(self, live: Live) -> int:
         with open(f"/proc/{live.process.pid}/statm", encoding="ascii") as file:
             return int(file.read().split()[0]) * PAGE
-
-
-class Disks(OnLinks):
-    """Tests a disk that is full."""
-
-    def setUp(self) -> None:
-        super().setUp()
-        self.log.mkdir()
-        subprocess.run(["mount", "-t", "tmpfs", "-o", "size=64k,mode=777", "none", self.log],
-                       check=True)
-        self.addCleanup(subprocess.run, ["umount", "-l", str(self.log)], check=True)
-        self.filling = self.log / "filling"
-
-    def fill(self) -> None:
-        """Fills the disk to the last page."""
-        with contextlib.suppress(OSError), self.filling.open("ab", buffering=0) as file:
-            while file.write(b"x" * PAGE):
-                pass
-
-    def said(self, live: Live) -> "list[str]":
-        return re.findall(f"^.*{NO_ROOM}.*$", live.errors(), re.M)
-
-    def test_it_is_said_once_and_not_each_minute(self) -> None:
-        live = self.live("--state", f"{self.log}/state", "--log", str(self.log), "eth0", "--",
-                         "--receive-only")
-        self.assertTrue(eventually((self.log / "state").exists))
-        self.fill()
-        peer = self.peer()
-        began = time.monotonic()
-        while time.monotonic() < began + 130:  # the state is written each 60 seconds
-            peer.send(numbered(1, 600, tlv(5, b"%d" % int(time.monotonic()))).ljust(1500, b"\0"))
-            time.sleep(1)
-        said = self.said(live)
-        self.assertLessEqual(sum("state" in line for line in said), 1, said)
-        self.assertLessEqual(sum("the log" in line for line in said), 1, said)
-        self.assertGreaterEqual(len(said), 1)
-        self.filling.unlink()
-        live.comes_to("live.log=on")

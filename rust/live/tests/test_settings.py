@@ -1,11 +1,13 @@
 """Tests settings that outlive a restart."""
 
 import codecs
+import contextlib
 import os
 import signal
-import unittest
 
+from asking import Client
 from heard import Heard
+from lldpa import Refused
 from running_live import OnLinks
 from patience import eventually
 from served import PROGRAM, numbered
@@ -26,6 +28,11 @@ REFUSED = (
     ("configure system description \t", "unknown command",
      "a word is missing (up to 255 printable characters, in quotes if it has spaces)"),
     ('configure system hostname "a', "bad quote", ""))
+
+REFUSED_HOLD = """lldpa-ctl: {}:2: configure lldp tx-hold 101: out of range: 101 \
+(intervals that peers keep a frame, 1 to 100)
+lldpa-ctl: 1 of the settings and files were not applied
+"""
 
 
 def whole(text: str, place: str) -> str:
@@ -120,7 +127,7 @@ class TestSettings(OnLinks):
         live = self.live(*self.words(), "eth7", awaits=False)
         self.assertTrue(live.says("eth7: no such interface yet"))
         self.file.write_text("configure lldp tx-interval 8\nconfigure lldp tx-hold 0\n")
-        live.signal(signal.SIGHUP)
+        self.assertEqual(live.reload(self.file, self.parts).returncode, 0)
         self.wires.add_link(7)
         self.assertTrue(eventually(live.ask_quietly))
         self.assertIn("configuration.tx-interval=8", live.ask("show configuration"))
@@ -136,12 +143,13 @@ class TestSettings(OnLinks):
                                  f"configure system description d{round_}\n")
             for number in range(10):
                 peer.send(numbered(number, 500))
-            live.signal(signal.SIGHUP)
-            live.comes_to(f"local-chassis.descr=d{round_}", "show chassis")
+            told = live.reload(self.file, self.parts)
+            self.assertEqual((told.returncode, told.stderr), (1, REFUSED_HOLD.format(self.file)))
+            self.assertIn(f"local-chassis.descr=d{round_}", live.ask("show chassis"))
         self.assertIn("lldp.eth0.received=200", live.ask("show statistics"))
         self.assertIn("configuration.tx-interval=29", live.ask("show configuration"))
-        self.assertIn(f"{self.file}:2: configure lldp tx-hold 101: out of range: 101 "
-                      "(intervals that peers keep a frame, 1 to 100)", live.errors())
+        self.assertIn(REFUSED_HOLD.format(self.file).splitlines()[0].partition(": ")[2],
+                      live.errors())
         self.assertIn("configuration.tx-hold=4", live.ask("show configuration"))
         self.assertIsNone(live.process.poll())
 
@@ -163,12 +171,16 @@ class TestSettings(OnLinks):
         self.assertEqual(live.errors().splitlines(), told)
         self.assertIn("configuration.tx-hold=3", live.ask("show configuration"))
         self.assertIn("configuration.tx-interval=9", live.ask("show configuration"))
-        live.signal(signal.SIGHUP)
-        self.assertTrue(eventually(lambda: live.errors().splitlines() == 2 * told))
-        self.assertEqual(live.number("settings-refused"), 5)
+        reloaded = live.reload(self.file, self.parts)  # by root, who may read 10-locked.conf
+        self.assertEqual(reloaded.returncode, 1)
+        self.assertEqual(reloaded.stderr.splitlines(), [
+            *(line.replace("lldpa-live", "lldpa-ctl") for line in told[1:-1]),
+            "lldpa-ctl: 4 of the settings and files were not applied"])
+        self.assertEqual(live.number("settings-refused"), 4)
         for path in self.parts.glob("1*.conf"):
             path.rmdir() if path.is_dir() else path.unlink()
-        live.signal(signal.SIGHUP)
+        reloaded = live.reload(self.file, self.parts)
+        self.assertEqual((reloaded.returncode, reloaded.stderr), (0, ""))
         self.assertTrue(live.says("the settings were read again"))
         self.assertEqual(live.number("settings-refused"), 0)
         self.assertEqual(live.ended(), 0)
@@ -182,23 +194,47 @@ class TestSettings(OnLinks):
         self.assertLess(max(map(len, live.errors().splitlines())), 500)
         self.assertEqual(live.number("settings-refused"), 2)
 
-    def test_a_flood_of_signals_is_survived_and_nobody_who_reads_is_waited_for(self) -> None:
+    def test_a_setting_of_each_length_is_handed_over_or_refused(self) -> None:
+        front, most = 'configure system description "', 4096
+        live = self.live("eth0")
+        for length in (255, 256, most - len(front) - 1, most - len(front), 9000):
+            self.file.write_text(f'{front}{"x" * length}"\n')
+            told = live.reload(self.file)
+            self.assertEqual(told.returncode, int(length > 255), told.stderr)
+            self.assertIn("x" * 150 if length > 255 else "", told.stderr)
+            self.assertEqual(live.number("settings-refused"), int(length > 255))
+
+    def test_two_that_reload_do_not_mix_their_settings(self) -> None:
+        live = self.live("eth0")
+        with contextlib.closing(Client(live.control)) as one, \
+                contextlib.closing(Client(live.control)) as other:
+            one.ask("settings begin")
+            one.ask("settings line\ta\t1\tconfigure lldp tx-hold 3")
+            other.ask("settings begin")
+            other.ask("settings line\tb\t1\tconfigure lldp tx-interval 9")
+            for line in ("settings line\ta\t2\tconfigure lldp tx-interval 8", "settings end 0"):
+                with self.assertRaises(Refused):
+                    one.ask(line)
+            self.assertEqual(other.ask("settings end 0"), [])
+        shown = live.ask("show configuration")
+        self.assertIn("configuration.tx-interval=9", shown)
+        self.assertIn("configuration.tx-hold=4", shown)
+
+    def test_a_hangup_changes_nothing_and_says_what_reads_the_settings(self) -> None:
         heard = Heard(self.folder)
         self.addCleanup(heard.close)
         self.file.write_text("configure lldp tx-hold 3\n")
         live = self.live(*self.words(), "eth0", env=heard.environment())
         self.assertTrue(heard.hears("READY=1"))
+        self.file.write_text("configure lldp tx-hold 5\n")
         for number in range(3000):
             live.signal(signal.SIGHUP)
             if number % 100 == 0:
                 self.assertTrue(live.ask_quietly())
-        self.file.write_text("configure lldp tx-hold 5\n")
-        live.signal(signal.SIGHUP)
-        live.comes_to("configuration.tx-hold=5", "show configuration")
-        self.assertEqual(set(live.errors().splitlines()),
-                         {"lldpa-live: the settings were read again"})
+        self.assertTrue(live.says("`lldpa-ctl reload` reads the settings again"))
+        self.assertIn("configuration.tx-hold=3", live.ask("show configuration"))
         heard.close()
         os.unlink(heard.path)
-        live.signal(signal.SIGHUP)
-        self.assertTrue(live.ask_quietly())
+        self.assertEqual(live.reload(self.file).returncode, 0)
+        self.assertIn("configuration.tx-hold=5", live.ask("show configuration"))
         self.assertEqual(live.ended(), 0)

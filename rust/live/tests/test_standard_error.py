@@ -4,16 +4,18 @@ reads, and a file on a slow disk. lldpa-live answers, sends and ends as usual.""
 import os
 import pty
 import select
-import shutil
 import signal
 import time
-import unittest
+from pathlib import Path
 from typing import Any, Iterator
 
+from calls import needs_strace
+from kept import State
 from patience import by_the_clock, eventually
 from running_live import Live, OnLinks
 from served import numbered, tlv
-from slowed import has_left, slow_writes
+from slowed import slow_calls
+from test_rights import status_of
 from wires import Peer
 
 STOP, START = b"\x13", b"\x11"  # Ctrl-S and Ctrl-Q
@@ -26,6 +28,19 @@ CHANGES = 60  # each is a line in the history, and a port has 100 a minute
 def changed(number: int) -> bytes:
     """Returns a frame whose change is a line of over 500 characters."""
     return numbered(1, 600, tlv(6, (b"%d " % number * 255)[:255]))
+
+
+def children(pid: int) -> "list[int]":
+    """Returns the processes that a process has started."""
+    return [int(one) for one in Path(f"/proc/{pid}/task/{pid}/children").read_text().split()]
+
+
+def has_left(pid: int) -> bool:
+    """True if a process has ended, also if nobody has asked for its status."""
+    try:
+        return Path(f"/proc/{pid}/stat").read_text().rpartition(")")[2].split()[0] == "Z"
+    except FileNotFoundError:
+        return True
 
 
 class Errors(OnLinks):
@@ -86,13 +101,36 @@ class Errors(OnLinks):
         live, peer = self.begun(theirs)
         self.goes_on(live, peer)
 
-    @by_the_clock
-    @unittest.skipUnless(shutil.which("strace"), "strace: it is not installed")
-    def test_a_file_on_a_slow_disk(self) -> None:
-        with (self.folder / "errors").open("wb") as errors:
+    @needs_strace
+    def test_a_file_that_does_not_answer(self) -> None:
+        """Each write to it takes three seconds, and so does each question what it is."""
+        path = self.folder / "errors"
+        with path.open("wb") as errors:
             live, peer = self.begun(errors)
-            with slow_writes(live, 3, "reports"):
+            copier, = children(live.process.pid)
+            with slow_calls(copier, 3, "write,fstat,newfstatat,statx"):
                 self.goes_on(live, peer)
+
+    def test_a_file_has_each_line_and_its_copier_ends(self) -> None:
+        path = self.folder / "errors"
+        with path.open("wb") as errors:
+            live, _ = self.begun(errors)
+        copier, = children(live.process.pid)
+        self.assertNotIn("0", status_of(copier)["Uid"].split())
+        self.assertEqual(live.ended(), 0)
+        self.assertTrue(eventually(lambda: not Path(f"/proc/{copier}").exists()))
+        self.assertIn("lldpa-live: eth0 came: ", path.read_text())
+
+    def test_a_file_may_not_grow(self) -> None:
+        """No signal about a limit of file sizes ends lldpa-live, whatever it writes."""
+        path, state = self.folder / "errors", State()
+        self.addCleanup(state.folder.cleanup)
+        with path.open("wb") as errors:
+            live = self.live("--events", *state.words, "eth0", stderr=errors, before=[
+                "prlimit", "--fsize=0:0"])
+        self.becomes_neighbor(live)
+        live.spend(1)
+        self.assertEqual((live.ended(), path.read_bytes(), state.read()), (0, b"", b""))
 
     @by_the_clock
     def test_what_waits_is_told_when_the_terminal_goes_on(self) -> None:

@@ -4,7 +4,6 @@ import errno
 import platform
 import re
 import shutil
-import signal
 import struct
 import subprocess
 import sys
@@ -12,8 +11,8 @@ import unittest
 from pathlib import Path
 from typing import Iterator
 
-from patience import eventually
-from running_live import OnLinks
+from heard import Heard
+from running_live import LIVE, OnLinks
 from served import REPOSITORY
 
 UNIT = REPOSITORY / "share" / "systemd" / "lldpa.service"
@@ -65,22 +64,24 @@ def filter_of_unit() -> bytes:
 @unittest.skipUnless(NUMBERS.exists(), "linux-libc-dev: it is not installed")
 class UnitFilter(OnLinks):
     def test_it_runs_and_sets_its_own_filter(self) -> None:
-        settings = self.folder / "settings"
+        settings, heard = self.folder / "settings", Heard(self.folder)
+        self.addCleanup(heard.close)
         settings.write_text("configure lldp tx-interval 17\n")
         self.folder.chmod(0o777)
-        metrics = self.folder / "lldpa.prom"
-        live = self.live("--log", str(self.log), "--state", str(self.folder / "state"), "--config",
-                         str(settings), "--control-group", "daemon", "--events", "--metrics",
-                         str(metrics), "eth0",
+        live = self.live("--keep-state", "--config", str(settings), "--control-group", "daemon",
+                         "--events", "eth0", env=heard.environment(),
                          before=[*AS_THE_UNIT, sys.executable, "-c", LIMIT, filter_of_unit().hex()])
         self.becomes_neighbor(live)
         for status in Path(f"/proc/{live.process.pid}/task").glob("*/status"):
             self.assertIn("\nSeccomp_filters:\t2\n", status.read_text())
         settings.write_text("configure lldp tx-interval 19\n")
-        live.signal(signal.SIGHUP)
-        live.comes_to("configuration.tx-interval=19", "show configuration")
-        self.assertTrue(eventually((self.folder / "state").exists))
-        self.assertTrue(eventually(metrics.exists))
+        told = subprocess.run([sys.executable, "-c", LIMIT, filter_of_unit().hex(),
+                               str(Path(LIVE).with_name("lldpa-ctl")),
+                               "--control", live.control, "reload", str(settings)],
+                              capture_output=True, text=True, check=False)
+        self.assertEqual((told.returncode, told.stderr), (0, ""))
+        self.assertIn("configuration.tx-interval=19", live.ask("show configuration"))
+        self.assertTrue(heard.hears("FDSTORE=1"))
         self.assertEqual(live.ended(), 0)
         said = live.errors().splitlines()
         self.assertEqual([line for line in said if "came: " not in line and "link is" not in line

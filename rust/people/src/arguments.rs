@@ -6,17 +6,26 @@ pub const DEFAULT_PATH: &str = "/run/lldpa/control";
 /// The commands that ask lldpa-live, and those of this program alone.
 pub const COMMANDS: [&str; 8] =
     ["neighbors", "details", "interfaces", "statistics", "live", "show", "configure", "update"];
-const ALONE: [&str; 3] = ["watch", "metrics", "help"];
+const ALONE: [&str; 5] = ["watch", "metrics", "record", "reload", "help"];
 /// Lines of a trace, which cannot be shortened.
 const OF_LINES: [&str; 4] = ["up", "down", "rx", "tick"];
-const OPTIONS: [(&str, bool); 5] =
-    [("control", true), ("json", false), ("output", true), ("help", false), ("version", false)];
+const OPTIONS: [(&str, bool); 7] = [
+    ("control", true),
+    ("json", false),
+    ("output", true),
+    ("most", true),
+    ("keep", true),
+    ("help", false),
+    ("version", false),
+];
 
 #[derive(Debug, Default, Eq, PartialEq)]
 pub struct Given {
     pub control: Option<String>,
     pub json: bool,
     pub output: Option<String>,
+    pub most: Option<u64>,
+    pub keep: Option<u64>,
     pub words: Vec<String>,
 }
 
@@ -88,6 +97,8 @@ impl Given {
         match name {
             "control" => self.control = value,
             "output" => self.output = value,
+            "most" => self.most = Some(megabytes(name, value)?),
+            "keep" => self.keep = Some(megabytes(name, value)?),
             "json" => self.json = true,
             other => return Ok(Some(other)),
         }
@@ -108,7 +119,12 @@ impl Given {
 
     fn check(&self) -> Result<(), String> {
         let is_metrics = self.words.first().map_or(false, |word| word == "metrics");
+        let is_record = self.words.first().map_or(false, |word| word == "record");
         match (is_metrics, self.words.len()) {
+            _ if is_record && self.words.len() != 2 => Err("a folder must follow record".into()),
+            _ if !is_record && (self.most.is_some() || self.keep.is_some()) => {
+                Err("--most and --keep can be used only with record".into())
+            }
             (true, 1) if self.json => Err("metrics cannot be printed as JSON".into()),
             (true, 1) => Ok(()),
             (true, _) => Err("no word may follow metrics".into()),
@@ -116,6 +132,11 @@ impl Given {
             (false, _) => Ok(()),
         }
     }
+}
+
+fn megabytes(name: &str, value: Option<String>) -> Result<u64, String> {
+    let number = value.and_then(|value| value.parse().ok()).filter(|number| (1..=1_000_000).contains(number));
+    number.ok_or_else(|| format!("--{name} must be a number of megabytes, 1 to 1000000"))
 }
 
 /// Returns the option with this name, and whether it has a value.

@@ -11,7 +11,9 @@ use crate::lldpd::{instead, same};
 use crate::metrics::{service_of, up, Metrics, MOST_METRICS};
 use crate::neighbors::{each_port, lines_of};
 use crate::objects::news_object;
+use crate::record::{KEEP, MOST};
 use crate::refused::{explained, in_full};
+use crate::settings;
 use crate::show::{check_ports, Show};
 use crate::table::Table;
 use crate::texts::printable;
@@ -27,6 +29,8 @@ const VERSION: &str = env!("CARGO_PKG_VERSION");
 const SHOWS: [&str; 5] = ["neighbors", "statistics", "chassis", "configuration", "interfaces"];
 pub const CONFIGURATION: &str = "show configuration";
 const LIMIT: &str = "limit";
+/// Where the service has its settings.
+const CONFIG: [&str; 2] = ["/etc/lldpa.conf", "/etc/lldpa.d"];
 const MOST_CHANGES: u32 = 999_999_999; // of a limit, as in lldpcli
 pub const PATIENCE: Duration = Duration::from_secs(30);
 const PATIENCE_FOR_METRICS: Duration = Duration::from_secs(10); // a timer asks again soon
@@ -54,6 +58,8 @@ pub trait Host {
     /// Waits until a stream can be read or has ended. Returns false as soon as nobody reads standard
     /// output any more.
     fn wait(&self, stream: &UnixStream) -> Result<bool, Error>;
+    /// Waits until a stream can be read or has ended, at most so long if given. Returns whether that is so.
+    fn can_read(&self, stream: &UnixStream, patience: Option<Duration>) -> bool;
 }
 
 /// Why a command fails.
@@ -138,7 +144,7 @@ fn ascii_of(letter: char) -> String {
 }
 
 /// Returns the text of an error without its number.
-fn text_of(fault: &Error) -> String {
+pub fn text_of(fault: &Error) -> String {
     let text = fault.to_string();
     let number = fault.raw_os_error().map(|number| format!(" (os error {number})"));
     let plain = number.and_then(|number| text.strip_suffix(&number).map(String::from));
@@ -211,6 +217,11 @@ impl<'a> Client<'a> {
             ["help", ..] => self.print(HELP),
             ["version"] => self.print(&format!("{NAME} {VERSION}\n")),
             ["metrics"] => self.publish(),
+            ["record", folder] => {
+                let (most, keep) = (self.given.most.unwrap_or(MOST), self.given.keep.unwrap_or(KEEP));
+                self.record(folder, most, keep)
+            }
+            ["reload", ref paths @ ..] => self.reload(paths),
             ["watch", ref words @ ..] => self.watch(words),
             _ => {
                 let mut connection = self.connect(PATIENCE)?;
@@ -250,10 +261,15 @@ impl<'a> Client<'a> {
         same(&words)
     }
 
+    pub fn path(&self) -> &str {
+        self.path
+    }
+
     pub fn connect(&self, patience: Duration) -> Done<Connection> {
         let stream = self.host.connect(self.path, patience)?;
-        if self.given.output.is_none() {
-            self.host.give_up_root(); // a file of metrics may need its rights
+        let is_record = self.given.words.first().map_or(false, |word| word == "record");
+        if self.given.output.is_none() && !is_record {
+            self.host.give_up_root(); // files of metrics and records may need its rights
         }
         Ok(Connection::new(stream, patience))
     }
@@ -377,6 +393,28 @@ impl<'a> Client<'a> {
                 false => format!("{now} {}", one.line()),
             })
         })
+    }
+
+    /// Reads the settings, by default those of the service, and hands them over to lldpa-live.
+    fn reload(&self, paths: &[&str]) -> Done<()> {
+        let paths = if paths.is_empty() { &CONFIG[..] } else { paths };
+        let paths: Vec<String> = paths.iter().map(|path| path.to_string()).collect();
+        let (settings, unread) = settings::read(&paths);
+        unread.iter().for_each(|line| complain(NAME, line));
+        let mut connection = self.connect(PATIENCE)?;
+        connection.ask("settings begin")?;
+        let (lines, long): (Vec<_>, Vec<_>) =
+            settings.iter().partition(|one| one.to_send().len() <= settings::LONGEST_LINE);
+        long.iter().for_each(|one| complain(NAME, &one.refused("line too long")));
+        lines.iter().try_for_each(|one| connection.ask(&one.to_send()).map(drop))?;
+        let unsent = unread.len() + long.len();
+        let answer = connection.ask(&format!("settings end {unsent}"))?;
+        let refused = answer.lines();
+        refused.iter().for_each(|line| complain(NAME, line));
+        match unsent + refused.len() {
+            0 => Ok(()),
+            count => Err(Failure::Refused(format!("{count} of the settings and files were not applied"))),
+        }
     }
 
     /// Prints the metrics, or writes them to a file. If lldpa-live does not answer, `lldpa_up` is 0.

@@ -146,15 +146,30 @@ impl Connection {
         self.receive_each(take)
     }
 
-    /// Gives each line of the next answer to `take`.
-    fn receive_each(&mut self, mut take: impl FnMut(&str) -> Result<(), Failure>) -> Result<(), Failure> {
+    /// Sends a line whose answer is not awaited.
+    pub fn send_line(&mut self, line: &str) -> Result<(), Failure> {
+        self.send(&octets_of(line)?)
+    }
+
+    /// True if something was received and not read.
+    pub fn has_octets(&self) -> bool {
+        self.begin < self.octets.len()
+    }
+
+    /// Returns how many lines the next answer has.
+    pub fn count(&mut self) -> Result<u64, Failure> {
         let head = self.line()?;
         let count = head.strip_prefix('=').filter(|digits| (1..=MOST_DIGITS).contains(&digits.len()));
         let is_number = |digits: &&str| digits.bytes().all(|octet| octet.is_ascii_digit());
-        let count: u64 = match count.filter(is_number).and_then(|digits| digits.parse().ok()) {
-            Some(count) => count,
-            None => return gone(&format!("not an answer of lldpa-live: {}", quoted(&head))),
-        };
+        match count.filter(is_number).and_then(|digits| digits.parse().ok()) {
+            Some(count) => Ok(count),
+            None => gone(&format!("not an answer of lldpa-live: {}", quoted(&head))),
+        }
+    }
+
+    /// Gives each line of the next answer to `take`.
+    fn receive_each(&mut self, mut take: impl FnMut(&str) -> Result<(), Failure>) -> Result<(), Failure> {
+        let count = self.count()?;
         for _ in 0..count {
             let line = self.line()?;
             match line.strip_prefix(REFUSAL) {
@@ -182,7 +197,12 @@ impl Connection {
     }
 
     /// Returns the next line of an answer, without its line feed.
-    fn line(&mut self) -> Result<String, Failure> {
+    pub fn line(&mut self) -> Result<String, Failure> {
+        self.octets().map(|octets| plain(&octets))
+    }
+
+    /// Returns the octets of the next line of an answer, without its line feed.
+    pub fn octets(&mut self) -> Result<Vec<u8>, Failure> {
         loop {
             let rest = &self.octets[self.begin..];
             let end = rest.iter().position(|octet| *octet == b'\n');
@@ -190,8 +210,9 @@ impl Connection {
                 return gone("lldpa-live answers with a line of more than 8 kB");
             }
             if let Some(length) = end {
+                let line = rest[..length].to_vec();
                 self.begin += length + 1;
-                return Ok(plain(&rest[..length]));
+                return Ok(line);
             }
             self.receive()?;
         }

@@ -28,18 +28,11 @@ pub struct State {
     pub states: &'static [&'static str],
 }
 
-pub const STATES: [State; 2] = [
-    State {
-        key: "agent",
-        metric: Metric::gauge("lldpa_agent_state", "1 for the current state of the agent, 0 for the others."),
-        states: &["running", "waiting"],
-    },
-    State {
-        key: "log",
-        metric: Metric::gauge("lldpa_log_state", "1 for the current state of the log, 0 for the others."),
-        states: &["full", "off", "on", "stalled"],
-    },
-];
+pub const STATES: [State; 1] = [State {
+    key: "agent",
+    metric: Metric::gauge("lldpa_agent_state", "1 for the current state of the agent, 0 for the others."),
+    states: &["running", "waiting"],
+}];
 
 /// A value in the answer to `live`, and its metric.
 pub struct Value {
@@ -61,7 +54,7 @@ const fn state(key: &'static str, name: &'static str, word: &'static str, help: 
     Value { key, metric: Metric::gauge(name, help), word: Some(word) }
 }
 
-pub const NUMBERS: [Value; 3] = [
+pub const NUMBERS: [Value; 4] = [
     gauge(
         "settings-refused",
         "lldpa_settings_refused",
@@ -72,10 +65,11 @@ pub const NUMBERS: [Value; 3] = [
         "lldpa_ports_refused",
         "Interfaces that match a pattern but are not used, because 64 ports are in use.",
     ),
+    gauge("recorders", "lldpa_recorders", "Clients that record."),
     counter(
-        "log-lines-lost",
-        "lldpa_log_lines_lost_total",
-        "Lines of the agent that were not written to the log.",
+        "record-lines-lost",
+        "lldpa_record_lines_lost_total",
+        "Lines of the agent that clients which record were too slow to read.",
     ),
 ];
 

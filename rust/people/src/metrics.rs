@@ -231,10 +231,10 @@ mod tests {
         assert_eq!(up(Some("b"), true).lines().last(), Some("lldpa_up{service=\"b\"} 1"));
         let mut all = Metrics::of(Some("b".into()), MOST_METRICS);
         all.add_port("eth0", 0, false);
-        let live = LiveLines::read(&["live.eth0.link=up", "live.log=on", "live.ports-refused=0"]);
+        let live = LiveLines::read(&["live.eth0.link=up", "live.ports-refused=0"]);
         let text = all.parts(&[], &live).expect("numbers").concat();
         let samples: Vec<&str> = text.lines().filter(|line| !line.starts_with('#')).collect();
-        assert_eq!(samples.len(), 1 + 4 + 1 + 1 + 2);
+        assert_eq!(samples.len(), 1 + 1 + 1 + 2);
         assert!(samples.iter().all(|line| line.contains("{service=\"b\"")), "{samples:?}");
         assert!(samples.contains(&"lldpa_neighbors{service=\"b\",port=\"eth0\"} 0"), "{samples:?}");
     }

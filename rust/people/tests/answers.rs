@@ -393,7 +393,8 @@ fn each_metric_has_one_heading_with_its_type() {
     let of_port = |port| COUNTERS.iter().map(move |counter| line(port, counter.key));
     let text = answers + &of_port("eth0").chain(of_port("eth1")).collect::<String>();
     let show = Show::read(text.lines().collect()).expect("two answers");
-    let live = LiveLines::read(&["live.log-lines-lost=1", "live.settings-refused=0", "live.eth0.unsent=1"]);
+    let live =
+        LiveLines::read(&["live.record-lines-lost=1", "live.settings-refused=0", "live.eth0.unsent=1"]);
     let told = metrics(&show, &live).expect("numbers");
     let types: Vec<&str> = told.lines().filter_map(|line| line.strip_prefix("# TYPE ")).collect();
     for told in &types {

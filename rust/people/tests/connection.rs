@@ -6,9 +6,10 @@ use std::io::{BufRead, BufReader, Write};
 use std::os::unix::fs::PermissionsExt;
 use std::os::unix::net::UnixStream;
 use std::thread;
-use std::time::Duration;
+use std::time::{Duration, Instant};
 
-const PATIENCE: Duration = Duration::from_secs(60);
+/// Against hanging: no test needs it.
+const PATIENCE: Duration = Duration::from_secs(3600);
 
 /// Returns a connection to a service that answers each line with what this function returns.
 fn served(answer: impl Fn(&str) -> Vec<u8> + Send + 'static, patience: Duration) -> Connection {
@@ -75,15 +76,33 @@ fn a_service_that_ends_or_is_silent_holds_up_nobody() {
 
 #[test]
 fn one_deadline_holds_for_all_answers() {
-    let slow = |_: &str| {
-        thread::sleep(Duration::from_millis(30));
+    let (answered_after, patience) = (Duration::from_millis(30), Duration::from_millis(100));
+    let slow = move |_: &str| {
+        thread::sleep(answered_after);
         b"=1\na\n".to_vec()
     };
-    let mut connection = served(slow, Duration::from_millis(100));
-    let answered = (0..10).take_while(|_| connection.ask("live").is_ok()).count();
-    assert!((1..4).contains(&answered), "{answered}");
+    let mut connection = served(slow, patience);
+    let (mut answered, began) = (0, Instant::now());
+    let ended = loop {
+        match connection.ask("live") {
+            Ok(_) => answered += 1,
+            Err(failure) => break failure,
+        }
+    };
+    assert!(matches!(ended, Failure::Late(_)) && answered <= 3, "{ended:?} after {answered}");
+    assert!(began.elapsed() >= patience);
+}
+
+#[test]
+fn a_deadline_can_begin_anew() {
+    let (_theirs, ours) = UnixStream::pair().expect("two sockets");
+    let patience = Duration::from_millis(50);
+    let mut connection = Connection::new(ours, patience);
+    assert!(matches!(connection.ask("live"), Err(Failure::Late(_))));
+    let renewed = Instant::now();
     connection.renew();
-    assert!(connection.ask("live").is_ok());
+    assert!(matches!(connection.ask("live"), Err(Failure::Late(_))));
+    assert!(renewed.elapsed() >= patience);
 }
 
 #[test]

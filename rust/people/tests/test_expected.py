@@ -16,7 +16,7 @@ from judges import with_chassis
 from served import BIN, REPOSITORY, Served, ctl, frame, is_built, tlv
 
 AGE = re.compile(r"[0-9]+ days?, [0-9:]{8}")
-JUDGED = REPOSITORY / "python" / "tests" / "judged.json"
+JUDGED = REPOSITORY / "rust" / "people" / "tests" / "judged.json"
 FOLDER = Path(__file__).parent / "expected"
 BATCH = 60
 FORMS = ("plain", "keyvalue", "json", "json0", "xml")

@@ -18,7 +18,7 @@ class BesideOthers(unittest.TestCase):
     """Tests that all values are equal, and that `compare` reports a changed value."""
 
     def setUp(self) -> None:
-        text = (REPOSITORY / "python" / "tests" / "judged.json").read_text()
+        text = (REPOSITORY / "rust" / "people" / "tests" / "judged.json").read_text()
         self.judged = [Judged(**one) for one in json.loads(text)]
 
     def test_all_values_are_equal(self) -> None:

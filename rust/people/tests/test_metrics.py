@@ -78,18 +78,12 @@ class Metrics(unittest.TestCase):
                 if not {"port"} & dict(labels).keys()}
 
     def test_lldpa_live_itself(self) -> None:
-        agent, log = "lldpa_agent_state", "lldpa_log_state"
+        agent = "lldpa_agent_state"
         self.assertEqual(self.own(), {
             ("lldpa_up", ()): 1, ("lldpa_start_time_seconds", ()): 1795599000,
             (agent, (("state", "running"),)): 1, (agent, (("state", "waiting"),)): 0,
-            (log, (("state", "full"),)): 0, (log, (("state", "off"),)): 0,
-            (log, (("state", "on"),)): 1, (log, (("state", "stalled"),)): 0,
             ("lldpa_settings_refused", ()): 2, ("lldpa_ports_refused", ()): 1,
-            ("lldpa_log_lines_lost_total", ()): 5})
-        for state in ("off", "on", "stalled", "full"):
-            series = self.own(b"live.log=" + state.encode())
-            self.assertEqual([labels[0][1] for (name, labels), value in series.items()
-                              if name == log and value], [state])
+            ("lldpa_recorders", ()): 1, ("lldpa_record_lines_lost_total", ()): 5})
         for state, is_up in (("running", 1), ("waiting", 0)):
             series = self.own(b"live.agent=" + state.encode())
             self.assertEqual(series["lldpa_up", ()], is_up)

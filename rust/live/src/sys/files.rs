@@ -5,7 +5,8 @@ use libc::{c_char, c_int};
 use std::ffi::CString;
 use std::fs::File;
 use std::io::Result;
-use std::os::unix::io::AsRawFd;
+use std::mem::MaybeUninit;
+use std::os::unix::io::{AsRawFd, FromRawFd};
 
 extern "C" {
     fn fnmatch(pattern: *const c_char, text: *const c_char, flags: c_int) -> c_int;
@@ -17,10 +18,72 @@ pub fn lock(file: &File) -> Result<()> {
     checked(unsafe { libc::flock(file.as_raw_fd(), libc::LOCK_EX | libc::LOCK_NB) }).map(drop)
 }
 
-/// Makes a folder the process's current one.
-pub fn change_folder(folder: &File) -> Result<()> {
-    // SAFETY: the call takes only a number.
-    checked(unsafe { libc::fchdir(folder.as_raw_fd()) }).map(drop)
+/// What a file is.
+pub struct FileStatus {
+    pub user: u32,
+    pub group: u32,
+    pub mode: u32,
+    pub links: u64,
+}
+
+/// Returns what an open file is. (`std` and the C library ask by calls that also take paths.)
+pub fn status(file: &File) -> Result<FileStatus> {
+    let mut found = MaybeUninit::<libc::stat>::zeroed();
+    // SAFETY: the kernel writes one `stat`, for which all zeros are a valid value.
+    let found = unsafe {
+        let answer = libc::syscall(libc::SYS_fstat, file.as_raw_fd(), found.as_mut_ptr());
+        checked(answer as c_int)?;
+        found.assume_init()
+    };
+    let (mode, links) = (found.st_mode, found.st_nlink as u64);
+    Ok(FileStatus { user: found.st_uid, group: found.st_gid, mode, links })
+}
+
+const IN_MEMORY: [u32; 2] = [0x0102_1994, 0x8584_58f6]; // tmpfs and ramfs (linux/magic.h)
+
+/// True if a file is on no disk.
+pub fn is_in_memory(file: &File) -> bool {
+    let mut found = MaybeUninit::<libc::statfs>::zeroed();
+    // SAFETY: the kernel writes one `statfs`, for which all zeros are a valid value.
+    let (answer, found) = unsafe {
+        let answer = libc::fstatfs(file.as_raw_fd(), found.as_mut_ptr());
+        (answer, found.assume_init())
+    };
+    answer == 0 && IN_MEMORY.contains(&(found.f_type as u32))
+}
+
+/// Opens a file without a path, which exists only in memory.
+pub fn in_memory() -> Result<File> {
+    let name = b"lldpa-state\0".as_ptr().cast();
+    // SAFETY: the name ends with a zero, and the call opens a descriptor that nothing else owns.
+    unsafe { opened(libc::memfd_create(name, libc::MFD_CLOEXEC)) }
+}
+
+const FIRST_KEPT: c_int = 3;
+const MOST_KEPT: c_int = 16;
+
+/// Returns the numbers of the files that the service manager has kept. (sd_listen_fds(3))
+fn numbers_of_kept() -> std::ops::Range<c_int> {
+    let value = |name: &str| std::env::var(name).unwrap_or_default();
+    let is_ours = value("LISTEN_PID") == std::process::id().to_string();
+    let count = if is_ours { value("LISTEN_FDS").parse().unwrap_or(0) } else { 0 };
+    FIRST_KEPT..FIRST_KEPT + count.clamp(0, MOST_KEPT)
+}
+
+/// Keeps the files that the service manager has kept from the programs that this process starts.
+pub fn hide_kept() {
+    for number in numbers_of_kept() {
+        // SAFETY: the call takes only numbers.
+        unsafe { libc::fcntl(number, libc::F_SETFD, libc::FD_CLOEXEC) };
+    }
+}
+
+/// Takes the files that the service manager has kept under a name.
+pub fn kept(name: &str) -> Vec<File> {
+    let names = std::env::var("LISTEN_FDNAMES").unwrap_or_default();
+    // SAFETY: the manager has opened these descriptors for this process, in which nothing else owns them yet.
+    let all = numbers_of_kept().map(|number| unsafe { File::from_raw_fd(number) });
+    all.zip(names.split(':')).filter(|one| one.1 == name).map(|one| one.0).collect()
 }
 
 /// Returns a file that becomes ready when the file at a path is removed, renamed or has a new mode.
@@ -40,6 +103,12 @@ pub fn give(path: &str, user: Option<u32>, group: Option<u32>) -> Result<()> {
     // SAFETY: the path ends with a zero and outlives the call.
     checked(unsafe { libc::chown(path.as_ptr(), user.unwrap_or(u32::MAX), group.unwrap_or(u32::MAX)) })
         .map(drop)
+}
+
+/// Changes the owner of an open file.
+pub fn give_open(file: &File, user: u32) -> Result<()> {
+    // SAFETY: the call takes only numbers.
+    checked(unsafe { libc::fchown(file.as_raw_fd(), user, u32::MAX) }).map(drop)
 }
 
 const OF_ACCESS: &[u8] = b"system.posix_acl_access\0";
@@ -72,13 +141,6 @@ pub fn let_group_use(path: &str, group: u32) -> Result<()> {
     // SAFETY: both texts end with a zero. The kernel only reads the list, whose length is stated. All
     // of them outlive the call.
     checked(unsafe { libc::setxattr(path.as_ptr(), name, start, list.len(), 0) }).map(drop)
-}
-
-/// Returns an error if this process may not create files in a folder.
-pub fn may_write(path: &str) -> Result<()> {
-    let path = CString::new(path)?;
-    // SAFETY: the path ends with a zero and outlives the call.
-    checked(unsafe { libc::access(path.as_ptr(), libc::W_OK | libc::X_OK) }).map(drop)
 }
 
 /// True if a pattern with `*`, `?` and `[..]` matches a text.

@@ -5,11 +5,12 @@
 pub mod files;
 #[cfg(not(target_feature = "crt-static"))]
 pub mod groups;
-pub mod landlock;
 pub mod rights;
 pub mod seccomp;
 pub mod signals;
 pub mod sockets;
+#[cfg(test)]
+pub mod stopped;
 pub mod terminal;
 pub mod wait;
 
@@ -44,18 +45,23 @@ pub enum Clock {
     Wall,
     /// Counts from the boot, also while the machine sleeps.
     Boot,
-    /// Counts from the boot, and stands still while the machine sleeps.
-    Monotonic,
     /// The processor time that all threads of this process have used.
     Process,
 }
 
-/// Reads a clock.
+/// Reads a clock. A test may have stopped it.
 pub fn read_clock(clock: Clock) -> Duration {
+    #[cfg(test)]
+    if let Some(time) = stopped::read(clock) {
+        return time;
+    }
+    read_running(clock)
+}
+
+fn read_running(clock: Clock) -> Duration {
     let number = match clock {
         Clock::Wall => libc::CLOCK_REALTIME,
         Clock::Boot => libc::CLOCK_BOOTTIME,
-        Clock::Monotonic => libc::CLOCK_MONOTONIC,
         Clock::Process => libc::CLOCK_PROCESS_CPUTIME_ID,
     };
     let mut time = libc::timespec { tv_sec: 0, tv_nsec: 0 };
@@ -65,7 +71,7 @@ pub fn read_clock(clock: Clock) -> Duration {
 }
 
 /// Lets the kernel have back each freed piece of memory that has so many octets or more. By itself the C
-/// library soon keeps larger ones, too, and then what the log and the metrics no longer need stays.
+/// library soon keeps larger ones, too, and then what large answers no longer need stays.
 pub fn give_back_pieces_of(octets: c_int) {
     // SAFETY: the call takes only numbers, and leaves the memory that is in use as it is.
     #[cfg(target_env = "gnu")]

@@ -13,7 +13,9 @@ const ARCHITECTURE: Option<u32> = if cfg!(target_arch = "x86_64") {
     None
 };
 
-/// Calls that are allowed with any arguments. The most frequent ones come first.
+/// Calls that are allowed with any arguments: those of a session, and those of an end. The most frequent ones come
+/// first. None takes a path, and by none can an open file be given to another process (`sendmsg`), which would
+/// take a packet socket out of this filter.
 const ALLOWED: &[c_long] = &[
     libc::SYS_epoll_pwait,
     libc::SYS_recvmmsg,
@@ -21,69 +23,29 @@ const ALLOWED: &[c_long] = &[
     libc::SYS_write,
     libc::SYS_read,
     libc::SYS_epoll_ctl,
-    libc::SYS_futex,
-    libc::SYS_sendto,
     libc::SYS_recvfrom,
     // further calls on sockets
     libc::SYS_accept4,
     libc::SYS_bind,
-    libc::SYS_connect,
     libc::SYS_getsockopt,
-    libc::SYS_listen,
-    libc::SYS_recvmsg,
-    libc::SYS_sendmsg,
-    libc::SYS_shutdown,
-    // files
-    libc::SYS_chdir,
+    // files that are open
     libc::SYS_close,
-    libc::SYS_faccessat,
-    libc::SYS_faccessat2,
-    libc::SYS_fchdir,
-    libc::SYS_fchmod,
-    libc::SYS_fchmodat,
-    libc::SYS_fchownat,
-    libc::SYS_flock,
     libc::SYS_fstat,
     libc::SYS_ftruncate,
-    libc::SYS_getcwd,
-    libc::SYS_getdents64,
-    libc::SYS_lseek,
-    libc::SYS_mkdirat,
-    libc::SYS_newfstatat,
-    libc::SYS_openat,
-    libc::SYS_readlinkat,
-    libc::SYS_renameat,
-    libc::SYS_renameat2,
-    libc::SYS_setxattr,
-    libc::SYS_statx,
-    libc::SYS_unlinkat,
-    libc::SYS_writev,
-    // waiting
-    libc::SYS_clock_nanosleep,
-    libc::SYS_epoll_create1,
-    libc::SYS_inotify_add_watch,
-    libc::SYS_inotify_init1,
-    libc::SYS_nanosleep,
-    libc::SYS_ppoll,
-    // memory, threads and signals of this process
+    libc::SYS_pwrite64,
+    // memory and signals of this process
     libc::SYS_brk,
-    libc::SYS_exit,
     libc::SYS_exit_group,
     libc::SYS_getrandom,
     libc::SYS_madvise,
     libc::SYS_mremap,
     libc::SYS_munmap,
     libc::SYS_restart_syscall,
-    libc::SYS_rseq,
     libc::SYS_rt_sigaction,
     libc::SYS_rt_sigprocmask,
     libc::SYS_rt_sigreturn,
-    libc::SYS_sched_getaffinity,
-    libc::SYS_sched_yield,
-    libc::SYS_set_robust_list,
     libc::SYS_sigaltstack,
     // what this process and host are
-    libc::SYS_geteuid,
     libc::SYS_getpid,
     libc::SYS_gettid,
     libc::SYS_gettimeofday,
@@ -92,51 +54,31 @@ const ALLOWED: &[c_long] = &[
 
 /// Older forms of these calls, which only this architecture has.
 #[cfg(target_arch = "x86_64")]
-const OLDER: &[c_long] = &[
-    libc::SYS_epoll_wait,
-    libc::SYS_access,
-    libc::SYS_chmod,
-    libc::SYS_chown,
-    libc::SYS_lstat,
-    libc::SYS_mkdir,
-    libc::SYS_open,
-    libc::SYS_poll,
-    libc::SYS_readlink,
-    libc::SYS_rename,
-    libc::SYS_stat,
-    libc::SYS_time,
-    libc::SYS_unlink,
-];
+const OLDER: &[c_long] = &[libc::SYS_epoll_wait];
 #[cfg(not(target_arch = "x86_64"))]
 const OLDER: &[c_long] = &[];
 
 /// What an argument must be.
 enum Argument {
     Is(c_int),
-    OneOf(&'static [c_int]),
     /// None of these bits is set.
     Lacks(c_int),
+    /// No pointer.
+    Null,
 }
 
 /// Calls that are allowed if each of these arguments, counted from 0, is as stated.
 const LIMITED: &[(c_long, &[(usize, Argument)])] = &[
-    // no other kind of socket: the packet and netlink sockets are open already
-    (libc::SYS_socket, &[(0, Argument::Is(libc::AF_UNIX))]),
     // no packet ring, no filter, and no other option. (Joining a group and promiscuous mode are one
     // option, whose value is behind a pointer.)
     (
         libc::SYS_setsockopt,
         &[(1, Argument::Is(libc::SOL_PACKET)), (2, Argument::Is(libc::PACKET_ADD_MEMBERSHIP))],
     ),
+    // no address of a receiver
+    (libc::SYS_sendto, &[(4, Argument::Null)]),
     (libc::SYS_ioctl, &[(1, Argument::Is(libc::FIONBIO as c_int))]),
-    // no signal for another process, and no lease
-    (
-        libc::SYS_fcntl,
-        &[(1, Argument::OneOf(&[libc::F_DUPFD_CLOEXEC, libc::F_GETFD, libc::F_SETFD, libc::F_GETFL]))],
-    ),
     (libc::SYS_mmap, &[(2, Argument::Lacks(libc::PROT_EXEC))]),
-    (libc::SYS_mprotect, &[(2, Argument::Lacks(libc::PROT_EXEC))]),
-    (libc::SYS_prctl, &[(0, Argument::Is(libc::PR_SET_NAME))]),
 ];
 
 const NUMBER: u32 = 0; // the offsets in `struct seccomp_data`
@@ -181,17 +123,17 @@ fn steps() -> Option<Vec<sock_filter>> {
 fn limit(steps: &mut Vec<sock_filter>, number: c_long, arguments: &[(usize, Argument)]) {
     let mut further = Vec::new();
     for (place, wanted) in arguments {
-        // All limited arguments fit in 32 bits, which are the lower half of the place.
-        further.push(load(ARGUMENTS + 8 * *place as u32));
+        // All limited numbers fit in 32 bits, which are the lower half of the place.
+        let half = ARGUMENTS + 8 * *place as u32;
         match wanted {
-            Argument::Is(value) => further.push(jump(libc::BPF_JEQ, *value as u32, 1, 0)),
-            Argument::OneOf(values) => further.extend(
-                (1..=values.len() as u8)
-                    .rev()
-                    .zip(*values)
-                    .map(|(left, value)| jump(libc::BPF_JEQ, *value as u32, left, 0)),
-            ),
-            Argument::Lacks(bits) => further.push(jump(libc::BPF_JSET, *bits as u32, 0, 1)),
+            Argument::Is(value) => further.extend([load(half), jump(libc::BPF_JEQ, *value as u32, 1, 0)]),
+            Argument::Lacks(bits) => further.extend([load(half), jump(libc::BPF_JSET, *bits as u32, 0, 1)]),
+            Argument::Null => further.extend([
+                load(half + 4),
+                jump(libc::BPF_JEQ, 0, 0, 2), // to the refusal
+                load(half),
+                jump(libc::BPF_JEQ, 0, 1, 0),
+            ]),
         }
         further.push(answer(REFUSE));
     }
@@ -220,6 +162,8 @@ pub fn install() -> Result<()> {
 #[cfg(test)]
 mod tests {
     use super::*;
+    use std::os::unix::io::AsRawFd;
+    use std::os::unix::net::UnixDatagram;
     use std::os::unix::process::ExitStatusExt;
     use std::process::{Command, Output, Stdio};
     use std::ptr::null_mut;
@@ -229,89 +173,38 @@ mod tests {
     const TABLE: &[(u32, &str)] = &[
         (0, "read"),
         (1, "write"),
-        (2, "open"),
         (3, "close"),
-        (4, "stat"),
         (5, "fstat"),
-        (6, "lstat"),
-        (7, "poll"),
-        (8, "lseek"),
         (11, "munmap"),
         (12, "brk"),
         (13, "rt_sigaction"),
         (14, "rt_sigprocmask"),
         (15, "rt_sigreturn"),
-        (20, "writev"),
-        (21, "access"),
-        (24, "sched_yield"),
+        (18, "pwrite64"),
         (25, "mremap"),
         (28, "madvise"),
-        (35, "nanosleep"),
         (39, "getpid"),
-        (42, "connect"),
-        (44, "sendto"),
         (45, "recvfrom"),
-        (46, "sendmsg"),
-        (47, "recvmsg"),
-        (48, "shutdown"),
         (49, "bind"),
-        (50, "listen"),
         (55, "getsockopt"),
-        (60, "exit"),
         (63, "uname"),
-        (73, "flock"),
         (77, "ftruncate"),
-        (79, "getcwd"),
-        (80, "chdir"),
-        (81, "fchdir"),
-        (82, "rename"),
-        (83, "mkdir"),
-        (87, "unlink"),
-        (89, "readlink"),
-        (90, "chmod"),
-        (91, "fchmod"),
-        (92, "chown"),
         (96, "gettimeofday"),
-        (107, "geteuid"),
         (131, "sigaltstack"),
         (186, "gettid"),
-        (188, "setxattr"),
-        (201, "time"),
-        (202, "futex"),
-        (204, "sched_getaffinity"),
-        (217, "getdents64"),
         (219, "restart_syscall"),
         (228, "clock_gettime"),
-        (230, "clock_nanosleep"),
         (231, "exit_group"),
         (232, "epoll_wait"),
         (233, "epoll_ctl"),
-        (254, "inotify_add_watch"),
-        (257, "openat"),
-        (258, "mkdirat"),
-        (260, "fchownat"),
-        (262, "newfstatat"),
-        (263, "unlinkat"),
-        (264, "renameat"),
-        (267, "readlinkat"),
-        (268, "fchmodat"),
-        (269, "faccessat"),
-        (271, "ppoll"),
-        (273, "set_robust_list"),
         (281, "epoll_pwait"),
         (288, "accept4"),
-        (291, "epoll_create1"),
-        (294, "inotify_init1"),
         (299, "recvmmsg"),
-        (316, "renameat2"),
         (318, "getrandom"),
-        (332, "statx"),
-        (334, "rseq"),
-        (439, "faccessat2"),
     ];
 
     /// Answers a call as the kernel does.
-    fn decided(steps: &[sock_filter], architecture: u32, number: u32, arguments: [u32; 6]) -> u32 {
+    fn decided(steps: &[sock_filter], architecture: u32, number: u32, arguments: [u64; 6]) -> u32 {
         let (mut next, mut loaded) = (0, 0);
         loop {
             let step = steps[next];
@@ -325,14 +218,17 @@ mod tests {
                 (libc::BPF_JMP, _) => next += usize::from(if is_so { step.jt } else { step.jf }),
                 (_, NUMBER) => loaded = number,
                 (_, ARCHITECTURE_AT) => loaded = architecture,
-                (_, place) => loaded = arguments[(place - ARGUMENTS) as usize / 8],
+                (_, place) => {
+                    let place = (place - ARGUMENTS) as usize;
+                    loaded = (arguments[place / 8] >> (8 * (place % 8))) as u32;
+                }
             }
         }
     }
 
     /// A number that no limited argument allows.
     #[cfg(target_arch = "x86_64")]
-    const WRONG: u32 = 0x7fff_fff7;
+    const WRONG: u64 = 0x7fff_fff7;
 
     #[test]
     #[cfg(target_arch = "x86_64")]
@@ -355,19 +251,16 @@ mod tests {
     #[cfg(target_arch = "x86_64")]
     fn limited_calls_are_allowed_with_these_arguments_alone() {
         let steps = steps().expect("a known architecture");
-        let own = std::process::id();
+        let own = u64::from(std::process::id());
         // the number and the name of a call, the place of an argument, the values that are allowed,
         // and some others; all further arguments are allowed ones
-        type Row<'a> = (u32, &'a str, [u32; 6], usize, &'a [u32], &'a [u32]);
+        type Row<'a> = (u32, &'a str, [u64; 6], usize, &'a [u64], &'a [u64]);
         let rows: &[Row<'_>] = &[
-            (41, "socket", [1, 1, 0, 0, 0, 0], 0, &[1], &[0, 2, 10, 16, 17, 38, 40]),
             (54, "setsockopt", [0, 263, 1, 0, 0, 0], 1, &[263], &[0, 1, 6, 17, 262, 264]),
             (54, "setsockopt", [0, 263, 1, 0, 0, 0], 2, &[1], &[0, 2, 3, 5, 13, 18]),
+            (44, "sendto", [3, 1 << 40, 9, 0, 0, 0], 4, &[0], &[1, 1 << 31, 1 << 32, 1 << 63, !0]),
             (16, "ioctl", [0, 0x5421, 0, 0, 0, 0], 1, &[0x5421], &[0, 0x5401, 0x5412, 0x8914, 0x5420]),
-            (72, "fcntl", [0, 1, 0, 0, 0, 0], 1, &[1, 2, 3, 1030], &[0, 4, 5, 6, 8, 10, 15, 1024, 1026]),
             (9, "mmap", [0, 0, 3, 0, 0, 0], 2, &[0, 1, 2, 3], &[4, 5, 6, 7]),
-            (10, "mprotect", [0, 0, 3, 0, 0, 0], 2, &[0, 1, 2, 3], &[4, 5, 6, 7]),
-            (157, "prctl", [15, 0, 0, 0, 0, 0], 0, &[15], &[0, 4, 8, 22, 23, 24, 36, 38, 47, 53]),
             (234, "tgkill", [own, 0, 6, 0, 0, 0], 0, &[own], &[0, 1, own + 1]),
             (234, "tgkill", [own, 0, 6, 0, 0, 0], 2, &[6], &[0, 9, 15, 19]),
         ];
@@ -395,6 +288,7 @@ mod tests {
             libc::prctl(libc::PR_SET_NO_NEW_PRIVS, 1, 0, 0, 0);
             libc::socket(libc::AF_PACKET, libc::SOCK_RAW, 0)
         };
+        let (ours, theirs) = UnixDatagram::pair().expect("two sockets");
         install().expect("a filter");
         println!(); // ends the line that the test program has begun
         let path = b"/dev/null\0".as_ptr();
@@ -409,6 +303,9 @@ mod tests {
         // SAFETY: all pointers are to values that outlive the calls, and no result is used as a pointer.
         unsafe {
             say("execve", libc::syscall(libc::SYS_execve, path, words.as_ptr(), words.as_ptr()));
+            say("open", libc::syscall(libc::SYS_openat, libc::AT_FDCWD, path, libc::O_RDONLY));
+            say("stat", libc::syscall(libc::SYS_statx, libc::AT_FDCWD, path, 0, 0, 0));
+            say("unlink", libc::syscall(libc::SYS_unlinkat, libc::AT_FDCWD, path, 0));
             say("execveat", libc::syscall(libc::SYS_execveat, -1, path, words.as_ptr(), words.as_ptr(), 0));
             say("mknodat", libc::syscall(libc::SYS_mknodat, -1, path, libc::S_IFIFO | 0o600, 0));
             say("clone", libc::syscall(libc::SYS_clone, libc::CLONE_NEWUSER | libc::SIGCHLD, 0, 0, 0, 0));
@@ -422,6 +319,7 @@ mod tests {
             say("bpf", libc::syscall(libc::SYS_bpf, 0, 0, 0));
             say("mmap to execute", libc::syscall(libc::SYS_mmap, 0, 4096, exec, anonymous, -1, 0));
             for (name, domain) in [
+                ("unix", libc::AF_UNIX),
                 ("inet", libc::AF_INET),
                 ("inet6", libc::AF_INET6),
                 ("packet", libc::AF_PACKET),
@@ -439,6 +337,32 @@ mod tests {
             let start = (&filter as *const libc::sock_fprog).cast();
             let attached = libc::setsockopt(packets, libc::SOL_SOCKET, libc::SO_ATTACH_FILTER, start, 16);
             say("filter", attached.into());
+            say("giving a file away", give_away(&ours, packets));
+            say("taking a file", libc::syscall(libc::SYS_recvmsg, theirs.as_raw_fd(), 0, libc::MSG_DONTWAIT));
+            say("many messages", libc::syscall(libc::SYS_sendmmsg, ours.as_raw_fd(), 0, 0, 0));
+            say("connecting", libc::syscall(libc::SYS_connect, ours.as_raw_fd(), path, 16));
+            say("sending to a path", libc::syscall(libc::SYS_sendto, ours.as_raw_fd(), path, 1, 0, path, 16));
+            libc::_exit(0); // the threads of the tests need further calls
+        }
+    }
+
+    /// Sends an open file to the peer of a socket, as unix(7) says, by a call that the C library does not check.
+    ///
+    /// # Safety
+    /// None is needed: all pointers are to values that outlive the call.
+    unsafe fn give_away(socket: &UnixDatagram, file: c_int) -> c_long {
+        let mut piece = libc::iovec { iov_base: b"x".as_ptr() as *mut libc::c_void, iov_len: 1 };
+        let mut note = [0u64; 4];
+        // SAFETY: the struct may be all zero, and the note has room for a header and one number.
+        unsafe {
+            let mut head: libc::msghdr = std::mem::zeroed();
+            (head.msg_iov, head.msg_iovlen) = (&mut piece, 1);
+            (head.msg_control, head.msg_controllen) = (note.as_mut_ptr().cast(), libc::CMSG_SPACE(4) as _);
+            let told = libc::CMSG_FIRSTHDR(&head);
+            ((*told).cmsg_level, (*told).cmsg_type) = (libc::SOL_SOCKET, libc::SCM_RIGHTS);
+            (*told).cmsg_len = libc::CMSG_LEN(4) as _;
+            libc::CMSG_DATA(told).cast::<c_int>().write_unaligned(file);
+            libc::syscall(libc::SYS_sendmsg, socket.as_raw_fd(), &head, libc::MSG_DONTWAIT)
         }
     }
 
@@ -473,6 +397,10 @@ mod tests {
         let refused = format!("{}", libc::EPERM);
         for call in [
             "execve",
+            "open",
+            "stat",
+            "unlink",
+            "unix",
             "execveat",
             "mknodat",
             "clone",
@@ -494,6 +422,11 @@ mod tests {
             "ring to send",
             "fanout",
             "filter",
+            "giving a file away",
+            "taking a file",
+            "many messages",
+            "connecting",
+            "sending to a path",
         ] {
             assert!(told.iter().any(|one| *one == (call, &refused[..])), "{call} is not refused: {said}");
         }

@@ -1,4 +1,4 @@
-//! The signals that lldpa-live reads from a file: SIGHUP, SIGINT and SIGTERM.
+//! The signals that lldpa-live reads from a file: SIGHUP, SIGINT, SIGTERM and SIGUSR2.
 
 use super::opened;
 use std::fs::File;
@@ -6,14 +6,16 @@ use std::io::{Read, Result};
 use std::mem::{size_of, MaybeUninit};
 use std::ptr::null_mut;
 
-const READ: [libc::c_int; 3] = [libc::SIGHUP, libc::SIGINT, libc::SIGTERM];
+const READ: [libc::c_int; 4] = [libc::SIGHUP, libc::SIGINT, libc::SIGTERM, libc::SIGUSR2];
 const ENDS: [libc::c_int; 2] = [libc::SIGINT, libc::SIGTERM];
 
 /// A signal that was read.
 #[derive(Clone, Copy, PartialEq, Eq)]
 pub enum Signal {
-    Reload,
+    HangUp,
     End,
+    /// To end without a word to the neighbors: another lldpa-live follows.
+    MakeWay,
 }
 
 /// Returns the set of these signals, without those that the parent process has set to be ignored.
@@ -49,6 +51,12 @@ pub fn open() -> Result<File> {
     unsafe { opened(libc::signalfd(-1, &set, libc::SFD_CLOEXEC | libc::SFD_NONBLOCK)) }
 }
 
+/// Lets a write that would pass the limit of file sizes fail, and not end this process.
+pub fn ignore_file_limit() {
+    // SAFETY: the call sets no handler.
+    unsafe { libc::signal(libc::SIGXFSZ, libc::SIG_IGN) };
+}
+
 /// Lets the kernel forget each child process that has ended.
 pub fn forget_children() {
     // SAFETY: the call sets no handler.
@@ -68,7 +76,11 @@ pub fn next(file: &mut File) -> Option<Signal> {
     let mut room = [0; size_of::<libc::signalfd_siginfo>()];
     let length = file.read(&mut room).ok()?;
     let number = u32::from_ne_bytes(room.get(..4).filter(|_| length == room.len())?.try_into().ok()?);
-    Some(if number == libc::SIGHUP as u32 { Signal::Reload } else { Signal::End })
+    Some(match number as libc::c_int {
+        libc::SIGHUP => Signal::HangUp,
+        libc::SIGUSR2 => Signal::MakeWay,
+        _ => Signal::End,
+    })
 }
 
 /// Unblocks SIGINT and SIGTERM, so that either ends the process at once.

@@ -221,6 +221,40 @@ pub fn connect_datagrams(file: &File, name: &[u8]) -> Result<()> {
     unix_address(file, name, true)
 }
 
+/// Sends a datagram with open files to the peer of a socket. (unix(7))
+pub fn send_files(file: &File, text: &str, files: &[File]) -> Result<()> {
+    let numbers: Vec<c_int> = files.iter().map(AsRawFd::as_raw_fd).take(MOST_SENT).collect();
+    let length = size_of::<c_int>() * numbers.len();
+    let mut note = [0u64; 8]; // aligned as the kernel reads it
+    let mut piece = libc::iovec { iov_base: text.as_ptr() as *mut c_void, iov_len: text.len() };
+    // SAFETY: this struct of numbers and pointers may be all zero. The macros compute within the note, which has
+    // room for `MOST_SENT` numbers. The kernel reads text and note, which outlive the call.
+    checked(unsafe {
+        let mut head: libc::msghdr = zeroed();
+        head.msg_iov = &mut piece;
+        head.msg_iovlen = 1;
+        head.msg_control = note.as_mut_ptr().cast();
+        head.msg_controllen = libc::CMSG_SPACE(length as u32) as _;
+        let told = libc::CMSG_FIRSTHDR(&head);
+        (*told).cmsg_level = libc::SOL_SOCKET;
+        (*told).cmsg_type = libc::SCM_RIGHTS;
+        (*told).cmsg_len = libc::CMSG_LEN(length as u32) as _;
+        std::ptr::copy_nonoverlapping(numbers.as_ptr().cast::<u8>(), libc::CMSG_DATA(told), length);
+        libc::sendmsg(file.as_raw_fd(), &head, libc::MSG_NOSIGNAL) as c_int
+    })
+    .map(drop)
+}
+
+const MOST_SENT: usize = 4;
+
+/// Sends what a stream has room for, without waiting.
+pub fn send_at_once(file: &File, octets: &[u8]) -> Result<usize> {
+    let (start, flags) = (octets.as_ptr().cast(), libc::MSG_DONTWAIT | libc::MSG_NOSIGNAL);
+    // SAFETY: the kernel reads the octets, whose number is stated.
+    let sent = unsafe { libc::send(file.as_raw_fd(), start, octets.len(), flags) };
+    usize::try_from(sent).map_err(|_| Error::last_os_error())
+}
+
 /// Binds a socket to a Unix address, or connects it.
 fn unix_address(file: &File, name: &[u8], is_peer: bool) -> Result<()> {
     // SAFETY: this struct of numbers may be all zero.

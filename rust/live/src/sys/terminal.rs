@@ -4,6 +4,7 @@ use std::io::{ErrorKind, Result};
 use std::mem::MaybeUninit;
 use std::os::unix::io::{AsRawFd, BorrowedFd};
 use std::sync::atomic::{AtomicBool, Ordering};
+use std::time::Duration;
 
 const INTERRUPTED: libc::c_int = 130; // the exit status that a shell gives to SIGINT
 
@@ -63,6 +64,14 @@ pub fn wait_for(file: BorrowedFd<'_>) -> Result<bool> {
             answer => return answer.map(|_| files[1].revents == 0),
         }
     }
+}
+
+/// Waits until a file can be read or has ended, at most so long if given. Returns whether that is so.
+pub fn can_read(file: BorrowedFd<'_>, patience: Option<Duration>) -> bool {
+    let mut file = libc::pollfd { fd: file.as_raw_fd(), events: libc::POLLIN, revents: 0 };
+    let milliseconds = patience.map_or(-1, |patience| patience.as_millis().min(1 << 30) as libc::c_int);
+    // SAFETY: the kernel reads and writes the local value.
+    unsafe { libc::poll(&mut file, 1, milliseconds) > 0 }
 }
 
 /// Returns the local time so many seconds after 1970, in a form like `2026-11-27T10:15:00+0100`.

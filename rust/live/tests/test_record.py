@@ -2,8 +2,6 @@
 
 import os
 import re
-import signal
-import subprocess
 import time
 from datetime import datetime, timezone
 from pathlib import Path
@@ -25,7 +23,7 @@ class TestLog(OnLinks):
     @by_the_clock
     def test_replay_sends_what_was_sent_to_the_octet(self) -> None:
         peer = self.peer()
-        live = self.live("--log", str(self.log), "eth0", "--", "--role", "router")
+        live = self.recorded("eth0", "--", "--role", "router")
         self.live_a_little(live, peer)
         self.assertEqual(live.ended(), 0)
         replayed = sent(self.log, "eth0", self.wires.address("eth0"))
@@ -56,10 +54,17 @@ class TestLog(OnLinks):
         live.spend(1)
 
     def test_each_session_has_a_file_of_its_own(self) -> None:
-        self.log.mkdir(mode=0o755)  # owned by root, which gives it to lldpa-live's user
-        for _ in range(3):
-            self.assertEqual(self.live("--log", str(self.log), "eth0").ended(), 0)
-        self.assertEqual(len(self.logs()), 3)
+        control = str(self.folder / "control")
+        live = self.live("--control", control, "eth0", awaits=False)
+        live.control = control
+        recorder = self.record(live)
+        for count in (1, 2):
+            self.assertEqual(live.ended(), 0)
+            live = self.live("--control", control, "eth0", awaits=False)
+            live.control, live.recorder = control, None
+            # pylint: disable-next=cell-var-from-loop
+            self.assertTrue(eventually(lambda: len(self.logs()) == count + 1), recorder.said())
+        self.assertEqual(recorder.said().count("this program waits"), 2)
         for path in self.logs():
             self.assertRegex(path.name, r"^\d{8}T\d{6}Z(-\d)?\.trace$")
             self.assertTrue(path.read_text().startswith("# lldpa --"))
@@ -68,7 +73,7 @@ class TestLog(OnLinks):
     @by_the_clock
     def test_clock_stands_before_what_came_in_its_second(self) -> None:
         began = time.time()
-        live, peer = self.live("--log", str(self.log), "eth0"), self.peer()
+        live, peer = self.recorded("eth0"), self.peer()
         for number in range(4):
             peer.send(numbered(number))
             time.sleep(0.4)
@@ -79,29 +84,17 @@ class TestLog(OnLinks):
         self.assertGreaterEqual(len(clocks), 2)
         first = datetime.strptime(clocks[0], "# %Y-%m-%dT%H:%M:%SZ").replace(tzinfo=timezone.utc)
         self.assertTrue(began - 1.1 < first.timestamp() < time.time() + 0.1)
-        self.assertRegex(lines[1], CLOCK)
+        first_frame = next(place for place, line in enumerate(lines) if line.startswith("rx "))
+        self.assertTrue(any(CLOCK.fullmatch(line) for line in lines[:first_frame]))
 
-    def test_an_option_turns_the_log_off_that_the_unit_turns_on(self) -> None:
-        live = self.live("--log", str(self.log), "--no-log", "eth0")
-        self.assertIn("live.log=off", live.ask("live"))
+    def test_options_of_earlier_versions_start_the_agent_and_say_what_records_now(self) -> None:
+        former = ("--log", str(self.log), "--log-most", "3", "--log-keep", "9", "--no-log",
+                  "--metrics", str(self.folder / "lldpa.prom"))
+        live = self.live(*former, "eth0")
+        for name in former[::2][:3] + ("--no-log", "--metrics"):
+            self.assertIn(f"{name} does nothing any more: see `record` in lldpa-ctl(8)",
+                          live.errors())
         self.assertEqual((live.ended(), self.log.exists()), (0, False))
-
-    @by_the_clock
-    def test_full_device_stops_the_log_and_not_lldpa_live(self) -> None:
-        self.log.mkdir()
-        subprocess.run(["mount", "-t", "tmpfs", "-o", "size=64k", "none", self.log], check=True)
-        self.addCleanup(subprocess.run, ["umount", "-l", str(self.log)], check=True)
-        peer, live = self.peer(), self.live("--log", str(self.log), "eth0")
-        self.assertIsNotNone(peer.hears())
-        for number in range(60):
-            peer.send(numbered(number).ljust(1500, b"\0"))
-            time.sleep(0.01)
-        self.assertTrue(live.says("stops, lldpa-live continues: No space left on device"))
-        self.assertIn("live.log=full", live.ask("live"))
-        self.assertTrue(self.logs()[0].read_bytes().endswith(b"\n"))
-        live.signal(signal.SIGTERM)
-        self.assertIsNotNone(peer.hears(2, ttl=0))
-        self.assertEqual(live.ends(2), 0)
 
 
 class TestOnce(OnLinks):

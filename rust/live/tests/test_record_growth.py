@@ -24,7 +24,8 @@ class Growth(OnLinks):
     @by_the_clock
     def test_a_file_lasts_70_days_with_one_neighbor_and_35_hours_with_48(self) -> None:
         self.assertEqual(len(FRAME), 138)
-        _, peer = self.receiving("--log", str(self.log))
+        live, peer = self.receiving()
+        self.record(live)
         sizes: List[int] = []
         for count in range(1, FRAMES + 1):
             time.sleep(QUIET if sizes else 0)

@@ -1,12 +1,13 @@
-"""Tests a log on a slow disk: seconds, own frames, held neighbors, answers, signs of life and the
-end wait for none of its writes.
+"""Tests a record on a slow disk: seconds, own frames, held neighbors, answers, signs of life and
+the end wait for none of its writes.
 
-strace delays each write of the log's thread. The whole test, at 5,000 frames a second on each port
+strace delays each write of the recorder. The whole test, at 5,000 frames a second on each port
 and with 60 looks, takes nine minutes and two processors:
 
-    LLDPA_LOOKS=60 LLDPA_FLOOD=80000 python3 -m unittest test_slow_log.Slow
+    LLDPA_LOOKS=60 LLDPA_FLOOD=80000 python3 -m unittest test_slow_record.Slow
 """
 
+import contextlib
 import os
 import shutil
 import signal
@@ -20,7 +21,7 @@ from patience import by_the_clock, eventually
 from replays import Moments, differing
 from running_live import Live, OnLinks
 from served import numbered, tlv
-from slowed import slow_writes
+from slowed import slow_calls
 from wires import Peer, ttl_of
 
 LOOKS = int(os.environ.get("LLDPA_LOOKS", "10"))  # one a second, for each delay and rate
@@ -91,9 +92,8 @@ class Slow(OnLinks):
             stamped(peer)
 
     def begun(self, *words: str) -> Live:
-        live = self.live("--log", str(self.log), *words,
-                         *(f"eth{number}" for number in range(FLOODED + 1)), "--",
-                         "--max-neighbors", "32", env=self.heard.environment(WATCHDOG))
+        live = self.recorded(*words, *(f"eth{number}" for number in range(FLOODED + 1)), "--",
+                             "--max-neighbors", "32", env=self.heard.environment(WATCHDOG))
         live.ask("configure lldp tx-interval 1")
         return live
 
@@ -112,7 +112,7 @@ class Slow(OnLinks):
                 time.sleep(max(0, looks.began + number + 1 - time.monotonic()))
                 looks.look()
             sender.stop()
-            quiet, lost = silence(self.peers[QUIET], began), live.number("log-lines-lost")
+            quiet, lost = silence(self.peers[QUIET], began), live.number("record-lines-lost")
             signs = looks.signs.longest() - WATCHDOG / 4
             figure(self, f"writes of {1000 * delay:.0f} ms, {FLOODED} times {sender.rate():.0f} "
                          f"frames a second: seconds {looks.late:.2f} s late, own frames "
@@ -121,16 +121,17 @@ class Slow(OnLinks):
                          f"lines lost")
             self.assertEqual(looks.missing, 0)
             self.assertLess(max(looks.late, quiet - 1, signs, looks.slowest), LATE)
-            self.assertEqual(lost > 0, "loses lines" in live.errors())
+            assert live.recorder is not None
+            said = lambda: "lines are lost, a new file begins" in live.recorder.said()
+            self.assertTrue(eventually(lambda: said() == (lost > 0)))
 
     @by_the_clock
     def test_nothing_waits_for_writes_of_0_10_100_and_300_milliseconds(self) -> None:
         live, moments = self.begun(), None
         for delay in DELAYS:
-            with slow_writes(live, delay):
+            with self.slow_disk(live, delay):
                 self.holds(live, delay, RATES)
                 if delay == DELAYS[-1]:
-                    live.comes_to("live.log=on")
                     moments = Moments(live)
                     moments.take()
                     self.assertLess(moments.slowest, LATE)
@@ -138,7 +139,8 @@ class Slow(OnLinks):
                         silence(peer, 0)  # makes room for the shutdown frames
                     began = time.time()
                     live.signal(signal.SIGTERM)
-                    self.assertEqual(live.ends(END), 0, live.errors())
+                    self.assertEqual(live.process.wait(END), 0, live.errors())
+        self.assertEqual(live.ends(), 0)  # and the record is whole
         byes = goodbyes(self.peers, began)
         figure(self, f"{len(byes)} shutdown frames in {max(byes, default=99):.2f} s")
         self.assertEqual(len(byes), FLOODED + 1)
@@ -146,19 +148,19 @@ class Slow(OnLinks):
         assert moments is not None
         self.assertEqual(differing(self.log, moments), [])
 
-    @by_the_clock
-    def test_a_log_that_is_two_seconds_behind_loses_lines_and_begins_a_whole_file(self) -> None:
+    def test_a_recorder_that_hangs_loses_lines_and_begins_a_whole_file(self) -> None:
         live = self.begun()
-        with slow_writes(live, HANGS):
-            self.sender(100, 1)
-            self.assertTrue(live.says("is more than 2 seconds behind and loses lines"))
-            self.assertEqual(live.told("live", "live.log"), "stalled")
-            self.assertTrue(eventually(lambda: live.number("log-lines-lost") > 100))
+        assert live.recorder is not None
+        with self.slow_disk(live, HANGS):
+            self.sender(RATES[1])
+            self.assertTrue(eventually(lambda: live.number("record-lines-lost") > 1000))
             self.assertEqual(live.neighbors(), 10)
-        self.assertTrue(live.says("the log continues in "))
-        live.comes_to("live.log=on")
-        lost = live.number("log-lines-lost")
-        self.assertTrue(live.says(f"; {lost} lines were not written"))
-        live.spend(1)
-        self.assertEqual(live.number("log-lines-lost"), lost)
-        self.assertEqual(live.errors().count("seconds behind"), 1)
+        self.assertTrue(live.recorder.says("lines are lost, a new file begins"))
+        moments = Moments(live)
+        moments.take()
+        self.assertEqual(live.ended(), 0)
+        self.assertEqual(differing(self.log, moments), [])
+
+    def slow_disk(self, live: Live, seconds: float) -> "contextlib.AbstractContextManager[None]":
+        assert live.recorder is not None
+        return slow_calls(live.recorder.process.pid, seconds)

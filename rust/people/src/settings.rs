@@ -1,15 +1,15 @@
-//! Reads the settings, which are `configure` lines in files and so outlive a restart.
+//! Reads the settings, which are `configure` lines in files and so outlive a restart. lldpa-live reads them at its
+//! start; later lldpa-ctl reads them and sends them.
 
-use crate::files::names;
-use crate::rights::{at, text_of};
-use lldpa::CommandFault;
-use lldpa_people::refused;
-use lldpa_people::texts::printable;
+use crate::client::text_of;
+use crate::refused;
+use crate::texts::printable;
 use std::fs::{self, OpenOptions};
 use std::io::{Error, ErrorKind, Read, Result};
 use std::os::unix::fs::OpenOptionsExt;
 use std::rc::Rc;
 
+const O_NONBLOCK: i32 = 0o4000; // (fcntl.h) of Linux on all architectures that are supported
 const MOST_OCTETS: u64 = 1_000_000; // of a file
 const MOST_SHOWN: usize = 200; // characters of a refused line
 pub const LONGEST_LINE: usize = 4096;
@@ -17,14 +17,30 @@ pub const LONGEST_LINE: usize = 4096;
 /// The path and the number of a line.
 pub type Place = (Rc<str>, usize);
 
-#[derive(Clone, Debug)]
+#[derive(Clone, Debug, PartialEq, Eq)]
 pub struct Setting {
     path: Rc<str>,
     number: usize,
     pub line: Vec<u8>,
 }
 
+const FRONT: &str = "settings line\t";
+
 impl Setting {
+    /// Returns the line that hands it over to lldpa-live, in Latin-1.
+    pub fn to_send(&self) -> String {
+        let line: String = self.line.iter().map(|octet| char::from(*octet)).collect();
+        format!("{FRONT}{}\t{}\t{line}", self.path, self.number)
+    }
+
+    /// Reads such a line.
+    pub fn sent(line: &[u8]) -> Option<Setting> {
+        let mut parts = line.strip_prefix(FRONT.as_bytes())?.splitn(3, |octet| *octet == b'\t');
+        let mut text = || parts.next().map(|part| String::from_utf8_lossy(part).into_owned());
+        let (path, number) = (text()?, text()?.parse().ok()?);
+        Some(Setting { path: path.into(), number, line: parts.next()?.to_vec() })
+    }
+
     pub fn refused(&self, why: &str) -> String {
         let shown = |text: &str| text.trim().chars().take(MOST_SHOWN).collect::<String>();
         format!("{}:{}: {}: {}", self.path, self.number, shown(&printable(&self.line)), shown(why))
@@ -74,7 +90,7 @@ fn lines_of(path: &str) -> Result<Vec<Setting>> {
     if !fs::metadata(path).map_err(at(path))?.is_file() {
         return Err(wrong("not a regular file".into()));
     }
-    let file = OpenOptions::new().read(true).custom_flags(libc::O_NONBLOCK).open(path).map_err(at(path))?;
+    let file = OpenOptions::new().read(true).custom_flags(O_NONBLOCK).open(path).map_err(at(path))?;
     let mut octets = Vec::new();
     file.take(MOST_OCTETS + 1).read_to_end(&mut octets).map_err(at(path))?;
     if octets.len() as u64 > MOST_OCTETS {
@@ -96,6 +112,15 @@ pub fn settings_in(path: &str, octets: &[u8]) -> Vec<Setting> {
     settings
 }
 
+fn names(path: &str) -> Result<Vec<String>> {
+    fs::read_dir(path)?.map(|entry| Ok(entry?.file_name().to_string_lossy().into_owned())).collect()
+}
+
+/// Puts a path before the text of an error.
+fn at(path: &str) -> impl Fn(Error) -> Error + '_ {
+    move |fault| Error::new(fault.kind(), format!("{path}: {}", text_of(&fault)))
+}
+
 pub fn first_word(line: &[u8]) -> String {
     words_of(line).into_iter().next().unwrap_or_default()
 }
@@ -106,17 +131,8 @@ fn words_of(line: &[u8]) -> Vec<String> {
 }
 
 /// Returns a line as a text in which only tabs do not become visible.
-fn text_of_line(line: &[u8]) -> String {
+pub fn text_of_line(line: &[u8]) -> String {
     printable(line).replace("\\x09", "\t")
-}
-
-/// Adds the wrong word and what is allowed in its place to the agent's refusal of a line: `out of
-/// range` becomes `out of range: 0 (seconds between frames, 1 to 3600)`.
-pub fn explained(line: &[u8], fault: CommandFault) -> String {
-    match fault {
-        CommandFault::Quote | CommandFault::InUse => fault.to_string(),
-        _ => refused::explained(&text_of_line(line), &fault.to_string()),
-    }
 }
 
 #[cfg(test)]
@@ -148,53 +164,6 @@ mod tests {
             let found = settings_in("a.conf", format!("x\n{line}").as_bytes());
             let setting = found.get(1).and_then(Setting::port);
             assert_eq!(setting.as_deref(), port, "{line}");
-        }
-    }
-
-    #[test]
-    fn a_refusal_says_what_is_allowed() {
-        for (line, fault, wanted) in [
-            (
-                "configure lldp tx-interval 0",
-                CommandFault::Range,
-                "out of range: 0 (seconds between frames, 1 to 3600)",
-            ),
-            (
-                "configure lldp tx-hold",
-                CommandFault::Unknown,
-                "unknown command: a word is missing (intervals that peers keep a frame, 1 to 100)",
-            ),
-            (
-                "configure lldp hold 3",
-                CommandFault::Unknown,
-                "unknown command: hold (tx-interval or tx-hold or max-neighbors)",
-            ),
-            ("configure lldp tx-hold 3 4", CommandFault::Extra, "extra word: 4 (no word is allowed here)"),
-            (
-                "configure ports eth9 lldp status rx-only",
-                CommandFault::NoSuchPort,
-                "no such port: eth9 (must be a port of this agent)",
-            ),
-            (
-                "configure ports eth0 lldp status on",
-                CommandFault::Unknown,
-                "unknown command: on (rx-and-tx, rx-only, tx-only, disabled)",
-            ),
-            (
-                "configure system hostname \"\"",
-                CommandFault::Text,
-                "bad text: empty word (up to 255 printable characters, in quotes if it has spaces)",
-            ),
-            (
-                "configure lldp tx-hold x",
-                CommandFault::Number,
-                "not a number: x (intervals that peers keep a frame, 1 to 100)",
-            ),
-            ("set", CommandFault::Unknown, "unknown command: set (configure)"),
-            ("configure system hostname \"a", CommandFault::Quote, "bad quote"),
-            ("configure lldp max-neighbors 1", CommandFault::InUse, "too many held"),
-        ] {
-            assert_eq!(explained(line.as_bytes(), fault), wanted, "{line}");
         }
     }
 }
