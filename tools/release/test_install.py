@@ -34,7 +34,7 @@ class Installing(unittest.TestCase):
     def test_what_is_the_users_stays_and_is_named(self) -> None:
         self.ran()
         kept = {"etc/default/lldpa": "was changed, so it stays",
-                "etc/lldpa.d/mine.conf": "has settings of yours, so it stays",
+                "etc/lldpa.d/mine.conf": "has files of yours, so it stays",
                 "var/lib/lldpa/state": "has the logs and the state, so it stays"}
         for name in kept:
             (self.tree / name).parent.mkdir(parents=True, exist_ok=True)

@@ -57,6 +57,7 @@ class TestLog(OnLinks):
         control = str(self.folder / "control")
         live = self.live("--control", control, "eth0", awaits=False)
         live.control = control
+        self.assertTrue(eventually(live.answers))
         recorder = self.record(live)
         for count in (1, 2):
             self.assertEqual(live.ended(), 0)
