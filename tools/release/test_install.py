@@ -35,7 +35,7 @@ class Installing(unittest.TestCase):
         self.ran()
         kept = {"etc/default/lldpa": "was changed, so it stays",
                 "etc/lldpa.d/mine.conf": "has files of yours, so it stays",
-                "var/lib/lldpa/state": "has the logs and the state, so it stays"}
+                "var/lib/lldpa/log/1.trace": "has records, so it stays"}
         for name in kept:
             (self.tree / name).parent.mkdir(parents=True, exist_ok=True)
             (self.tree / name).write_text("# mine\n")
