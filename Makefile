@@ -48,7 +48,7 @@ $(live): $(library) $(rust)
 
 # Cheap checks
 pages:
-	$(PYTEST) tools/gate/test_pages.py tools/gate/test_help_of_scripts.py
+	$(PYTEST) tools/gate/test_pages.py
 	$(with) mandoc -- mandoc -T lint -W warning $(pages)
 	$(with) groff -- bash -ec 'for page; do [ -z "$$(groff -mandoc -ww -z $$page 2>&1)" ]; done' groff $(pages)
 	$(with) rsvg-convert -- bash -ec 'for svg in docs/*.svg; do rsvg-convert $$svg > /dev/null; done'
@@ -97,7 +97,7 @@ rust-people:
 	cd rust/people && CARGO_TARGET_DIR=out/target $(with) cargo -- bash -ec 'cargo build --locked --release --example people; \
 	    cp out/target/release/examples/people out/people'
 completions: $(program) $(served)
-	$(PYTEST) -n $(N) tools/gate/test_help.py
+	$(PYTEST) -n $(N) tools/gate/test_help.py tools/gate/test_help_of_scripts.py
 services: $(served) rust-people
 	$(PYTEST) -n $$(($(N) * 6)) --dist loadfile -m "not alone" rust python tools/release audit/tests/test_asking.py \
 	    audit/tests/test_audit_command.py
