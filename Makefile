@@ -120,7 +120,6 @@ package: $(served)
 release-check: package                            ## before a release, and after a change of what it is made of
 	$(PYTEST) -k packages tools/library/test_arm64.py
 	$(with) root /usr/bin/cargo xz-utils unshare locales dpkg-dev debhelper dh-python -- tools/gate/check-dist.sh
-	$(with) root debootstrap network -- tools/gate/check-debian.sh bookworm trixie
 
 beside: check proofs wrong-bodies crates library live audit
 gate:                                             ## everything that a merge needs

@@ -60,7 +60,6 @@ prometheus                promtool              the metrics and the alerts
 mandoc                    mandoc                manual pages
 groff                     groff                 manual pages
 systemd                   systemd-analyze       the rights of the service
-debootstrap               debootstrap           a new Debian, in which a release is built and the packages are tried
 systemd-container         systemd-nspawn        the service under a systemd that boots
 linux-libc-dev            /usr/include/*/asm/unistd_64.h  the calls that the service may make
 zsh                       zsh                   completions
@@ -86,7 +85,6 @@ link-tun      interfaces that are no Ethernet
 loop-mounts   disks that stand still
 user-namespaces  capabilities in a new user namespace
 booted-systemd  the service under a systemd that boots
-network       a new Debian, in which a release is built and the packages are tried
 x86-64        what writes registers of this processor, or runs its older ones
 sanitizers    the library under the compiler's sanitizers
 END
@@ -109,8 +107,6 @@ has_feature() {
         loop-mounts) mounts_a_file ;;
         memory-cgroups) limits_memory ;;
         booted-systemd) PYTHONPATH=rust/live/tests:python/tests:python python3 -B rust/live/tests/booted.py > /dev/null 2>&1 ;;
-        network) python3 -c 'import urllib.request as get; get.urlopen("http://deb.debian.org/debian/dists/stable/Release", timeout=20)' \
-            2> /dev/null ;;
         user-namespaces) unshare --user true 2> /dev/null ;;
         x86-64) [ "$(uname -m)" = x86_64 ] ;;
         sanitizers) runs_sanitized ;;

@@ -1,8 +1,8 @@
 #!/bin/sh
 # Makes a release, and builds and installs it in a new Debian, as a user who is not root and without a network.
-#     tools/gate/check-debian.sh SUITE..
+#     tools/by-hand/try-debian.sh SUITE..
 # A SUITE is a release of Debian, such as bookworm or trixie, which debootstrap gets. It has what README names, and
-# nothing else. Prints the seconds from `tar` to the first answer. Needs root, the kit, and what the Makefile names.
+# nothing else. Prints the seconds from `tar` to the first answer. Needs root, the kit, debootstrap and a network.
 . "$(dirname "$0")/../help.sh"
 set -u
 cd "$(dirname "$0")/../.." || exit 2
