@@ -82,6 +82,15 @@ def nvue(ports: Ports) -> Any:
         for number, (host, at) in enumerate(neighbors)}}} for port, neighbors in ports.items()}
 
 
+def networkctl(ports: Ports) -> Any:
+    """Writes `networkctl lldp --json=short` of systemd."""
+    return {"Neighbors": [{"InterfaceIndex": number, "InterfaceName": port, "Neighbors": [{
+        "ChassisID": chassis_of(host), "RawChassisID": [4, 2], "PortID": at,
+        "RawPortID": [5, *at.encode()], "PortDescription": TO, "SystemName": host,
+        "EnabledCapabilities": 20, "VlanID": 10} for host, at in neighbors]}
+        for number, (port, neighbors) in enumerate(ports.items(), 1)]}
+
+
 def napalm(ports: Ports) -> Any:
     """Writes NAPALM's get_lldp_neighbors_detail."""
     return {port: [{
@@ -127,7 +136,7 @@ def walk(ports: Ports) -> str:
                    for column, rows in columns.items() for index, value in rows)
 
 
-OF_JSON = (eos, nxos, junos, nvue, napalm, textfsm, openconfig)
+OF_JSON = (eos, nxos, junos, nvue, networkctl, napalm, textfsm, openconfig)
 FORMS: Mapping[str, Callable[[Ports], str]] = {
     **{write.__name__: lambda ports, write=write: json.dumps(write(ports)) for write in OF_JSON},
     "junos_xml": junos_xml, "walk": walk}
