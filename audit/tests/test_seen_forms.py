@@ -34,7 +34,8 @@ if IS_LONG:
     WHOLE.update({f"tree {at}": json.dumps(tree).encode() for at, tree in enumerate(TREES)})
 # what each neighbor must have: names in JSON, and lines in other forms
 NEEDED = {"chassisId", "chassis_id", "port_id", "l_port_id", "lldp-local-port-id",
-          "lldp-remote-chassis-id", "lldp-remote-port-id", "chassis-id", "neighborInterfaceInfo", "chassis", "port", "lldpNeighborInfo",
+          "lldp-remote-chassis-id", "lldp-remote-port-id", "chassis-id", "ChassisID", "PortID",
+          "InterfaceName", "neighborInterfaceInfo", "chassis", "port", "lldpNeighborInfo",
           "port-id"}
 NEEDED_LINES = re.compile(r"<lldp-(?:local-port-id|remote-chassis-id|remote-port-id)>.*\n|"
                           r"iso.0.8802.1.1.2.1.(?:3.7.1.3|4.1.1.[567])\..*\n")
