@@ -62,7 +62,8 @@ class Booted:
         shutil.copy("/etc/os-release", etc)
         if Path("/etc/alternatives").is_dir():  # Debian's awk
             shutil.copytree("/etc/alternatives", etc / "alternatives", symlinks=True)
-        for name, text in (("machine-id", uuid.uuid4().hex), ("passwd", USERS), ("group", GROUPS)):
+        for name, text in (("machine-id", uuid.uuid4().hex), ("passwd", USERS), ("group", GROUPS),
+                           ("systemd/journald.conf", "[Journal]\nStorage=volatile\n")):  # so that / can become read-only
             (etc / name).write_text(text)
         (etc / "systemd/system/default.target").symlink_to("/usr/lib/systemd/system/basic.target")
 

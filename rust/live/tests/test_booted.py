@@ -10,7 +10,7 @@ import unittest
 
 from booted import NSPAWN, Booted
 from patience import HANGS, eventually
-from served import LIVE, PROGRAM, REPOSITORY, is_built
+from served import LIVE, PROGRAM, REPOSITORY, is_built, numbered
 from wires import Peer, Wires, ttl_of
 
 PREFIX = "/opt/lldpa"
@@ -72,6 +72,9 @@ class Installed(unittest.TestCase):
     def send(self, name: str) -> None:
         self.run_in_it("kill", f"-{name}", str(self.process()))
 
+    def has_neighbor(self, name: str) -> bool:
+        return name in self.run_in_it(CTL, "show", "neighbors")
+
     def runs_anew(self, old: int) -> bool:
         """True if another process than `old` answers."""
         return self.process() not in (0, old) and self.host.run(CTL, "show", "chassis").returncode == 0
@@ -108,6 +111,21 @@ class TestUnit(Installed):
                         self.host.run("systemctl", "status", "lldpa").stdout)
         self.assertEqual([self.host.show("lldpa", name) for name in ("ExecMainStatus", "NRestarts")], ["2", "0"])
 
+    def test_read_only(self) -> None:
+        """It starts, keeps its neighbors and says goodbye where nothing but /run can be written."""
+        self.addCleanup(self.run_in_it, "mount", "-o", "remount,bind,rw", "/")
+        self.run_in_it("mount", "-o", "remount,bind,ro", "/")
+        self.assertNotEqual(self.host.run("touch", "/var/here", "/here").returncode, 0)
+        self.peer.send(numbered(7))
+        self.assertTrue(eventually(lambda: self.has_neighbor("p7"), HANGS))
+        old = self.process()
+        self.run_in_it("systemctl", "restart", "lldpa")
+        self.assertTrue(eventually(lambda: self.runs_anew(old), HANGS))
+        self.assertTrue(self.has_neighbor("p7"))
+        self.hears_it()
+        self.run_in_it("systemctl", "stop", "lldpa")
+        self.assertIsNotNone(self.peer.hears(HANGS, ttl=0), "no goodbye")
+
     def test_reload(self) -> None:
         """A reload takes new settings over in the same process."""
         old = self.process()
@@ -129,6 +147,13 @@ class TestUnit(Installed):
         self.run_in_it("systemctl", "stop", "lldpa")
         frozen.wait(HANGS)
         self.assertLess(time.monotonic() - began, 60, "systemd's own limit is 90 seconds")
+
+
+class TestShutdown(Installed):
+    def test_poweroff(self) -> None:
+        """The end of a host says goodbye."""
+        self.run_in_it("systemctl", "poweroff", "--no-block")
+        self.assertIsNotNone(self.peer.hears(HANGS, ttl=0), "no goodbye")
 
 
 class TestRemoval(Installed):
