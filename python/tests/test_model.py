@@ -28,12 +28,31 @@ class Model(unittest.TestCase):
         self.assertEqual(model.returncode, 0)
 
     def test_says_what_is_wrong_with_its_arguments(self) -> None:
-        for words, status, said in ((["eth0", "eth0"], 2, b"lldpa: same port twice\n"),
-                                    (["--listen", "7000", "eth0"], 1, b"serves no connections"),
-                                    (["--tick", "eth0"], 2, b"--help lists")):
+        """Behind the line of lldpa, if the model knows it, it names the argument and what to do."""
+        for words, line, said in (
+                ([], "lldpa: no ports", "name one or more ports"),
+                ([str(one) for one in range(65)], "lldpa: too many ports", "there are 65, "),
+                (["eth0", "docs/lab.pcap"], "lldpa: bad port name", "'docs/lab.pcap': a name has 1 to 15 "),
+                (["eth0", "eth1", "eth1"], "lldpa: same port twice", "eth1: name each port once"),
+                (["--mac", "00:11", "eth0"], "lldpa: bad --mac", "--mac '00:11': it has six pairs "),
+                (["--management=::1", "eth0"], "lldpa: bad --management", "--management '::1': it has four numbers "),
+                (["--hostname=a\tb", "eth0"], "lldpa: bad text", "--hostname 'a\\tb': it has at most 255 "),
+                (["eth0\udcff"], "lldpa: no memory", "an argument is not UTF-8"),
+                (["--max-neighbors=129", "eth0"], "", "--max-neighbors '129': it is a number from 1 to 128;"),
+                (["--role", "switch", "eth0"], "", "--role 'switch': it is one of bridge, router, station;"),
+                (["eth0", "--mac"], "", "--mac needs a value;"),
+                (["--receive-only", "eth0", "--receive-only"], "", "--receive-only is given twice;"),
+                (["--receive-only=yes", "eth0"], "", "'--receive-only=yes': --receive-only has no value;"),
+                (["--tick=1", "eth0"], "", "there is no option '--tick';")):
             ended = told(words)
-            self.assertEqual((ended.returncode, ended.stdout), (status, b""))
-            self.assertIn(said, ended.stderr)
+            self.assertEqual((ended.returncode, ended.stdout), (2, b""))
+            front = f"{line}\nlldpa-model: " if line else "lldpa-model: "
+            self.assertTrue(ended.stderr.decode().startswith(front + said), ended.stderr)
+
+    def test_serves_no_connections(self) -> None:
+        ended = told(["--listen", "7000", "eth0"])
+        self.assertEqual((ended.returncode, ended.stdout), (1, b""))
+        self.assertIn(b"serves no connections: leave out --listen", ended.stderr)
 
     def test_has_the_help_of_lldpa(self) -> None:
         shown = told(["--help"])

@@ -523,8 +523,12 @@ def answer(agent, line):
 
 # ----------------------------------------------------------------------------------------------- the program
 class NoRun(Exception):
-    """Raised if no trace is run with these arguments. Has the status and the line on
-    standard error, which is None if lldpa's argument parser writes it."""
+    """Raised if no trace is run with these arguments. Has the status and the line on standard error,
+    which is None if lldpa's argument parser writes it. `why` says for people what is wrong."""
+
+    def __init__(self, status, complaint, why=""):
+        super().__init__(status, complaint)
+        self.why = why
 
 # the greatest numbers of the agent's options, and of all options with a number
 OPENING = {"max_neighbors": 128, "tx_credit_max": 10, "tx_fast_init": 8, "reinit_delay": 10}
@@ -542,10 +546,17 @@ def option_value(name, word):
     """Returns the value of an option, checked as far as lldpa's argument parser does."""
     is_number = name in GREATEST and re.fullmatch("[+-]?[0-9]+", word) is not None
     if name in GREATEST and not (is_number and 1 <= int(word) <= GREATEST[name]):
-        raise NoRun(2, None)
+        raise NoRun(2, None, f"{option_word(name)} {word!r}: it is a number from 1 to {GREATEST[name]}")
     if name == "role" and word not in ROLES:
-        raise NoRun(2, None)
+        raise NoRun(2, None, f"--role {word!r}: it is one of {', '.join(ROLES)}")
     return int(word) if is_number else word
+
+def unread(word, option):
+    """Returns why a word that begins with `-` is not read."""
+    if option == "--receive-only" and word != option:
+        return f"{word!r}: {option} has no value"
+    is_known = option in map(option_word, (*VALUED, "receive_only"))
+    return f"{option} is given twice" if is_known else f"there is no option {option!r}"
 
 def read_words(words):
     """Returns the options by name, and the ports. After a `--` all arguments are ports."""
@@ -564,27 +575,34 @@ def read_words(words):
             given[name] = True
         elif option == option_word(name) and name in VALUED and name not in given:
             if not is_attached and (not left or re.match("-.", left[0])):
-                raise NoRun(2, None)
+                raise NoRun(2, None, f"{option} needs a value")
             given[name] = option_value(name, value if is_attached else left.pop(0))
         else:
-            raise NoRun(2, None)
+            raise NoRun(2, None, unread(word, option))
     return given, ports
 
 def opened(words):
     """Returns the agent of these arguments, or raises the fault of the first check that fails."""
-    if re.search("[\ud800-\udfff]", " ".join(words)):  # octets that are not UTF-8
-        raise NoRun(2, "lldpa: no memory")
+    if re.search("[\ud800-\udfff]", " ".join(words)):
+        raise NoRun(2, "lldpa: no memory", "an argument is not UTF-8")
     given, ports = read_words(words)
     options = SimpleNamespace(**{**DEFAULTS, **given})
-    for is_well, fault in [
-            (re.fullmatch(MAC, options.mac), "bad --mac"),
-            ("management" not in given or re.fullmatch(IPV4, options.management), "bad --management"),
-            (ports, "no ports"), (len(ports) <= 64, "too many ports"),
-            (all(re.fullmatch(PORT_NAME, name) for name in ports), "bad port name"),
-            (len(set(ports)) == len(ports), "same port twice"),
-            (re.fullmatch(TEXT, options.hostname), "bad text")]:
+    bad = [name for name in ports if not re.fullmatch(PORT_NAME, name)]
+    twice = [name for name in ports if ports.count(name) > 1]
+    for is_well, fault, why in [
+            (re.fullmatch(MAC, options.mac), "bad --mac",
+             f"--mac {options.mac!r}: it has six pairs of hexadecimal digits, with colons between them"),
+            ("management" not in given or re.fullmatch(IPV4, options.management), "bad --management",
+             f"--management {options.management!r}: it has four numbers from 0 to 255, with dots between them"),
+            (ports, "no ports", "name one or more ports, such as eth0"),
+            (len(ports) <= 64, "too many ports", f"there are {len(ports)}, and an agent has at most 64"),
+            (not bad, "bad port name", f"{''.join(bad[:1])!r}: a name has 1 to 15 letters, digits, -, _, / and :, "
+             "so eth0.12 is eth0:12 here; a capture is read by lldpa-capture --table"),
+            (not twice, "same port twice", f"{''.join(twice[:1])}: name each port once"),
+            (re.fullmatch(TEXT, options.hostname), "bad text",
+             f"--hostname {options.hostname!r}: it has at most 255 characters, from the space to the tilde")]:
         if not is_well:
-            raise NoRun(2, f"lldpa: {fault}")
+            raise NoRun(2, f"lldpa: {fault}", why)
     return Agent(options, ports)
 
 def run(words, trace):
@@ -604,7 +622,8 @@ def main():
         agent = opened(sys.argv[1:])
     except NoRun as why:
         status, complaint = why.args
-        print(complaint or "lldpa-model: these arguments are wrong; --help lists the right ones", file=sys.stderr)
+        lines = [complaint, f"lldpa-model: {why.why}"] if complaint else [f"lldpa-model: {why.why}; see --help"]
+        print(*lines, sep="\n", file=sys.stderr)
         return status
     for line in sys.stdin.buffer:
         for written in answer(agent, line.decode("latin-1").removesuffix("\n")):
