@@ -64,5 +64,35 @@ class Built(unittest.TestCase):
                 self.assertEqual(self.said(program, "a b", "", "*"), (7, f"{name}|a b||*|", ""))
 
 
+class Wrong(unittest.TestCase):
+    """What a script cannot do it says at once: the argument, and what is missing or allowed."""
+
+    def test_its_argument_is_named(self) -> None:
+        places = {"LLDPA": "/none/lldpa", "LLDPA_LIB_DIR": "/none", "DESTDIR": "/none", "PATH": "/usr/bin:/bin"}
+        for words, status, said in (
+                ("tools/gate/check-dist.sh --arm", 2, "there is no option --arm, but --arm64 and --packages"),
+                ("tools/gate/install.sh --instal", 2, "there is no option --instal, but --install, --list and"),
+                ("tools/library/library.sh --arch", 1, "--arch none: it is amd64 or arm64"),
+                ("tools/release/assembly.sh amd64", 1, "no crate: it is lldpa or lldpa_c"),
+                ("tools/release/assembly.sh amd64 lldp", 1, "lldp: it is lldpa or lldpa_c"),
+                ("tools/release/build.sh --arch x86", 1, "--arch x86: it is amd64 or arm64"),
+                ("tools/release/dist.sh --check", 1, "--check needs an archive, and it is none"),
+                ("tools/release/dist.sh --check /none", 1, "--check needs an archive, and /none is none"),
+                ("tools/release/dist.sh /none", 1, "there is no folder /none"),
+                ("tools/release/install.sh --remove", 2, "there is no option --remove, but --uninstall and"),
+                ("tools/release/install.sh here", 2, "the prefix here does not begin with /"),
+                ("tools/release/install.sh /none", 1, "there is no /none/lldpa: make builds it"),
+                ("tools/release/install.sh --library /none", 1, "there is no /none/liblldpa.a: make builds it"),
+                ("tools/release/live.sh --arch", 1, "--arch none: it is amd64 or arm64"),
+                ("tools/release/wheel.sh /none", 1, "there is no folder /none"),
+                ("tools/release/wheel.sh /", 1, "there is no program /none/lldpa: make builds it")):
+            script, *rest = words.split()
+            ran = subprocess.run([REPOSITORY / script, *rest], env={**os.environ, **places}, text=True,
+                                 stdin=subprocess.DEVNULL, capture_output=True, timeout=60, check=False)
+            with self.subTest(words):
+                self.assertEqual((ran.returncode, ran.stdout), (status, ""))
+                self.assertTrue(ran.stderr.startswith(f"{script}: {said}"), ran.stderr)
+
+
 if __name__ == "__main__":
     unittest.main()

@@ -8,6 +8,10 @@
 # those of `make check`. Needs root, the kit, and what the Makefile names.
 . "$(dirname "$0")/../help.sh"
 set -u
+case ${1-} in
+    '' | --arm64 | --packages) ;;
+    *) echo "tools/gate/check-dist.sh: there is no option $1, but --arm64 and --packages" >&2 && exit 2 ;;
+esac
 cd "$(dirname "$0")/../.." || exit 2
 . tools/gate/parts.sh
 kit=$(dirname "$(rt doc)")

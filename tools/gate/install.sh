@@ -192,6 +192,10 @@ case ${1-} in
     --lacks)
         lacks "${2-}"
         exit ;;
+    '' | --install) ;;
+    *)
+        echo "tools/gate/install.sh: there is no option $1, but --install, --list and --lacks NAME" >&2
+        exit 2 ;;
 esac
 missing=$(packages | while read -r package place _; do is_installed "$place" || echo "$package"; done | tr '\n' ' ')
 if [ -z "$missing" ]; then

@@ -7,7 +7,7 @@ arch=$here
 folder=
 while [ $# -gt 0 ]; do
     case $1 in
-        --arch) arch=$2 && shift ;;
+        --arch) arch=${2-none} && shift $(($# > 1)) ;;
         -*) fail "unknown option $1" ;;
         *) folder=$1 ;;
     esac
@@ -16,7 +16,7 @@ done
 case $arch in
     amd64) triple=x86_64-linux-gnu target='x86_64-unknown-linux-gnu --cpu=x86-64' ;;
     arm64) triple=aarch64-linux-gnu target=aarch64-unknown-linux-gnu ;;
-    *) fail "unknown architecture $arch" ;;
+    *) fail "--arch $arch: it is amd64 or arm64" ;;
 esac
 tools=
 [ "$arch" = "$here" ] || tools=$triple-

@@ -72,8 +72,11 @@ if [ "$*" = --sources ]; then
     digest_of_sources
     exit
 fi
-[ $# -eq 2 ] || fail "usage: tools/release/assembly.sh ARCH lldpa|lldpa_c"
-crate=$2
+crate=${2-}
+case $crate in
+    lldpa | lldpa_c) ;;
+    *) fail "${crate:-no crate}: it is lldpa or lldpa_c, after the architecture" ;;
+esac
 set -- --arch "$1"
 . tools/library/arch.sh
 comment='#'

@@ -8,17 +8,20 @@
 # the archive.
 . "$(dirname "$0")/../help.sh"
 set -eu
+fail() {
+    echo "tools/release/dist.sh: $1" >&2
+    exit 1
+}
 archive=
 folder=$PWD
 case ${1-} in
-    --check) archive=$(realpath -- "$2") ;;
+    --check) archive=$(realpath -m -- "${2-.}") && [ -f "$archive" ] || fail "--check needs an archive, and ${2-it} is none" ;;
     -*) echo "usage: tools/release/dist.sh [FOLDER | --check ARCHIVE]" >&2 && exit 2 ;;
     ?*) folder=$(realpath -- "$1") ;;
 esac
-[ -d "$folder" ] || { echo "tools/release/dist.sh: there is no folder $folder" >&2 && exit 1; }
+[ -d "$folder" ] || fail "there is no folder $folder"
 cd "$(dirname "$0")/../.."
-git rev-parse --is-inside-work-tree > /dev/null 2>&1 ||
-    { echo "tools/release/dist.sh: only a clone makes a release, and this is none" >&2 && exit 1; }
+git rev-parse --is-inside-work-tree > /dev/null 2>&1 || fail "only a clone makes a release, and this is none"
 version=$(sed -n 's/^## \([0-9][0-9.]*\)$/\1/p' CHANGELOG.md | head -n 1)
 name=lldpa-$version
 umask 022
@@ -48,7 +51,6 @@ if ! cmp "$room/given.tar" "$room/made.tar"; then
     mkdir "$room/given"
     tar -C "$room/given" -xf "$room/given.tar"
     diff -rq "$room/given/$name" "$tree" || true
-    echo "tools/release/dist.sh: $archive is not what this clone and this kit make" >&2
-    exit 1
+    fail "$archive is not what this clone and this kit make"
 fi
 echo "$archive is what this clone and this kit make"

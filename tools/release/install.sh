@@ -23,7 +23,8 @@ for word; do
         --uninstall) uninstall=yes ;;
         --library) library=yes ;;
         /*) prefix=${word%/} ;;
-        *) echo "usage: tools/release/install.sh [--uninstall] [--library] [PREFIX]" >&2 && exit 2 ;;
+        -*) echo "tools/release/install.sh: there is no option $word, but --uninstall and --library" >&2 && exit 2 ;;
+        *) echo "tools/release/install.sh: the prefix $word does not begin with /" >&2 && exit 2 ;;
     esac
 done
 program=$(realpath -m -- "${LLDPA:-$(dirname "$0")/../../crates/lldpa/out/lldpa}")
@@ -131,6 +132,11 @@ if [ -n "$uninstall" ]; then # only names count, so nothing has to be built
     program=$room/lldpa live=$room/lldpa-live built=$room
     touch "$program" "$live" "$room/lldpa.h" "$room/liblldpa.a" "$room/liblldpa.so.1"
 fi
+set -- "$program" "$live"
+[ -z "$library" ] || set -- "$built/liblldpa.a"
+for file; do
+    [ -f "$file" ] || { echo "tools/release/install.sh: there is no $file: make builds it" >&2 && exit 1; }
+done
 if [ -n "$library" ]; then
     put_library
 else

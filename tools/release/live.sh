@@ -23,7 +23,7 @@ dynamic=
 flags=-Ctarget-feature=+crt-static
 while [ $# -gt 0 ]; do
     case $1 in
-        --arch) arch=${2-} && shift ;;
+        --arch) arch=${2-none} && shift $(($# > 1)) ;;
         --dynamic) flags='' dynamic=/dynamic ;;
         *) fail "unknown option $1" ;;
     esac
@@ -32,7 +32,7 @@ done
 case ${arch:-$machine} in
     amd64 | x86_64) arch=amd64 triple=x86_64-unknown-linux-gnu ;;
     arm64 | aarch64) arch=arm64 triple=aarch64-unknown-linux-gnu ;;
-    *) fail "unknown architecture ${arch:-$machine}" ;;
+    *) fail "--arch ${arch:-$machine}: it is amd64 or arm64" ;;
 esac
 command -v cargo > /dev/null || fail "cargo is not installed"
 has_library() { [ -d "$("$1" --print sysroot)/lib/rustlib/$triple/lib" ]; }
