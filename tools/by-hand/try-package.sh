@@ -12,6 +12,7 @@
 # names that program, it reads the metrics.
 # The last line is `N passed, M failed`. If something is missing, the status is 77.
 . "$(dirname "$0")/../help.sh"
+. "$(dirname "$0")/boot.sh"
 set -u
 skip() {
     echo "skipped: $1"
@@ -42,20 +43,10 @@ dpkg-deb -b "$room/next" "$root/root/packages" || exit 1
 cp "$tools/../debian/tests/service" "$root/root/service"
 python3 "$tools/gate/examples.py" --as-root > "$root/root/commands" || exit 1
 
-# What both scripts in containers use. Each check writes a line: `held` or `FAILED`, and a name.
-cat > "$root/root/checks.sh" <<'EOF'
-export DEBIAN_FRONTEND=noninteractive
+# What both scripts in containers use.
+cp "$tools/by-hand/in-container.sh" "$root/root/checks.sh"
+cat >> "$root/root/checks.sh" <<'EOF'
 cd /root/packages || exit
-check() {
-    local what=$1
-    shift
-    if "$@" > /root/said 2>&1; then echo "held: $what"; else echo "FAILED: $what: $(tail -n 3 /root/said)"; fi
-}
-process() { systemctl show -p MainPID --value lldpa; }
-# Runs a command until it succeeds, for a minute at most.
-eventually() { for _ in $(seq 120); do "$@" && return; sleep 0.5; done; false; }
-answers() { lldpa-ctl show chassis | grep "$1"; }
-shows() { eventually answers "$1"; }
 collected=/var/lib/prometheus/node-exporter
 published() { eventually grep -x "lldpa_up $1" $collected/lldpa.prom; }
 # as_member GROUP COMMAND..: runs a command as a member of a group. as_nobody succeeds if others cannot run it.
@@ -75,7 +66,6 @@ sys.exit(0 if lines == [*sys.argv[1:], "node_textfile_scrape_error 0"] and mtime
     kill %+
     return $status
 }
-ip link add eth0 type veth peer name far && ip link set eth0 up && ip link set far up
 EOF
 
 # The script of the image.
@@ -157,11 +147,9 @@ for_a_while() {
     status=$?
     [ "$status" -eq 0 ] || [ "$status" -eq 124 ]
 }
-inactive() { ! systemctl is-active lldpa; }
 install_all() { apt-get install -y ./lldpa-tools_*-2_*.deb ./lldpa_*-2_*.deb; }
-is_another() { [ "$old" != "$(process)" ]; }
 finds() { python3 -c 'import lldpa.ctl'; }
-reads() { lldpa-capture --show /usr/share/doc/lldpa/docs/lab.pcap | lldpa --receive-only eth0 | grep -x lldp.eth0.neighbors=2; }
+reads() { lldpa-capture --table /usr/share/doc/lldpa/docs/lab.pcap | grep -x '2 neighbors on 1 port.'; }
 
 notifies() { systemctl show -p Type -p StatusText lldpa | grep -c -x -e Type=notify -e 'StatusText=[0-9no]* neighbors\? on 1 port' | grep -x 2; }
 tells() { journalctl -u lldpa -g 'eth0 came: sender p1'; }
@@ -209,14 +197,6 @@ confined_live() {
         lambda: connect("/run/dbus/system_bus_socket", socket.SOCK_STREAM),
         lambda: connect("/run/systemd/journal/socket", socket.SOCK_DGRAM)' Type=oneshot Restart=no WatchdogSec=0
 }
-# Sends the frame of a neighbor once, with a time to live of an hour.
-say_once() {
-    python3 -c 'import socket
-sender = socket.socket(socket.AF_PACKET, socket.SOCK_RAW)
-sender.bind(("far", 0))
-sender.send(bytes.fromhex("0180c200000e02000000000b88cc02070402000000000b040305703206020e100a066b65657065720000"))'
-}
-keeps() { eventually sh -c 'lldpa-ctl neighbors | grep keeper'; }
 is_another_active() { is_another && systemctl is-active lldpa; }
 starts_anew() { eventually is_another_active; }
 # Writes the time to live of each frame that this host sends.
@@ -245,15 +225,6 @@ killed() {
 }
 without_python() { apt-get purge -y --auto-remove 'python3*' 'libpython3*' && ! ls /usr/bin/python3*; }
 tells_alone() { lldpa-ctl $1 | grep "$2"; }
-# Sends a neighbor's frame each second, at the other end of the link.
-neighbor() {
-    python3 -c 'import socket, time
-sender = socket.socket(socket.AF_PACKET, socket.SOCK_RAW)
-sender.bind(("far", 0))
-while True:
-    sender.send(bytes.fromhex("0180c200000e02000000000a88cc0207040200000000010403057031060200780a0673656e6465720000"))
-    time.sleep(1)'
-}
 
 neighbor &
 hears &
@@ -349,45 +320,20 @@ check "it has the settings without Python" eventually tells_alone 'show chassis'
 check "it is purged without Python" dpkg -P lldpa
 poweroff
 EOF
-chmod 755 "$root/root/try.sh"
-cat > "$root/etc/systemd/system/try.service" <<'EOF'
-[Unit]
-After=multi-user.target
-[Service]
-ExecStart=/root/try.sh
-StandardOutput=file:/root/tried
-EOF
-mkdir -p "$root/etc/systemd/system/multi-user.target.wants"
-ln -s ../try.service "$root/etc/systemd/system/multi-user.target.wants/try.service"
-
-# boot ROOT: boots, and waits until the script there has ended. systemd needs a control group hierarchy of its own, of
-# version 2.
-boot() {
-    rm -f "$1/root/tried"
-    unshare --mount --pid --fork --kill-child sh -c 'mount --make-rprivate / && mount -t proc proc /proc &&
-        { umount -R -l /sys/fs/cgroup; mount -t cgroup2 none /sys/fs/cgroup; } &&
-        exec timeout 500 systemd-nspawn --quiet --register=no --keep-unit --private-network -D "$0" -b' "$1" \
-        < /dev/null > "$room/said" 2>&1
-    [ -s "$1/root/tried" ] && return
-    tail -n 5 "$room/said"
-    skip "it does not boot here"
-}
-
 # The image was booted once before the package comes, so that systemd does not make users at the next boot.
 image=$room/image
 cp -a "$root" "$image"
 printf '#!/bin/sh\necho booted\npoweroff\n' > "$image/root/try.sh"
-boot "$image"
+boot "$image" || skip "it does not boot here"
 cp "$room/image.sh" "$image/root/try.sh"
-chmod 755 "$image/root/try.sh"
 sed -n '/^sed -e .*default.lldpa/,/^done/p' "$tools/../docs/OPERATORS.md" > "$image/root/second"
 chroot "$image" sh -c 'mount -t proc proc /proc; dpkg -i /root/packages/lldpa_*-2_*.deb; status=$?; umount /proc
     userdel _lldpa; mkdir -p /etc/sysusers.d /var/lib/extrausers; ln -s /dev/null /etc/sysusers.d/lldpa.conf; : > /var/lib/extrausers/group; systemctl enable lldpa; exit $status' \
     > "$room/said" 2>&1 || { tail -n 5 "$room/said"; echo "FAILED: it does not install in a chroot"; exit 1; }
 sed -i 's/^group:.*/group: files extrausers/' "$image/etc/nsswitch.conf"
 sed -i 's/^LIVE_OPTIONS=.*/LIVE_OPTIONS="--control-group late"/' "$image/etc/default/lldpa"
-boot "$image"
-boot "$root"
+boot "$image" || skip "it does not boot here"
+boot "$root" || skip "it does not boot here"
 cat "$image/root/tried" "$root/root/tried" | tee "$room/tried"
 passed=$(grep -c '^held: ' "$room/tried")
 failed=$(grep -c '^FAILED: ' "$room/tried")
