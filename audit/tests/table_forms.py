@@ -56,7 +56,7 @@ def updates(values: Sequence[Tuple[str, Any]], source: str = "leaf1:57400") -> A
 
 
 def by_interface(ports: vendors.Ports, end: str = "") -> Sequence[Tuple[str, Any]]:
-    """Writes an update for each interface. A path has backslashes before each `]` and each
+    """Writes an update for each interface. A path has a backslash before each `]` and each
     backslash of a name (gNMI, Schema path encoding conventions)."""
     found = vendors.openconfig(ports)["openconfig-lldp:interface"]
     names = [re.sub(r"([]\\])", r"\\\1", one["name"]) for one in found]

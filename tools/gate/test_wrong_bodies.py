@@ -25,7 +25,7 @@ TOP = pathlib.Path(__file__).resolve().parents[2]
 CRATES = TOP / "crates"
 ROWS = (TOP / "crates.txt").read_text().splitlines(True)
 USES = {row.split(":")[0].split()[0]: row.split(":")[1].split() for row in ROWS}
-# what `rt check` says of a goal that does not hold, just before its verdict on the function or in it
+# what `rt check` says of a goal that does not hold, in its verdict on the function or just before that
 UNPROVED = re.compile(r"`search` did not prove|it is not proved that (?!.*gave up)")
 # an error in a proof; one that only names what is gone says nothing
 ERROR = re.compile(r"(?m)^(?:\./)?(proofs/\S+?):\d+:\d+: error(?!.*(?:has no |is not in scope|not admitted))")
