@@ -206,7 +206,8 @@ class Program(FilesCase):
     def test_words_that_are_wrong(self) -> None:
         self.file(pcap([whole(LLDP)]), "a")
         for words, text in (
-                (["--port", "eth0.10", "a"], "'eth0.10' cannot be a port: a port's name"),
+                (["--port", "s=eth0.10", "a"], "--port s=eth0.10: 'eth0.10' cannot be a port: a port's name"),
+                (["-", "p=-"], "more than one file is -: standard input"),
                 (["eth0.10=a"], "'eth0.10' cannot be a port: a port's name has 1 to 15"),
                 (["--port", "x" * 16, "a"], "a port's name has 1 to 15"),
                 ([f"p{i}=a" for i in range(65)], "65 ports have LLDP frames; the limit is 64"),

@@ -67,7 +67,7 @@ def renamed(word: str) -> Tuple[str, str]:
     """Splits an argument of --port into the interface (empty for all) and the port's name."""
     interface, _, port = word.rpartition("=")
     if not is_port_name(port):
-        raise ValueError(f"{port!r} cannot be a port: {PORT_NAME_RULE}")
+        raise ValueError(f"--port {word}: {port!r} cannot be a port: {PORT_NAME_RULE}")
     return interface, port
 
 
@@ -145,7 +145,7 @@ def run(given: argparse.Namespace) -> int:
     names: Dict[str, str] = dict(renamed(word) for word in given.port)
     sources = [source_of(word, names) for word in given.files]
     if [source.file for source in sources].count(STANDARD_INPUT) > 1:
-        raise ValueError("standard input can be read only once")
+        raise ValueError("more than one file is -: standard input can be read only once")
     if given.table:
         try:
             return print_table(sources, not given.no_seconds)
