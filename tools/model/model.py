@@ -11,6 +11,7 @@ The time is the number of ticks since opening. A period is stored as the time of
 """
 import re
 import sys
+from collections import Counter
 from types import SimpleNamespace
 from typing import NamedTuple
 
@@ -546,17 +547,17 @@ def option_value(name, word):
     """Returns the value of an option, checked as far as lldpa's argument parser does."""
     is_number = name in GREATEST and re.fullmatch("[+-]?[0-9]+", word) is not None
     if name in GREATEST and not (is_number and 1 <= int(word) <= GREATEST[name]):
-        raise NoRun(2, None, f"{option_word(name)} {word!r}: it is a number from 1 to {GREATEST[name]}")
+        raise NoRun(2, None, f"{option_word(name)} {word!r:.60}: it is a number from 1 to {GREATEST[name]}")
     if name == "role" and word not in ROLES:
-        raise NoRun(2, None, f"--role {word!r}: it is one of {', '.join(ROLES)}")
+        raise NoRun(2, None, f"--role {word!r:.60}: it is one of {', '.join(ROLES)}")
     return int(word) if is_number else word
 
 def unread(word, option):
     """Returns why a word that begins with `-` is not read."""
     if option == "--receive-only" and word != option:
-        return f"{word!r}: {option} has no value"
+        return f"{word!r:.60}: {option} has no value"
     is_known = option in map(option_word, (*VALUED, "receive_only"))
-    return f"{option} is given twice" if is_known else f"there is no option {option!r}"
+    return f"{option} is given twice" if is_known else f"there is no option {option!r:.60}"
 
 def read_words(words):
     """Returns the options by name, and the ports. After a `--` all arguments are ports."""
@@ -588,19 +589,19 @@ def opened(words):
     given, ports = read_words(words)
     options = SimpleNamespace(**{**DEFAULTS, **given})
     bad = [name for name in ports if not re.fullmatch(PORT_NAME, name)]
-    twice = [name for name in ports if ports.count(name) > 1]
+    twice = [name for name, count in Counter(ports).items() if count > 1]
     for is_well, fault, why in [
             (re.fullmatch(MAC, options.mac), "bad --mac",
-             f"--mac {options.mac!r}: it has six pairs of hexadecimal digits, with colons between them"),
+             f"--mac {options.mac!r:.60}: it has six pairs of hexadecimal digits, with colons between them"),
             ("management" not in given or re.fullmatch(IPV4, options.management), "bad --management",
-             f"--management {options.management!r}: it has four numbers from 0 to 255, with dots between them"),
+             f"--management {options.management!r:.60}: it has four numbers from 0 to 255, with dots between them"),
             (ports, "no ports", "name one or more ports, such as eth0"),
             (len(ports) <= 64, "too many ports", f"there are {len(ports)}, and an agent has at most 64"),
-            (not bad, "bad port name", f"{''.join(bad[:1])!r}: a name has 1 to 15 letters, digits, -, _, / and :, "
+            (not bad, "bad port name", f"{''.join(bad[:1])!r:.60}: a name has 1 to 15 letters, digits, -, _, / and :, "
              "so eth0.12 is eth0:12 here; a capture is read by lldpa-capture --table"),
             (not twice, "same port twice", f"{''.join(twice[:1])}: name each port once"),
             (re.fullmatch(TEXT, options.hostname), "bad text",
-             f"--hostname {options.hostname!r}: it has at most 255 characters, from the space to the tilde")]:
+             f"--hostname {options.hostname!r:.60}: it has at most 255 characters, from the space to the tilde")]:
         if not is_well:
             raise NoRun(2, f"lldpa: {fault}", why)
     return Agent(options, ports)
