@@ -45,6 +45,7 @@ libstd-rust-dev:arm64     /usr/lib/rustlib/aarch64-unknown-linux-gnu/lib  lldpa-
 make                      make                  a release, where there is no kit
 locales                   /usr/share/i18n/locales/tr_TR  a release that is built in Turkish
 xz-utils                  xz                    the same
+debootstrap               debootstrap           a release that new Debians build
 dpkg-dev                  dpkg-buildpackage     the packages
 debhelper                 dh                    the packages
 dh-python                 dh_python3            the packages
@@ -85,6 +86,7 @@ link-tun      interfaces that are no Ethernet
 loop-mounts   disks that stand still
 user-namespaces  capabilities in a new user namespace
 booted-systemd  the service under a systemd that boots
+debian-mirror  a release that new Debians build
 x86-64        what writes registers of this processor, or runs its older ones
 sanitizers    the library under the compiler's sanitizers
 END
@@ -107,6 +109,7 @@ has_feature() {
         loop-mounts) mounts_a_file ;;
         memory-cgroups) limits_memory ;;
         booted-systemd) PYTHONPATH=rust/live/tests:python/tests:python python3 -B rust/live/tests/booted.py > /dev/null 2>&1 ;;
+        debian-mirror) wget -q --spider --tries=1 --timeout=20 http://deb.debian.org/debian/dists/stable/Release ;;
         user-namespaces) unshare --user true 2> /dev/null ;;
         x86-64) [ "$(uname -m)" = x86_64 ] ;;
         sanitizers) runs_sanitized ;;
