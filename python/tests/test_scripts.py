@@ -85,13 +85,20 @@ class Wrong(unittest.TestCase):
                 ("tools/release/install.sh --library /none", 1, "there is no /none/liblldpa.a: make builds it"),
                 ("tools/release/live.sh --arch", 1, "--arch none: it is amd64 or arm64"),
                 ("tools/release/wheel.sh /none", 1, "there is no folder /none"),
-                ("tools/release/wheel.sh /", 1, "there is no program /none/lldpa: make builds it")):
+                ("tools/release/wheel.sh /", 1, "there is no program /none/lldpa: make builds it"),
+                ("tools/write/try-transcripts.sh none", 1, "there is no transcript none")):
             script, *rest = words.split()
             ran = subprocess.run([REPOSITORY / script, *rest], env={**os.environ, **places}, text=True,
                                  stdin=subprocess.DEVNULL, capture_output=True, timeout=60, check=False)
             with self.subTest(words):
                 self.assertEqual((ran.returncode, ran.stdout), (status, ""))
                 self.assertTrue(ran.stderr.startswith(f"{script}: {said}"), ran.stderr)
+
+    def test_a_program_that_is_not_built_is_named(self) -> None:
+        for script in ("tools/bench/bench.py", "tools/bench/bench_counts.py", "tools/model/fuzz.py"):
+            ran = subprocess.run([REPOSITORY / script, "--program", "/none"], text=True, capture_output=True, check=False)
+            self.assertEqual(ran.returncode, 2)
+            self.assertTrue(ran.stderr.endswith("--program: there is no program /none: make builds it\n"), ran.stderr)
 
 
 if __name__ == "__main__":

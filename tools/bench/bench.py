@@ -137,7 +137,10 @@ def read_options() -> argparse.Namespace:
     add("--others", action="store_true", help="also measure a start, readers of captures, and an audit")
     add("--save", action="store_true", help="write docs/bench.json, and draw it")
     add("--svg", metavar="FILE", help="draw docs/bench.json to this file, and measure nothing")
-    return parser.parse_args()
+    options = parser.parse_args()
+    if not (options.svg or Path(options.program).is_file()):
+        parser.error(f"--program: there is no program {options.program}: make builds it")
+    return options
 
 
 def main() -> None:

@@ -73,6 +73,8 @@ def main() -> int:
     parser = argparse.ArgumentParser(description=(__doc__ or "").splitlines()[0])
     parser.add_argument("--program", default=str(TOP / "crates/lldpa/out/lldpa"), help="the built program")
     program = parser.parse_args().program
+    if shutil.which(program) is None:
+        parser.error(f"--program: there is no program {program}: make builds it")
     told = json.loads((TOP / "docs/bench.json").read_text())
     saved = {row["title"]: row["instructions"][0] for row in told["rows"]}
     saved[START] = told["start_instructions"]

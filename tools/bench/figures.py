@@ -79,6 +79,9 @@ def main() -> int:
     parser = argparse.ArgumentParser(description=__doc__, formatter_class=argparse.RawDescriptionHelpFormatter)
     parser.add_argument("names", nargs="*", metavar="NAME")
     names = parser.parse_args().names or TESTS
+    for name in names:
+        if name not in TESTS:
+            parser.error(f"there is no figure {name}, but {', '.join(TESTS)}")
     suite = unittest.TestSuite(TESTS[name][0](TESTS[name][1]) for name in names)
     return 0 if unittest.TextTestRunner(verbosity=0).run(suite).wasSuccessful() else 1
 

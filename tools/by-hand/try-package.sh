@@ -20,11 +20,12 @@ skip() {
     exit 77
 }
 
-given=${1:+$(realpath -- "$1")}
+given=${1:+$(realpath -m -- "$1")}
 tools=$(realpath "$(dirname "$0")/..")
 [ "$(id -u)" -eq 0 ] || skip "it needs root"
 command -v systemd-nspawn > /dev/null || skip "there is no systemd-nspawn"
 [ -n "$given" ] || command -v debootstrap > /dev/null || skip "there is no debootstrap"
+[ -z "$given" ] || [ -d "$given/etc" ] || { echo "tools/by-hand/try-package.sh: there is no Debian in $given" >&2 && exit 2; }
 room=$(mktemp -d) || exit 2
 trap 'rm -rf "$room"' EXIT
 if [ -z "$given" ]; then

@@ -442,6 +442,8 @@ def main():
     parser.add_argument("--seconds", type=float)
     parser.add_argument("--traces", type=int)
     given = parser.parse_args()
+    if not given.program.is_file():
+        parser.error(f"--program: there is no program {given.program}: make builds it")
     seconds = given.seconds or (30 if given.traces is None else float("inf"))
     print(f"seeds from {given.seed}", flush=True)
     begin, ran, most = time.monotonic(), 0, given.traces or sys.maxsize

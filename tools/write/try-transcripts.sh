@@ -11,6 +11,7 @@ room=$(mktemp -d)
 trap 'rm -rf "$room"' EXIT
 [ $# -gt 0 ] || set -- $(cd examples && ls ./*.trace | sed 's,^./,,; s,\.trace$,,')
 for name; do
+    [ -f "examples/$name.trace" ] || { echo "tools/write/try-transcripts.sh: there is no transcript $name" >&2 && exit 1; }
     if ! grep -q '^|' "examples/$name.args"; then
         cp "examples/$name.trace" "$room/$name"
         cp "examples/$name.args" "$room/$name.args"
