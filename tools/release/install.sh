@@ -74,11 +74,16 @@ put_programs() {
     find python/lldpa audit/lldpa_audit -name '*.py' -o -name py.typed | while read -r file; do
         put 644 "$private/$(dirname "$file")" "$file"
     done
-    looks=${PYTHON_FOLDER:-$(python3 -c 'import site; print(*site.getsitepackages(), sep="\n")' |
-        awk -v front="$prefix/" 'index($0, front) == 1 && !found++')}
-    if [ -z "$looks" ]; then
-        [ -n "$uninstall" ] || echo "to import lldpa, put $private/python and $private/audit on PYTHONPATH: python3 does not search $prefix"
-    else
+    looks=${PYTHON_FOLDER-}
+    if [ -z "$looks" ] && command -v python3 > /dev/null; then
+        looks=$(python3 -c 'import site; print(*site.getsitepackages(), sep="\n")' |
+            awk -v front="$prefix/" 'index($0, front) == 1 && !found++')
+        [ -n "$looks$uninstall" ] ||
+            echo "to import lldpa, put $private/python and $private/audit on PYTHONPATH: python3 does not search $prefix"
+    elif [ -z "$looks$uninstall" ]; then
+        echo "lldpa-capture and lldpa-audit need Python 3.9 or later, and there is no python3"
+    fi
+    if [ -n "$looks" ]; then
         link "$(realpath -m --relative-to="$looks" "$private/python/lldpa")" "$looks/lldpa"
         link "$(realpath -m --relative-to="$looks" "$private/audit/lldpa_audit")" "$looks/lldpa_audit"
     fi

@@ -5,6 +5,7 @@ import subprocess
 import tempfile
 import unittest
 from pathlib import Path
+from unittest import mock
 
 from served import REPOSITORY
 
@@ -24,12 +25,25 @@ class Installing(unittest.TestCase):
         for file in programs.values():
             Path(file).touch()
         return subprocess.run([SCRIPT, *words], env={**os.environ, **programs, "DESTDIR": str(self.tree)},
-                              stdout=subprocess.PIPE, text=True, check=True).stdout
+                              stdout=subprocess.PIPE, stderr=subprocess.STDOUT, text=True, check=True).stdout
 
     def test_the_configuration_is_below_the_prefix(self) -> None:
         self.ran("/opt/lldpa")
         self.assertEqual([path.name for path in self.tree.iterdir()], ["opt"])
         self.assertIn("\nPORTS=", (self.tree / "opt/lldpa/etc/default/lldpa").read_text())
+
+    def test_without_python_it_says_what_needs_it(self) -> None:
+        tools = self.folder / "tools"
+        tools.mkdir()
+        for file in (*Path("/usr/bin").iterdir(), *Path("/bin").iterdir()):
+            if not file.name.startswith("python3") and not (tools / file.name).is_symlink():
+                (tools / file.name).symlink_to(file)
+        with mock.patch.dict(os.environ, PATH=str(tools)):
+            told = self.ran()
+        where = self.tree / "usr/local"
+        self.assertEqual(told.splitlines(), ["lldpa-capture and lldpa-audit need Python 3.9 or later, and there is no python3",
+                                             f"installed under {where}"])
+        self.assertTrue((where / "bin/lldpa-live").exists())
 
     def test_what_is_the_users_stays_and_is_named(self) -> None:
         self.ran()
