@@ -39,6 +39,7 @@ class Model(unittest.TestCase):
                 (["--hostname=a\tb", "eth0"], "lldpa: bad text", "--hostname 'a\\tb': it has at most 255 "),
                 (["eth0\udcff"], "lldpa: no memory", "an argument is not UTF-8"),
                 (["--max-neighbors=129", "eth0"], "", "--max-neighbors '129': it is a number from 1 to 128;"),
+                (["--max-neighbors", "9" * 5000, "eth0"], "", "--max-neighbors '999"),
                 (["--role", "switch", "eth0"], "", "--role 'switch': it is one of bridge, router, station;"),
                 (["eth0", "--mac"], "", "--mac needs a value;"),
                 (["--receive-only", "eth0", "--receive-only"], "", "--receive-only is given twice;"),

@@ -545,12 +545,12 @@ def option_word(name):
 
 def option_value(name, word):
     """Returns the value of an option, checked as far as lldpa's argument parser does."""
-    is_number = name in GREATEST and re.fullmatch("[+-]?[0-9]+", word) is not None
-    if name in GREATEST and not (is_number and 1 <= int(word) <= GREATEST[name]):
+    digits = re.fullmatch("[+]?0*([0-9]{1,9})", word)
+    if name in GREATEST and not (digits and 1 <= int(digits[1]) <= GREATEST[name]):
         raise NoRun(2, None, f"{option_word(name)} {word!r:.60}: it is a number from 1 to {GREATEST[name]}")
     if name == "role" and word not in ROLES:
         raise NoRun(2, None, f"--role {word!r:.60}: it is one of {', '.join(ROLES)}")
-    return int(word) if is_number else word
+    return int(digits[1]) if name in GREATEST else word
 
 def unread(word, option):
     """Returns why a word that begins with `-` is not read."""
