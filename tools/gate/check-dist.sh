@@ -1,8 +1,8 @@
 #!/bin/sh
 # Makes a release, and builds and tests it where there is no kit, as a user who is not root.
 #     tools/gate/check-dist.sh [--arm64 | --packages]
-# In a mount namespace an empty folder covers the kit's, and the user is `nobody`. There the archive is
-# unpacked, built, tested (make check), installed in a folder, and packed for Debian. With --arm64, for
+# In namespaces without a network empty folders cover the kit and Debian's crates, and the user is `nobody`. There the
+# archive is unpacked, built, tested (make check), installed in a folder, and packed for Debian. With --arm64, for
 # a release, its arm64 programs are tested too, by qemu. With --packages only the archive is checked,
 # and the packages that are built from it. Prints the seconds from `tar` to `lldpa-ctl --version`, and
 # those of `make check`. Needs root, the kit, and what the Makefile names.
@@ -22,9 +22,12 @@ tree=$place/lldpa-$version
 chmod 755 "$room"
 install -d -o nobody -m 755 "$place" "$place/tmp"
 
-# inside COMMAND..: runs a command as the user nobody, where there is no kit.
+# inside COMMAND..: runs a command as the user nobody, where there is no kit, no crate of Debian and no network.
 inside() {
-    unshare --mount sh -c 'mount -t tmpfs none "$1" && shift && cd "$1" && shift && exec "$@"' sh "$kit" "$place" \
+    unshare --mount --net sh -c 'for folder in "$1" /usr/share/cargo/registry; do
+            [ ! -d "$folder" ] || mount -t tmpfs none "$folder" || exit
+        done
+        ip link set lo up && shift && cd "$1" && shift && exec "$@"' sh "$kit" "$place" \
         setpriv --reuid=nobody --regid=nogroup --clear-groups \
         env -i "PATH=$system_path" "HOME=$place" "TMPDIR=$place/tmp" \
         PYTHONDONTWRITEBYTECODE=1 LC_ALL=C.UTF-8 "$@"
