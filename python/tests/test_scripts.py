@@ -96,7 +96,8 @@ class Wrong(unittest.TestCase):
 
     def test_a_program_that_is_not_built_is_named(self) -> None:
         for script in ("tools/bench/bench.py", "tools/bench/bench_counts.py", "tools/model/fuzz.py"):
-            ran = subprocess.run([REPOSITORY / script, "--program", "/none"], text=True, capture_output=True, check=False)
+            ran = subprocess.run([REPOSITORY / script, "--program", "/none"], text=True,
+                                 capture_output=True, check=False)
             self.assertEqual(ran.returncode, 2)
             self.assertTrue(ran.stderr.endswith("--program: there is no program /none: make builds it\n"), ran.stderr)
 

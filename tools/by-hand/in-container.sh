@@ -1,5 +1,5 @@
-# For bash scripts that run as root in a container that boots: they source this file. Each check writes a line, `held` or
-# `FAILED`, and a name.
+# To be sourced by bash scripts that run as root in a container that boots. Each check writes a line, `held` or `FAILED`,
+# and a name.
 export DEBIAN_FRONTEND=noninteractive
 check() {
     local what=$1

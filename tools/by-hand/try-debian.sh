@@ -11,7 +11,9 @@
 set -u
 only_build=
 [ "${1-}" != --build ] || { only_build=yes && shift; }
-case ${1--} in -*) echo "tools/by-hand/try-debian.sh: name a release of Debian, such as trixie, and not ${1-none}" >&2 && exit 2 ;; esac
+case ${1--} in
+    -*) echo "tools/by-hand/try-debian.sh: name a release of Debian, such as trixie, and not ${1-none}" >&2 && exit 2 ;;
+esac
 cd "$(dirname "$0")/../.." || exit 2
 . tools/gate/parts.sh
 . tools/by-hand/boot.sh
@@ -19,7 +21,8 @@ chmod 755 "$room"
 
 # in_it COMMAND: runs a shell command as nobody in the folder /build of the Debian, without a network.
 in_it() {
-    unshare --mount --net --pid --fork --kill-child sh -c 'mount -t proc proc "$1/proc" && mount --rbind /dev "$1/dev" &&
+    unshare --mount --net --pid --fork --kill-child sh -c '
+        mount -t proc proc "$1/proc" && mount --rbind /dev "$1/dev" &&
         ip link set lo up && exec chroot "$1" setpriv --reuid=65534 --regid=65534 --clear-groups \
             env -i PATH=/usr/bin:/bin HOME=/build LC_ALL=C.UTF-8 sh -euc "cd /build; $2"' sh "$root" "$1"
 }
@@ -30,7 +33,8 @@ timed() {
     times > "$room/before"
     check "$@"
     times > "$room/after"
-    used=$(tail -qn 1 "$room/before" "$room/after" | awk -F '[ms ]+' '{ sum = 60 * ($1 + $3) + $2 + $4 - sum } END { print int(sum) }')
+    used=$(tail -qn 1 "$room/before" "$room/after" |
+        awk -F '[ms ]+' '{ sum = 60 * ($1 + $3) + $2 + $4 - sum } END { print int(sum) }')
     echo "$timed_what: $(($(date +%s) - began)) s, of a processor $used s"
 }
 
@@ -50,7 +54,8 @@ cd /build/lldpa-*/ || exit
 listens() { bin/lldpa-live --once 35 eth0 -- --receive-only | grep -x lldp.eth0.1.chassis.name=sender; }
 refused() { ! make uninstall && make uninstall 2>&1 | grep 'systemctl disable --now lldpa'; }
 reads() { lldpa-capture --table /usr/local/share/doc/lldpa/docs/lab.pcap | grep -x '2 neighbors on 1 port.'; }
-nothing_left() { ! find /etc /usr/local /opt /var/lib /run -name '*lldp*' ! -path '/run/systemd/*' | grep -vx /etc/default/lldpa; }
+found() { find /etc /usr/local /opt /var/lib /run -name '*lldp*' ! -path '/run/systemd/*'; }
+nothing_left() { ! found | grep -vx /etc/default/lldpa; }
 neighbor &
 check "it shows the neighbors of a link before it is installed" listens
 check "it is installed" make install
@@ -87,7 +92,8 @@ check_suite() {
     timed "a new ${1##*/}" get "$1"
     install -d -o nobody "$root/build"
     cp "$archive" "$root/build"
-    timed "make" in_it 'tar -xf *.xz; cd lldpa-*/; make; make install DESTDIR=/build/there; /build/there/usr/local/bin/lldpa-ctl --version'
+    timed "make" in_it 'tar -xf *.xz; cd lldpa-*/; make; make install DESTDIR=/build/there
+        /build/there/usr/local/bin/lldpa-ctl --version'
     [ -n "$only_build" ] || [ "$failed" -ne 0 ] || {
         timed "apt-get" chroot "$root" apt-get install -y --no-install-recommends systemd-sysv dbus iproute2 python3 \
             python3-pytest python3-pytest-xdist python3-pytest-timeout python3-pytest-rerunfailures

@@ -41,8 +41,8 @@ class Installing(unittest.TestCase):
         with mock.patch.dict(os.environ, PATH=str(tools)):
             told = self.ran()
         where = self.tree / "usr/local"
-        self.assertEqual(told.splitlines(), ["lldpa-capture and lldpa-audit need Python 3.9 or later, and there is no python3",
-                                             f"installed under {where}"])
+        lacks = "lldpa-capture and lldpa-audit need Python 3.9 or later, and there is no python3"
+        self.assertEqual(told.splitlines(), [lacks, f"installed under {where}"])
         self.assertTrue((where / "bin/lldpa-live").exists())
 
     def test_what_is_the_users_stays_and_is_named(self) -> None:
