@@ -98,7 +98,7 @@ check_suite() {
         timed "apt-get" chroot "$root" apt-get install -y --no-install-recommends systemd-sysv dbus iproute2 python3 \
             python3-pytest python3-pytest-xdist python3-pytest-timeout python3-pytest-rerunfailures
         timed "make check" in_it 'cd lldpa-*/; make check'
-        grep -e '^skipped: ' -e '^SKIPPED ' "$room/out" | sort | uniq -c
+        grep -e '^skipped: ' -e '^[0-9]* passed' "$room/out"
         timed "the service" try_service
         cat "$room/out"
     }
