@@ -12,7 +12,7 @@
 # names that program, it reads the metrics.
 # The last line is `N passed, M failed`. If something is missing, the status is 77.
 . "$(dirname "$0")/../help.sh"
-. "$(dirname "$0")/boot.sh"
+. "$(dirname "$0")/../gate/boot.sh"
 set -u
 skip() {
     echo "skipped: $1"
@@ -45,7 +45,7 @@ cp "$tools/../debian/tests/service" "$root/root/service"
 python3 "$tools/gate/examples.py" --as-root > "$root/root/commands" || exit 1
 
 # What both scripts in containers use.
-cp "$tools/by-hand/in-container.sh" "$root/root/checks.sh"
+cp "$tools/gate/in-container.sh" "$root/root/checks.sh"
 cat >> "$root/root/checks.sh" <<'EOF'
 cd /root/packages || exit
 collected=/var/lib/prometheus/node-exporter

@@ -5,7 +5,7 @@
 # archive is unpacked, built, tested (make check), installed in a folder, and packed for Debian. With --arm64, for
 # a release, its arm64 programs are tested too, by qemu. With --packages only the archive is checked,
 # and the packages that are built from it. Prints the seconds from `tar` to `lldpa-ctl --version`, and
-# those of `make check`. Needs root, the kit, and what the Makefile names.
+# those of `make check`. The archive is left in the folder out. Needs root, the kit, and what the Makefile names.
 . "$(dirname "$0")/../help.sh"
 set -u
 case ${1-} in
@@ -173,6 +173,7 @@ check_packages() {
 }
 
 check_archive
+mkdir -p out && rm -f out/lldpa-*.tar.xz && cp "$archive" out
 if [ "${1-}" = --packages ]; then
     check_packages
     finish

@@ -2,7 +2,7 @@
 # Makes a release, and builds it in a new Debian, as a user who is not root, without a network and without Debian's
 # crates. Then does there what a new user does: `make check`, and in a container that boots `make install`, the service,
 # an upgrade and `make uninstall`.
-#     tools/by-hand/try-debian.sh [--build] SUITE..
+#     tools/gate/try-debian.sh [--build] SUITE..
 # A SUITE is a release of Debian, such as bookworm or trixie, which debootstrap gets, or the path of a folder that has
 # one. It has what README names for a build, and for the rest also systemd, Python and pytest. With --build it only
 # builds, as the gate does. ARCHIVE names a release that is there. Needs root, the kit, debootstrap and a network, and
@@ -12,11 +12,11 @@ set -u
 only_build=
 [ "${1-}" != --build ] || { only_build=yes && shift; }
 case ${1--} in
-    -*) echo "tools/by-hand/try-debian.sh: name a release of Debian, such as trixie, and not ${1-none}" >&2 && exit 2 ;;
+    -*) echo "tools/gate/try-debian.sh: name a release of Debian, such as trixie, and not ${1-none}" >&2 && exit 2 ;;
 esac
 cd "$(dirname "$0")/../.." || exit 2
 . tools/gate/parts.sh
-. tools/by-hand/boot.sh
+. tools/gate/boot.sh
 chmod 755 "$room"
 
 # in_it COMMAND: runs a shell command as nobody in the folder /build of the Debian, without a network.
@@ -81,7 +81,7 @@ poweroff
 END
 
 try_service() {
-    cp tools/by-hand/in-container.sh "$room/try.sh" "$root/root" && LONGEST=900 boot "$root" || return
+    cp tools/gate/in-container.sh "$room/try.sh" "$root/root" && LONGEST=900 boot "$root" || return
     cat "$root/root/tried"
     [ "$(grep -c '^held: ' "$root/root/tried")" -eq 15 ] && ! grep '^FAILED: ' "$root/root/tried"
 }
