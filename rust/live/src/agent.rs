@@ -1,10 +1,10 @@
 //! The open agent.
 
-use crate::counters::{self, Numbers};
+use crate::counters::Numbers;
 use crate::lines::Line;
 use crate::links::Mac;
 use crate::options::AgentOptions;
-use lldpa::{Agent, OpenFault, Options, Sent, Show, Status};
+use lldpa::{Agent, OpenFault, Options, Sent, Status};
 use std::net::Ipv4Addr;
 
 /// An open agent and the values that it was opened with.
@@ -93,6 +93,7 @@ impl Running {
 
     /// Returns what the agent has counted at each port.
     pub fn counted(&self) -> Vec<Numbers> {
-        counters::read(&self.agent.show(Show::Statistics))
+        let told = (0..self.names.len()).filter_map(|number| self.agent.statistics(number as u8).ok());
+        told.map(|told| told.by_key().map(|(key, number)| (key.into(), number)).collect()).collect()
     }
 }

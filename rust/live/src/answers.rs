@@ -131,7 +131,9 @@ impl Live {
         }
         self.server.told = self.server.changes;
         self.serve_watches();
-        self.ports.share.leave_out(processor_time());
+        if self.server.control.as_ref().map_or(false, Control::has_clients) {
+            self.ports.share.leave_out(processor_time());
+        }
     }
 
     /// Lets the group use the control socket that was not known at the start.

@@ -109,14 +109,13 @@ impl Live {
         }
         let statuses = running.agent.configuration().status;
         self.server.forget_tables();
-        for (port, status) in self.ports.all.iter_mut().zip(statuses) {
-            if !matches!(status, Status::RxAndTx | Status::RxOnly) {
-                port.full_until = 0; // its table was emptied
-            }
-        }
         self.record.write(Moment::now(), &String::from_utf8_lossy(line));
         self.queue_sent(&done.sent, Moment::now());
-        self.remove_gone();
+        for (port, status) in statuses.into_iter().enumerate() {
+            if !matches!(status, Status::RxAndTx | Status::RxOnly) {
+                self.remove_all(port);
+            }
+        }
         self.send();
         Ok(String::new())
     }

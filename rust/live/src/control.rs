@@ -385,6 +385,10 @@ impl Control {
         }
     }
 
+    pub fn has_clients(&self) -> bool {
+        !self.clients.is_empty()
+    }
+
     pub fn has_more(&self) -> bool {
         self.clients.iter().any(Client::has_line)
     }

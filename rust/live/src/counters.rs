@@ -1,18 +1,8 @@
-//! The counters of a port since lldpa-live began, which are those in the agent's own lines. An agent
-//! counts from 0, and also what rebuilds the tables of the agent that it replaces; people are shown
-//! neither.
+//! The counters of a port since lldpa-live began. An agent counts from 0, and also what rebuilds the
+//! tables of the agent that it replaces; people are shown neither.
 
-use lldpa_people::show::Show;
-
-/// The key and the number of each counter of a port, in the order of the agent's lines.
+/// The key and the number of each counter of a port, in the order of `show statistics`.
 pub type Numbers = Vec<(String, u32)>;
-
-/// Returns the counters of each port that these lines of `show statistics` are about.
-pub fn read(lines: &str) -> Vec<Numbers> {
-    let show = Show::read(lines.lines().collect()).unwrap_or_default();
-    let number = |(key, number): &(&str, u128)| (key.to_string(), *number as u32); // the agent has 32 bits
-    show.counters.iter().map(|(_, counters)| counters.0.entries.iter().map(number).collect()).collect()
-}
 
 fn of(numbers: &[(String, u32)], key: &str) -> u32 {
     numbers.iter().find(|(one, _)| one == key).map_or(0, |(_, number)| *number)
@@ -81,20 +71,5 @@ mod tests {
         assert_eq!(counters.total(&numbers(5, 9)), numbers(8, 0));
         counters.go_on(&numbers(u32::MAX, 9), &numbers(0, 0));
         assert_eq!(counters.total(&numbers(0, 2)), numbers(2, 2));
-    }
-
-    #[test]
-    fn each_counter_of_the_agent_is_shown() {
-        let keys = ["sent", "shutdowns", "received", "discarded", "errors", "tlvs-discarded"];
-        let keys = keys.iter().chain(&["unrecognized", "ageouts", "drops", "early-frames"]);
-        let of_port = |port: &str, first: u32| -> String {
-            keys.clone().zip(first..).map(|(key, number)| format!("lldp.{port}.{key}={number}\n")).collect()
-        };
-        let lines = of_port("eth0", 0) + &of_port("p1", u32::MAX - 10);
-        let read = read(&lines);
-        let all =
-            ["eth0", "p1"].iter().zip(read).map(|(port, numbers)| Totals { port: port.to_string(), numbers });
-        let all: Vec<Totals> = all.collect();
-        assert_eq!(all.iter().map(Totals::lines).collect::<String>(), lines);
     }
 }

@@ -253,7 +253,7 @@ impl Live {
             self.server.forget_tables();
             self.queue_sent(&ticks.sent, self.clock.end_of(0));
             if ticks.aged_out > 0 {
-                self.remove_gone();
+                self.remove_aged();
             }
         }
         if self.ports.all.iter().any(|port| port.is_refused()) {
@@ -261,21 +261,21 @@ impl Live {
         }
     }
 
-    /// Builds these ports' frames from the present configuration, and queues them as due at this
-    /// moment.
+    /// Queues frames of ports that are due at this moment.
     pub fn queue_sent(&mut self, sent: &[Sent], moment: Moment) {
+        let now = Moment::now();
         for one in sent {
-            let running = self.running.as_ref();
-            let frame = running.and_then(|running| running.agent.frame_of(one.port, one.mark).ok());
-            let port = usize::from(one.port);
-            self.ports.all[port].counts.left_out += self.outbox.remove_late(port, Moment::now());
-            frame.into_iter().for_each(|frame| self.outbox.add(port, frame, moment));
+            self.ports.all[usize::from(one.port)].counts.left_out += self.outbox.add(*one, moment, now);
         }
     }
 
-    /// Sends all queued frames.
+    /// Builds the queued frames from the present configuration, and sends them.
     pub fn send(&mut self) {
-        self.outbox.send(&mut self.ports.all);
+        for one in self.outbox.take() {
+            let running = self.running.as_ref();
+            let frame = running.and_then(|running| running.agent.frame_of(one.port, one.mark).ok());
+            frame.into_iter().for_each(|frame| self.ports.all[usize::from(one.port)].send(frame));
+        }
     }
 }
 
@@ -379,6 +379,26 @@ mod tests {
         assert_eq!([1, 1, 1].map(|seconds| count(&mut live, seconds)), [1, 0, 0], "the first frame");
         live.give_link(0, false);
         assert_eq!(count(&mut live, 60), 0, "the link is down again");
+    }
+
+    #[test]
+    fn after_a_day_each_port_sends_its_last_frame() {
+        let clocks = StoppedClocks::new();
+        let words = ["--mac=02:00:00:00:00:01".to_string()];
+        let agent = AgentOptions::read(&words).expect("options");
+        let names: Vec<String> = (0..64).map(|number| format!("eth{number}")).collect();
+        let names: Vec<&str> = names.iter().map(String::as_str).collect();
+        let mut live = Live::without_interfaces(Arguments { agent, ..Arguments::default() }, &names);
+        live.open(&Saved::default()).expect("an agent");
+        (0..names.len()).for_each(|port| live.give_link(port, true));
+        clocks.pass(86_400 * SECOND);
+        live.give_seconds(Moment::now());
+        let sent: u64 = live.totals(None).iter().map(|port| u64::from(port.numbers[0].1)).sum();
+        let left_out: u64 = live.ports.all.iter().map(|port| port.counts.left_out).sum();
+        assert!(sent > 184_000, "{sent}");
+        assert_eq!(sent - left_out, 64);
+        live.send();
+        assert!(live.ports.all.iter().all(|port| port.counts.unsent == 1), "an interface is missing");
     }
 
     #[test]

@@ -1,7 +1,7 @@
 //! What lldpa-live remembers of a port's neighbors: when each came, and digests of what it announces.
 
 use crate::time::{Moment, WallTime};
-use lldpa::{Agent, Msap};
+use lldpa::Msap;
 use std::collections::hash_map::RandomState;
 use std::hash::{BuildHasher, Hasher};
 
@@ -69,31 +69,9 @@ impl Neighbor {
     }
 }
 
-/// Removes and returns the neighbors that the agent no longer has at the port with this number.
-pub fn remove_gone(
-    neighbors: &mut Vec<Neighbor>,
-    agent: &Agent,
-    port: u8,
-    digests: &Digests,
-) -> Vec<Neighbor> {
-    if agent.neighbors(port).map_or(0, |all| all.len()) == neighbors.len() {
-        return Vec::new();
-    }
-    let identifiers = |one: &lldpa::Neighbor| {
-        one.info().map(|info| digests.of_identifiers(info.msap().chassis, info.msap().port))
-    };
-    let present: Vec<u64> =
-        agent.neighbors(port).into_iter().flatten().filter_map(|one| identifiers(&one)).collect();
-    let (kept, gone) =
-        std::mem::take(neighbors).into_iter().partition(|one| present.contains(&one.identifiers));
-    *neighbors = kept;
-    gone
-}
-
 #[cfg(test)]
 mod tests {
     use super::*;
-    use lldpa::Options;
 
     fn frame(source: u8, number: u8, ttl: u8) -> Vec<u8> {
         let front = [1, 0x80, 0xc2, 0, 0, 0x0e, 2, 0, 0, 0, 0, source, 0x88, 0xcc];
@@ -111,26 +89,5 @@ mod tests {
         for (chassis, port) in [(&b"a"[..], &b"bc"[..]), (b"ab", b"d"), (b"b", b"c")] {
             assert_ne!(identifiers(b"ab", b"c"), identifiers(chassis, port));
         }
-    }
-
-    #[test]
-    fn neighbors_that_the_agent_lost_are_removed() {
-        let (digests, ports) = (Digests::default(), ["eth0"]);
-        let mut agent = Agent::open(&Options { ports: &ports, ..Options::default() }).expect("an agent");
-        let mut known = Vec::new();
-        for (number, ttl) in [(1, 9), (2, 5), (3, 7)] {
-            let frame = frame(1, number, ttl);
-            let _ = agent.frame(0, &frame);
-            let msap = lldpa::examine(&frame[14..]).expect("an LLDPDU").msap();
-            known.push(Neighbor::new(&msap, &digests, 0, 0, number.to_string()));
-        }
-        let mut gone = |known: &mut Vec<Neighbor>, seconds: u32| -> Vec<String> {
-            (0..seconds).for_each(|_| drop(agent.tick()));
-            remove_gone(known, &agent, 0, &digests).into_iter().map(|one| one.summary).collect()
-        };
-        assert!(gone(&mut known, 4).is_empty());
-        assert_eq!(gone(&mut known, 1), ["2"]);
-        assert_eq!(gone(&mut known, 4), ["1", "3"]);
-        assert!(known.is_empty());
     }
 }

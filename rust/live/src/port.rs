@@ -79,6 +79,8 @@ pub struct Reception {
     pub has_more: bool,
     /// All frames up to this moment were read.
     pub read_to: Moment,
+    /// When frames were read last.
+    pub read_at: Moment,
     /// How often in a row reading the socket has failed.
     pub failures: u32,
     /// Until when the socket is not read, after a frame that was not accepted or a failure.

@@ -18,8 +18,10 @@ use std::time::Duration;
 const LEAST_FRAME: usize = 14;
 const MOST_ACCEPTED: usize = 64; // frames for the agent, after which a turn reads no further ones
 const LONGEST_READING: Duration = Duration::from_millis(10); // in one turn
-/// How long a port rests that had too many frames: then few calls read many frames.
-const REST: Duration = Duration::from_millis(1);
+/// How long a port rests that had too many frames soon after others: then few calls read many frames. To let it
+/// rest and read again takes calls, too, so that it must rest for longer than frames are apart.
+const REST: Duration = Duration::from_millis(4);
+const SOON: Duration = Duration::from_millis(2);
 /// The kernel reports once that an interface went down; frames may follow.
 const MOST_FAILURES: u32 = 2;
 const REST_AFTER_FAILURES: Duration = SECOND;
@@ -39,8 +41,8 @@ pub struct Reader<'a> {
 }
 
 impl Port {
-    /// Reads a few frames, and adds those that are accepted. If some were not accepted and no others
-    /// wait, the port rests. `before` is a moment before the socket was found ready. Returns true if
+    /// Reads a few frames, and adds those that are accepted. If some were not accepted, soon after the last
+    /// ones, and no others wait, the port rests. `before` is a moment before the socket was found ready. Returns true if
     /// frames were left out, or may be left.
     fn read(
         &mut self,
@@ -69,8 +71,11 @@ impl Port {
         let is_over = self.counts.limit_drops + self.counts.other_frames > refused;
         if !self.reception.has_more {
             self.reception.read_to = self.reception.read_to.max(before);
-            self.reception.rests_until = if is_over { now + REST } else { self.reception.rests_until };
+            if is_over && now.since(self.reception.read_at) < SOON {
+                self.reception.rests_until = now + REST;
+            }
         }
+        self.reception.read_at = now;
         self.reception.has_more || is_over
     }
 
@@ -295,8 +300,12 @@ mod tests {
         turn(&mut ports, &epoll);
         assert_eq!(ports.all[3].reception.failures, 0, "the socket could be read");
         assert_eq!((ports.frames.len(), ports.all[3].counts.other_frames), (1, 1));
-        assert!(ports.all[3].reception.rests_until > Moment::default(), "the port rests");
+        assert_eq!(ports.all[3].reception.rests_until, Moment::default(), "one frame needs no rest");
         assert!(ports.drop_report_at.is_some());
+        ports.frames.clear();
+        senders[3].send(&frame(1)[..13]).expect("room");
+        turn(&mut ports, &epoll);
+        assert!(ports.all[3].reception.rests_until > Moment::now(), "another one came soon");
         assert_eq!([3, 4, 4].map(|number: usize| ports.all[number].count_other()), [false, true, false]);
     }
 }

@@ -2,7 +2,7 @@
 
 use crate::changes;
 use crate::live::Live;
-use crate::neighbors::{self, Neighbor};
+use crate::neighbors::Neighbor;
 use crate::reading::Frame;
 use crate::watching::Kind;
 use lldpa::{Examined, Info, Msap, News};
@@ -40,7 +40,7 @@ impl Live {
         self.server.forget_tables();
         self.queue_sent(&sent, frame.moment);
         match (&news, info) {
-            (News::Gone(_), _) => self.remove_gone(),
+            (News::Gone(msap), _) => self.remove(frame.port, msap),
             (_, Some(info)) => self.record(frame, lldpdu, &news, &info, before.as_deref()),
             (_, None) => (),
         }
@@ -118,18 +118,34 @@ impl Live {
         same.unwrap_or(self.last_chassis)
     }
 
-    /// Removes and reports the neighbors that the agent no longer has.
-    pub fn remove_gone(&mut self) {
-        let agent = match &self.running {
-            Some(running) => &running.agent,
-            None => return,
-        };
-        for (number, port) in self.ports.all.iter_mut().enumerate() {
-            let digests = &self.ports.digests;
-            for gone in neighbors::remove_gone(&mut port.neighbors, agent, number as u8, digests) {
-                self.events.report(&port.name, &format!("{} gone: {}", port.name, gone.summary));
-                self.server.note(&port.name, &gone.msap(), Kind::Gone);
-            }
+    /// Removes and reports the neighbors that aged out at the last second.
+    pub fn remove_aged(&mut self) {
+        for port in 0..self.ports.all.len() {
+            let aged = self.running.as_ref().and_then(|running| running.agent.aged(port as u8).ok());
+            let aged: Vec<_> = aged.into_iter().flatten().collect();
+            aged.iter().filter_map(|one| one.info()).for_each(|info| self.remove(port, &info.msap()));
         }
+    }
+
+    /// Removes and reports all neighbors of a port whose table was emptied.
+    pub fn remove_all(&mut self, port: usize) {
+        self.ports.all[port].full_until = 0;
+        for gone in std::mem::take(&mut self.ports.all[port].neighbors) {
+            self.tell_gone(port, &gone);
+        }
+    }
+
+    fn remove(&mut self, port: usize, msap: &Msap<'_>) {
+        let neighbors = &mut self.ports.all[port].neighbors;
+        if let Some(place) = neighbors.iter().position(|one| one.msap() == *msap) {
+            let gone = neighbors.remove(place);
+            self.tell_gone(port, &gone);
+        }
+    }
+
+    fn tell_gone(&mut self, port: usize, gone: &Neighbor) {
+        let name = &self.ports.all[port].name;
+        self.events.report(name, &format!("{name} gone: {}", gone.summary));
+        self.server.note(name, &gone.msap(), Kind::Gone);
     }
 }

@@ -330,7 +330,9 @@ mod tests {
             }
             let _ = agent.tick();
             for (port, known) in known.iter_mut().enumerate() {
-                neighbors::remove_gone(known, &agent, port as u8, &digests);
+                let aged: Vec<_> = agent.aged(port as u8).into_iter().flatten().collect();
+                let aged: Vec<_> = aged.iter().filter_map(|one| one.info()).collect();
+                known.retain(|one| !aged.iter().any(|info| info.msap() == one.msap()));
             }
             let mut tables = Tables::new();
             for (port, known) in known.iter().enumerate() {

@@ -3,6 +3,7 @@
 So no disk, no folder and no file that another program changes can stop it: what its start has
 opened is all that it uses."""
 
+import os
 import re
 import signal
 import socket
@@ -56,28 +57,26 @@ class Session(OnLinks):
     def strace(self) -> "list[str]":
         return ["strace", "-D", "-f", "-qq", "-s", "200", "-o", str(self.calls)]
 
-    def lines(self) -> Iterator["tuple[str, str]"]:
-        """Yields each call after the filter was set, with the number of its thread. What the start
-        has begun as processes of their own is left out."""
-        lines, helpers = iter(self.calls.read_text().splitlines()), set()
+    def lines(self) -> Iterator[str]:
+        """Yields each call of lldpa-live after the filter was set. What the start has begun as
+        processes of their own is left out."""
+        lines, process = iter(self.calls.read_text().splitlines()), ""
         for line in lines:
             if "seccomp(SECCOMP_SET_MODE_FILTER" in line:
+                process = line.partition(" ")[0]
                 break
-            helpers.add(line.partition(" ")[0])
-        helpers.discard(line.partition(" ")[0])
         for line in lines:
-            thread, _, call = line.partition(" ")
-            if thread not in helpers and not call.lstrip().startswith(("---", "+++", "<...")):
-                yield thread, call.lstrip()
+            caller, _, call = line.partition(" ")
+            if caller == process and not call.lstrip().startswith(("---", "+++", "<...")):
+                yield call.lstrip()
 
     def names(self) -> "set[str]":
         """Returns the names of the calls. Fails at each that is refused or could have a path."""
         lines = list(self.lines())
         self.assertGreater(len(lines), 100)
-        self.assertEqual(len({thread for thread, _ in lines}), 1, "one thread makes them all")
-        names = {call.partition("(")[0] for _, call in lines}
-        self.assertEqual([call for _, call in lines if call.partition("(")[0] not in allowed()], [])
-        self.assertEqual([call for _, call in lines if "EPERM" in call or "sun_path" in call
+        names = {call.partition("(")[0] for call in lines}
+        self.assertEqual([call for call in lines if call.partition("(")[0] not in allowed()], [])
+        self.assertEqual([call for call in lines if "EPERM" in call or "sun_path" in call
                           and not call.startswith("accept4(")], [])
         return names
 
@@ -103,6 +102,7 @@ class Session(OnLinks):
         self.heard.forget()
         self.assertTrue(self.heard.hears("WATCHDOG=1"))
         live.spend(1)
+        self.assertEqual(len(os.listdir(f"/proc/{live.process.pid}/task")), 1, "it has one thread")
         self.assertEqual(live.ended(), 0)
         found = self.names()
         self.assertEqual(allowed() - found - OF_THE_END - OF_MEMORY - OTHERWISE, set(),
@@ -153,6 +153,29 @@ class Session(OnLinks):
             client.sendall(line)
         with closing(Client(live.control)) as client:
             client.ask("live")
+
+    @needs_strace
+    def test_a_heard_frame_costs_four_calls_at_most(self) -> None:
+        live, peers = self.traced("eth0", "eth1", "--", "--receive-only", seconds=600), [self.peer(), self.peer("peer1")]
+        for number, peer in enumerate(peers):
+            peer.send(numbered(1, 600))
+            self.assertTrue(eventually(lambda: live.neighbors(f"eth{number}") == 1))
+        # how many frames are sent, and how many seconds lie between them: alone, and more than a port may receive
+        for count, pause in ((100, 0.02), (3000, 0.0005), (1000, 0.001), (500, 0.003)):
+            self.assertTrue(eventually(lambda: not self.spent(0.3)))
+            before = len(list(self.lines()))
+            for number in range(count):
+                peers[number % 2].send(numbered(1, 600))
+                time.sleep(pause)
+            self.assertTrue(eventually(lambda: not self.spent(0.3)))
+            calls = len(list(self.lines())) - before
+            self.assertLessEqual(calls, 4.0 * count, (count, pause))
+
+    def spent(self, seconds: float) -> int:
+        """Returns how many octets of calls are added in this time."""
+        before = self.calls.stat().st_size
+        time.sleep(seconds)
+        return self.calls.stat().st_size - before
 
     @needs_strace
     def test_without_an_interface_and_with_a_file_for_its_reports(self) -> None:
