@@ -15,6 +15,7 @@ use crate::time::{processor_time, Moment, INEXACT};
 use crate::watching::{Changed, Key, Kind};
 use lldpa::{Msap, Show};
 use lldpa_people::connection::NO_PLACE;
+use lldpa_people::settings::{first_word, text_of_line};
 use std::collections::BTreeSet;
 use std::sync::{Arc, Weak};
 use std::time::Duration;
@@ -199,11 +200,11 @@ impl Live {
                     self.server.refuse_unless(is_recording, &question, "4 clients record already");
                 }
                 Ok(Query::Settings(step)) => {
-                    let answer = Answer::of(&self.take_settings(question.of, step));
+                    let answer = Answer::of(&self.take_settings(question.of, &question.who, step));
                     self.server.reply(&question, answer);
                 }
                 query => {
-                    let answer = self.answer(&question.line, query);
+                    let answer = self.answer(&question, query);
                     self.server.reply(&question, answer);
                 }
             }
@@ -213,7 +214,7 @@ impl Live {
         }
     }
 
-    fn answer(&mut self, line: &[u8], query: Result<Query<'_>, LineFault>) -> Answer {
+    fn answer(&mut self, question: &Question, query: Result<Query<'_>, LineFault>) -> Answer {
         let query = match query {
             Ok(Query::Live(port)) => return self.for_port(port, Live::live),
             Ok(Query::Changes(_)) => return Answer::of_changes(self.server.changes),
@@ -228,10 +229,21 @@ impl Live {
             Query::Neighbors(port) => self.for_port(port, Live::neighbors),
             Query::Statistics(port) => self.for_port(port, Live::statistics),
             Query::Watch(_) => Answer::of("error: no such port\n"),
-            _ => match self.command(line) {
-                Ok(lines) => Answer::of(&lines),
+            _ => match self.command(&question.line) {
+                Ok(lines) => {
+                    self.report_setting(question);
+                    Answer::of(&lines)
+                }
                 Err(refusal) => Answer::of(&format!("error: {refusal}\n")),
             },
+        }
+    }
+
+    /// Reports who has changed a setting.
+    fn report_setting(&mut self, question: &Question) {
+        if first_word(&question.line) == "configure" {
+            let line = text_of_line(&question.line);
+            self.events.report_setting(&format!("{} has set: {line}", question.who));
         }
     }
 
@@ -381,6 +393,7 @@ impl Live {
         self.ports.count_drops();
         let recorders = self.server.control.as_ref().map_or(0, Control::count_recorders);
         let own = vec![
+            ("version", env!("CARGO_PKG_VERSION").into()),
             ("began", self.began.to_string()),
             ("agent", if self.running.is_some() { "running" } else { "waiting" }.into()),
             ("seconds", self.clock.given.to_string()),

@@ -4,7 +4,7 @@
 use crate::live::Live;
 use crate::patterns;
 use crate::queries::Handing;
-use crate::reports::{counted, notice, warn};
+use crate::reports::{counted, warn};
 use crate::time::Moment;
 use lldpa::{CommandFault, Status};
 use lldpa_people::refused;
@@ -140,8 +140,8 @@ impl Live {
     }
 
     /// Takes what a client hands over. Returns what it is answered: at the end, each setting that is refused. The
-    /// last client that begins is heard, and no other.
-    pub fn take_settings(&mut self, client: u64, step: Handing) -> String {
+    /// last client that begins is heard, and no other. `who` is the client, for reports.
+    pub fn take_settings(&mut self, client: u64, who: &str, step: Handing) -> String {
         let coming = &mut self.settings.coming;
         match step {
             Handing::Begin => *coming = Coming { client, ..Coming::default() },
@@ -151,7 +151,7 @@ impl Live {
                 (self.settings.all, self.settings.unread) = (std::mem::take(coming).all, unread);
                 self.settings.refused.clear();
                 if self.running.is_some() {
-                    notice("the settings were read again");
+                    self.events.report_setting(&format!("the settings were read again by {who}"));
                     return self.apply_settings().into_iter().map(|line| line + "\n").collect();
                 }
             }
@@ -223,13 +223,13 @@ mod tests {
             (2, Handing::End(3), ""),
             (2, Handing::End(0), OF_ANOTHER),
         ] {
-            assert_eq!(live.take_settings(client, step), wanted, "{client}");
+            assert_eq!(live.take_settings(client, "", step), wanted, "{client}");
         }
         let lines: Vec<&[u8]> = live.settings.all.iter().map(|one| &one.line[..]).collect();
         assert_eq!((lines, live.settings.unread), (vec![&b"configure c"[..]], 3));
         for (line, most) in [("a", MOST_SETTINGS), (&long[..], MOST_OCTETS / long.len())] {
-            live.take_settings(3, Handing::Begin);
-            let taken = (0..).take_while(|_| live.take_settings(3, one(line)).is_empty()).count();
+            live.take_settings(3, "", Handing::Begin);
+            let taken = (0..).take_while(|_| live.take_settings(3, "", one(line)).is_empty()).count();
             assert_eq!(taken, most);
         }
     }

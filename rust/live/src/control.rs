@@ -23,7 +23,7 @@ const MOST_WATCHING: usize = 16; // of root and the socket's owner, and as many 
 const MOST_RECORDING: usize = 4; // the same
 const IDLENESS: Duration = Duration::from_secs(60);
 
-/// A client's line, and whether the client may change the agent.
+/// A client's line, who the client is, and whether it may change the agent.
 pub struct Question {
     /// The index of the client.
     client: usize,
@@ -31,6 +31,8 @@ pub struct Question {
     pub of: u64,
     pub line: Vec<u8>,
     pub may_change: bool,
+    /// Who the client is, for reports.
+    pub who: String,
 }
 
 pub struct Control {
@@ -179,6 +181,7 @@ impl Control {
             of: client.number,
             line: client.next_line(),
             may_change: client.peer.may_change(&self.listening.file, self.listening.group),
+            who: client.peer.name(),
         })
     }
 

@@ -132,16 +132,23 @@ pub fn hand_over(path: &str, group: u32) -> Result<()> {
     }
 }
 
-/// The user and the groups that a client's process had when it connected.
+/// The user, the groups and the number that a client's process had when it connected.
 pub struct Peer {
     user: u32,
     groups: Vec<u32>,
+    process: i32,
 }
 
 impl Peer {
     pub fn of(stream: &UnixStream) -> Peer {
-        let (user, groups) = sockets::peer_of(stream);
-        Peer { user, groups }
+        let (user, groups, process) = sockets::peer_of(stream);
+        Peer { user, groups, process }
+    }
+
+    /// Returns who this is, for reports. (The name of the program is in a file below /proc, which lldpa-live does
+    /// not open.)
+    pub fn name(&self) -> String {
+        format!("user {} (process {})", self.user, self.process)
     }
 
     /// True if the client is root, or may write to the socket as its owner or by its group. (The
@@ -187,7 +194,7 @@ mod tests {
             (0o400, 0, vec![], true),
         ] {
             fs::set_permissions(&path, Permissions::from_mode(mode)).expect("a mode");
-            let peer = Peer { user, groups };
+            let peer = Peer { user, groups, process: 1 };
             assert_eq!(peer.may_change(&file, None), may_change, "{mode:o} {user}");
             assert_eq!(peer.is_preferred(&file), user == owner || user == 0, "{user}");
         }

@@ -10,6 +10,7 @@ use crate::rights::text_of;
 use crate::status::Values;
 use crate::time::Moment;
 use crate::waiting::Awaited;
+use crate::watching::Kind;
 use std::fmt;
 use std::fs::File;
 use std::io::Write;
@@ -87,7 +88,7 @@ pub struct Reception {
     pub rests_until: Moment,
 }
 
-/// How many frames were lost, and why.
+/// How many frames were lost, and why, and how often the table has changed.
 #[derive(Default)]
 pub struct Counts {
     pub kernel_drops: u64,
@@ -95,6 +96,20 @@ pub struct Counts {
     pub other_frames: u64,
     pub unsent: u64,
     pub left_out: u64,
+    /// How often neighbors came, changed and went.
+    pub came: u64,
+    pub changed: u64,
+    pub gone: u64,
+}
+
+impl Counts {
+    pub fn count(&mut self, kind: Kind) {
+        *match kind {
+            Kind::Came => &mut self.came,
+            Kind::Changed => &mut self.changed,
+            Kind::Gone => &mut self.gone,
+        } += 1;
+    }
 }
 
 impl Port {
@@ -246,6 +261,9 @@ impl Port {
             ("other-frames", self.counts.other_frames.to_string()),
             ("unsent", self.counts.unsent.to_string()),
             ("left-out", self.counts.left_out.to_string()),
+            ("came", self.counts.came.to_string()),
+            ("changed", self.counts.changed.to_string()),
+            ("gone", self.counts.gone.to_string()),
         ]
     }
 }

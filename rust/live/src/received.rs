@@ -69,12 +69,14 @@ impl Live {
             News::New(_) => self.record_new(frame.port, lldpdu, info, summary),
             News::Changed(_) | News::Same(_) => {
                 let port = &mut self.ports.all[frame.port];
-                self.server.note(&port.name, &msap, Kind::Changed);
                 if let Some(one) = port.neighbors.iter_mut().find(|one| one.msap() == msap) {
                     one.lldpdu = lldpdu;
                     one.summary = summary.clone();
                 }
-                self.report_changes(frame.port, before, info, &summary);
+                if matches!(news, News::Changed(_)) {
+                    self.note(frame.port, &msap, Kind::Changed);
+                    self.report_changes(frame.port, before, info, &summary);
+                }
             }
             News::Dropped(_) => self.record_dropped(frame.port, info.ttl()),
             _ => (),
@@ -83,9 +85,9 @@ impl Live {
 
     fn record_new(&mut self, port: usize, lldpdu: u64, info: &Info<'_>, summary: String) {
         let msap = info.msap();
-        let name = self.ports.all[port].name.clone();
-        self.server.note(&name, &msap, Kind::Came);
-        self.events.report(&name, &format!("{name} came: {summary}"));
+        self.note(port, &msap, Kind::Came);
+        let name = &self.ports.all[port].name;
+        self.events.report(name, &format!("{name} came: {summary}"));
         let chassis_number = self.chassis_number(msap.chassis);
         let neighbor = Neighbor::new(&msap, &self.ports.digests, chassis_number, lldpdu, summary);
         self.ports.all[port].neighbors.push(neighbor);
@@ -146,6 +148,13 @@ impl Live {
     fn tell_gone(&mut self, port: usize, gone: &Neighbor) {
         let name = &self.ports.all[port].name;
         self.events.report(name, &format!("{name} gone: {}", gone.summary));
-        self.server.note(name, &gone.msap(), Kind::Gone);
+        self.note(port, &gone.msap(), Kind::Gone);
+    }
+
+    /// Counts what happened to a neighbor of a port, and notes it for clients.
+    fn note(&mut self, port: usize, msap: &Msap<'_>, kind: Kind) {
+        let port = &mut self.ports.all[port];
+        port.counts.count(kind);
+        self.server.note(&port.name, msap, kind);
     }
 }

@@ -24,7 +24,8 @@ pub const ERROR: u8 = 3;
 pub const WARNING: u8 = 4;
 pub const NOTICE: u8 = 5;
 const INFORMATION: u8 = 6;
-const MOST_A_MINUTE: usize = 100; // lines of a port about its neighbors
+const MOST_A_MINUTE: usize = 100; // lines of a port about its neighbors, or about settings
+const OF_SETTINGS: &str = "the settings"; // no name of a port
 const MINUTE: Duration = Duration::from_secs(60);
 const LONGEST: usize = 1000; // characters of such a line
 
@@ -172,9 +173,10 @@ pub fn counted(count: usize, what: &str) -> String {
     lldpa_people::texts::counted(count as u128, what)
 }
 
-/// Reports when neighbors and links come, change or go, as a history in the journal.
+/// Reports when neighbors and links come, change or go, and who sets what, as a history in the journal.
 #[derive(Default)]
 pub struct Events {
+    /// True if those of ports are reported.
     pub are_wanted: bool,
     counts: BTreeMap<String, usize>,
     next_minute: Moment,
@@ -187,32 +189,41 @@ impl Events {
         self.are_wanted && self.counts.get(port).map_or(true, |count| *count < MOST_A_MINUTE)
     }
 
-    /// Reports an event of a port, unless the port has used up its lines for this minute.
+    /// Reports an event of a port.
     pub fn report(&mut self, port: &str, text: &str) {
-        if !self.are_wanted {
-            return;
+        if self.are_wanted {
+            self.add(INFORMATION, port, text);
         }
+    }
+
+    /// Reports who has changed a setting.
+    pub fn report_setting(&mut self, text: &str) {
+        self.add(NOTICE, OF_SETTINGS, text);
+    }
+
+    /// Reports an event, unless those of its kind have used up their lines for this minute.
+    fn add(&mut self, level: u8, kind: &str, text: &str) {
         self.end_minute();
-        let count = self.counts.entry(port.into()).or_insert(0);
+        let count = self.counts.entry(kind.into()).or_insert(0);
         *count += 1;
         match text.char_indices().nth(LONGEST - 4) {
             _ if *count > MOST_A_MINUTE => (),
             Some((end, _)) if text.chars().count() > LONGEST => {
-                report(INFORMATION, &format!("{} ...", &text[..end]));
+                report(level, &format!("{} ...", &text[..end]));
             }
-            _ => report(INFORMATION, text),
+            _ => report(level, text),
         }
     }
 
-    /// Reports at the end of each minute how many events of a port were left out.
+    /// Reports at the end of each minute how many events of each kind were left out.
     pub fn end_minute(&mut self) {
         let now = Moment::now();
         if now < self.next_minute {
             return;
         }
-        for (port, count) in std::mem::take(&mut self.counts) {
+        for (kind, count) in std::mem::take(&mut self.counts) {
             if let Some(left) = count.checked_sub(MOST_A_MINUTE).filter(|left| *left > 0) {
-                report(INFORMATION, &format!("{port}: {left} more came, changed or went within a minute"));
+                report(INFORMATION, &format!("{kind}: {left} more changes within a minute"));
             }
         }
         self.next_minute = now + MINUTE;

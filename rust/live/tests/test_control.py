@@ -1,9 +1,10 @@
 """Tests what a running lldpa-live answers at its control socket, and to whom."""
 
+import os
 import socket
 import time
 from concurrent.futures import ThreadPoolExecutor
-from contextlib import ExitStack, suppress
+from contextlib import ExitStack, closing, suppress
 
 from asking import Client
 from lldpa import Refused, read_show
@@ -54,6 +55,37 @@ class Answered(OnLinks):
             for number in range(128):
                 peer.send(numbered(number, 65535, *ORGANIZATIONAL))
             self.assertTrue(eventually(lambda: self.served.neighbors(f"eth{port}") == 128))
+
+
+class Settings(Answered):
+    """Tests that the journal says who has changed a setting."""
+
+    def test_user_and_process_are_told(self) -> None:
+        live = self.served
+        line = 'configure system description "a b"'
+        live.ask(line)
+        self.assertTrue(live.says(f"lldpa-live: user 0 (process {os.getpid()}) has set: {line}\n"))
+        self.assertEqual(live.ctl("configure", "ports", "eth0", "lldp", "status", "disabled"), "")
+        self.assertTrue(live.says(" has set: configure ports eth0 lldp status disabled\n"))
+        self.assertEqual(live.reload().returncode, 0)
+        self.assertTrue(live.says("the settings were read again by user 0 (process "))
+
+    def test_what_changes_nothing_is_not_told(self) -> None:
+        for line in ("update", "show chassis", "configure lldp tx-hold 0", "configure ports eth9 lldp status disabled"):
+            with suppress(Refused):
+                self.served.ask(line)
+        self.assertEqual(self.served.errors(), "")
+
+    def test_they_do_not_fill_the_journal(self) -> None:
+        with closing(Client(self.served.control)) as client:
+            for number in range(150):
+                client.ask(f"configure lldp tx-hold {1 + number % 99}")
+        self.assertEqual(self.served.reload().returncode, 0)
+        self.assertEqual(self.served.errors().count(" by user ") + self.served.errors().count(" has set: "), 100)
+
+    def test_what_they_say_is_escaped(self) -> None:
+        self.said_to(b'configure system description\t"a"\n')
+        self.assertTrue(self.served.says(' has set: configure system description\\x09"a"\n'))
 
 
 class Questions(Answered):

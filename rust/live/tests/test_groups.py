@@ -28,6 +28,7 @@ FILE = ["unshare", "--mount", "sh", "-c",
         'mount --bind "$1" /etc/group && shift && exec "$@"', "sh"]
 OF_DAEMON = 1  # its group
 LATER = 20.0  # seconds; lldpa-live asks again each ten
+SET_BY_A_MEMBER = r"^lldpa-live: user 12345 \(process \d+\) has set: configure lldp tx-hold 5\n$"
 
 
 class Started(Asking):
@@ -55,7 +56,7 @@ class Groups(Started):
         self.assertEqual((told.st_mode & 0o777, told.st_gid), (0o660, NUMBER))
         self.assertEqual(self.ask(self.asker(NUMBER), "configure lldp tx-hold 5"), "['=0']")
         self.assertEqual(self.ask(self.asker(), "show chassis"), "")
-        self.assertEqual(live.errors(), "")
+        self.assertRegex(live.errors(), SET_BY_A_MEMBER)
 
     def test_an_unknown_group_is_said_and_ends_nothing(self) -> None:
         for program in (LIVE, DYNAMIC):
@@ -99,7 +100,7 @@ class WithoutRights(Started):
         self.make("lldpa-ops")
         live = self.started("lldpa-ops", LIVE, before=self.before)
         self.is_let_in()
-        self.assertEqual(live.errors(), "")
+        self.assertRegex(live.errors(), SET_BY_A_MEMBER)
         os.chmod(self.path, 0o600)
         self.assertEqual(self.ask(self.asker(NUMBER), "show chassis"), "")
         os.chmod(self.path, 0o666)

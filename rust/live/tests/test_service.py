@@ -9,6 +9,7 @@ from typing import Any
 
 from running_live import Live, OnLinks
 from heard import Heard
+from kept import State
 from patience import SECONDS, by_the_clock, eventually
 from served import numbered, tlv
 from wires import inside
@@ -128,6 +129,32 @@ class Events(Service):
         self.assertTrue(live.says("eth0 gone: 02:00:00:00:00:03 p3"))
         self.assertEqual(len(self.told(live)), 7)
 
+    def test_changes_of_each_port_are_counted(self) -> None:
+        state = State()
+        self.addCleanup(state.folder.cleanup)
+        live, peer = self.receiving(*state.words)
+        self.assertIn("live.version=1.0.0", live.ask("live"))
+        steps = ((numbered(1, 60, tlv(5, b"a")), "1 0 0"), (numbered(1, 60, tlv(5, b"a")), "1 0 0"),
+                 (numbered(1, 60, tlv(5, b"a")).ljust(99, b"\0"), "1 0 0"),  # the same, as short frames are sent
+                 (numbered(1, 60, tlv(5, b"b")), "1 1 0"), (numbered(2, 2), "2 1 0"), (numbered(1, 0), "2 1 1"))
+        for octets, wanted in steps:
+            peer.send(octets)
+            self.assertEqual(self.counted(live), wanted)
+        self.assertTrue(eventually(lambda: self.counted(live) == "2 1 2"), "one ages out")
+        peer.send(numbered(3, 600))
+        live.ask("configure ports eth0 lldp status disabled")
+        self.assertEqual(self.counted(live), "3 1 3")
+        live.ask("configure ports eth0 lldp status rx-only")
+        peer.send(numbered(3, 600))
+        self.assertEqual(self.counted(live), "4 1 3")
+        self.assertEqual(live.ended(), 0)
+        live = self.live(*state.words, "eth0", "--", "--receive-only")
+        self.assertEqual((live.neighbors(), self.counted(live)), (1, "0 0 0"), "it is still there")
+
+    def counted(self, live: Live) -> str:
+        """Returns how often neighbors came, changed and went."""
+        return " ".join(live.told("live", f"live.eth0.{key}") for key in ("came", "changed", "gone"))
+
     def test_no_more_than_a_hundred_lines_a_minute(self) -> None:
         live = self.live("--events", "eth0", "--", "--receive-only", "--max-neighbors", "128")
         peer = self.peer()
@@ -138,7 +165,7 @@ class Events(Service):
         self.assertTrue(eventually(lambda: len(self.told(live)) == 100), live.errors())
         live.spend(2)
         self.assertEqual(len(self.told(live)), 100)
-        more = r"(?m)^lldpa-live: eth0: \d+ more came, changed or went within a minute$"
+        more = r"(?m)^lldpa-live: eth0: \d+ more changes within a minute$"
         self.assertTrue(eventually(lambda: re.search(more, live.errors()), 65))
 
     def test_links_and_want_of_room_are_told(self) -> None:
@@ -161,7 +188,7 @@ class Events(Service):
         self.peer().send(numbered(1, 60, tlv(5, b"a")))
         self.assertTrue(live.says("<6>eth0 came: a p1\n"))
         self.assertEqual(live.reload(settings).returncode, 0)
-        self.assertTrue(live.says("<5>the settings were read again\n"))
+        self.assertTrue(live.says("<5>the settings were read again by user "))
         settings.write_text("configure lldp tx-hold 0\n")
         self.assertEqual(live.reload(settings).returncode, 1)
         self.assertTrue(live.says("<4>1 setting was not applied\n"))

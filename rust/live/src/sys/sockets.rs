@@ -288,19 +288,19 @@ pub fn connect_stream(path: &str) -> Result<UnixStream> {
     Ok(UnixStream::from(OwnedFd::from(file)))
 }
 
-/// Returns the user and the groups that a client's process had when it connected.
-pub fn peer_of(stream: &UnixStream) -> (u32, Vec<u32>) {
+/// Returns the user, the groups and the number that a client's process had when it connected.
+pub fn peer_of(stream: &UnixStream) -> (u32, Vec<u32>, i32) {
     let mut told = libc::ucred { pid: 0, uid: u32::MAX, gid: u32::MAX };
     // SAFETY: unix(7) has this option with this struct of numbers.
     if unsafe { get(stream, libc::SOL_SOCKET, libc::SO_PEERCRED, &mut told) }.is_err() {
-        return (u32::MAX, Vec::new());
+        return (u32::MAX, Vec::new(), 0);
     }
     let mut further = [0u32; MOST_GROUPS];
     // SAFETY: the kernel writes numbers of groups, or none if there is no room for all.
     let length = unsafe { get(stream, libc::SOL_SOCKET, libc::SO_PEERGROUPS, &mut further) }.unwrap_or(0);
     let mut groups = further[..length / size_of::<u32>()].to_vec();
     groups.push(told.gid);
-    (told.uid, groups)
+    (told.uid, groups, told.pid)
 }
 
 #[cfg(test)]
@@ -326,10 +326,10 @@ mod tests {
     }
 
     #[test]
-    fn a_client_has_a_user_and_groups() {
+    fn a_client_has_a_user_groups_and_a_number() {
         let (ours, _theirs) = UnixStream::pair().expect("two sockets");
-        let (user, groups) = peer_of(&ours);
-        assert_eq!(user, crate::sys::rights::own_user());
+        let (user, groups, process) = peer_of(&ours);
+        assert_eq!((user, process as u32), (crate::sys::rights::own_user(), std::process::id()));
         assert!(!groups.is_empty());
     }
 }
