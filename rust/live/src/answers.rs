@@ -222,7 +222,7 @@ impl Live {
             Err(fault) => return Answer::of(&fault.to_string()),
         };
         if self.running.is_none() {
-            let awaited = self.arguments.selectors.join(" ");
+            let awaited = self.arguments.awaited();
             return Answer::of(&format!("error: waiting for an interface: {awaited}\n"));
         }
         match query {

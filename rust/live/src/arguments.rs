@@ -87,10 +87,14 @@ pub enum RefusedPort {
 impl fmt::Display for RefusedPort {
     fn fmt(&self, out: &mut fmt::Formatter<'_>) -> fmt::Result {
         match self {
-            RefusedPort::Malformed(name) => {
-                let form = "a port's name has 1 to 15 ASCII letters, digits, -, _, / and :";
-                write!(out, "{name}: {form} (a VLAN interface cannot be a port)")
-            }
+            RefusedPort::Malformed(name) => match name.split_once('.').filter(|one| patterns::is_name(one.0))
+            {
+                Some((below, _)) => {
+                    let why = "a VLAN interface cannot be a port, since LLDP frames have no tag";
+                    write!(out, "{name}: this is not waited for: {why}; name {below}")
+                }
+                None => write!(out, "{name}: a port's name has 1 to 15 ASCII letters, digits, -, _, / and :"),
+            },
             RefusedPort::Twice(name) => write!(out, "the port {name} is given twice"),
             RefusedPort::TooMany(name) => {
                 let most = format!("an agent has at most {MOST_PORTS} ports");
@@ -188,7 +192,20 @@ impl Request {
     }
 }
 
+/// Returns where the ports are named, to be put after a report: PORTS_FILE names the file of a service.
+pub fn where_named() -> String {
+    std::env::var("PORTS_FILE").map_or(String::new(), |path| format!(" (see PORTS in {path})"))
+}
+
 impl Arguments {
+    /// Returns for which interfaces lldpa-live waits while there is none.
+    pub fn awaited(&self) -> String {
+        match self.selectors.is_empty() {
+            true => "none, since no name that was given can be a port".into(),
+            false => self.selectors.join(" "),
+        }
+    }
+
     /// Sets what an option says. Its value may be the next word.
     fn set(&mut self, word: &str, rest: &mut std::slice::Iter<'_, String>) -> Result<(), ArgumentFault> {
         let (name, own) = split(word);
@@ -306,8 +323,12 @@ mod tests {
         for (refused, text) in [
             (
                 RefusedPort::Malformed("eth0.5".into()),
-                "eth0.5: a port's name has 1 to 15 ASCII letters, digits, -, _, / and : (a VLAN interface \
-                 cannot be a port)",
+                "eth0.5: this is not waited for: a VLAN interface cannot be a port, since LLDP frames have no \
+                 tag; name eth0",
+            ),
+            (
+                RefusedPort::Malformed("sixteen--letters".into()),
+                "sixteen--letters: a port's name has 1 to 15 ASCII letters, digits, -, _, / and :",
             ),
             (RefusedPort::Twice("eth0".into()), "the port eth0 is given twice"),
             (

@@ -2,6 +2,7 @@
 //! the settings, the neighbors of an earlier lldpa-live, and the state of the links.
 
 use crate::agent::Running;
+use crate::arguments::where_named;
 use crate::changes;
 use crate::identifiers;
 use crate::identity::chassis_address;
@@ -82,12 +83,18 @@ impl Live {
         }
         self.following.is_wait_reported = true;
         self.ports.all.iter_mut().for_each(|port| port.interface.is_awaited = true);
-        let awaited = self.arguments.selectors.join(" ");
+        let (awaited, place) = (self.arguments.awaited(), where_named());
         let named = self.arguments.selectors.iter().filter_map(|name| self.links.named(name));
         let what = what_is_missing(&named.collect::<Vec<_>>());
-        notice(&format!("{awaited}: {what}; waiting for one, and until then nothing is sent or received"));
+        notice(&match self.arguments.selectors.is_empty() {
+            true => format!("no name that was given can be a port, so nothing is sent or received{place}"),
+            false => {
+                let until = "waiting for one, and until then nothing is sent or received";
+                format!("{awaited}: {what}; {until}{place}")
+            }
+        });
         self.manager.send("READY=1"); // so that it does not hold up the start of the system
-        self.manager.set_status(format!("waiting for an interface: {awaited}"));
+        self.manager.set_status(format!("waiting for an interface: {awaited}{place}"));
     }
 
     /// Gives the agent the neighbors of an earlier lldpa-live. Sends and reports nothing.

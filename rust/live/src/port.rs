@@ -1,6 +1,7 @@
 //! One port: its socket, the interface with its name, its neighbors, and what it counts.
 
 use crate::allowance::Allowances;
+use crate::arguments::where_named;
 use crate::counters::Counters;
 use crate::links::{Link, Mac};
 use crate::neighbors::Neighbor;
@@ -211,7 +212,7 @@ impl Port {
             return None;
         }
         if !self.interface.is_awaited && self.interface.fault.is_none() {
-            notice(&format!("{}: no such interface yet; waiting for it", self.name));
+            notice(&format!("{}: no such interface yet; waiting for it{}", self.name, where_named()));
         }
         self.set_link(false)
     }

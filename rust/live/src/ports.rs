@@ -17,6 +17,7 @@ use std::fs::File;
 use std::io::Result;
 
 pub const MOST_PORTS: usize = 64;
+const MOST_SHOWN: usize = 8; // interfaces that a report names
 
 pub struct Ports {
     pub all: Vec<Port>,
@@ -78,9 +79,9 @@ impl Ports {
         let mut further = patterns::ports_of(selectors, links);
         further.retain(|name| !self.all.iter().any(|port| port.name == *name));
         let refused = further.split_off(further.len().min(self.spare.len()));
-        for name in refused.iter().filter(|name| !self.refused.contains(name)) {
-            warn(&format!("{name}: {MOST_PORTS} ports are in use, so this interface is not used"));
-        }
+        let new: Vec<&str> =
+            refused.iter().filter(|name| !self.refused.contains(name)).map(String::as_str).collect();
+        text_of_refused(&new).iter().for_each(|text| warn(text));
         self.refused = refused;
         further
     }
@@ -117,9 +118,39 @@ impl Ports {
     }
 }
 
+/// Returns the report of interfaces that found no place. None without an interface.
+fn text_of_refused(names: &[&str]) -> Option<String> {
+    let why = format!("{MOST_PORTS} ports are in use, so");
+    let shown = names[..names.len().min(MOST_SHOWN)].join(", ");
+    match names.len() {
+        0 => None,
+        1 => Some(format!("{shown}: {why} this interface is not used")),
+        2..=MOST_SHOWN => Some(format!("{shown}: {why} these interfaces are not used")),
+        count => {
+            Some(format!("{shown} and {} more: {why} these interfaces are not used", count - MOST_SHOWN))
+        }
+    }
+}
+
 #[cfg(test)]
 mod tests {
     use super::*;
+
+    #[test]
+    fn many_interfaces_without_a_place_make_one_line() {
+        let names: Vec<String> = (0..236).map(|number| format!("p{number}")).collect();
+        let names: Vec<&str> = names.iter().map(String::as_str).collect();
+        let (why, these) = ("64 ports are in use, so", "these interfaces are not used");
+        for (count, wanted) in [
+            (1, format!("p0: {why} this interface is not used")),
+            (2, format!("p0, p1: {why} {these}")),
+            (8, format!("p0, p1, p2, p3, p4, p5, p6, p7: {why} {these}")),
+            (236, format!("p0, p1, p2, p3, p4, p5, p6, p7 and 228 more: {why} {these}")),
+        ] {
+            assert_eq!(text_of_refused(&names[..count]), Some(wanted), "{count}");
+        }
+        assert_eq!(text_of_refused(&[]), None);
+    }
 
     #[test]
     fn only_a_port_that_a_pattern_gave_goes_with_its_interface() {

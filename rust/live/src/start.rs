@@ -1,6 +1,6 @@
 //! Opens sockets and files, gives up rights, runs, and sends shutdown frames at the end.
 
-use crate::arguments::Arguments;
+use crate::arguments::{where_named, Arguments};
 use crate::budget::LARGE_PIECE;
 use crate::commands::Settings;
 use crate::control::Control;
@@ -90,7 +90,7 @@ fn fail(why: &str) -> i32 {
 /// Opens the sockets and files, gives up rights, and opens the agent if it can be opened already. From then on
 /// no file is opened, made, renamed or removed.
 fn begin(arguments: Arguments, user: Option<rights::User>) -> Result<Live, StartFault> {
-    arguments.refused.iter().for_each(|port| warn(&port.to_string()));
+    arguments.refused.iter().for_each(|port| warn(&format!("{port}{}", where_named())));
     let former = |name: &String| warn(&format!("{name} does nothing any more: see `record` in lldpa-ctl(8)"));
     arguments.former.iter().for_each(former);
     let links = Links::open()?;

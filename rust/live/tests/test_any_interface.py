@@ -1,5 +1,6 @@
 """Tests that no interface, whatever it is, keeps lldpa-live from running on the others."""
 
+import os
 import signal
 import subprocess
 
@@ -51,6 +52,24 @@ class AnyInterface(OnLinks):
 
     def test_one_that_is_missing(self) -> None:
         self.runs_with("eth9", said="eth9: no such interface yet")
+
+    def test_one_that_is_missing_is_told_with_the_file_that_names_it(self) -> None:
+        file = {**os.environ, "PORTS_FILE": "/etc/default/lldpa"}
+        see = " (see PORTS in /etc/default/lldpa)"
+        live = self.live("eth9", "eth0", "eth0.10", env=file)
+        self.assertTrue(live.says(f"eth9: no such interface yet; waiting for it{see}\n"))
+        self.assertIn(f"; name eth0{see}\n", live.errors())
+        live = self.live("eth9", awaits=False, env=file)
+        self.assertTrue(live.says(f"until then nothing is sent or received{see}\n"))
+
+    def test_a_vlan_alone_is_not_waited_for(self) -> None:
+        live = self.live("eth0.5", awaits=False)
+        live.comes_to("live.agent=waiting")
+        self.assertEqual(live.errors(), "lldpa-live: eth0.5: this is not waited for: a VLAN interface cannot be a "
+                         "port, since LLDP frames have no tag; name eth0\n"
+                         "lldpa-live: no name that was given can be a port, so nothing is sent or received\n")
+        self.assertEqual(live.ask_refused("show neighbors"), "waiting for an interface: none, since no name that was "
+                         "given can be a port")
 
     def test_one_that_is_missing_sends_nothing(self) -> None:
         live = self.live("eth9", "eth0")

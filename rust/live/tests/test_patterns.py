@@ -1,5 +1,7 @@
 """Tests ports that patterns select, even if their interfaces are added later."""
 
+import subprocess
+
 from asking import since_of
 from patience import eventually
 from running_live import OnLinks
@@ -78,6 +80,14 @@ class TestLaterPorts(OnLinks):
         late.send(numbered(1))
         self.assertTrue(eventually(lambda: live.neighbors(f"vnet{MOST}") == 1))
         self.assertEqual((live.number("ports-refused"), live.neighbors("vnet7")), (0, 1))
+
+    def test_hundreds_without_a_place_make_one_line(self) -> None:
+        made = "\n".join(f"link add swp{number} up type veth peer name end{number}" for number in range(300))
+        subprocess.run(["ip", "-n", self.wires.here, "-batch", "-"], input=made, text=True, check=True)
+        live = self.live("swp*", "--", "--receive-only")
+        self.assertTrue(live.says(" and 228 more: 64 ports are in use, so these interfaces are not used\n"))
+        self.assertEqual(live.errors().count("\n"), 1, live.errors())
+        self.assertEqual(live.number("ports-refused"), 236)
 
     def test_a_port_that_was_named_stays_without_its_interface(self) -> None:
         live = self.live("vnet1", "vnet*", awaits=False)
