@@ -27,6 +27,7 @@ options:
                          announce only an address that a pattern matches, such
                          as '192.0.2.*,!172.17.*'; '!' excludes addresses
   --no-description       do not announce the operating system of this host
+  --no-domain            announce the host's name without its domain
   --no-management        do not announce an address of this host
   --once N               wait until each port has a neighbor, at most N seconds,
                          then print the neighbors and exit
@@ -65,6 +66,7 @@ pub struct Arguments {
     pub events: bool,
     pub forget_on_down: bool,
     pub no_description: bool,
+    pub no_domain: bool,
     pub no_management: bool,
     pub only_existing: bool,
     pub agent: AgentOptions,
@@ -218,10 +220,10 @@ impl Arguments {
             None => Err(ArgumentFault::NoNumber { option: name.into(), value, last }),
         };
         match (name, own) {
-            ("--stay" | "--own-source", None) => (), // options of earlier versions, now always in force
             ("--events", None) => self.events = true,
             ("--forget-on-down", None) => self.forget_on_down = true,
             ("--no-description", None) => self.no_description = true,
+            ("--no-domain", None) => self.no_domain = true,
             ("--no-log", None) => self.former.push(name.into()),
             ("--keep-state", None) => self.keep_state = true,
             ("--no-management", None) => self.no_management = true,
@@ -240,6 +242,11 @@ impl Arguments {
             _ => return Err(ArgumentFault::UnknownOption(word.into())),
         }
         Ok(())
+    }
+
+    /// True if the host's name is announced with its domain.
+    pub fn follows_domain(&self) -> bool {
+        !self.no_domain && self.agent.hostname.is_none()
     }
 
     /// Takes out names that are malformed, given twice or too many: the others are used.
@@ -343,19 +350,21 @@ mod tests {
 
     #[test]
     fn options_have_values_or_none() {
-        let all = "--events --forget-on-down --no-description --no-management --only-existing --stay \
-            --own-source --config a --config=b --control c --control-group=d --user e --state f --log g \
+        let all = "--events --forget-on-down --no-description --no-domain --no-management --only-existing \
+            --config a --config=b --control c --control-group=d --user e --state f --log g \
             --log-most 3 --log-keep=1000000 --once 86400 eth0";
         let found = read(all).expect("arguments");
         assert!(found.events && found.forget_on_down && found.no_description);
-        assert!(found.no_management && found.only_existing);
+        assert!(found.no_domain && found.no_management && found.only_existing);
         assert_eq!((found.config.join(" "), &found.control[..]), ("a b".into(), "c"));
         assert_eq!((found.control_group.as_deref(), found.user.as_deref()), (Some("d"), Some("e")));
         assert_eq!((found.state.as_deref(), found.once), (Some("f"), Some(86_400)));
         assert_eq!(found.former, ["--log", "--log-most", "--log-keep"]);
         let least = read("eth0").expect("arguments");
         assert!(!(least.events || least.forget_on_down || least.no_description));
-        assert!(!(least.no_management || least.only_existing));
+        assert!(!(least.no_domain || least.no_management || least.only_existing));
+        assert!(least.follows_domain() && !found.follows_domain());
+        assert!(!read("eth0 -- --hostname=a").expect("arguments").follows_domain());
         assert_eq!((&least.control[..], least.once, least.state), ("/run/lldpa/control", None, None));
         assert!(least.former.is_empty() && !least.keep_state);
     }

@@ -5,11 +5,13 @@ use crate::identity::management_address;
 use crate::lines::set_text;
 use crate::links::Links;
 use crate::live::Live;
+use crate::lookup::HostName;
 use crate::options::is_text;
 use crate::patterns;
 use crate::reports::{self, counted, notice, warn};
 use crate::sys;
 use crate::time::{Moment, SECOND};
+use std::io::ErrorKind;
 use std::net::Ipv4Addr;
 use std::time::Duration;
 
@@ -74,7 +76,11 @@ pub struct Announced {
     pub management: Option<Ipv4Addr>,
     /// Another address than that, which was found since.
     candidate: Option<Candidate>,
-    pub host_name: String,
+    host_name: String,
+    /// A name of the host, and what the name service says that this is with its domain.
+    pub full_name: Option<(String, String)>,
+    /// The name that is to be announced, unless an option or a command sets another.
+    pub wanted_name: String,
     /// What describes this host.
     pub description: Option<String>,
     /// The host's name as last given to the agent, or empty.
@@ -89,10 +95,18 @@ impl Announced {
             management,
             candidate: None,
             host_name: sys::host_name(),
+            full_name: None,
+            wanted_name: sys::host_name(),
             description: None,
             name: String::new(),
             is_missing_reported: false,
         }
+    }
+
+    /// Returns the host's name, with its domain if that is known.
+    fn present_name(&self) -> &str {
+        let full = self.full_name.as_ref().filter(|told| told.0 == self.host_name);
+        full.map_or(&self.host_name, |told| &told.1)
     }
 
     /// Notes whether there is no address to announce. Returns true if that is news.
@@ -244,13 +258,31 @@ impl Live {
         }
     }
 
+    /// Takes what the name service says of the host's name.
+    pub fn take_full_name(&mut self) {
+        match self.host.as_mut().map(HostName::read) {
+            Some(Ok(told)) => self.announced.full_name = told.or(self.announced.full_name.take()),
+            Some(Err(fault)) if fault.kind() == ErrorKind::WouldBlock => (),
+            _ => {
+                self.host = None;
+                warn("the host's name is no longer looked up: a change of its domain needs a restart");
+            }
+        }
+        self.follow_name();
+    }
+
     /// Gives the agent the host's new name, unless an option or a command has set the agent's name.
     pub fn follow_name(&mut self) {
-        let name = sys::host_name();
-        if name == self.announced.host_name || self.arguments.agent.hostname.is_some() {
+        let host_name = sys::host_name();
+        if host_name != self.announced.host_name {
+            self.announced.host_name = host_name;
+            self.host.iter_mut().for_each(HostName::ask);
+        }
+        let name = self.announced.present_name().to_string();
+        if name == self.announced.wanted_name || self.arguments.agent.hostname.is_some() {
             return;
         }
-        self.announced.host_name = name.clone();
+        self.announced.wanted_name = name.clone();
         let is_ours =
             |running: &crate::agent::Running| running.agent.chassis().hostname == self.announced.name;
         if !self.running.as_ref().map_or(false, is_ours) {

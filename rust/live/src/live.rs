@@ -8,7 +8,7 @@ use crate::control::Control;
 use crate::following::{Announced, Following};
 use crate::lines::Line;
 use crate::links::{Link, Links};
-use crate::lookup::Lookup;
+use crate::lookup::{HostName, Lookup};
 use crate::notify::Manager;
 use crate::outbox::Outbox;
 use crate::ports::Ports;
@@ -79,6 +79,8 @@ pub struct Live {
     pub server: Server,
     /// Looks for the group of the control socket, if it was not known at the start.
     pub lookup: Option<Lookup>,
+    /// Asks for the host's name with its domain.
+    pub host: Option<HostName>,
     pub manager: Manager,
     pub events: Events,
     pub record: Recording,
@@ -111,6 +113,7 @@ impl Live {
             following: Following::default(),
             server: Server::new(control),
             lookup: None,
+            host: None,
             manager: Manager::new(),
             events: Events::default(),
             record: Recording::default(),
@@ -141,10 +144,15 @@ impl Live {
         let news = if has_news { self.links.read().unwrap_or_default() } else { Vec::new() };
         let is_found = |one: &Lookup| found.contains(&one.answer.file.as_raw_fd());
         let has_group = self.lookup.as_ref().map_or(false, is_found);
-        let of_others = [has_signal, has_news, has_group].map(usize::from);
+        let is_told = |one: &HostName| found.contains(&one.0.file.as_raw_fd());
+        let has_name = self.host.as_ref().map_or(false, is_told);
+        let of_others = [has_signal, has_news, has_group, has_name].map(usize::from);
         let others = self.ports.count_of(&found) + of_others.iter().sum::<usize>();
         if has_group {
             self.take_group();
+        }
+        if has_name {
+            self.take_full_name();
         }
         let left = self.ports.read(&mut self.clock, &found, before);
         // If the agent acts at a second that ended while this turn waited, that second is given at
@@ -163,6 +171,7 @@ impl Live {
         self.wakers.signals.wait_for(epoll, IN);
         self.links.socket.wait_for(epoll, IN);
         self.lookup.iter_mut().for_each(|lookup| lookup.answer.wait_for(epoll, IN));
+        self.host.iter_mut().for_each(|host| host.0.wait_for(epoll, IN));
         self.wakers.host_name.iter_mut().for_each(|file| file.wait_for(epoll, PRIORITY));
         self.ports.await_frames(epoll, now, self.server.has_question());
         self.server.control.iter_mut().for_each(|control| control.await_clients(epoll, now));

@@ -71,7 +71,8 @@ fn main() {
         std::process::exit(status);
     }
     match words.iter().map(String::as_str).collect::<Vec<_>>()[..] {
-        [lookup::WORD, name, path, user] => std::process::exit(lookup::serve(name, path, user)),
+        [lookup::FOR_GROUP, name, path, user] => std::process::exit(lookup::serve_group(name, path, user)),
+        [lookup::FOR_HOST, user] => std::process::exit(lookup::serve_host(user)),
         [reports::WORD] => std::process::exit(reports::serve()),
         _ => (),
     }

@@ -43,7 +43,7 @@ impl Live {
         self.arguments.agent.mac = Some(mac);
         self.announced.management = self.present_address();
         let given = self.arguments.agent.hostname.clone();
-        let hostname = given.unwrap_or_else(|| self.announced.host_name.clone());
+        let hostname = given.unwrap_or_else(|| self.announced.wanted_name.clone());
         let hostname = if is_text(&hostname) { hostname } else { String::new() };
         self.announced.name = hostname.clone();
         let (options, management) = (&self.arguments.agent, self.announced.management);

@@ -50,7 +50,28 @@ fn group_named(name: &str) -> Option<u32> {
 
 #[cfg(not(target_feature = "crt-static"))]
 fn group_named(name: &str) -> Option<u32> {
-    crate::sys::groups::number_of(name)
+    crate::sys::names::number_of(name)
+}
+
+/// Returns the name of a host with its domain, or its own name if it has none: in /etc/hosts the first name of the
+/// line. None if that is not known now. May wait for the name service.
+#[cfg(target_feature = "crt-static")]
+pub fn full_name_of(name: &str) -> Option<String> {
+    let text = std::fs::read("/etc/hosts").unwrap_or_default();
+    Some(full_name_in(&String::from_utf8_lossy(&text), name).unwrap_or_else(|| name.into()))
+}
+
+#[cfg(not(target_feature = "crt-static"))]
+pub use crate::sys::names::canonical as full_name_of;
+
+#[cfg(any(test, target_feature = "crt-static"))]
+fn full_name_in(hosts: &str, name: &str) -> Option<String> {
+    let names = |line: &'_ str| -> Vec<String> {
+        let plain = line.split('#').next().unwrap_or("");
+        plain.split_whitespace().skip(1).map(String::from).collect()
+    };
+    let line = hosts.lines().map(names).find(|names| names.iter().any(|one| one.eq_ignore_ascii_case(name)));
+    line?.into_iter().next()
 }
 
 /// Says where lldpa-live has looked for a group, and that it goes on.
@@ -114,6 +135,22 @@ mod tests {
         assert_eq!(at("/a")(missing).to_string(), "/a: No such file or directory");
         let own = Error::new(ErrorKind::Other, "what (os error 2)");
         assert_eq!(text_of(&own), "what (os error 2)");
+    }
+
+    #[test]
+    fn the_first_name_of_a_line_is_the_full_one() {
+        let hosts =
+            "127.0.0.1 localhost\n127.0.1.1\tweb17.example.com web17 # db3\n192.0.2.1 db3.example db3";
+        for (name, wanted) in [
+            ("web17", Some("web17.example.com")),
+            ("WEB17", Some("web17.example.com")),
+            ("web17.example.com", Some("web17.example.com")),
+            ("db3", Some("db3.example")),
+            ("192.0.2.1", None),
+            ("web", None),
+        ] {
+            assert_eq!(full_name_in(hosts, name).as_deref(), wanted, "{name}");
+        }
     }
 
     #[test]

@@ -8,7 +8,7 @@ use crate::identity::description;
 use crate::lines::set_status;
 use crate::links::Links;
 use crate::live::Live;
-use crate::lookup::Group;
+use crate::lookup::{Group, HostName};
 use crate::patterns;
 use crate::ports::{Ports, MOST_PORTS};
 use crate::reports::{self, notice, report, warn, ERROR};
@@ -98,6 +98,7 @@ fn begin(arguments: Arguments, user: Option<rights::User>) -> Result<Live, Start
     let names = first_ports(&arguments, &links, may_grow && !arguments.only_existing)?;
     let ports = Ports::open(&names, &arguments, may_grow).map_err(StartFault::NoSocket)?;
     let slots = arguments.state.as_deref().map(|path| Slots::open(path, user));
+    let host = if arguments.follows_domain() { asked_for_host(user) } else { None };
     let name = arguments.control_group.clone().filter(|_| arguments.once.is_none());
     let look = |name: &str| Group::named(name, &arguments.control, user);
     let group = name.as_deref().map_or_else(Group::default, look);
@@ -108,7 +109,7 @@ fn begin(arguments: Arguments, user: Option<rights::User>) -> Result<Live, Start
     give_up(user)?;
     let mut live = Live::new(arguments, links, ports, control)?;
     name.filter(|_| group.number.is_none()).iter().for_each(|name| report_unknown(name));
-    live.lookup = group.lookup;
+    (live.lookup, live.host) = (group.lookup, host);
     let kept = || Some(Slots::kept(&live.manager).map_err(StateFault::from));
     let slots = slots.or_else(|| if live.arguments.keep_state { kept() } else { None });
     live.settings = Settings::read(&live.arguments.config);
@@ -120,6 +121,12 @@ fn begin(arguments: Arguments, user: Option<rights::User>) -> Result<Live, Start
     let saved = live.take_slots(slots);
     live.open(&saved)?;
     Ok(live)
+}
+
+/// Starts the process that asks for the host's domain. Without it the host's own name is announced.
+fn asked_for_host(user: Option<rights::User>) -> Option<HostName> {
+    let started = HostName::start(user);
+    started.map_err(|fault| warn(&format!("the host's domain is not looked up: {}", text_of(&fault)))).ok()
 }
 
 /// Reports that the group which may use the control socket is not known.

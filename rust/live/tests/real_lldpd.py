@@ -7,7 +7,7 @@ import shutil
 import subprocess
 import unittest
 from pathlib import Path
-from typing import Any
+from typing import Any, Sequence
 
 from patience import eventually
 
@@ -17,10 +17,10 @@ beside_lldpd = unittest.skipUnless(shutil.which("lldpd"), "lldpd: it is not inst
 class Lldpd:
     """A running lldpd in a namespace, with its socket in `folder`."""
 
-    def __init__(self, namespace: str, folder: Path, *words: str) -> None:
+    def __init__(self, namespace: str, folder: Path, *words: str, before: Sequence[str] = ()) -> None:
         os.makedirs("/run/lldpd", exist_ok=True)
         self.socket = str(folder / namespace)
-        command = ["ip", "netns", "exec", namespace, "lldpd", "-d", "-u", self.socket, "-O",
+        command = [*before, "ip", "netns", "exec", namespace, "lldpd", "-d", "-u", self.socket, "-O",
                    "/dev/null"]
         self.process = subprocess.Popen([*command, *words], stdin=subprocess.DEVNULL,
                                         stdout=subprocess.DEVNULL, stderr=subprocess.DEVNULL)

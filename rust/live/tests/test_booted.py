@@ -43,7 +43,7 @@ class Installed(unittest.TestCase):
         assert installed.returncode == 0, installed
         folder = cls.host.root / PREFIX[1:] / "etc"
         cls.options, cls.settings = folder / "default/lldpa", folder / "lldpa.d"
-        cls.given = cls.options.read_text().replace("PORTS=", "PORTS=eth0 # ")
+        cls.given = cls.options.read_text().replace('PORTS="*"', 'PORTS="eth0"')
         cls.options.write_text(cls.given)
 
     def setUp(self) -> None:
@@ -134,6 +134,23 @@ class TestUnit(Installed):
         self.run_in_it("systemctl", "reload", "lldpa")
         self.assertTrue(eventually(lambda: "of the folder" in self.run_in_it(CTL, "show", "chassis")))
         self.assertEqual(self.process(), old)
+
+    def test_name(self) -> None:
+        """The System Name has the domain that /etc/hosts gives this host."""
+        name = self.run_in_it("uname", "-n").strip()
+        (self.host.root / "etc/hosts").write_text(f"127.0.1.1 {name}.example.com {name}\n")
+        self.run_in_it("systemctl", "restart", "lldpa")
+        line = f"local-chassis.name={name}.example.com\n"
+        self.assertTrue(eventually(lambda: line in self.run_in_it(CTL, "show", "chassis")))
+
+    def test_waiting(self) -> None:
+        """Who waits for an interface is told in which file it is named."""
+        self.addCleanup(self.options.write_text, self.given)
+        self.options.write_text(self.given.replace('PORTS="eth0"', 'PORTS="eth7"'))
+        self.run_in_it("systemctl", "restart", "lldpa")
+        waits = f"waiting for an interface: eth7 (see PORTS in {PREFIX}/etc/default/lldpa)"
+        self.assertTrue(eventually(lambda: self.host.show("lldpa", "StatusText") == waits),
+                        self.host.show("lldpa", "StatusText"))
 
     def test_stop(self) -> None:
         """A stop says goodbye. One that cannot end is killed soon."""

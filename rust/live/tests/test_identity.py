@@ -56,7 +56,7 @@ class TestAnnounced(OnLinks):
 
     def test_description_and_management_address(self) -> None:
         ip("-n", self.wires.here, "addr", "add", "192.0.2.7/24", "dev", "eth0")
-        shown = self.live("eth0").ask("show chassis")
+        shown = self.live("--no-domain", "eth0").ask("show chassis")
         self.assertIn("local-chassis.mgmt=192.0.2.7,1,0,", shown)
         self.assertIn(f"local-chassis.name={os.uname().nodename}", shown)
         shown = self.live("--no-description", "--no-management", "eth0").ask("show chassis")

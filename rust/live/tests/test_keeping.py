@@ -140,9 +140,11 @@ class Kept(Replaced):
         with (self.folder / "errors").open("wb") as errors:
             live = self.service(stderr=errors)
         self.assertEqual(live.neighbors(), 2)
-        copier, = children(live.process.pid)
-        files = [os.readlink(one) for one in Path(f"/proc/{copier}/fd").iterdir()]
-        self.assertFalse(any("lldpa-state" in one for one in files), files)
+        started = children(live.process.pid)
+        self.assertEqual(len(started), 2, "one copies, one asks for the host's domain")
+        for process in started:
+            files = [os.readlink(one) for one in Path(f"/proc/{process}/fd").iterdir()]
+            self.assertFalse(any("lldpa-state" in one for one in files), files)
 
     def test_an_upgrade_hands_over_the_state_of_a_version_that_wrote_a_file(self) -> None:
         postinst = (Path(__file__).parents[3] / "debian" / "lldpa.postinst").read_text()

@@ -27,7 +27,7 @@ class Calls(OnLinks):
         calls, state = self.folder / "calls", State()
         self.addCleanup(state.folder.cleanup)
         state.write(b"".join(forged(10)))
-        live = self.live(*state.words, "eth0",
+        live = self.live(*state.words, "--no-domain", "eth0",
                          before=watched(calls, "read,pread64,setresuid,capset"))
         self.assertEqual(live.neighbors(), 10)
         lines = calls_of(calls, "read", "pread64", "setresuid", "capset")

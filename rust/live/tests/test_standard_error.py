@@ -52,7 +52,7 @@ class Errors(OnLinks):
         return ends
 
     def begun(self, errors: Any) -> "tuple[Live, Peer]":
-        live = self.live("--events", "eth0", stderr=errors)
+        live = self.live("--events", "--no-domain", "eth0", stderr=errors)
         peer = self.peer()
         self.becomes_neighbor(live, numbered(1, 600), peer)
         self.assertIsNotNone(peer.hears())  # before its first frame it has nothing to take back

@@ -4,7 +4,7 @@
 
 pub mod files;
 #[cfg(not(target_feature = "crt-static"))]
-pub mod groups;
+pub mod names;
 pub mod rights;
 pub mod seccomp;
 pub mod signals;
