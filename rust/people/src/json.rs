@@ -5,8 +5,6 @@ use std::fmt::Write;
 
 const INDENT: usize = 2;
 const OCTETS: &str = "octets"; // of the texts in an object that are not UTF-8
-const GREATEST_WITHOUT_EXPONENT: i32 = 16; // of a float, as Python writes it
-const MOST_DIGITS: usize = 60; // more than any number with 25 bits after the point has
 
 #[derive(Clone, Debug, PartialEq)]
 pub enum Json {
@@ -112,7 +110,7 @@ impl Json {
             Json::Null => text.push_str("null"),
             Json::Flag(flag) => text.push_str(if *flag { "true" } else { "false" }),
             Json::Number(number) => text.push_str(&number.to_string()),
-            Json::Float(number) => text.push_str(&float_text(*number)),
+            Json::Float(number) => text.push_str(&format!("{number:?}")), // the shortest that is read as the same
             Json::Text(said) => push_quoted(text, said),
             Json::List(all) => write_all(text, "[]", all.iter().map(|one| (None, one)), margin),
             Json::Object(all) => {
@@ -180,63 +178,23 @@ fn push_quoted(text: &mut String, said: &str) {
     text.push('"');
 }
 
-/// Returns the shortest text of a number that is read as the same number, as Python writes it.
-fn float_text(number: f64) -> String {
-    let (digits, exponent) = parts_of(&format!("{:e}", number.abs()));
-    let all = parts_of(&format!("{:.*e}", MOST_DIGITS, number.abs())).0;
-    let is_same = |digits: &String| scientific_of(digits, exponent).parse() == Ok(number.abs());
-    let digits = even(&digits, &all).filter(is_same).unwrap_or(digits);
-    let sign = if number < 0.0 { "-" } else { "" };
-    if !(-4..GREATEST_WITHOUT_EXPONENT).contains(&exponent) {
-        return format!("{sign}{}", scientific_of(&digits, exponent));
-    }
-    let (zeros, count) = ("0".repeat((-exponent).max(0) as usize), (exponent.max(0) + 1) as usize);
-    let all = format!("{zeros}{digits:0<count$}");
-    let (whole, part) = all.split_at(count);
-    format!("{sign}{whole}.{}", if part.is_empty() { "0" } else { part })
-}
-
-/// Returns the digits and the exponent of a number in scientific form.
-fn parts_of(scientific: &str) -> (String, i32) {
-    let (digits, exponent) = scientific.split_once('e').unwrap_or((scientific, "0"));
-    (digits.replace('.', ""), exponent.parse().unwrap_or(0))
-}
-
-fn scientific_of(digits: &str, exponent: i32) -> String {
-    let (first, rest) = digits.split_at(1);
-    let (dot, side) = (if rest.is_empty() { "" } else { "." }, if exponent < 0 { '-' } else { '+' });
-    format!("{first}{dot}{rest}e{side}{:02}", exponent.abs())
-}
-
-/// Returns the digits whose last one is even, if two that are as short are as near to all digits.
-fn even(shortest: &str, all: &str) -> Option<String> {
-    let before = all.trim_end_matches('0').strip_suffix('5')?;
-    let (front, last) = before.split_at(before.len().checked_sub(1)?);
-    let last = last.bytes().next()?;
-    (before.len() == shortest.len()).then(|| format!("{front}{}", char::from(last + (last & 1))))
-}
-
 #[cfg(test)]
 mod tests {
     use super::*;
 
     #[test]
-    fn floats_are_those_of_python() {
+    fn a_float_is_short_and_a_number_of_json() {
         for (number, text) in [
             (0.0, "0.0"),
-            (25.5, "25.5"),
+            (25.0, "25.0"),
             (-0.5, "-0.5"),
             (6553.5, "6553.5"),
             (0.0001, "0.0001"),
-            (2.9802322387695312e-08, "2.9802322387695312e-08"),
-            (-8.940696716308594e-08, "-8.940696716308594e-08"),
-            (2097151.99609375, "2097151.99609375"),
-            (2.2500076293945312, "2.2500076293945312"),
-            (5.960464477539063e-08, "5.960464477539063e-08"),
-            (2.2500686645507812, "2.2500686645507812"),
             (48.8566133081913, "48.8566133081913"),
+            (2097151.99609375, "2097151.99609375"),
+            (1.0 / (1u64 << 25) as f64, "2.9802322387695313e-8"),
         ] {
-            assert_eq!(float_text(number), text);
+            assert_eq!(Json::Float(number).line(), text);
         }
     }
 
