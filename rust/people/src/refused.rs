@@ -1,36 +1,52 @@
 //! Explains why a command was refused: which word is wrong, and what is allowed in its place. Completes
-//! words that are shortened. The forms of commands are those in the help of lldpa.
+//! words that are shortened.
 
-const HELP: &str = include_str!("../../../examples/help.txt");
-const LEAST_INDENT: usize = 20; // of the further lines of a description
-const THE_SAME: &str = "the same";
+use crate::lldpd::instead;
+
 const A_PORT: &str = "must be a port of this agent";
 const NO_WORD: &str = "no word is allowed here";
 const MISSING: &str = "a word is missing";
+const UNKNOWN: &str = "unknown command";
 /// Reasons that are about the last word of a form, not about a number or a text.
-const OF_FORMS: [&str; 2] = ["unknown command", "extra word"];
+const OF_FORMS: [&str; 2] = [UNKNOWN, "extra word"];
 
-/// The words of a command, of which words in capitals are placeholders, and its description.
-struct Form {
-    words: Vec<&'static str>,
-    said: String,
-}
+const A_TEXT: &str = "up to 255 printable characters, in quotes if it has spaces";
+const STATUSES: &str = "rx-and-tx, rx-only, tx-only, disabled";
+/// The forms of `configure`, and what is allowed in place of their words in capitals.
+const FORMS: [Form; 6] = [
+    Form("configure system hostname TEXT", A_TEXT),
+    Form("configure system description TEXT", A_TEXT),
+    Form("configure lldp tx-interval N", "seconds between frames, 1 to 3600"),
+    Form("configure lldp tx-hold N", "intervals that peers keep a frame, 1 to 100"),
+    Form("configure lldp max-neighbors N", "1 to the number of --max-neighbors"),
+    Form("configure ports PORT lldp status STATUS", STATUSES),
+];
+
+struct Form(&'static str, &'static str);
 
 impl Form {
+    fn words(&self) -> impl Iterator<Item = &'static str> {
+        self.0.split(' ')
+    }
+
+    fn word(&self, place: usize) -> Option<&'static str> {
+        self.words().nth(place)
+    }
+
     /// Returns how many of the words, from the first on, match the form.
     fn fitting(&self, words: &[String]) -> usize {
-        let fits = |(form, word): &(&&str, &String)| match **form {
-            "STATUS" => self.said.split(", ").any(|status| status == &word[..]),
+        let fits = |(form, word): &(&str, &String)| match *form {
+            "STATUS" => STATUSES.split(", ").any(|status| status == &word[..]),
             form => is_placeholder(form) || form == &word[..],
         };
-        self.words.iter().zip(words).take_while(fits).count()
+        self.words().zip(words).take_while(fits).count()
     }
 
     /// Returns what is allowed in place of a word of this form.
-    fn said_of(&self, word: &'static str) -> &str {
+    fn said_of(&self, word: &'static str) -> &'static str {
         match word {
             "PORT" => A_PORT,
-            _ if is_placeholder(word) => &self.said,
+            _ if is_placeholder(word) => self.1,
             _ => word,
         }
     }
@@ -38,37 +54,6 @@ impl Form {
 
 fn is_placeholder(word: &str) -> bool {
     word.bytes().all(|octet| octet.is_ascii_uppercase())
-}
-
-thread_local! {
-    static FORMS: &'static [Form] = Box::leak(read_forms().into());
-}
-
-/// Returns the forms of `configure`, which a thread reads once: a file may have thousands of wrong lines.
-fn forms() -> &'static [Form] {
-    FORMS.with(|forms| *forms)
-}
-
-/// Reads the forms of `configure` in the help.
-fn read_forms() -> Vec<Form> {
-    let mut forms: Vec<Form> = Vec::new();
-    for line in HELP.split("\nExamples").next().unwrap_or(HELP).lines() {
-        if let Some((words, said)) = line.strip_prefix("  ").and_then(|line| line.split_once("  ")) {
-            if words.starts_with("configure ") {
-                let before = forms.last().map_or("", |form| &form.said);
-                let said = if said.trim_start() == THE_SAME { before } else { said.trim_start() };
-                forms.push(Form { words: words.split(' ').collect(), said: said.into() });
-            } else if words.is_empty() && line.starts_with(&" ".repeat(LEAST_INDENT)) {
-                if let Some(form) = forms.last_mut() {
-                    form.said = [&form.said, said.trim_start()].join(" ");
-                }
-            }
-        }
-    }
-    for form in &mut forms {
-        form.said.truncate(form.said.find(" [").unwrap_or(form.said.len()));
-    }
-    forms
 }
 
 /// Returns the words of a line. A quoted text is one word.
@@ -87,22 +72,26 @@ pub fn words_of(line: &str) -> Vec<String> {
 }
 
 /// Returns the agent's reason for refusing a line, such as `out of range`, with the wrong word and
-/// what is allowed in its place: `out of range: 0 (seconds between frames, 1 to 3600)`.
+/// what is allowed in its place: `out of range: 0 (seconds between frames, 1 to 3600)`. Of a command that only
+/// lldpd has it says what to do.
 pub fn explained(line: &str, text: &str) -> String {
-    let (words, known) = (words_of(line), forms());
-    let fits = known.iter().map(|form| form.fitting(&words)).max().unwrap_or(0);
+    let words = words_of(line);
+    let fits = FORMS.iter().map(|form| form.fitting(&words)).max().unwrap_or(0);
     if text == "bad quote" {
         return text.into();
     }
-    let forms: Vec<&Form> = known.iter().filter(|form| form.fitting(&words) == fits).collect();
-    if words.len() > fits && forms.len() == 1 && forms[0].words.len() == fits {
+    if let Some(sentence) = instead(&words).filter(|_| text == UNKNOWN) {
+        return sentence.into();
+    }
+    let forms: Vec<&Form> = FORMS.iter().filter(|form| form.fitting(&words) == fits).collect();
+    if words.len() > fits && forms.len() == 1 && forms[0].words().count() == fits {
         return format!("{text}: {} ({NO_WORD})", words[fits]);
     }
-    let value = forms[0].words.iter().position(|word| is_placeholder(word));
+    let value = forms[0].words().position(is_placeholder);
     let wrong = if OF_FORMS.contains(&text) { fits.min(words.len()) } else { value.unwrap_or(fits) };
     let mut wanted: Vec<&str> = Vec::new();
     for form in forms {
-        let said = form.words.get(wrong).map(|word| form.said_of(word));
+        let said = form.word(wrong).map(|word| form.said_of(word));
         wanted.extend(said.filter(|said| !wanted.contains(said)));
     }
     let said = words.get(wrong).map_or(MISSING, |word| if word.is_empty() { "empty word" } else { word });
@@ -111,15 +100,12 @@ pub fn explained(line: &str, text: &str) -> String {
 
 /// Completes the shortened words of a command.
 pub fn in_full(words: &[String]) -> Vec<String> {
-    let (mut words, mut known) = (words.to_vec(), forms().iter().collect::<Vec<_>>());
+    let (mut words, mut known) = (words.to_vec(), FORMS.iter().collect::<Vec<_>>());
     for place in 1..words.len() {
         let before = words[place - 1].clone();
-        known.retain(|form| {
-            let is_next =
-                form.words.get(place - 1).map_or(false, |word| is_placeholder(word) || *word == before);
-            is_next && form.words.len() > place
-        });
-        let able = known.iter().map(|form| form.words[place]).filter(|word| !is_placeholder(word));
+        let is_before = |word: &str| is_placeholder(word) || word == before;
+        known.retain(|form| form.word(place - 1).map_or(false, is_before));
+        let able = known.iter().filter_map(|form| form.word(place)).filter(|word| !is_placeholder(word));
         if let Some(word) = completed(&words[place], able) {
             words[place] = word.into();
         }
@@ -195,8 +181,23 @@ mod tests {
     }
 
     #[test]
-    fn the_help_is_read_once() {
-        assert!(std::ptr::eq(forms(), forms()));
+    fn commands_that_only_lldpd_has_are_explained() {
+        for (line, text, said) in [
+            (
+                "configure lldp portidsubtype ifname",
+                "unknown command",
+                "the port ID cannot be changed: it is the name of the interface",
+            ),
+            (
+                "configure ports eth0 lldp portdescription \"a b\"",
+                "unknown command",
+                "the description cannot be changed: it is the name of the interface",
+            ),
+            ("configure lldp tx-hold portidsubtype", "not a number", ""),
+        ] {
+            let found = explained(line, text);
+            assert!(if said.is_empty() { found.starts_with(text) } else { found == said }, "{line}: {found}");
+        }
     }
 
     #[test]
