@@ -1,7 +1,7 @@
 //! The counters of ports. All that is known about a counter is its row here. One without a row, of a
 //! newer agent, is shown by its key.
 
-use crate::columns::{columns, Row};
+use crate::columns::{columns, needed, Row};
 use crate::ordered::Ordered;
 use crate::texts::readable;
 
@@ -78,7 +78,8 @@ pub fn help_of(key: &str) -> String {
     known.map_or_else(|| format!("The counter {key} of the agent."), |counter| counter.help.into())
 }
 
-/// Returns a row of counters for each port, and a row of sums if there are several ports.
+/// Returns a row of counters for each port, and a row of sums if there are several ports. If that is too wide, each
+/// port has a column, and the ports that have no room stand below.
 pub fn counter_lines(of_ports: &OfPorts<'_>, width: usize) -> Vec<String> {
     let keys = keys_of(of_ports);
     let heading = std::iter::once("PORT".into()).chain(keys.iter().map(|key| key.to_uppercase()));
@@ -91,5 +92,27 @@ pub fn counter_lines(of_ports: &OfPorts<'_>, width: usize) -> Vec<String> {
     if of_ports.len() > 1 {
         add("all", &Counters::summed(of_ports));
     }
-    columns(&rows, width, keys.len()).collect()
+    if needed(&rows) <= width {
+        return columns(&rows, width, keys.len()).collect();
+    }
+    upright(&rows, width)
+}
+
+/// Returns the rows as columns, beside each other as far as there is room, each time after the first row.
+fn upright(rows: &[Row], width: usize) -> Vec<String> {
+    let (mut lines, mut left) = (Vec::new(), &rows[1..]);
+    while !left.is_empty() {
+        let fits = |count: &usize| needed(&turned(&rows[0], &left[..*count])) <= width;
+        let count = (2..=left.len()).take_while(fits).last().unwrap_or(1);
+        lines.extend(Some(String::new()).filter(|_| !lines.is_empty()));
+        lines.extend(columns(&turned(&rows[0], &left[..count]), width, count));
+        left = &left[count..];
+    }
+    lines
+}
+
+/// Returns rows whose first column has the cells of a heading, and the others those of these rows.
+fn turned(heading: &Row, rows: &[Row]) -> Vec<Row> {
+    let cells = |place: usize| std::iter::once(heading).chain(rows).map(|row| row[place].clone()).collect();
+    (0..heading.len()).map(cells).collect()
 }

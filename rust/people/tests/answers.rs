@@ -286,7 +286,18 @@ fn counters_have_a_table_and_a_sum_of_several_ports() {
         "all      11          2         3          4       5               6             7        8  4294967304",
     ];
     assert_eq!(counter_lines(&counters, 200), lines);
+    assert_eq!(counter_lines(&counters, lines[0].len()), lines);
     assert_eq!(counter_lines(&counters[..1], 200).len(), 2);
+    let upright = counter_lines(&counters, lines[0].len() - 1);
+    assert_eq!(
+        upright[..2],
+        ["PORT            eth0       eth10         all", "SENT               1          10          11"]
+    );
+    assert_eq!(upright.last().expect("a row")[..], "DROPS              9  4294967295  4294967304"[..]);
+    let two_and_one = counter_lines(&counters, 32);
+    assert_eq!(two_and_one[0], "PORT            eth0       eth10");
+    assert_eq!(two_and_one[10..12], ["", "PORT                   all"]);
+    assert_eq!(two_and_one.len(), 21);
 }
 
 #[test]
