@@ -1,14 +1,21 @@
 //! lldpa-ctl, lldpctl and lldpcli: this program under other names. What it asks and prints is in the crate lldpa-people.
 
+use crate::commands::explained;
 use crate::listening::connect;
 use crate::rights::{give_up, user_of_client};
 use crate::sys::terminal;
+use lldpa::{Agent, Options};
 use lldpa_people::client::{self, Host};
 use lldpa_people::lldpcli::program::{self, LLDPCLI, LLDPCTL, OF_CONSOLE};
+use lldpa_people::settings::Setting;
+use lldpa_people::show::MOST_NEIGHBORS;
 use std::io::Error;
 use std::os::unix::io::AsFd;
 use std::os::unix::net::UnixStream;
 use std::time::Duration;
+
+/// The port of an agent for a setting that is of no port.
+const ANY_PORT: &str = "eth0";
 
 struct System;
 
@@ -49,6 +56,15 @@ impl Host for System {
 
     fn can_read(&self, stream: &UnixStream, patience: Option<Duration>) -> bool {
         terminal::can_read(stream.as_fd(), patience)
+    }
+
+    fn why_refused(&self, setting: &Setting) -> Option<String> {
+        let (port, most) = (setting.port().unwrap_or_default(), MOST_NEIGHBORS as u8);
+        let open = |port| Agent::open(&Options { ports: &[port], max_neighbors: most, ..Options::default() });
+        match open(&port).or_else(|_| open(ANY_PORT)) {
+            Ok(mut agent) => agent.command(&setting.line).err().map(|fault| explained(&setting.line, fault)),
+            Err(fault) => Some(fault.to_string()),
+        }
     }
 }
 

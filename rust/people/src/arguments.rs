@@ -6,7 +6,7 @@ pub const DEFAULT_PATH: &str = "/run/lldpa/control";
 /// The commands that ask lldpa-live, and those of this program alone.
 pub const COMMANDS: [&str; 8] =
     ["neighbors", "details", "interfaces", "statistics", "live", "show", "configure", "update"];
-const ALONE: [&str; 5] = ["watch", "metrics", "record", "reload", "help"];
+const ALONE: [&str; 6] = ["watch", "metrics", "record", "reload", "check", "help"];
 /// Lines of a trace, which cannot be shortened.
 const OF_LINES: [&str; 4] = ["up", "down", "rx", "tick"];
 const OPTIONS: [(&str, bool); 7] = [

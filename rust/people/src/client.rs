@@ -13,7 +13,7 @@ use crate::neighbors::{each_port, lines_of};
 use crate::objects::news_object;
 use crate::record::{KEEP, MOST};
 use crate::refused::{explained, in_full};
-use crate::settings;
+use crate::settings::{self, Setting};
 use crate::show::{check_ports, Show};
 use crate::table::Table;
 use crate::texts::printable;
@@ -60,6 +60,8 @@ pub trait Host {
     fn wait(&self, stream: &UnixStream) -> Result<bool, Error>;
     /// Waits until a stream can be read or has ended, at most so long if given. Returns whether that is so.
     fn can_read(&self, stream: &UnixStream, patience: Option<Duration>) -> bool;
+    /// Returns why an agent refuses a setting. The port that a setting names is the agent's, if it can be a port.
+    fn why_refused(&self, setting: &Setting) -> Option<String>;
 }
 
 /// Why a command fails.
@@ -222,6 +224,7 @@ impl<'a> Client<'a> {
                 self.record(folder, most, keep)
             }
             ["reload", ref paths @ ..] => self.reload(paths),
+            ["check", ref paths @ ..] => self.check(paths),
             ["watch", ref words @ ..] => self.watch(words),
             _ => {
                 let mut connection = self.connect(PATIENCE)?;
@@ -397,24 +400,31 @@ impl<'a> Client<'a> {
 
     /// Reads the settings, by default those of the service, and hands them over to lldpa-live.
     fn reload(&self, paths: &[&str]) -> Done<()> {
-        let paths = if paths.is_empty() { &CONFIG[..] } else { paths };
-        let paths: Vec<String> = paths.iter().map(|path| path.to_string()).collect();
-        let (settings, unread) = settings::read(&paths);
-        unread.iter().for_each(|line| complain(NAME, line));
+        let (settings, unread) = settings_of(paths);
         let mut connection = self.connect(PATIENCE)?;
         connection.ask("settings begin")?;
         let (lines, long): (Vec<_>, Vec<_>) =
             settings.iter().partition(|one| one.to_send().len() <= settings::LONGEST_LINE);
         long.iter().for_each(|one| complain(NAME, &one.refused("line too long")));
         lines.iter().try_for_each(|one| connection.ask(&one.to_send()).map(drop))?;
-        let unsent = unread.len() + long.len();
+        let unsent = unread + long.len();
         let answer = connection.ask(&format!("settings end {unsent}"))?;
         let refused = answer.lines();
         refused.iter().for_each(|line| complain(NAME, line));
-        match unsent + refused.len() {
-            0 => Ok(()),
-            count => Err(Failure::Refused(format!("{count} of the settings and files were not applied"))),
-        }
+        none_of(unsent + refused.len(), "were not applied")
+    }
+
+    /// Says which settings the service would refuse. Asks nobody, and reports a given path that does not exist.
+    fn check(&self, paths: &[&str]) -> Done<()> {
+        let is_missing = |path: &&&str| std::fs::symlink_metadata(path).is_err();
+        let missing = paths.iter().filter(is_missing).map(|path| format!("{path}: no such file or folder"));
+        let missing = missing.map(|line| complain(NAME, &line)).count();
+        let (settings, unread) = settings_of(paths);
+        self.host.give_up_root();
+        let why = |one: &Setting| one.why_none().map(String::from).or_else(|| self.host.why_refused(one));
+        let refused = settings.iter().filter_map(|one| Some(one.refused(&why(one)?)));
+        let refused = refused.map(|line| complain(NAME, &line)).count();
+        none_of(missing + unread + refused, "would not be applied")
     }
 
     /// Prints the metrics, or writes them to a file. If lldpa-live does not answer, `lldpa_up` is 0.
@@ -433,6 +443,24 @@ impl<'a> Client<'a> {
             None => self.print(&text)?,
         }
         failure.map_or(Ok(()), Err)
+    }
+}
+
+/// Returns the settings at these paths, by default those of the service, and how many files cannot be read. Reports
+/// each of these.
+fn settings_of(paths: &[&str]) -> (Vec<Setting>, usize) {
+    let paths = if paths.is_empty() { &CONFIG[..] } else { paths };
+    let paths: Vec<String> = paths.iter().map(|path| path.to_string()).collect();
+    let (settings, unread) = settings::read(&paths);
+    unread.iter().for_each(|line| complain(NAME, line));
+    (settings, unread.len())
+}
+
+/// Fails unless this is the case of no setting and no file.
+fn none_of(count: usize, what: &str) -> Done<()> {
+    match count {
+        0 => Ok(()),
+        count => Err(Failure::Refused(format!("{count} of the settings and files {what}"))),
     }
 }
 

@@ -50,6 +50,15 @@ impl Setting {
         (self.path.clone(), self.number)
     }
 
+    /// Returns why this is no setting, whichever agent is asked.
+    pub fn why_none(&self) -> Option<&'static str> {
+        match first_word(&self.line) == "configure" {
+            _ if self.line.len() > LONGEST_LINE => Some("line too long"),
+            true => None,
+            false => Some("a setting must begin with `configure`"),
+        }
+    }
+
     pub fn port(&self) -> Option<String> {
         let words = words_of(&self.line);
         let is_one = words.first().map_or(false, |word| word == "configure") && words.get(1)? == "ports";

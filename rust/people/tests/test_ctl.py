@@ -189,7 +189,7 @@ class Faults(Program):
         self.assertIn(b"configure lldp tx-interval 9", self.served.asked)
         self.run_ctl("up", status=1, said="for lldpa-live alone")
         self.run_ctl("s", status=1, said="unknown command: s (neighbors, details, interfaces, "
-                     "statistics, live, show, configure, update, watch, metrics, record, reload, help)")
+                     "statistics, live, show, configure, update, watch, metrics, record, reload, check, help)")
 
     def test_help_names_each_command(self) -> None:
         told = self.run_ctl("--help")

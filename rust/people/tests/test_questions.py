@@ -117,7 +117,7 @@ class Words(Program):
                  "unknown command: off (rx-and-tx, rx-only, tx-only, disabled)"),
                 ("configure ports eth9 lldp status disabled", "no such port: eth9 (eth0, eth1)"),
                 ("neighbours", "unknown command: neighbours (neighbors, details, interfaces, "
-                 "statistics, live, show, configure, update, watch, metrics, record, reload, help)"),
+                 "statistics, live, show, configure, update, watch, metrics, record, reload, check, help)"),
                 ("tick", "for lldpa-live alone")):
             self.run_ctl(*line.split(), status=1, said=said)
 
