@@ -16,7 +16,7 @@ impl<'a> Metric<'a> {
         Metric { name, kind: "gauge", help }
     }
 
-    const fn counter(name: &'a str, help: &'a str) -> Metric<'a> {
+    pub const fn counter(name: &'a str, help: &'a str) -> Metric<'a> {
         Metric { name, kind: "counter", help }
     }
 }
@@ -63,7 +63,7 @@ pub const NUMBERS: [Value; 4] = [
     gauge(
         "ports-refused",
         "lldpa_ports_refused",
-        "Interfaces that match a pattern but are not used, because 64 ports are in use.",
+        "Interfaces that cannot be ports: not Ethernet, a name that is malformed or given twice, or over 64 ports.",
     ),
     gauge("recorders", "lldpa_recorders", "Clients that record."),
     counter(
@@ -108,7 +108,11 @@ impl Value {
     pub fn number(&self, text: &str) -> Read<u128> {
         match self.word {
             Some(word) => Ok(u128::from(text == word)),
-            None => text.parse().map_err(|_| format!("not a number: {}", quoted(text))),
+            None => number_in(text),
         }
     }
+}
+
+pub fn number_in(text: &str) -> Read<u128> {
+    text.parse().map_err(|_| format!("not a number: {}", quoted(text)))
 }

@@ -2,7 +2,7 @@
 
 use crate::counters::{help_of, keys_of, OfPorts};
 use crate::live_lines::LiveLines;
-use crate::live_metrics::{Metric, Value, NUMBERS, OF_PORTS, STATES};
+use crate::live_metrics::{number_in, Metric, Value, NUMBERS, OF_PORTS, STATES};
 use crate::organizational::{max_frame_size, port_vlan};
 use crate::show::{Neighbor, Port, Read};
 use crate::times::seconds_of;
@@ -18,6 +18,12 @@ const OF_FIRST: &str = "lldpa";
 const UP: Metric<'_> = Metric::gauge("lldpa_up", "1 if lldpa-live answers and its agent runs, else 0.");
 const BEGAN: Metric<'_> =
     Metric::gauge("lldpa_start_time_seconds", "When lldpa-live started, in seconds since 1970.");
+const BUILD: Metric<'_> =
+    Metric::gauge("lldpa_build_info", "Always 1; the label is the version of lldpa-live.");
+const CHANGES: Metric<'_> =
+    Metric::counter("lldpa_changes_total", "Neighbors that came, said something else, or went.");
+/// The kinds of changes, as `watch` names them.
+const KINDS: [&str; 3] = ["came", "changed", "gone"];
 const HELD: Metric<'_> = Metric::gauge("lldpa_neighbors", "Neighbors that the port holds.");
 const TOO_MANY: Metric<'_> = Metric::gauge(
     "lldpa_too_many",
@@ -133,6 +139,8 @@ fn of_live(service: Option<&str>, live: &LiveLines<'_>) -> Read<String> {
     if let Some(began) = live.own.get(&"began") {
         put_all(&mut text, service, BEGAN, [(Vec::new(), seconds_of(began)?)]);
     }
+    let version = live.own.get(&"version").map(|version| (vec![("version", *version)], 1));
+    put_all(&mut text, service, BUILD, version);
     for state in &STATES {
         if let Some(now) = live.own.get(&state.key) {
             let samples = state.states.iter().map(|one| (vec![("state", *one)], u8::from(one == now)));
@@ -147,12 +155,22 @@ fn of_live(service: Option<&str>, live: &LiveLines<'_>) -> Read<String> {
     for value in &OF_PORTS {
         put_all(&mut text, service, value.metric, told_of_ports(value, live)?);
     }
+    put_all(&mut text, service, CHANGES, changes(live)?);
     Ok(text)
 }
 
 fn told_of_ports<'a>(value: &Value, live: &LiveLines<'a>) -> Read<Vec<(Labels<'a>, u128)>> {
     let told = live.ports.entries.iter().filter_map(|(port, of)| Some((*port, of.get(&value.key)?)));
     told.map(|(port, text)| Ok((vec![("port", port)], value.number(text)?))).collect()
+}
+
+/// Returns how often each port's neighbors came, changed and went.
+fn changes<'a>(live: &LiveLines<'a>) -> Read<Vec<(Labels<'a>, u128)>> {
+    let of_kind = |kind: &'static str| {
+        let told = live.ports.entries.iter().filter_map(move |(port, of)| Some((*port, *of.get(&kind)?)));
+        told.map(move |(port, text)| Ok((vec![("port", port), ("kind", kind)], number_in(text)?)))
+    };
+    KINDS.into_iter().flat_map(of_kind).collect()
 }
 
 /// Returns the labels that identify a neighbor.

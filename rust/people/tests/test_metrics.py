@@ -1,9 +1,12 @@
 """Tests the metrics in Prometheus' text format, and the alerts in share/prometheus."""
 
+import json
 import re
 import shutil
 import subprocess
+import tempfile
 import unittest
+from pathlib import Path
 
 from lldpa.agent.show import Counters
 from served import LIVE_LINES, CTL, REPOSITORY, Served, ctl, frame, numbered, tlv
@@ -11,6 +14,9 @@ from texts_shown import shown_text
 
 FOLDER = REPOSITORY / "share" / "prometheus"
 RULES, TESTS = FOLDER / "lldpa.rules.yml", FOLDER / "lldpa.rules.test.yml"
+DASHBOARD = FOLDER / "lldpa.dashboard.json"
+# lines of the answer to `live` that only newer services have
+NEWER = [b"live.version=1.0.0", *(b"live.eth0.%s=%d" % one for one in ((b"came", 3), (b"changed", 2), (b"gone", 1)))]
 has_promtool = unittest.skipUnless(shutil.which("promtool"),
                                    "promtool: it is not installed")
 SAMPLE = re.compile(r'([a-z_]+)(?:\{((?:[a-z_]+="(?:[^"\\\n]|\\["\\n])*",?)+)\})? ([0-9]+)')
@@ -90,6 +96,13 @@ class Metrics(unittest.TestCase):
             self.assertEqual([labels[0][1] for (name, labels), value in series.items()
                               if name == agent and value], [state])
 
+    def test_the_version_and_the_changes_of_neighbors(self) -> None:
+        series = self.own(*NEWER)
+        self.assertEqual(series["lldpa_build_info", (("version", "1.0.0"),)], 1)
+        changes = {labels: value for (name, labels), value in self.shown().items() if name == "lldpa_changes_total"}
+        self.assertEqual(changes, {(("port", "eth0"), ("kind", kind)): value
+                                   for kind, value in (("came", 3), ("changed", 2), ("gone", 1))})
+
     def test_what_lldpa_live_does_not_tell_is_left_out(self) -> None:
         self.served.live_lines = [b"live.eth0.kernel-drops=1", b"live.eth0.1.since=2",
                                     b"live.later=3"]
@@ -160,9 +173,9 @@ class Rules(unittest.TestCase):
 
     def test_each_metric_is_one_that_is_told(self) -> None:
         with Served() as served:
+            served.frame("eth0", numbered(1))
             names = set(re.findall(r"^# TYPE (\S+)", ctl(served.path, "metrics").stdout, re.M))
-        expressions = "\n".join(re.findall(r"^ +expr: (.*)$", RULES.read_text(), re.M))
-        asked = set(re.findall(r"\blldpa_[a-z_]+", expressions))
+        asked = set(re.findall(r"\blldpa_[a-z_]+", RULES.read_text()))
         self.assertGreater(len(asked), 8)
         self.assertEqual(asked - names, set())
 
@@ -177,3 +190,29 @@ class Rules(unittest.TestCase):
             told = subprocess.run(["promtool", *words], check=False, capture_output=True, text=True)
             self.assertEqual(told.returncode, 0, told.stdout + told.stderr)
             self.assertIn("SUCCESS", told.stdout)
+
+    @has_promtool
+    def test_the_metrics_fill_the_dashboard(self) -> None:
+        with Served() as served, tempfile.TemporaryDirectory() as folder:
+            served.live_lines = [*LIVE_LINES, *NEWER]
+            served.frame("eth0", numbered(1))
+            samples = [line for line in ctl(served.path, "metrics").stdout.splitlines() if line[0] != "#"]
+            panels = json.loads(DASHBOARD.read_text())["panels"]
+            asked = [target["expr"] for panel in panels for target in panel["targets"]]
+            file = Path(folder, "test.json")
+            file.write_text(json.dumps({"rule_files": [str(RULES)], "evaluation_interval": "30s",
+                                        "tests": [fills(samples, asked)]}))
+            told = subprocess.run(["promtool", "test", "rules", file], check=False, capture_output=True, text=True)
+        self.assertEqual(told.returncode, 0, told.stdout + told.stderr)
+
+
+def fills(samples: list[str], asked: list[str]) -> dict[str, object]:
+    """Returns a test for promtool: each of these expressions has a value, if counters of the samples grow."""
+    series = []
+    for sample in samples:
+        name, labels = re.match(r"([a-z_]+)(?:{(.*)})? ", sample).groups()  # type: ignore[union-attr]
+        series.append({"series": f'{name}{{instance="leaf1",{labels or ""}}}',
+                       "values": "1+1x40" if name.endswith("_total") else sample.split()[-1] + "x40"})
+    has_value = [{"expr": f"count({one}) > bool 0", "eval_time": "15m",
+                  "exp_samples": [{"labels": "{}", "value": 1}]} for one in asked]
+    return {"interval": "30s", "input_series": series, "promql_expr_test": has_value}
