@@ -180,10 +180,12 @@ check_files() {
     cp "$LLDPA_LIVE" "$room/usr/usr/bin/lldpa-live"      # debian/rules may have built it again
     mv "$room/package/usr/share/cargo/registry" "$room/crates"
     rm -r "$room/package/usr/share/cargo" "$room/package/usr/share/python3"
+    # The links of lldpa-lldpctl, which install.sh leaves to the one who installs.
+    rm -r "$room/package/usr/sbin" "$room/package/usr/share/bash-completion/completions/lldpcli" "$room"/package/usr/share/man/man1/lldpcli.1.gz
     gunzip "$room"/package/usr/share/man/*/*.gz "$room/package/usr/share/doc/lldpa/changelog.gz"
     mkdir -p "$room/package/etc/default"
     mv "$room/package/usr/share/lldpa/default" "$room/package/etc/default/lldpa"
-    own='^usr/share/doc/\(liblldpa1\|librust-lldpa-dev\|lldpa-tools\)\|^usr/share/doc/[^/]*/\(copyright\|changelog[.A-Za-z]*\.gz\) '
+    own='^usr/share/doc/\(liblldpa1\|librust-lldpa-dev\|lldpa-tools\|lldpa-lldpctl\)\|^usr/share/doc/[^/]*/\(copyright\|changelog[.A-Za-z]*\.gz\) '
     listed "$room/package" | grep -v "$own" > "$room/packaged"
     listed "$room/usr" > "$room/installed"
     check "the packages have other files than tools/release/install.sh installs" diff "$room/installed" "$room/packaged"
@@ -227,13 +229,14 @@ check_chroot() {
     [ "$(id -u)" -eq 0 ] || { echo "skipped: the package in a chroot, which needs root"; return; }
     cat > "$room/in-chroot" <<'END'
 #!/bin/sh
-# in-chroot FOLDER PACKAGE: writes a line for each check, `held` or `FAILED`, and a name.
+# in-chroot FOLDER PACKAGE LLDPCTL: writes a line for each check, `held` or `FAILED`, and a name.
 mkdir -p "$1" && mount -t tmpfs tmpfs "$1" && mkdir "$1/upper" "$1/work" "$1/root" || exit 3
 mount -t overlay overlay -o "lowerdir=/,upperdir=$1/upper,workdir=$1/work" "$1/root" || exit 3
 root=$1/root
 mount -t proc proc "$root/proc" && mount --rbind /dev "$root/dev" || exit 3
 mount -t tmpfs tmpfs "$root/run" && mount -t tmpfs tmpfs "$root/tmp" || exit 3
 cp "$2" "$root/tmp/lldpa.deb"
+cp "$3" "$root/tmp/lldpctl.deb"
 held() {
     what=$1
     shift
@@ -252,6 +255,22 @@ plant() {
     for link in var/lib/private/lldpa/state run/lldpa-metrics/lldpa.prom; do ln -sfT /etc/lldpa-victim "$root/$link"; done
 }
 unharmed() { [ "$(stat -c '%U %a' "$root/etc/lldpa-victim") $(cat "$root/etc/lldpa-victim")" = "root 600 of root" ]; }
+# Two agents on a link of their own. The name of the second must appear in what the first one answers.
+connect() {
+    ip link add eth0 type veth peer name far && ip link set eth0 up && ip link set far up
+    chroot "$root" lldpa-live --control /run/lldpa/control eth0 &
+    agents=$!
+    chroot "$root" lldpa-live --control /run/far/control far -- --hostname far.example &
+    agents="$agents $!"
+    for _ in $(seq 300); do
+        if chroot "$root" lldpa-ctl | grep far.example; then return; fi
+        sleep 0.2
+    done
+    false
+}
+told_in() { chroot "$root" sh -c "PATH=/usr/sbin:/usr/bin; $2" | grep -x "$1"; }
+no_lldpd() { [ ! -e "$root/usr/sbin/lldpd" ] && { [ ! -e /etc/lldpd.d ] || [ -e "$root/etc/lldpd.d" ]; }; }
+lldpd_has_room() { [ ! -e "$root/usr/sbin/lldpcli" ] && [ -e "$root/usr/lib/lldpa/bin/lldpcli" ]; }
 held "it installs without systemd" chroot "$root" dpkg -i /tmp/lldpa.deb
 held "it has a configuration" [ -f "$root/etc/default/lldpa" ]
 held "it has a user for lldpa-live by hand" chroot "$root" id _lldpa
@@ -259,17 +278,30 @@ held "it has a user for lldpa-live by hand" chroot "$root" id _lldpa
 plant
 held "it upgrades" chroot "$root" dpkg -i /tmp/lldpa.deb
 held "an upgrade writes through no link of the service" unharmed
+held "two agents hear each other" connect
+held "lldpa-lldpctl takes the place of lldpd" chroot "$root" apt-get -qqy install /tmp/lldpctl.deb
+held "lldpd has gone, but for its configuration" no_lldpd
+held "lldpctl answers as Ansible asks it" told_in 'lldp.eth0.chassis.name=far.example' 'lldpctl -f keyvalue'
+held "lldpctl answers in JSON" told_in far.example 'lldpctl -f json |
+    python3 -c "import json, sys; print(*json.load(sys.stdin)[\"lldp\"][\"interface\"][\"eth0\"][\"chassis\"])"'
+held "lldpcli answers" told_in ' *SysName: *far.example' 'lldpcli show neighbors'
+held "lldpa-lldpctl goes again" chroot "$root" dpkg -P lldpa-lldpctl
+held "the names are free for lldpd" lldpd_has_room
+# shellcheck disable=SC2086 # each number is a word
+kill $agents
+wait
 plant
 held "it is purged" chroot "$root" dpkg -P lldpa
 held "a purge writes through no link of the service" unharmed
 held "no file of it is left" [ -z "$(cd "$root" && ls -d run/lldpa* var/lib/private/lldpa etc/default/lldpa etc/lldpa.d 2> /dev/null)" ]
 END
-    unshare --mount --propagation private sh "$room/in-chroot" "$room/over" "$(ls "$room"/packages/lldpa_*.deb)" > "$room/tried" 2>&1
+    unshare --mount --net --propagation private sh "$room/in-chroot" "$room/over" "$(ls "$room"/packages/lldpa_*.deb)" \
+        "$(ls "$room"/packages/lldpa-lldpctl_*.deb)" > "$room/tried" 2>&1
     if [ $? -eq 3 ]; then
         echo "skipped: the package in a chroot, since no file system can be laid over this one: $(tail -n 1 "$room/tried")"
         return
     fi
-    [ "$(grep -c '^held: ' "$room/tried")" -eq 8 ]
+    [ "$(grep -c '^held: ' "$room/tried")" -eq 16 ]
     judge $? "the package in a chroot: $(grep -v '^held: ' "$room/tried")"
 }
 
