@@ -1,5 +1,5 @@
 //! Compares what TLVs of organizations mean, and what is told of changes, with the files in `expected`,
-//! letter for letter. A second implementation, in Python, wrote them.
+//! letter for letter. A second implementation, in Python, wrote them; floats have the form of Rust's library since.
 
 #[allow(dead_code)]
 #[path = "../examples/people.rs"]
