@@ -8,7 +8,7 @@ use crate::reports::{counted, warn};
 use crate::time::Moment;
 use lldpa::{CommandFault, Status};
 use lldpa_people::refused;
-use lldpa_people::settings::{self, first_word, text_of_line, Place, Setting, LONGEST_LINE};
+use lldpa_people::settings::{self, text_of_line, Place, Setting};
 use std::collections::BTreeSet;
 use std::fmt;
 
@@ -175,11 +175,8 @@ impl Live {
 
     /// Applies a setting. Returns why it is refused, but None if a pattern may still add its port.
     fn why_refused(&mut self, setting: &Setting) -> Option<String> {
-        if setting.line.len() > LONGEST_LINE {
-            return Some("line too long".into());
-        }
-        if first_word(&setting.line) != "configure" {
-            return Some("a setting must begin with `configure`".into());
+        if let Some(why) = setting.why_none() {
+            return Some(why.into());
         }
         match self.command(&setting.line).err()? {
             Refusal::NoAgent => Some(Refusal::NoAgent.to_string()),
