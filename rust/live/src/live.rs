@@ -88,6 +88,8 @@ pub struct Live {
     pub slots: Option<Slots>,
     /// True if another lldpa-live follows at once.
     pub makes_way: bool,
+    /// True if this one followed another, and has its neighbors.
+    pub has_taken_over: bool,
     /// When to save the state next.
     pub next_state: Moment,
     /// The last number that was given to a chassis.
@@ -119,6 +121,7 @@ impl Live {
             record: Recording::default(),
             slots: None,
             makes_way: false,
+            has_taken_over: false,
             next_state: Moment::default(),
             last_chassis: 0,
             outbox: Outbox::default(),

@@ -16,7 +16,7 @@ use crate::rights::{self, give_up, text_of, user_to_be};
 use crate::state::{Saved, Slots, StateFault};
 use crate::sys::signals::{self, Signal};
 use crate::sys::{self, seccomp};
-use crate::time::Moment;
+use crate::time::{Moment, SECOND};
 use crate::wrong_arguments;
 use lldpa::{OpenFault, Show, Status};
 use std::fmt;
@@ -119,6 +119,7 @@ fn begin(arguments: Arguments, user: Option<rights::User>) -> Result<Live, Start
         warn(&format!("system calls are not filtered: {}", text_of(&fault)));
     });
     let saved = live.take_slots(slots);
+    live.has_taken_over = !saved.counters.is_empty();
     live.open(&saved)?;
     Ok(live)
 }
@@ -161,6 +162,7 @@ fn work(mut live: Live) -> i32 {
         Some(seconds) => once(&mut live, seconds),
         None => {
             while !turn(&mut live, None) {}
+            pass_first_second(&mut live);
             0
         }
     }));
@@ -174,6 +176,15 @@ fn work(mut live: Live) -> i32 {
     });
     reports::flush();
     status
+}
+
+/// A port sends from the agent's first second on, and a port that sends can say goodbye. So if peers
+/// know this host from the lldpa-live before, the end waits for that second.
+fn pass_first_second(live: &mut Live) {
+    let first = live.clock.end_of(1);
+    while live.has_taken_over && !live.makes_way && live.clock.given == 0 && Moment::now() < first + SECOND {
+        turn(live, Some(first));
+    }
 }
 
 /// Waits for input, at most until a deadline or `last`, and handles it. True at a signal to end.

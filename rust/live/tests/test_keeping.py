@@ -104,6 +104,13 @@ class Kept(Replaced):
         self.assertEqual(live.ended(signal.SIGTERM), 0)
         self.assertTrue(self.hears_a_goodbye())
 
+    def test_a_stop_right_after_a_restart_says_goodbye(self) -> None:
+        """Before its first second it has sent no frame, but its peers know it from the one before."""
+        live = self.with_neighbors()
+        self.assertEqual(live.ended(signal.SIGUSR2), 0)
+        self.assertEqual(self.service().ended(signal.SIGTERM), 0)
+        self.assertTrue(self.hears_a_goodbye())
+
     def test_without_a_state_a_restart_says_goodbye(self) -> None:
         live = self.live("eth0")
         self.assertIsNotNone(self.peers[0].hears())
