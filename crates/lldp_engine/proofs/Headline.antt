@@ -2,4 +2,4 @@
 pub mod Promise
 pub mod Answered
 -- used by the crates that depend on this one
-pub use Rattle.lldp_engine.proofs.Headline.Promise.{promised}
+pub use Rattle.lldp_engine.proofs.Headline.Promise.{promised, have_sent_exactly}

@@ -27,12 +27,12 @@ unfolding port_after
 name_after o past name = refl
 
 port_at : (o : Options) (events : List Event) (s i : ℕ) (names : List (List ℕ)) (p : PortState) → i < length (ports_after o events s names) → p ≡ get_or (ports_after o events s names) i p
-    → IsPortAfter o (port_past o (s + i) events) (slice_get names i) p
+    → IsPortAfter o (port_past (s + i) events) (slice_get names i) p
 port_at o events s i [] p lt h = absurd (omega arith)
 port_at o events s zero (name ∷ names) p lt h =
-    let n : p.name ≡ name = ap (λ (q : PortState). q.name) h ∙ name_after o (port_past o s events) name in
-    subst (λ (k : ℕ). IsPortAfter o (port_past o k events) (Some name) p) (sym (add-zero s))
-    (record { named = ap (λ (x : List ℕ). Some x) (sym n); is = h ∙ ap (port_after o (port_past o s events)) (sym n) })
+    let n : p.name ≡ name = ap (λ (q : PortState). q.name) h ∙ name_after o (port_past s events) name in
+    subst (λ (k : ℕ). IsPortAfter o (port_past k events) (Some name) p) (sym (add-zero s))
+    (record { named = ap (λ (x : List ℕ). Some x) (sym n); is = h ∙ ap (port_after o (port_past s events)) (sym n) })
 port_at o events s (suc i) (name ∷ names) p lt h = grind (arith, common_steps, port_at o events (s + 1) i names p (omega arith) h)
 
 pub port_reads : (past : Past) (agent : AgentState) (i : ℕ) (p : PortState) → Stands past agent → i < length agent.ports → p ≡ get_or agent.ports i p → IsPortAfter past.options (past_of past i) (slice_get past.options.names i) p

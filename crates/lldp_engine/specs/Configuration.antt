@@ -2,6 +2,7 @@
 use Rattle.std.specs.Prelude.{ℕ, ◌+◌, ◌*◌, min, List, Option, codes}
 use Rattle.lldp_engine.specs.declared.agent.options.Role.{Role}
 use Rattle.lldp_engine.specs.Options.{Options}
+use Rattle.lldp_engine.specs.Ranges.{first_interval}
 use Rattle.lldp_engine.specs.Event.{Event, set, Setting, hostname, description, interval, hold, limit, status, update}
 
 -- The options fix the values up to `capacity`. Commands change the others: the two texts,
@@ -20,7 +21,7 @@ pub record Configuration : Type 0 where
   pub hold : ℕ
   pub limit : ℕ
 
--- At opening the tx-interval is 30, the tx-hold is 4, and the description is `lldpa`.
+-- At opening the tx-interval is 30 seconds, the tx-hold is 4, and the description is `lldpa`.
 abbrev pub configuration_at_opening : Options → Configuration
 configuration_at_opening o =
     record {
@@ -33,7 +34,7 @@ configuration_at_opening o =
       capacity = o.max_neighbors;
       hostname = o.hostname;
       description = codes "lldpa";
-      interval = 30;
+      interval = first_interval;
       hold = 4;
       limit = o.max_neighbors;
     }

@@ -13,6 +13,7 @@ pub mod Place
 pub mod Past
 pub mod Standing
 pub mod Headline
+pub mod Sending
 pub mod NextWords
 pub mod Command
 pub mod Forms

@@ -4,7 +4,8 @@ use Rattle.std.specs.Prelude.{ℕ, ◌+◌, List, [], ◌∷◌}
 use Rattle.lldp_transmit.specs.declared.event.Mark.{Mark}
 use Rattle.lldp_transmit.specs.declared.event.Mark.TheVariants.{Quiet, Ordinary, Shutdown}
 use Rattle.lldp_engine.specs.Options.{Options}
-use Rattle.lldp_engine.specs.Event.{Event, HasOctets}
+use Rattle.lldp_engine.specs.Event.{Event, HasOctets, set, interval}
+use Rattle.lldp_engine.specs.Ranges.{first_interval}
 use Rattle.lldp_engine.specs.Configuration.{Configuration, configuration_at_opening, configured}
 use Rattle.lldp_engine.specs.AgentState.{AgentState, PortState, Allows}
 use Rattle.lldp_engine.specs.Port.Event.{whose, for_port}
@@ -28,26 +29,29 @@ abbrev pub configuration_after : Options → List Event → Configuration
 configuration_after o [] = configuration_at_opening o
 configuration_after o (event ∷ events) = configured event (configuration_after o events)
 
+-- The tx-interval is as last set by a command, or else as at opening.
+abbrev pub interval_after : List Event → ℕ
+interval_after [] = first_interval
+interval_after (set (interval seconds) ∷ events) = seconds
+interval_after (event ∷ events) = interval_after events
+
 -- Returns what happens to port i at an event that follows these events.
-abbrev pub happened : Options → ℕ → Event → List Event → Happened
-happened o i event events = record {
-  event = for_port i (whose event);
-  interval = (configured event (configuration_after o events)).interval;
-}
+abbrev pub happened : ℕ → Event → List Event → Happened
+happened i event events = record { event = for_port i (whose event); interval = interval_after (event ∷ events) }
 
 -- Returns what has happened to port i, newest first.
-abbrev pub port_past : Options → ℕ → List Event → List Happened
-port_past o i [] = []
-port_past o i (event ∷ events) = happened o i event events ∷ port_past o i events
+abbrev pub port_past : ℕ → List Event → List Happened
+port_past i [] = []
+port_past i (event ∷ events) = happened i event events ∷ port_past i events
 
 -- Returns what has happened to port i in the past of an agent.
 abbrev pub past_of : Past → ℕ → List Happened
-past_of past i = port_past past.options i past.events
+past_of past i = port_past i past.events
 
 -- Returns the ports with these names after these events. The first is port i.
 abbrev pub ports_after : Options → List Event → ℕ → List (List ℕ) → List PortState
 ports_after o events i [] = []
-ports_after o events i (name ∷ names) = port_after o (port_past o i events) name ∷ ports_after o events (i + 1) names
+ports_after o events i (name ∷ names) = port_after o (port_past i events) name ∷ ports_after o events (i + 1) names
 
 -- Returns the agent with this past, by the definitions alone.
 unfoldable pub agent_of : Past → AgentState
@@ -78,7 +82,7 @@ sending i Shutdown others = (i, Shutdown) ∷ others
 -- Returns the ports that sent at the last event, with what they sent. The first name is port i.
 abbrev pub sent_from : Options → List Event → ℕ → List (List ℕ) → List Sending
 sent_from o events i [] = []
-sent_from o events i (name ∷ names) = sending i (mark_after o (port_past o i events)) (sent_from o events (i + 1) names)
+sent_from o events i (name ∷ names) = sending i (mark_after o (port_past i events)) (sent_from o events (i + 1) names)
 
 -- Returns the ports that sent at the last event, in ascending order, each with what it sent.
 abbrev pub marks_of : Past → List Sending

@@ -19,6 +19,7 @@ ghost use Rattle.lldp_engine.specs.Code.Step.{agent_after, agent_marks};
 ghost use Rattle.lldp_engine.specs.Code.Telling.{agent_told};
 ghost use Rattle.lldp_engine.specs.Told.{told_of, Tells};
 ghost use Rattle.lldp_engine.specs.Headline.{PromisedStep};
+ghost use Rattle.lldp_engine.specs.Sending.{HaveSentExactly};
 
 pub(crate) mod configuration;
 pub(crate) mod event;
@@ -278,11 +279,15 @@ impl<A: Allocator> Agent<A> {
         ensures marks_past { (past : Past) → Stands past self.old →
             result.items ≡ marks_of (with_event past (event_of event.entry)) }
         // Each table holds the last stored frames that have not expired. A port sends an ordinary
-        // frame exactly if one is due and its credit window is open, and no other choice of events
-        // to send at, each with a frame due and the window open, has sent more frames up to any
-        // event.
+        // frame exactly if one is due and its credit window is open.
         ensures headline { (past : Past) → Stands past self.old →
             PromisedStep past (event_of event.entry) result.items self.new }
+        // Each port has sent exactly this at all events. So no run of events has more frames than
+        // the greatest credit plus the ticks after its first event, stops are few, and no other
+        // choice of events to send at, each with a frame due and the window open, has sent more
+        // frames up to any event.
+        ensures sending { (past : Past) → Stands past self.old →
+            HaveSentExactly (with_event past (event_of event.entry)) }
     {
         let mut marks = Marks::new();
         self.step_told(event, &mut marks);
@@ -309,6 +314,8 @@ impl<A: Allocator> Agent<A> {
             marks.new.items ≡ marks_of (with_event past (event_of event.entry)) }
         ensures headline { (past : Past) → Stands past self.old →
             PromisedStep past (event_of event.entry) marks.new.items self.new }
+        ensures sending { (past : Past) → Stands past self.old →
+            HaveSentExactly (with_event past (event_of event.entry)) }
     {
         self.cursor = Cursor::START;
         self.configuration.take(&event);

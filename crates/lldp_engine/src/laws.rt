@@ -6,11 +6,13 @@ ghost use Rattle.lldp_engine.specs.Event.{Event, HasOctets};
 ghost use Rattle.lldp_engine.specs.AgentState.{AgentState, Allows};
 ghost use Rattle.lldp_engine.specs.Past.{Past, with_event, configuration_after, port_past, marks_of};
 ghost use Rattle.lldp_engine.specs.Port.Past.{Happened, status_after, up_after};
-ghost use Rattle.lldp_engine.specs.Port.Headline.{FollowsStatus};
 ghost use Rattle.lldp_engine.specs.Standing.{Stands};
 ghost use Rattle.lldp_engine.specs.Code.Step.{agent_after, agent_marks};
 ghost use Rattle.lldp_engine.specs.Laws.LastSet.{IsLastStatus, IsLastLink, IsLastConfiguration};
+ghost use Rattle.lldp_engine.specs.Laws.Holding.{HoldLastStored};
+ghost use Rattle.lldp_engine.specs.Laws.Rights.{FollowsStatus};
 ghost use Rattle.lldp_engine.specs.Headline.{Promised};
+ghost use Rattle.lldp_engine.specs.Sending.{HaveSentExactly};
 
 pub mod calls;
 pub mod counting;
@@ -38,13 +40,20 @@ pub fn steps_carry_standing()
         Stands (with_event past event) (agent_after event agent) }
 {}
 
-/// Each port's table holds exactly the last stored frames that have not expired. Each port has sent
-/// exactly what was due while its credit window was open and its status let it send. No other
-/// choice of events to send at, each with a frame due and the window open, has sent more frames up
-/// to any event.
-#[tactic(auto, using(crate::proofs::Headline::Promise::promised))]
+/// Each port's table holds exactly the last stored frames that have not expired (`positions`: each by
+/// its position in the port's past).
+#[tactic(auto, using(crate::proofs::Headline::Promise::promised, crate::proofs::Headline::Promise::hold_last_stored))]
 pub fn standing_agents_are_promised()
-    ensures { (past : Past) (agent : AgentState) → Stands past agent → Promised past agent }
+    ensures tables { (past : Past) (agent : AgentState) → Stands past agent → Promised past agent }
+    ensures positions { (past : Past) (agent : AgentState) → Stands past agent → HoldLastStored past agent }
+{}
+
+/// Each port has sent exactly what was due while its credit window was open. So no run of events has
+/// more ordinary frames than txCreditMax plus the ticks after its first event, or more stops than
+/// one plus one for each reinitDelay ticks in it; and no other choice of events to send at, each
+/// with a frame due and the window open, has sent more frames up to any event.
+pub fn standing_agents_have_sent_exactly()
+    ensures { (past : Past) (agent : AgentState) → Stands past agent → HaveSentExactly past }
 {}
 
 /// After any past, a port's transmit machine may transmit exactly if the port's status allows it,
@@ -58,10 +67,10 @@ pub fn rights_follow_statuses()
 /// no later event sets it. If no event set a value, it is as at opening.
 pub fn last_events_decide()
     ensures status { (options : Options) (port : ℕ) (events : List Event) (status : Status) →
-        (status ≡ status_after options (port_past options port events))
+        (status ≡ status_after options (port_past port events))
         ↔ IsLastStatus options port events status }
     ensures link { (options : Options) (port : ℕ) (events : List Event) (up : Bool) →
-        (up ≡ up_after (port_past options port events)) ↔ IsLastLink port events up }
+        (up ≡ up_after (port_past port events)) ↔ IsLastLink port events up }
     ensures configuration { (options : Options) (events : List Event) →
         IsLastConfiguration options events (configuration_after options events) }
 {}

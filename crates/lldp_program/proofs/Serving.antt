@@ -20,7 +20,7 @@ keeps_on_then past a b first next =
     let more = next (followed past first.0) first.1 in
     let same : followed (followed past first.0) more.0 ≡ followed past (more.0 ++ first.0) =
     ap {B = Past} (λ events. record { options = past.options; events = events }) (sym (append_assoc more.0 first.0 past.events)) in
-    (more.0 ++ first.0, rw same at more.1, rw same at more.2)
+    (more.0 ++ first.0, rw same at more.1, rw same at more.2, rw same at more.3)
 
 pub logged_none : {C : Type 0} → (told : Option (List (Call C))) → logged [] told ≡ told
 logged_none None = refl

@@ -239,7 +239,7 @@ credit_of o past name = refl
 
 credit_named : (o : Options) (events : List Event) (i : ℕ) (names : List (List ℕ)) → 1 ≤ o.credit_max → HaveCredit (ports_after o events i names)
 credit_named o events i [] h = tt
-credit_named o events i (name ∷ names) h = (omega (arith, credit_of o (port_past o i events) name), credit_named o events (i + 1) names h)
+credit_named o events i (name ∷ names) h = (omega (arith, credit_of o (port_past i events) name), credit_named o events (i + 1) names h)
 
 pub stands_ticked : (k : ℕ) (past : Past) (agent : AgentState) → Stands past agent → Stands (with_ticks k past) (ticked k agent)
 stands_ticked zero past agent h = h

@@ -12,6 +12,7 @@ use Rattle.lldp_engine.specs.Past.{with_event, sending}
 use Rattle.lldp_engine.specs.Standing.{Stands}
 use Rattle.lldp_engine.specs.Port.Event.{each_port, tick as port_tick}
 use Rattle.lldp_engine.specs.Code.Step.{ports_step, marks_step, agent_after, agent_marks}
+use Rattle.lldp_engine.proofs.Headline.{have_sent_exactly}
 use Rattle.lldp_engine.proofs.Headline.Answered.{promised_step}
 use Rattle.lldp_engine.proofs.Standing.Carrying.{carries, marks_carry}
 use Rattle.lldpa_c.specs.Agent.{Steps}
@@ -60,6 +61,7 @@ steps_still agent e m = record {
   stands = λ past h. subst (Stands (with_event past tick)) e (carries past tick agent h tt tt);
   marks_past = λ past h. sym m ∙ marks_carry past tick agent h tt tt;
   headline = λ past h. promised_step past tick [] agent (sym m ∙ marks_carry past tick agent h tt tt) (subst (Stands (with_event past tick)) e (carries past tick agent h tt tt));
+  sending = λ past h. have_sent_exactly (with_event past tick) agent (subst (Stands (with_event past tick)) e (carries past tick agent h tt tt));
 }
 
 takes_more : (k taken : ℕ) (before agent : AgentState) → Steps agent tick agent [] → TakesSo taken before agent [] 0 → TakesSo (taken + k) before agent [] 0

@@ -71,7 +71,7 @@ one_suc taken gone gone' before after after' sent sent' t e z s a = record {
   last = (s.marks ∙ ap (agent_marks tick) t.is, omega (arith, a, ap neighbors_held t.is, ap neighbors_held (s.next ∙ ap (agent_after tick) t.is)));
   quiet = quiet_more taken before after sent gone t e z;
   stands = λ past st. s.stands (with_ticks taken past) (t.stands past st);
-  promised = λ past st. (s.marks_past (with_ticks taken past) (t.stands past st), s.headline (with_ticks taken past) (t.stands past st));
+  promised = λ past st. (s.marks_past (with_ticks taken past) (t.stands past st), s.headline (with_ticks taken past) (t.stands past st), s.sending (with_ticks taken past) (t.stands past st));
 }
 
 pub one_more : (taken gone gone' : ℕ) (before after after' : AgentState) (sent sent' : List (ℕ × Mark)) → TakesSo taken before after sent gone → sent ≡ [] → gone ≡ 0

@@ -8,6 +8,7 @@ use Rattle.lldp_engine.specs.Frames.{IsSent}
 use Rattle.lldp_engine.specs.Past.{Past, with_event, marks_of}
 use Rattle.lldp_engine.specs.Standing.{Stands}
 use Rattle.lldp_engine.specs.Headline.{PromisedStep}
+use Rattle.lldp_engine.specs.Sending.{HaveSentExactly}
 use Rattle.lldp_engine.specs.Code.Step.{agent_after, agent_marks}
 use Rattle.lldpa_c.specs.declared.agent.Happening.{Happening}
 use Rattle.lldpa_c.specs.declared.agent.Happening.TheVariants.{Frame, Link}
@@ -28,6 +29,7 @@ pub record Steps (agent : AgentState) (event : Event) (after : AgentState) (sent
   pub stands : (past : Past) → Stands past agent → Stands (with_event past event) after
   pub marks_past : (past : Past) → Stands past agent → sent ≡ marks_of (with_event past event)
   pub headline : (past : Past) → Stands past agent → PromisedStep past event sent after
+  pub sending : (past : Past) → Stands past agent → HaveSentExactly (with_event past event)
 
 -- the event was applied, and the frames to send were written to the struct for C
 pub record Takes (before : LldpaAgent) (event : Event) (after : LldpaAgent) (told : LldpaMarks) : Type 0 where

@@ -6,6 +6,7 @@ use Rattle.lldp_engine.specs.Event.{tick}
 use Rattle.lldp_engine.specs.Past.{Past, with_event, marks_of}
 use Rattle.lldp_engine.specs.Standing.{Stands}
 use Rattle.lldp_engine.specs.Headline.{PromisedStep}
+use Rattle.lldp_engine.specs.Sending.{HaveSentExactly}
 use Rattle.lldp_engine.specs.Code.Step.{agent_after, agent_marks}
 use Rattle.lldpa_c.specs.declared.holder.LldpaAgent.{LldpaAgent}
 use Rattle.lldpa_c.specs.declared.marks.LldpaMarks.{LldpaMarks}
@@ -48,7 +49,9 @@ LastDid (suc n) agent sent gone = (sent ≡ agent_marks tick (ticked n agent)) �
 -- What is promised of the last of n more ticks by an agent with this past: nothing if n is 0.
 abbrev pub LastPromised : ℕ → Past → List (ℕ × Mark) → AgentState → Type 0
 LastPromised zero past sent after = Unit {0}
-LastPromised (suc n) past sent after = (sent ≡ marks_of (with_ticks (suc n) past)) × PromisedStep (with_ticks n past) tick sent after
+LastPromised (suc n) past sent after =
+    (sent ≡ marks_of (with_ticks (suc n) past)) × PromisedStep (with_ticks n past) tick sent after
+    × HaveSentExactly (with_ticks (suc n) past)
 
 -- `taken` of the `asked` ticks were applied. Before the last of them no port sent and no neighbor
 -- aged out. If fewer were applied than asked, a port sent or a neighbor aged out at the last.

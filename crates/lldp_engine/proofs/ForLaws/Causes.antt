@@ -12,16 +12,18 @@ use Rattle.lldp_table.specs.declared.learned.Learned.{Learned}
 use Rattle.lldp_table.specs.declared.learned.Learned.TheVariants.{New, Refreshed, Dropped}
 use Rattle.lldp_engine.specs.declared.port.status.Status.{Status}
 use Rattle.lldp_engine.specs.Status.{transmits}
-use Rattle.lldp_engine.specs.Event.{Event, frame, link, set, status}
+use Rattle.lldp_engine.specs.Event.{Event, frame, link, set, status, interval}
 use Rattle.lldp_engine.specs.Past.{Past, with_event, happened, past_of}
 use Rattle.lldp_engine.specs.Laws.PortAt.{neighbors_at}
 use Rattle.lldp_engine.specs.Heard.{Heard, tells, heard_by}
 use Rattle.lldp_engine.specs.Laws.CauseOf.{causes_at, IsFor}
+use Rattle.lldp_engine.specs.Laws.LastSet.{IsLastSet}
 use Rattle.lldp_engine.specs.Port.Event as own
 use Rattle.lldp_engine.specs.Port.Event.{PortEvent}
 use Rattle.lldp_engine.specs.Port.Effects.{cause_of_answer, cause_of_heard, cause_of_right, cause_of_link, cause_at}
 use Rattle.lldp_engine.specs.Port.Past.{Happened, status_after, up_after, calls_after, table_events_after, caused_at}
 use Rattle.lldp_engine.proofs.ForLaws.LastSet.{configuration_is_last}
+use Rattle.lldp_engine.proofs.Standing.Carrying.{interval_is}
 use Rattle.lldp_engine.proofs.AllPorts.EachPort.{own_or_nothing}
 use Rattle.lldp_engine.proofs.OnePort.Allowed.{port_table}
 use Rattle.lldp_engine.proofs.ForLaws.PortAt.{of_table}
@@ -32,14 +34,15 @@ use Rattle.lldp_engine.proofs.ForLaws.Held.{held_after, IsGain, gains}
 
 -- what the event means to the transmit machine of port i, after this past
 abbrev pub cause_now : Past → Event → ℕ → Cause
-cause_now past event i = (caused_at past.options (happened past.options i event past.events) (past_of past i)).cause
+cause_now past event i = (caused_at past.options (happened i event past.events) (past_of past i)).cause
 
 pub is_for : (past : Past) (event : Event) (i : ℕ) (cause : Cause) → cause_now past event i ≡ cause → IsFor past event i cause
 is_for past event i cause e =
     record {
-      seconds = (happened past.options i event past.events).interval;
-      is = ap (λ (c : Cause). caused c (happened past.options i event past.events).interval ∷ causes_at past i) e;
-      last = (configuration_is_last past.options (event ∷ past.events)).by_interval;
+      seconds = (happened i event past.events).interval;
+      is = ap (λ (c : Cause). caused c (happened i event past.events).interval ∷ causes_at past i) e;
+      last = subst (λ (n : ℕ). IsLastSet (λ given. set (interval given)) 30 (event ∷ past.events) n) (interval_is past.options (event ∷ past.events))
+          (configuration_is_last past.options (event ∷ past.events)).by_interval;
     }
 
 abbrev first_cause : History → Cause
@@ -114,10 +117,10 @@ module _ (past : Past) (i : ℕ) (octets : List ℕ) (before after : List Held) 
   after_is : after ≡ held_after past.options.max_neighbors calls heard
   after_is =
       sym (known _ after (slice_get past.options.names i) (sym (of_table (λ table. table.neighbors) (with_event past (frame i octets)) i) ∙ is))
-      ∙ ap (λ (now : Happened). (port_table past.options (now ∷ past_of past i)).neighbors) (own_happened (own.frame octets) i (happened past.options i (frame i octets) past.events).interval)
+      ∙ ap (λ (now : Happened). (port_table past.options (now ∷ past_of past i)).neighbors) (own_happened (own.frame octets) i (happened i (frame i octets) past.events).interval)
 
   cause_is : cause_now past (frame i octets) i ≡ cause_of_heard (answers_now past i) heard
-  cause_is = ap (λ (now : Happened). (caused_at past.options now (past_of past i)).cause) (own_happened (own.frame octets) i (happened past.options i (frame i octets) past.events).interval)
+  cause_is = ap (λ (now : Happened). (caused_at past.options now (past_of past i)).cause) (own_happened (own.frame octets) i (happened i (frame i octets) past.events).interval)
 
   gain : IsGain past.options.max_neighbors calls (cause_now past (frame i octets) i) after
   gain = subst (λ (held : List Held). IsGain past.options.max_neighbors calls (cause_now past (frame i octets) i) held) (sym after_is)

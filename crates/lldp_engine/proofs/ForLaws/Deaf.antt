@@ -39,7 +39,7 @@ heard_now past i octets = heard_by (status_after past.options (past_of past i)) 
 
 pub unheard_leaves : (past : Past) (i : ℕ) (octets : List ℕ) → InRange past.options → heard_now past i octets ≡ None → LeavesPort past (agent.frame i octets) i
 unheard_leaves past i octets r e =
-    let now = happened past.options i (agent.frame i octets) past.events in
+    let now = happened i (agent.frame i octets) past.events in
     nothing_leaves past (agent.frame i octets) i r
     (rw (of_own (frame octets) i) (record { status = refl; heard = e; call = ap (option_and_then call_of) e; cause = ap (cause_of_heard (answers past.options (past_of past i) now r)) e }))
 

@@ -49,7 +49,7 @@ by_frame f g past i octets e =
     let names = slice_get o.names i in
     map_twice (λ (port : PortState). port.table.neighbors) f (port_at (with_event past (agent.frame i octets)) i)
     ∙ of_table (λ table. f table.neighbors) (with_event past (agent.frame i octets)) i
-    ∙ ap (λ (now : Happened). option_map (λ (name : List ℕ). f (port_table o (now ∷ past_of past i)).neighbors) names) (own_happened (frame octets) i (happened o i (agent.frame i octets) past.events).interval)
+    ∙ ap (λ (now : Happened). option_map (λ (name : List ℕ). f (port_table o (now ∷ past_of past i)).neighbors) names) (own_happened (frame octets) i (happened i (agent.frame i octets) past.events).interval)
     ∙ ap (λ x. option_map (λ (name : List ℕ). x) names) e
     ∙ sym (of_table (λ table. g table.neighbors) past i)
     ∙ sym (map_twice (λ (port : PortState). port.table.neighbors) g (port_at past i))

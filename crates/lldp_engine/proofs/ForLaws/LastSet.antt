@@ -67,7 +67,7 @@ module _ {X : Type 0} (make : X → Event) (value_after : List Event → X) (sam
 -- ## The status of port i
 
 abbrev status_at : Options → ℕ → List Event → PortStatus
-status_at o i events = status_after o (port_past o i events)
+status_at o i events = status_after o (port_past i events)
 
 abbrev LeavesStatus : PortStatus → own.PortEvent → Type 0
 LeavesStatus before event = status_then event before ≡ before
@@ -92,7 +92,7 @@ last_is_status o i events s h = set_is_last (λ s. set (status i s)) (status_at 
 -- ## The link of port i
 
 abbrev up_at : Options → ℕ → List Event → Bool
-up_at o i events = up_after (port_past o i events)
+up_at o i events = up_after (port_past i events)
 
 abbrev LeavesLink : Bool → own.PortEvent → Type 0
 LeavesLink before event = up_then event before ≡ before

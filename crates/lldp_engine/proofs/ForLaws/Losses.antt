@@ -303,7 +303,7 @@ module _ (past : Past) (i : ℕ) where
   others_count_none event other before after was now =
       let o = past.options in
       let old = past_of past i in
-      let more : Happened = happened o i event past.events in
+      let more : Happened = happened i event past.events in
       let quiet = unheard event other in
       keeps (heard_after o old) (table_events_after o old) (table_events_after o (more ∷ old)) (marks_after o old) (marks_after o (more ∷ old)) before after
       (counters_at past i before was).1

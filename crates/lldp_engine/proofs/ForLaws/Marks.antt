@@ -20,7 +20,7 @@ sent_is past i mark h =
 pub is_sent : (past : Past) (i : ℕ) (mark : Mark) → i < length past.options.names → IsSent mark → mark_after past.options (past_of past i) ≡ mark → Sends past i mark
 is_sent past i mark lt sent e =
     let place : 0 + i ≡ i = omega arith in
-    let is : mark_after past.options (port_past past.options (0 + i) past.events) ≡ mark = ap (λ (k : ℕ). mark_after past.options (port_past past.options k past.events)) place ∙ e in
+    let is : mark_after past.options (port_past (0 + i) past.events) ≡ mark = ap (λ (k : ℕ). mark_after past.options (port_past k past.events)) place ∙ e in
     subst (λ (k : ℕ). Contains (marks_of past) (k, mark)) place (is_there past.options past.events 0 i past.options.names mark lt sent is)
 
 -- a quiet port sends nothing

@@ -32,19 +32,19 @@ use Rattle.lldp_engine.proofs.Standing.Carrying.{settings_in_range}
 
 -- ## Port i
 
-at_place : (o : Options) (events : List Event) (s i : ℕ) (names : List (List ℕ)) → slice_get (ports_after o events s names) i ≡ option_map (port_after o (port_past o (s + i) events)) (slice_get names i)
+at_place : (o : Options) (events : List Event) (s i : ℕ) (names : List (List ℕ)) → slice_get (ports_after o events s names) i ≡ option_map (port_after o (port_past (s + i) events)) (slice_get names i)
 at_place o events s i [] = refl
-at_place o events s zero (name ∷ names) = ap (λ k. Some (port_after o (port_past o k events) name)) (sym (add-zero s))
+at_place o events s zero (name ∷ names) = ap (λ k. Some (port_after o (port_past k events) name)) (sym (add-zero s))
 at_place o events s (suc i) (name ∷ names) =
     let place : s + 1 + i ≡ s + suc i = omega arith in
-    at_place o events (s + 1) i names ∙ ap (λ k. option_map (port_after o (port_past o k events)) (slice_get names i)) place
+    at_place o events (s + 1) i names ∙ ap (λ k. option_map (port_after o (port_past k events)) (slice_get names i)) place
 
 -- Port i is the port that the definitions give for its past and its name.
 pub port_at_is : (past : Past) (i : ℕ) → port_at past i ≡ option_map (port_after past.options (past_of past i)) (slice_get past.options.names i)
 unfolding agent_of
 port_at_is past i =
     let place : 0 + i ≡ i = omega arith in
-    at_place past.options past.events 0 i past.options.names ∙ ap (λ k. option_map (port_after past.options (port_past past.options k past.events)) (slice_get past.options.names i)) place
+    at_place past.options past.events 0 i past.options.names ∙ ap (λ k. option_map (port_after past.options (port_past k past.events)) (slice_get past.options.names i)) place
 
 map_agree : {X Y : Type 0} (f g : X → Y) (o : Option X) → ((x : X) → f x ≡ g x) → option_map f o ≡ option_map g o
 map_agree f g None h = refl
@@ -56,7 +56,7 @@ map_twice f g (Some x) = refl
 
 -- If the definitions give the same port before and after the event, port i does not change.
 pub port_at_same : (past : Past) (event : Event) (i : ℕ)
-    → ((name : List ℕ) → port_after past.options (happened past.options i event past.events ∷ past_of past i) name ≡ port_after past.options (past_of past i) name)
+    → ((name : List ℕ) → port_after past.options (happened i event past.events ∷ past_of past i) name ≡ port_after past.options (past_of past i) name)
     → port_at (with_event past event) i ≡ port_at past i
 port_at_same past event i h = port_at_is (with_event past event) i ∙ map_agree _ _ (slice_get past.options.names i) h ∙ sym (port_at_is past i)
 
@@ -76,7 +76,7 @@ of_table f past i =
 -- For port i, an equation f (table after an event) ≡ h (g (table before it)) also holds for the
 -- tables that `port_at` finds.
 pub of_table_after : {X Y : Type 0} (f : Contents → X) (g : Contents → Y) (h : Y → X) (past : Past) (event : Event) (i : ℕ)
-    → f (port_table past.options (happened past.options i event past.events ∷ past_of past i)) ≡ h (g (port_table past.options (past_of past i)))
+    → f (port_table past.options (happened i event past.events ∷ past_of past i)) ≡ h (g (port_table past.options (past_of past i)))
     → option_map (λ port. f port.table) (port_at (with_event past event) i) ≡ option_map h (option_map (λ port. g port.table) (port_at past i))
 of_table_after f g h past event i e =
     of_table f (with_event past event) i
@@ -86,7 +86,7 @@ of_table_after f g h past event i e =
 
 -- If the event makes no call on the table of port i, the table does not change.
 pub table_same : (past : Past) (event : Event) (i : ℕ)
-    → call_at (happened past.options i event past.events).event (status_after past.options (past_of past i)) (up_after (past_of past i)) ≡ None
+    → call_at (happened i event past.events).event (status_after past.options (past_of past i)) (up_after (past_of past i)) ≡ None
     → table_at (with_event past event) i ≡ table_at past i
 table_same past event i e =
     of_table (λ table. table) (with_event past event) i

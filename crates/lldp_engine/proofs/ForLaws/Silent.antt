@@ -88,16 +88,16 @@ shutdown_leaves o (now ∷ past) e = (shutdown_stops o now past e).1
 
 -- ## Ports opened as RxOnly
 
-opened_right : (o : Options) (i : ℕ) (events : List Event) → IsTrue o.receive_only → NoneSets (λ given. set (status i given)) events → transmits (status_after o (port_past o i events)) ≡ false
+opened_right : (o : Options) (i : ℕ) (events : List Event) → IsTrue o.receive_only → NoneSets (λ given. set (status i given)) events → transmits (status_after o (port_past i events)) ≡ false
 opened_right o i events only none =
     ap transmits (sym (last_is_status o i events (status_at_opening o) (inr (none, refl)))) ∙ ap (λ (b : Bool). transmits (if b then RxOnly else RxAndTx)) only
 
-opened_silent : (o : Options) (i : ℕ) (events : List Event) (mark : Mark) → IsTrue o.receive_only → NoneSets (λ given. set (status i given)) events → mark_after o (port_past o i events) ≡ mark → mark ≡ Quiet
+opened_silent : (o : Options) (i : ℕ) (events : List Event) (mark : Mark) → IsTrue o.receive_only → NoneSets (λ given. set (status i given)) events → mark_after o (port_past i events) ≡ mark → mark ≡ Quiet
 opened_silent o i events Quiet only none e = refl
-opened_silent o i events Ordinary only none e = absurd (false≢true (sym (opened_right o i events only none) ∙ ordinary_transmits o (port_past o i events) e))
+opened_silent o i events Ordinary only none e = absurd (false≢true (sym (opened_right o i events only none) ∙ ordinary_transmits o (port_past i events) e))
 opened_silent o i [] Shutdown only none e = cc
 opened_silent o i (event ∷ events) Shutdown only none e =
-    absurd (false≢true (sym (opened_right o i events only (λ later earlier given e. none (event ∷ later) earlier given (ap (λ (l : List Event). event ∷ l) e))) ∙ (shutdown_stops o _ (port_past o i events) e).0))
+    absurd (false≢true (sym (opened_right o i events only (λ later earlier given e. none (event ∷ later) earlier given (ap (λ (l : List Event). event ∷ l) e))) ∙ (shutdown_stops o _ (port_past i events) e).0))
 
 pub receive_only_is_silent : (past : Past) (i : ℕ) (mark : Mark) → IsTrue past.options.receive_only → NoneSets (λ given. set (status i given)) past.events → ¬ (Sends past i mark)
 receive_only_is_silent past i mark only none h =

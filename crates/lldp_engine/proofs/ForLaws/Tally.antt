@@ -59,9 +59,9 @@ module _ (wanted : Mark) (sent : IsSent wanted) (test : Mark → Bool) (decides 
   at events = record { options = o; events = events }
 
   abbrev Many : List Event → Type 0
-  Many events = (n : ℕ) × AreMany (λ earlier. Sends (at earlier) i wanted) events n × (length (filter test (marks_after o (port_past o i events))) ≡ n)
+  Many events = (n : ℕ) × AreMany (λ earlier. Sends (at earlier) i wanted) events n × (length (filter test (marks_after o (port_past i events))) ≡ n)
 
-  many_more : (event : Event) (events : List Event) (mark : Mark) → mark_after o (port_past o i (event ∷ events)) ≡ mark → ((mark ≡ wanted) × (test mark ≡ true)) ⊎ ((mark ≢ wanted) × (test mark ≡ false)) → Many events → Many (event ∷ events)
+  many_more : (event : Event) (events : List Event) (mark : Mark) → mark_after o (port_past i (event ∷ events)) ≡ mark → ((mark ≡ wanted) × (test mark ≡ true)) ⊎ ((mark ≢ wanted) × (test mark ≡ false)) → Many events → Many (event ∷ events)
   many_more event events mark e (inl d) m =
       (suc m.0, one_more (is_sent (at (event ∷ events)) i wanted exists sent (e ∙ d.0)) m.1, rw (e, d.1) (ap suc m.2))
   many_more event events mark e (inr d) m =
@@ -69,7 +69,7 @@ module _ (wanted : Mark) (sent : IsSent wanted) (test : Mark → Bool) (decides 
 
   many : (events : List Event) → Many events
   many [] = (0, none, refl)
-  many (event ∷ events) = many_more event events (mark_after o (port_past o i (event ∷ events))) refl (decides (mark_after o (port_past o i (event ∷ events)))) (many events)
+  many (event ∷ events) = many_more event events (mark_after o (port_past i (event ∷ events))) refl (decides (mark_after o (port_past i (event ∷ events)))) (many events)
 
 ordinary_or_not : (mark : Mark) → ((mark ≡ Ordinary) × (is_ordinary mark ≡ true)) ⊎ ((mark ≢ Ordinary) × (is_ordinary mark ≡ false))
 ordinary_or_not Ordinary = inl (refl, refl)
@@ -134,7 +134,7 @@ module _ (past : Past) (i : ℕ) (octets pdu : List ℕ) (hears : Hears past i) 
   adds h e = λ before after was now.
       let o = past.options in
       let old = past_of past i in
-      let event : Happened = happened o i (agent.frame i octets) past.events in
+      let event : Happened = happened i (agent.frame i octets) past.events in
       let came : Happened = record { event = frame octets; interval = event.interval } in
       let told = table_events_after o (came ∷ old) in
       let marks = marks_after o (came ∷ old) in

@@ -28,10 +28,10 @@ use Rattle.lldp_engine.proofs.ForLaws.Marks.{quiet_is_silent}
 
 -- ## An event that does not affect a port leaves it unchanged
 
-pub nothing_leaves : (past : Past) (event : Event) (i : ℕ) (r : InRange past.options) → IsNothing past.options (past_of past i) (happened past.options i event past.events) r → LeavesPort past event i
+pub nothing_leaves : (past : Past) (event : Event) (i : ℕ) (r : InRange past.options) → IsNothing past.options (past_of past i) (happened i event past.events) r → LeavesPort past event i
 nothing_leaves past event i r n = record {
-  as_it_was = port_at_same past event i (port_same past.options (past_of past i) (happened past.options i event past.events) r n);
-  silent = λ mark. quiet_is_silent (with_event past event) i mark (nothing_sent past.options (past_of past i) (happened past.options i event past.events) r n.cause);
+  as_it_was = port_at_same past event i (port_same past.options (past_of past i) (happened i event past.events) r n);
+  silent = λ mark. quiet_is_silent (with_event past event) i mark (nothing_sent past.options (past_of past i) (happened i event past.events) r n.cause);
 }
 
 module _ (o : Options) (past : List Happened) (r : InRange o) where
@@ -108,11 +108,11 @@ limits_move i (link port now) given up c = own_or_nothing (λ (e : PortEvent). l
 limits_move i (set (status port next)) given up c = own_or_nothing (λ (e : PortEvent). limit_by (call_at e given up) c.limit ≡ c.limit) (port == i) (own.status next) (purge_sets_none (receives given && not (receives next)) c.limit) refl
 limits_move i (set setting) given up c = refl
 
-limit_is_configured : (o : Options) (i : ℕ) (events : List Event) → table_limit o.max_neighbors (events_of o.max_neighbors (calls_after o (port_past o i events))) ≡ (configuration_after o events).limit
+limit_is_configured : (o : Options) (i : ℕ) (events : List Event) → table_limit o.max_neighbors (events_of o.max_neighbors (calls_after o (port_past i events))) ≡ (configuration_after o events).limit
 unfolding events_of
 limit_is_configured o i [] = refl
 limit_is_configured o i (event ∷ events) =
-    let past = port_past o i events in
+    let past = port_past i events in
     let call = call_at (for_port i (whose event)) (status_after o past) (up_after past) in
     limit-more o.max_neighbors call (calls_after o past)
     ∙ ap (limit_by call) (limit_is_configured o i events)

@@ -18,10 +18,11 @@ use Rattle.lldp_engine.specs.Past.{Past, past_of}
 use Rattle.lldp_engine.specs.Standing.{Stands}
 use Rattle.lldp_engine.specs.Headline.{Promised}
 use Rattle.lldp_engine.specs.Port.Past.{Happened, status_after, up_after, calls_after, table_events_after, settings_of, caused_at, causes_after, mark_after, counters_after, port_after}
-use Rattle.lldp_engine.specs.Port.Headline.{HoldsLastStored, SendsExactly, HasSentExactly}
+use Rattle.lldp_engine.specs.Port.Headline.{HoldsLastStored}
+use Rattle.lldp_engine.specs.Laws.Holding.{HoldsByPositions, HoldLastStored}
+use Rattle.lldp_engine.specs.Sending.{SendsExactly, HasSentExactly, HaveSentExactly}
 use Rattle.lldp_engine.proofs.OnePort.Allowed.{port_table, allowed_taken, table_stands}
 use Rattle.lldp_engine.proofs.Standing.Carrying.{up_is, settings_in_range}
-use Rattle.lldp_engine.proofs.OnePort.Rights.{follows_status}
 use Rattle.lldp_engine.proofs.Readers.{port_reads, number_reads}
 use Rattle.std.proofs.lemmas.Grind.{common_steps}
 
@@ -63,18 +64,25 @@ holds_last_stored o past table h =
     let calls = calls_after o past in
     let sound = sound_from_stands table o.max_neighbors calls h in
     record {
-      exactly = λ x. (
-        λ held. last_stored_from_held o.max_neighbors calls x (subst (λ (xs : List Neighbor). Contains xs x) (stands_neighbors table o.max_neighbors calls h) held),
-        λ last. subst (λ (xs : List Neighbor). Contains xs x) (sym (stands_neighbors table o.max_neighbors calls h)) (held_from_last_stored o.max_neighbors calls x last),
-      );
-      once = sound.distinct;
-      in_order = subst (λ (xs : List Neighbor). AllPairs (IsNewBefore (table_events_after o past)) xs) (sym (stands_neighbors table o.max_neighbors calls h)) (neighbors_in_order (table_events_after o past));
+      exactly = stands_neighbors table o.max_neighbors calls h;
       limit = stands_limit table o.max_neighbors calls h;
       few = sound.few;
       short = short_ones table.neighbors sound.held;
     }
 
-pub sends_exactly : (o : Options) (now : Happened) (earlier : List Happened) → InRange o → SendsExactly o now earlier
+holds_by_positions : (o : Options) (past : List Happened) (table : Contents) → TableStands o.max_neighbors (calls_after o past) table → HoldsByPositions o past table
+holds_by_positions o past table h =
+    let calls = calls_after o past in
+    record {
+      exactly = λ x. (
+        λ held. last_stored_from_held o.max_neighbors calls x (subst (λ (xs : List Neighbor). Contains xs x) (stands_neighbors table o.max_neighbors calls h) held),
+        λ last. subst (λ (xs : List Neighbor). Contains xs x) (sym (stands_neighbors table o.max_neighbors calls h)) (held_from_last_stored o.max_neighbors calls x last),
+      );
+      once = (sound_from_stands table o.max_neighbors calls h).distinct;
+      in_order = subst (λ (xs : List Neighbor). AllPairs (IsNewBefore (table_events_after o past)) xs) (sym (stands_neighbors table o.max_neighbors calls h)) (neighbors_in_order (table_events_after o past));
+    }
+
+sends_exactly : (o : Options) (now : Happened) (earlier : List Happened) → InRange o → SendsExactly o now earlier
 sends_exactly o now earlier r =
     let s = settings_of o in
     let h = causes_after o earlier in
@@ -89,7 +97,6 @@ has_sent_exactly o past r =
     let w = windows_hold (settings_of o) (causes_after o past) (settings_in_range o r) in
     record {
       exactly = λ later earlier now split. sends_exactly o now earlier r;
-      follows = λ later earlier split. follows_status o earlier;
       bounded = w.bounded;
       few_stops = w.few_stops;
       earliest = λ later earlier split. (windows_hold (settings_of o) (causes_after o earlier) (settings_in_range o r)).earliest [] (causes_after o earlier) refl;
@@ -102,11 +109,20 @@ get_of [] i p h = absurd cc
 get_of (x ∷ xs) zero p h = (omega arith, let e : x ≡ p = cc in sym e)
 get_of (x ∷ xs) (suc i) p h = let b = get_of xs i p h in (omega (arith, b.0), b.1)
 
+stands_there : (past : Past) (agent : AgentState) → Stands past agent → (i : ℕ) (p : PortState) → slice_get agent.ports i ≡ Some p
+    → TableStands past.options.max_neighbors (calls_after past.options (past_of past i)) p.table
+stands_there past agent h i p at =
+    let b = get_of agent.ports i p at in
+    let number = number_reads past agent h in
+    table_reads past agent i p (omega (arith, b.0, number)) h (port_reads past agent i p h b.0 b.1).is
+
 pub promised : (past : Past) (agent : AgentState) → Stands past agent → Promised past agent
 promised past agent h =
-    record {
-      tables = λ i p at. let b = get_of agent.ports i p at in
-          let number = number_reads past agent h in
-          holds_last_stored past.options (past_of past i) p.table (table_reads past agent i p (omega (arith, b.0, number)) h (port_reads past agent i p h b.0 b.1).is);
-      sending = λ i lt. has_sent_exactly past.options (past_of past i) h.in_range;
-    }
+    record { tables = λ i p at. holds_last_stored past.options (past_of past i) p.table (stands_there past agent h i p at) }
+
+pub hold_last_stored : (past : Past) (agent : AgentState) → Stands past agent → HoldLastStored past agent
+hold_last_stored past agent h =
+    record { tables = λ i p at. holds_by_positions past.options (past_of past i) p.table (stands_there past agent h i p at) }
+
+pub have_sent_exactly : (past : Past) (agent : AgentState) → Stands past agent → HaveSentExactly past
+have_sent_exactly past agent h = record { ports = λ i lt. has_sent_exactly past.options (past_of past i) h.in_range }

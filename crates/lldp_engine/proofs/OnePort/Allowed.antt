@@ -44,30 +44,30 @@ unfolding port_after
 holds_few o past name n h = grind (arith, nat_tests, h)
 
 fits_at : (o : Options) (events : List Event) (n s k : ℕ) (names : List (List ℕ)) → k < length names → fits (ports_after o events s names) n ≡ true
-    → length (port_table o (port_past o (s + k) events)).neighbors ≤ n
+    → length (port_table o (port_past (s + k) events)).neighbors ≤ n
 fits_at o events n s k [] lt h = absurd (omega arith)
 fits_at o events n s zero (name ∷ names) lt h = grind (arith, common_steps, and_parts, ℕ, add-zero, holds_few)
 fits_at o events n s (suc k) (name ∷ names) lt h =
-    let b = and_parts (nat_le (length (port_after o (port_past o s events) name).table.neighbors) n) (fits (ports_after o events (s + 1) names) n) h in
+    let b = and_parts (nat_le (length (port_after o (port_past s events) name).table.neighbors) n) (fits (ports_after o events (s + 1) names) n) h in
     let place : s + 1 + k ≡ s + suc k = omega arith in
-    subst (λ (i : ℕ). length (port_table o (port_past o i events)).neighbors ≤ n) place (fits_at o events n (s + 1) k names (omega arith) b.1)
+    subst (λ (i : ℕ). length (port_table o (port_past i events)).neighbors ≤ n) place (fits_at o events n (s + 1) k names (omega arith) b.1)
 
 limit_fits : (o : Options) (i : ℕ) (events : List Event) (n : ℕ) → i < length o.names → AcceptsLimit (agent_of (record { options = o; events = events })) n
-    → IsNewLimit (port_table o (port_past o i events)) n
+    → IsNewLimit (port_table o (port_past i events)) n
 unfolding agent_of
 limit_fits o i events n lt a = record {
   least = omega (arith, a.least);
   most = omega (arith, a.most, capacity_stays o events);
   held = let place : 0 + i ≡ i = omega arith in
-      subst (λ (k : ℕ). length (port_table o (port_past o k events)).neighbors ≤ n) place (fits_at o events n 0 i o.names lt a.held);
+      subst (λ (k : ℕ). length (port_table o (port_past k events)).neighbors ≤ n) place (fits_at o events n 0 i o.names lt a.held);
 }
 
 -- A limit that the agent allows is allowed for the table of each port.
 fits_limit : (o : Options) (i : ℕ) (events : List Event) (event : Event) → i < length o.names → Allows (agent_of (record { options = o; events = events })) event
-    → FitsLimit (for_port i (whose event)) (port_table o (port_past o i events))
-fits_limit o i events (agent.frame port octets) lt a = own_or_nothing (λ e. FitsLimit e (port_table o (port_past o i events))) (port == i) (frame octets) tt tt
-fits_limit o i events (agent.link port up) lt a = own_or_nothing (λ e. FitsLimit e (port_table o (port_past o i events))) (port == i) (link up) tt tt
-fits_limit o i events (agent.set (agent.status port given)) lt a = own_or_nothing (λ e. FitsLimit e (port_table o (port_past o i events))) (port == i) (status given) tt tt
+    → FitsLimit (for_port i (whose event)) (port_table o (port_past i events))
+fits_limit o i events (agent.frame port octets) lt a = own_or_nothing (λ e. FitsLimit e (port_table o (port_past i events))) (port == i) (frame octets) tt tt
+fits_limit o i events (agent.link port up) lt a = own_or_nothing (λ e. FitsLimit e (port_table o (port_past i events))) (port == i) (link up) tt tt
+fits_limit o i events (agent.set (agent.status port given)) lt a = own_or_nothing (λ e. FitsLimit e (port_table o (port_past i events))) (port == i) (status given) tt tt
 fits_limit o i events (agent.set (agent.limit n)) lt a = limit_fits o i events n lt a
 fits_limit o i events event lt a = tt
 
@@ -82,7 +82,7 @@ abbrev pub AreTaken : Options → List Happened → Type 0
 AreTaken o [] = Unit {0}
 AreTaken o (now ∷ past) = IsTaken o now.event past × AreTaken o past
 
-pub allowed_taken : (o : Options) (i : ℕ) (events : List Event) → i < length o.names → AreAllowed o events → AreTaken o (port_past o i events)
+pub allowed_taken : (o : Options) (i : ℕ) (events : List Event) → i < length o.names → AreAllowed o events → AreTaken o (port_past i events)
 allowed_taken o i [] lt h = tt
 allowed_taken o i (event ∷ events) lt h = grind (arith, common_steps, event_told, octets_for, fits_limit, allowed_taken o i events lt h.2)
 

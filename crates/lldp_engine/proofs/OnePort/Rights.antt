@@ -16,7 +16,7 @@ use Rattle.lldp_engine.specs.Heard.{Heard, tells, heard_by}
 use Rattle.lldp_engine.specs.Port.Event.{PortEvent, frame, link, status}
 use Rattle.lldp_engine.specs.Port.Effects.{status_then, up_then, cause_at, cause_of_answer, cause_of_heard, cause_of_link, cause_of_right}
 use Rattle.lldp_engine.specs.Port.Past.{Happened, status_after, up_after, table_events_after, settings_of, causes_after}
-use Rattle.lldp_engine.specs.Port.Headline.{FollowsStatus}
+use Rattle.lldp_engine.specs.Laws.Rights.{FollowsStatus}
 
 -- The table's answer means either a new neighbor or nothing.
 answer_is : (P : Cause → Type 0) → P Neighbor → P Nothing → (a : Learned) → P (cause_of_answer a)

@@ -22,11 +22,11 @@ use Rattle.lldp_engine.specs.declared.port.status.Status.{Status}
 use Rattle.lldp_engine.specs.declared.port.counters.Counters.{Counters}
 use Rattle.lldp_engine.specs.Options.{Options, InRange}
 use Rattle.lldp_engine.specs.Event.{Event, HasOctets}
-use Rattle.lldp_engine.specs.Configuration.{configured}
+use Rattle.lldp_engine.specs.Event as agent
 use Rattle.lldp_engine.specs.Heard.{Heard, refused, leaves, tells, heard_by}
 use Rattle.lldp_engine.specs.Counters.{counters_of}
 use Rattle.lldp_engine.specs.AgentState.{PortState, AgentState, Allows}
-use Rattle.lldp_engine.specs.Past.{Past, with_event, configuration_after, happened, port_past, ports_after, agent_of, AreAllowed, sent_from, marks_of}
+use Rattle.lldp_engine.specs.Past.{Past, with_event, configuration_after, interval_after, happened, port_past, ports_after, agent_of, AreAllowed, sent_from, marks_of}
 use Rattle.lldp_engine.specs.Standing.{Stands}
 use Rattle.lldp_engine.specs.Code.Step.{ports_step, marks_step, agent_after, agent_marks}
 use Rattle.lldp_engine.specs.Port.Event.{PortEvent, tick, frame, status, limit, whose}
@@ -166,29 +166,45 @@ module _ (o : Options) (past : List Happened) (now : Happened) (r : InRange o) (
 
 -- ## An agent
 
+-- The configuration has the tx-interval that was last set.
+pub interval_is : (o : Options) (events : List Event) → (configuration_after o events).interval ≡ interval_after events
+interval_is o [] = refl
+interval_is o (agent.set (agent.interval seconds) ∷ events) = refl
+interval_is o (agent.set (agent.hostname text) ∷ events) = interval_is o events
+interval_is o (agent.set (agent.description text) ∷ events) = interval_is o events
+interval_is o (agent.set (agent.hold times) ∷ events) = interval_is o events
+interval_is o (agent.set (agent.limit neighbors) ∷ events) = interval_is o events
+interval_is o (agent.set (agent.status _ _) ∷ events) = interval_is o events
+interval_is o (agent.set agent.update ∷ events) = interval_is o events
+interval_is o (agent.tick ∷ events) = interval_is o events
+interval_is o (agent.frame port octets ∷ events) = interval_is o events
+interval_is o (agent.link _ _ ∷ events) = interval_is o events
+
 ports_carried : (o : Options) (events : List Event) (event : Event) (i : ℕ) (names : List (List ℕ)) → i + length names ≡ length o.names → InRange o → AreAllowed o (event ∷ events)
-    → ports_step (whose event) (configured event (configuration_after o events)).interval i (ports_after o events i names) ≡ ports_after o (event ∷ events) i names
+    → ports_step (whose event) (interval_after (event ∷ events)) i (ports_after o events i names) ≡ ports_after o (event ∷ events) i names
 ports_carried o events event i [] l r h = refl
 ports_carried o events event i (name ∷ names) l r h =
-    let one = port_carried o (port_past o i events) (happened o i event events) r (allowed_taken o i (event ∷ events) (omega arith) h) name in
+    let one = port_carried o (port_past i events) (happened i event events) r (allowed_taken o i (event ∷ events) (omega arith) h) name in
     let others = ports_carried o events event (i + 1) names (omega arith) r h in
     rw (one, others) refl
 
 marks_carried : (o : Options) (events : List Event) (event : Event) (i : ℕ) (names : List (List ℕ)) → i + length names ≡ length o.names → InRange o → AreAllowed o (event ∷ events)
-    → marks_step (whose event) (configured event (configuration_after o events)).interval i (ports_after o events i names) ≡ sent_from o (event ∷ events) i names
+    → marks_step (whose event) (interval_after (event ∷ events)) i (ports_after o events i names) ≡ sent_from o (event ∷ events) i names
 marks_carried o events event i [] l r h = refl
 marks_carried o events event i (name ∷ names) l r h =
-    let one = port_marked o (port_past o i events) (happened o i event events) r (allowed_taken o i (event ∷ events) (omega arith) h) name in
+    let one = port_marked o (port_past i events) (happened i event events) r (allowed_taken o i (event ∷ events) (omega arith) h) name in
     let others = marks_carried o events event (i + 1) names (omega arith) r h in
     rw (one, others) refl
 
 agent_carried : (past : Past) (event : Event) → InRange past.options → AreAllowed past.options (event ∷ past.events) → agent_after event (agent_of past) ≡ agent_of (with_event past event)
 unfolding agent_of
-agent_carried past event r h = grind (arith, common_steps, ports_carried)
+agent_carried past event r h = grind (arith, common_steps, ports_carried, interval_is)
 
 agent_marked : (past : Past) (event : Event) → InRange past.options → AreAllowed past.options (event ∷ past.events) → agent_marks event (agent_of past) ≡ marks_of (with_event past event)
 unfolding agent_of
-agent_marked past event r h = marks_carried past.options past.events event 0 past.options.names (omega arith) r h
+agent_marked past event r h =
+    ap (λ n. marks_step (whose event) n 0 (ports_after past.options past.events 0 past.options.names)) (interval_is past.options (event ∷ past.events))
+    ∙ marks_carried past.options past.events event 0 past.options.names (omega arith) r h
 
 pub allowed_more : (past : Past) (event : Event) (agent : AgentState) → Stands past agent → Allows agent event → HasOctets event → AreAllowed past.options (event ∷ past.events)
 allowed_more past event agent h a octets = (subst (λ (x : AgentState). Allows x event) h.is a, octets, h.allowed)

@@ -5,7 +5,7 @@ use Rattle.std.specs.List.{cons_option}
 use Rattle.lldp_table.specs.Events.{Call, TableEvent, events_of, answer}
 use Rattle.lldp_table.specs.Standing.{table_of}
 use Rattle.lldp_transmit.specs.declared.event.Mark.{Mark}
-use Rattle.lldp_transmit.specs.History.{Settings, settings, Event as Caused, event as caused, History}
+use Rattle.lldp_transmit.specs.History.{Settings, Event as Caused, event as caused, History}
 use Rattle.lldp_transmit.specs.Moments.{mark_at}
 use Rattle.lldp_transmit.specs.Standing.{machine_of}
 use Rattle.lldp_engine.specs.declared.port.status.Status.{Status}
@@ -49,7 +49,12 @@ table_events_after o past = events_of o.max_neighbors (calls_after o past)
 
 -- Returns the settings with which the transmit machine of the port was opened.
 abbrev pub settings_of : Options → Settings
-settings_of o = settings o.credit_max o.fast_init o.reinit (transmits (status_at_opening o))
+settings_of o = record {
+  credit_max = o.credit_max;
+  fast_init = o.fast_init;
+  reinit = o.reinit;
+  allowed = transmits (status_at_opening o);
+}
 
 -- Returns what an event means to the transmit machine, with the tx-interval after the event.
 abbrev pub caused_at : Options → Happened → List Happened → Caused

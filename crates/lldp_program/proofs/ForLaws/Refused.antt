@@ -7,6 +7,7 @@ use Rattle.lldp_engine.specs.AgentState.{AgentState}
 use Rattle.lldp_engine.specs.Event.{Event}
 use Rattle.lldp_engine.specs.Options.{Options}
 use Rattle.lldp_engine.specs.Past.{Past, with_event}
+use Rattle.lldp_engine.proofs.Headline.{have_sent_exactly}
 use Rattle.lldp_program.specs.declared.arguments.AddressFault.{AddressFault}
 use Rattle.lldp_program.specs.declared.arguments.AddressFault.TheVariants.{Mac, Management}
 use Rattle.lldp_program.specs.CommandLine.Usage.{Asks, AsksMac, AsksManagement, HasBadAddress, WritesNoIpv4, WritesNoMac}
@@ -43,13 +44,13 @@ refuses_bad_addresses rows =
     }
 
 later : (past : Past) (agent : AgentState) (event : Event) → KeepsOn (with_event past event) agent → KeepsOn past agent
-later past agent event (events, stands, promised) =
+later past agent event (events, stands, promised, sending) =
     let same : followed (with_event past event) events ≡ followed past (events ++ event ∷ []) =
     ap {B = Past} (λ all. record { options = past.options; events = all }) (sym (append_assoc events (event ∷ []) past.events)) in
-    (events ++ event ∷ [], rw (← same) stands, rw (← same) promised)
+    (events ++ event ∷ [], rw (← same) stands, rw (← same) promised, rw (← same) sending)
 
 pub goes_on : (past : Past) (agent : AgentState) → GoesOn past agent
-goes_on past agent = record { same = λ stands promised. ([], stands, promised); later = later past agent }
+goes_on past agent = record { same = λ stands promised. ([], stands, promised, have_sent_exactly past agent stands); later = later past agent }
 
 some_fault : (kind : ErrorKind) (faults kinds : List ErrorKind) → faults ≡ kind ∷ kinds → faults ≡ [] → ⊥
 some_fault kind faults kinds e f = let bad : kind ∷ kinds ≡ [] = sym e ∙ f in cc

@@ -7,6 +7,7 @@ use Rattle.lldp_engine.specs.AgentState.{AgentState}
 use Rattle.lldp_program.specs.Trace.Items.{Item, happens, shows, refused, after_all}
 use Rattle.lldp_program.specs.Trace.Runs.{Done, Failed, StoppedAt, KeepsOn, followed}
 use Rattle.lldp_engine.specs.Headline.{Promised}
+use Rattle.lldp_engine.proofs.Headline.{have_sent_exactly}
 
 pub all_followed : (past : Past) (items : List Item) → (events : List Event) × (after_all past items ≡ followed past events)
 all_followed past [] = ([], refl)
@@ -17,7 +18,10 @@ all_followed past (shows show ∷ items) = all_followed past items
 all_followed past (refused fault ∷ items) = all_followed past items
 
 keeps_after : (past : Past) (items : List Item) (agent : AgentState) → Stands (after_all past items) agent → Promised (after_all past items) agent → KeepsOn past agent
-keeps_after past items agent h k = let more = all_followed past items in (more.0, rw more.1 at h, rw more.1 at k)
+keeps_after past items agent h k =
+    let more = all_followed past items in
+    let stands : Stands (followed past more.0) agent = rw more.1 at h in
+    (more.0, stands, rw more.1 at k, have_sent_exactly (followed past more.0) agent stands)
 
 pub done_keeps_on : (past : Past) (items : List Item) (a b : Option (List ℕ)) (agent : AgentState) → Done past items a b agent → KeepsOn past agent
 done_keeps_on past items a b agent h = keeps_after past items agent h.stands h.promised

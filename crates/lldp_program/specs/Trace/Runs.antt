@@ -6,6 +6,7 @@ use Rattle.lldp_engine.specs.AgentState.{AgentState}
 use Rattle.lldp_engine.specs.Past.{Past}
 use Rattle.lldp_engine.specs.Standing.{Stands}
 use Rattle.lldp_engine.specs.Headline.{Promised}
+use Rattle.lldp_engine.specs.Sending.{HaveSentExactly}
 use Rattle.lldp_program.specs.Devices.Counts.{one_more}
 use Rattle.lldp_program.specs.Trace.Lines.{lines_of, ended_lines}
 use Rattle.lldp_program.specs.Trace.Items.{Item, after_all, text_of, text_of_all, items_of_lines}
@@ -19,7 +20,7 @@ pub record IsCutOff (whole part : List ℕ) : Type 0 where
   pub missing : rest ≢ []
 
 -- All items were done. Their text was written, and the agent has the state after them. `Promised`
--- holds for the agent: tables hold the last stored frames, and ports sent exactly what was due.
+-- holds for the agent: its tables hold the last stored frames.
 pub record Done (past : Past) (items : List Item) (old new : Option (List ℕ)) (agent : AgentState) : Type 0 where
   pub written : Appends old new (text_of_all past items)
   pub stands : Stands (after_all past items) agent
@@ -95,6 +96,8 @@ abbrev pub followed : Past → List Event → Past
 followed past events = record { options = past.options; events = events ++ past.events }
 
 -- The agent has the state after the past and some more allowed events, and `Promised` holds for it:
--- its tables hold the last stored frames, and its ports have sent exactly what was due.
+-- its tables hold the last stored frames. Its ports have sent exactly what was due (`HaveSentExactly`).
 abbrev pub KeepsOn : Past → AgentState → Type 0
-KeepsOn past agent = (events : List Event) × Stands (followed past events) agent × Promised (followed past events) agent
+KeepsOn past agent =
+    (events : List Event) × Stands (followed past events) agent × Promised (followed past events) agent
+    × HaveSentExactly (followed past events)

@@ -1,5 +1,5 @@
 use Rattle.std.proofs.Common.{arith, refl, sym, ap, ◌∙◌, ◌∷◌, []}
-use Rattle.lldp_engine.proofs.Headline.{promised}
+use Rattle.lldp_engine.proofs.Headline.{promised, have_sent_exactly}
 use Rattle.lldp_program.specs.Devices.Acceptors.{Visit, logged, refused}
 use Rattle.lldp_program.specs.Serving.{calls_of}
 use Rattle.lldp_program.proofs.Serving.{keeps_on_then, at_most_one, logged_none, logged_then, logged_visit}
@@ -9,7 +9,7 @@ pub overflow_add-faulty : goal.overflow_add-faulty
 overflow_add-faulty g c = omega (arith, c.loop-served.invariant.few, at_most_one c.run.result, c.count_fault-faulty.ensures)
 
 pub loop-served-init : goal.loop-served-init
-loop-served-init g c = record { few = omega arith; runs = ([], refl, refl, refl, sym (logged_none _)); keeps = λ past stands. ([], stands, promised past _ stands) }
+loop-served-init g c = record { few = omega arith; runs = ([], refl, refl, refl, sym (logged_none _)); keeps = λ past stands. ([], stands, promised past _ stands, have_sent_exactly past _ stands) }
 
 pub loop-served-preserved : goal.loop-served-preserved
 loop-served-preserved g c =

@@ -49,6 +49,7 @@ returns-clause-answer c =
       stands = step.stands;
       marks_past = step.marks_past;
       headline = step.headline;
+      sending = step.sending;
     } in
     let is : after ≡ c.step_told-told.new.self = c.put-2.ensures.agent in
     let there : c.args.port < length before.ports = omega (arith, c.if-port-from.false, c.from.ensures, c.ports.ensures.value, ap (λ (agent : AgentState). length agent.ports) seen) in

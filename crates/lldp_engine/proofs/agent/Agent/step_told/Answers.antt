@@ -12,6 +12,7 @@ use Rattle.lldp_engine.specs.Standing.{Stands}
 use Rattle.lldp_engine.specs.Port.Event.{whose}
 use Rattle.lldp_engine.specs.Code.Step.{agent_after, agent_marks, ports_step}
 use Rattle.lldp_engine.proofs.OnePort.Allowed.{configured-capacity}
+use Rattle.lldp_engine.proofs.Headline.Promise.{have_sent_exactly}
 use Rattle.lldp_engine.proofs.Headline.Answered.{promised_step}
 use Rattle.lldp_engine.proofs.OnePort.Heard.{octets_for}
 use Rattle.lldp_engine.specs.Told.{told_of}
@@ -66,6 +67,9 @@ returns-clause-marks_past g c = λ past h. returns-clause-marks g c ∙ marks_ca
 
 pub returns-clause-headline : goal.returns-clause-headline
 returns-clause-headline g c = λ past h. promised_step past (event_of c.args.event) c.take_event.new.marks.items _ (returns-clause-marks_past g c past h) (returns-clause-stands g c past h)
+
+pub returns-clause-sending : goal.returns-clause-sending
+returns-clause-sending g c = λ past h. have_sent_exactly (with_event past (event_of c.args.event)) _ (returns-clause-stands g c past h)
 
 pub invariant_of-self : goal.invariant_of-self
 invariant_of-self g c =
