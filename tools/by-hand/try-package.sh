@@ -77,6 +77,7 @@ at_first_start() { eventually systemctl is-active lldpa && [ "$(systemctl show -
 readable() { setpriv --reuid=4711 --regid=4711 --clear-groups cat $collected/lldpa.prom; }
 recorded() { grep -q '^# lldpa --' /var/lib/lldpa/*.trace; }
 restarts() { systemctl restart lldpa && shows Station:on; }
+waits() { systemctl restart lldpa && eventually sh -c 'lldpa-ctl 2>&1 | grep "waiting for an interface: \*"'; }
 mkdir -p $collected
 systemctl start lldpa-metrics.timer lldpa-record
 check "an image: it has no user and no group of its own" bash -c '! grep lldpa /etc/passwd /etc/group'
@@ -94,7 +95,7 @@ check "an image: nobody else may ask" as_nobody lldpa-ctl
 check "an image: that took no restart" at_first_start
 check "an image: it is recorded" eventually recorded
 rm /etc/default/lldpa
-check "an image: it runs without its configuration" restarts
+check "an image: without its configuration it waits for a hardware interface" waits
 printf 'PORTS="eth0"\nLIVE_OPTIONS=""\nAGENT_OPTIONS=""\n' > /etc/default/lldpa
 restarts > /root/said 2>&1
 # A second service, as OPERATORS makes it.
@@ -178,7 +179,7 @@ def connect(path, kind):
         one.connect(path)
 
 acts = [lambda: open("/usr/probe", "w"), lambda: open("/dev/shm/probe", "w"), lambda: open("/dev/mqueue/probe", "w"),
-        lambda: look("/boot"), lambda: os.kill(1, 0), lambda: socket.socket(socket.AF_INET), $acts]
+        lambda: look("/boot"), lambda: os.kill(1, 0), lambda: socket.socket(socket.AF_VSOCK), $acts]
 allowed = [at for at, act in enumerate(acts) if not refused(act)]
 sys.exit(f"not refused: {allowed}" if allowed else 0)
 END
@@ -231,6 +232,7 @@ neighbor &
 hears &
 listed > /root/before
 check "it installs" install_all
+sed -i 's/^PORTS=.*/PORTS="eth0"/' /etc/default/lldpa
 check "it does not run before it is enabled" inactive
 check "its programs run" reads
 check "import lldpa finds the package" finds
@@ -313,6 +315,7 @@ check "it is purged after the test" dpkg -P lldpa
 ip link del lldpa0
 check "Python is removed" without_python
 check "it installs without Python" dpkg -i lldpa_*-2_*.deb
+sed -i 's/^PORTS=.*/PORTS="eth0"/' /etc/default/lldpa
 check "it starts without Python" systemctl enable --now lldpa
 check "it tells the neighbor without Python" eventually tells_alone 'show neighbors' chassis.name=sender
 echo 'configure system description "of the folder"' > /etc/lldpa.d/a.conf
@@ -332,7 +335,7 @@ chroot "$image" sh -c 'mount -t proc proc /proc; dpkg -i /root/packages/lldpa_*-
     userdel _lldpa; mkdir -p /etc/sysusers.d /var/lib/extrausers; ln -s /dev/null /etc/sysusers.d/lldpa.conf; : > /var/lib/extrausers/group; systemctl enable lldpa; exit $status' \
     > "$room/said" 2>&1 || { tail -n 5 "$room/said"; echo "FAILED: it does not install in a chroot"; exit 1; }
 sed -i 's/^group:.*/group: files extrausers/' "$image/etc/nsswitch.conf"
-sed -i 's/^LIVE_OPTIONS=.*/LIVE_OPTIONS="--control-group late"/' "$image/etc/default/lldpa"
+sed -i 's/^PORTS=.*/PORTS="eth0"/; s/^LIVE_OPTIONS=.*/LIVE_OPTIONS="--control-group late"/' "$image/etc/default/lldpa"
 boot "$image" || skip "it does not boot here"
 boot "$root" || skip "it does not boot here"
 cat "$image/root/tried" "$root/root/tried" | tee "$room/tried"

@@ -54,7 +54,7 @@ VALUES = [
     ("lldpa-ctl", "--control", [], [], "(default /run/lldpa/control)"),
     ("lldpctl", "-u", [], [], "(default /run/lldpa/control)"),
     *(("lldpa-live", option, [], ["1"], "")
-      for option in ("--stay", "-- --listen", "-- --connections", "-- --help", "-- --version")),
+      for option in ("--no-domain", "-- --listen", "-- --connections", "-- --help", "-- --version")),
     ("lldpa-audit", "--stale-after", ["90", "15m", "12h", "1d"], ["1w", "-1"], "TIME: 90 (seconds), 15m, 12h, 1d"),
     ("lldpa-audit", "--wait", ["90", "15m", "12h", "1d"], ["1w", "-1"], "with --live, wait up to TIME"),
     ("lldpa-audit", "--columns", ["host=device,port=interface,peer=to,peer_port=to_port"], ["a=b"],
