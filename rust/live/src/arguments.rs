@@ -23,6 +23,7 @@ options:
   --events               report on standard error when a neighbor comes, changes
                          or goes, or a link goes up or down
   --forget-on-down       empty the table of a port when its link goes down
+  --lines                with --once, print the agent's lines on a terminal, too
   --management-pattern PATTERNS
                          announce only an address that a pattern matches, such
                          as '192.0.2.*,!172.17.*'; '!' excludes addresses
@@ -30,7 +31,8 @@ options:
   --no-domain            announce the host's name without its domain
   --no-management        do not announce an address of this host
   --once N               wait until each port has a neighbor, at most N seconds,
-                         then print the neighbors and exit
+                         then print the neighbors and exit: a table on a terminal,
+                         else the agent's lines
   --only-existing        refuse to start if an interface does not exist
   --keep-state           let the service manager keep the neighbors for the next
                          start
@@ -63,6 +65,7 @@ pub struct Arguments {
     /// Options of earlier versions that do nothing any more.
     pub former: Vec<String>,
     pub once: Option<u64>,
+    pub lines: bool,
     pub events: bool,
     pub forget_on_down: bool,
     pub no_description: bool,
@@ -223,6 +226,7 @@ impl Arguments {
             ("--events", None) => self.events = true,
             ("--forget-on-down", None) => self.forget_on_down = true,
             ("--no-description", None) => self.no_description = true,
+            ("--lines", None) => self.lines = true,
             ("--no-domain", None) => self.no_domain = true,
             ("--no-log", None) => self.former.push(name.into()),
             ("--keep-state", None) => self.keep_state = true,

@@ -1,5 +1,6 @@
 //! Opens sockets and files, gives up rights, runs, and sends shutdown frames at the end.
 
+use crate::agent::Running;
 use crate::arguments::{where_named, Arguments};
 use crate::budget::LARGE_PIECE;
 use crate::commands::Settings;
@@ -15,10 +16,11 @@ use crate::reports::{self, notice, report, warn, ERROR};
 use crate::rights::{self, give_up, text_of, user_to_be};
 use crate::state::{Saved, Slots, StateFault};
 use crate::sys::signals::{self, Signal};
-use crate::sys::{self, seccomp};
+use crate::sys::{self, seccomp, terminal};
 use crate::time::{Moment, SECOND};
 use crate::wrong_arguments;
 use lldpa::{OpenFault, Show, Status};
+use lldpa_people::table::table_of;
 use std::fmt;
 use std::io::{Error, ErrorKind, Write};
 use std::panic::{catch_unwind, AssertUnwindSafe};
@@ -75,10 +77,13 @@ pub fn run(arguments: Arguments) -> i32 {
     std::panic::set_hook(Box::new(|panic| report(ERROR, &panic.to_string())));
     match user_to_be(arguments.user.as_deref()) {
         Err(fault) => wrong_arguments(&fault),
-        Ok(user) => match begin(arguments, user) {
-            Ok(live) => work(live),
-            Err(fault) => fail(&fault.to_string()),
-        },
+        Ok(user) => {
+            let width = terminal::width().filter(|_| !arguments.lines);
+            match begin(arguments, user) {
+                Ok(live) => work(live, width),
+                Err(fault) => fail(&fault.to_string()),
+            }
+        }
     }
 }
 
@@ -156,10 +161,11 @@ fn first_ports(arguments: &Arguments, links: &Links, may_wait: bool) -> Result<V
     Ok(names)
 }
 
-/// Runs until a signal or a panic, then shuts down in order. Returns the exit status.
-fn work(mut live: Live) -> i32 {
+/// Runs until a signal or a panic, then shuts down in order. Returns the exit status. The terminal at
+/// standard output has this width.
+fn work(mut live: Live, width: Option<usize>) -> i32 {
     let worked = catch_unwind(AssertUnwindSafe(|| match live.arguments.once {
-        Some(seconds) => once(&mut live, seconds),
+        Some(seconds) => once(&mut live, seconds, width),
         None => {
             while !turn(&mut live, None) {}
             pass_first_second(&mut live);
@@ -209,9 +215,10 @@ fn turn(live: &mut Live, last: Option<Moment>) -> bool {
     false
 }
 
-/// Waits until each port has a neighbor, at most this many seconds, and prints the neighbors.
-/// Returns 1 if a port has none or printing fails, else 0. At a signal, returns 0 without printing.
-fn once(live: &mut Live, seconds: u64) -> i32 {
+/// Waits until each port has a neighbor, at most this many seconds, and prints the neighbors: as a table
+/// if there is a terminal. Returns 1 if a port has none or printing fails, else 0. At a signal, returns
+/// 0 without printing.
+fn once(live: &mut Live, seconds: u64, width: Option<usize>) -> i32 {
     let last = Moment::now() + Duration::from_secs(seconds);
     let are_complete =
         |live: &Live| live.running.is_some() && live.ports.all.iter().all(|port| !port.neighbors.is_empty());
@@ -220,9 +227,21 @@ fn once(live: &mut Live, seconds: u64) -> i32 {
             return 0;
         }
     }
-    let text = live.running.as_ref().map_or(String::new(), |running| running.agent.show(Show::Neighbors));
+    let text = match width {
+        Some(width) => {
+            table_of(&shown(live, &[Show::Neighbors, Show::Configuration]), &live.status(None).lines(), width)
+        }
+        None => Ok(shown(live, &[Show::Neighbors])),
+    };
+    let text = text.unwrap_or_else(|fault| fault + "\n");
     let is_printed = std::io::stdout().write_all(text.as_bytes()).is_ok();
     i32::from(!(is_printed && are_complete(live)))
+}
+
+/// Returns the agent's lines, or none while lldpa-live waits for an interface.
+fn shown(live: &Live, shows: &[Show]) -> String {
+    let lines = |running: &Running| shows.iter().map(|show| running.agent.show(*show)).collect();
+    live.running.as_ref().map_or(String::new(), lines)
 }
 
 impl Live {

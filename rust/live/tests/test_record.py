@@ -1,7 +1,11 @@
 """Tests the log of a session, which is a trace with the time of day, and `--once`."""
 
+import fcntl
 import os
+import pty
 import re
+import struct
+import termios
 import time
 from datetime import datetime, timezone
 from pathlib import Path
@@ -120,6 +124,22 @@ class TestOnce(OnLinks):
     def printed(self, live: Live) -> str:
         assert live.process.stdout is not None
         return live.process.stdout.read().decode()
+
+    def test_a_table_on_a_terminal(self) -> None:
+        """A terminal gets the table that README shows, unless the lines are asked for."""
+        table = r"^PORT +NEIGHBOR +ITS PORT .* LEFT\r\neth0 +02:00:00:00:00:01 +p1 .* \d+ s\r\n1 neighbor on 1 port\.\r\n$"
+        lines = r"^lldp\.eth0\.neighbors=1\r\nlldp\.eth0\.octets="
+        for words, wanted in (([], table), (["--lines"], lines)):
+            ours, theirs = pty.openpty()
+            fcntl.ioctl(theirs, termios.TIOCSWINSZ, struct.pack("HHHH", 24, 80, 0, 0))
+            peer = self.peer("peer0")
+            live = self.live("--once", "60", *words, "eth0", awaits=False, stdout=theirs)
+            os.close(theirs)
+            self.assertIsNotNone(peer.hears())
+            peer.send(numbered(1))
+            self.assertEqual(live.ends(), 0)
+            self.assertRegex(os.read(ours, 4096).decode(), wanted)
+            os.close(ours)
 
     @by_the_clock
     def test_status_tells_that_one_was_missing(self) -> None:

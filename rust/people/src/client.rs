@@ -363,10 +363,8 @@ impl<'a> Client<'a> {
     /// Prints a table, and why ports have no neighbor, which the answers to `live` and `show
     /// configuration` say.
     fn print_table(&self, table: &mut Table, live: &Answer, configuration: &Answer) -> Done<()> {
-        let (width, show) = (self.width(), show_of(&[configuration])?);
-        let reasons = table.reasons(&show, &LiveLines::read(&live.lines()), width);
-        let count = table.count(width);
-        self.print_lines(table.lines(width).chain(count).chain(reasons))
+        let show = show_of(&[configuration])?;
+        self.print_lines(table.all_lines(&show, &LiveLines::read(&live.lines()), self.width()))
     }
 
     /// Prints the table, and then a line for each neighbor of these ports that comes, changes or leaves,

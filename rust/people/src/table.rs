@@ -4,7 +4,7 @@ use crate::columns::{columns, needed, Row, LEAST_WIDTH_OF_TEXT};
 use crate::live_lines::LiveLines;
 use crate::ordered::Ordered;
 use crate::organizational::port_vlan;
-use crate::show::{Identifier, Neighbor, Port, Show, MOST_NEIGHBORS};
+use crate::show::{Identifier, Neighbor, Port, Read, Show, MOST_NEIGHBORS};
 use crate::texts::{counted, readable, wrapped};
 use std::net::Ipv6Addr;
 
@@ -88,6 +88,12 @@ impl Table {
         columns(&self.rows, width, 1)
     }
 
+    /// Returns the lines of the table, the number of neighbors, and why ports have none.
+    pub fn all_lines(&mut self, show: &Show<'_>, live: &LiveLines<'_>, width: usize) -> impl Iterator<Item = String> + '_ {
+        let below = [self.count(width), self.reasons(show, live, width)].concat();
+        self.lines(width).chain(below)
+    }
+
     fn leave_out(&mut self, place: usize) {
         self.rows.iter_mut().for_each(|row| drop(row.remove(place)));
     }
@@ -121,6 +127,16 @@ impl Table {
         };
         found.entries.iter().flat_map(said).collect()
     }
+}
+
+/// Returns the table that answers to `show neighbors` with `show configuration`, and to `live`, give.
+pub fn table_of(shows: &str, live: &str, width: usize) -> Read<String> {
+    let show = Show::read(shows.lines().collect())?;
+    let mut table = Table::default();
+    show.ports.iter().for_each(|port| table.add(port));
+    let live = LiveLines::read(&live.lines().collect::<Vec<_>>());
+    let lines: Vec<String> = table.all_lines(&show, &live, width).collect();
+    Ok(lines.join("\n") + "\n")
 }
 
 fn row_of(neighbor: &Neighbor<'_>) -> Row {
