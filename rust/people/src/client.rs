@@ -108,7 +108,7 @@ impl Failure {
             }
             Failure::System(fault) => match fault.kind() {
                 ErrorKind::NotFound | ErrorKind::ConnectionRefused => {
-                    format!("nobody answers at {path}: is lldpa-live running?")
+                    format!("nobody answers at {path}: is lldpa-live running? (`systemctl start lldpa`)")
                 }
                 ErrorKind::PermissionDenied => {
                     format!("{path}: permission denied (only root and the group of the socket may ask)")
