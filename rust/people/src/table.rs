@@ -89,7 +89,12 @@ impl Table {
     }
 
     /// Returns the lines of the table, the number of neighbors, and why ports have none.
-    pub fn all_lines(&mut self, show: &Show<'_>, live: &LiveLines<'_>, width: usize) -> impl Iterator<Item = String> + '_ {
+    pub fn all_lines(
+        &mut self,
+        show: &Show<'_>,
+        live: &LiveLines<'_>,
+        width: usize,
+    ) -> impl Iterator<Item = String> + '_ {
         let below = [self.count(width), self.reasons(show, live, width)].concat();
         self.lines(width).chain(below)
     }
