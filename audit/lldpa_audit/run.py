@@ -18,7 +18,6 @@ from .what import What, of_hosts
 NAME = "lldpa-audit"
 REPAIR, WRONG, AGAIN = 1, 2, 3  # exit statuses
 PROGRAM = "lldpa"  # the agent that reads captures
-HOW_TO_START = " (sudo systemctl start lldpa starts the service)"
 
 
 class Run:
@@ -59,8 +58,7 @@ class Run:
             try:
                 gathering.add_live(given.host, given.live, plan, given.wait)
             except CtlFault as fault:
-                how = HOW_TO_START if fault.text.startswith("nobody answers") else ""
-                raise ValueError(f"{fault}{how}") from None
+                raise ValueError(str(fault)) from None
         tables.discard_forgotten()
         self.damaged += gathering.damaged
         self.twice += gathering.twice

@@ -108,7 +108,8 @@ impl Failure {
             }
             Failure::System(fault) => match fault.kind() {
                 ErrorKind::NotFound | ErrorKind::ConnectionRefused => {
-                    format!("nobody answers at {path}: is lldpa-live running? (`systemctl start lldpa`)")
+                    let how = "(sudo systemctl start lldpa starts the service)";
+                    format!("nobody answers at {path}: is lldpa-live running? {how}")
                 }
                 ErrorKind::PermissionDenied => {
                     format!("{path}: permission denied (only root and the group of the socket may ask)")
