@@ -195,7 +195,8 @@ class Refusals(Program):
 
     def test_nobody_answers(self) -> None:
         self.served.path += ".none"
-        said = f"nobody answers at {self.served.path}: is lldpa-live running? (sudo systemctl start lldpa starts the service)"
+        said = (f"nobody answers at {self.served.path}: is lldpa-live running? "
+                "(sudo systemctl start lldpa starts the service)")
         self.assertEqual(self.run_it(LLDPCTL, status=1, said=said), "")
 
     def test_a_configuration_that_is_not_told(self) -> None:

@@ -56,14 +56,16 @@ class Publishing(Program):
         self.ctl("--output", str(other))
         self.assertEqual(other.read_text(), "".join(map(of_second, printed.splitlines(True))))
         self.served.path += "-none"
-        said = f"nobody answers at {self.served.path}: is lldpa-live running? (sudo systemctl start lldpa starts the service)"
+        said = (f"nobody answers at {self.served.path}: is lldpa-live running? "
+                "(sudo systemctl start lldpa starts the service)")
         self.ctl("--output", str(other), said=said, status=1)
         self.assertEqual(other.read_text().splitlines()[-1], 'lldpa_up{service="lldpa2"} 0')
 
     def test_where_nobody_answers_it_says_so_and_nothing_else(self) -> None:
         self.ctl("--output", str(self.file))
         self.served.path += "-none"
-        said = f"nobody answers at {self.served.path}: is lldpa-live running? (sudo systemctl start lldpa starts the service)"
+        said = (f"nobody answers at {self.served.path}: is lldpa-live running? "
+                "(sudo systemctl start lldpa starts the service)")
         self.ctl("--output", str(self.file), said=said, status=1)
         self.assertEqual((self.names(), self.file.read_text()), (["lldpa.prom"], DOWN))
         self.assertEqual(self.ctl(said=said, status=1), DOWN)
