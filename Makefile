@@ -117,13 +117,14 @@ wrong-bodies: $(program) $(library)               ## the prover refuses each wro
 
 package: $(served)
 	$(with) cargo binutils dpkg-dev debhelper dh-python lintian pkgconf unshare python3-pytest -- tools/gate/check-package.sh $(program)
-release-check: package                            ## before a release, and after a change of what it is made of
+release-check: package arm64                      ## before a release, and after a change of what it is made of
 	$(PYTEST) -k packages tools/library/test_arm64.py
 	$(with) root /usr/bin/cargo xz-utils unshare ip locales dpkg-dev debhelper dh-python -- tools/gate/check-dist.sh
 	$(with) root debootstrap debian-mirror unshare ip -- env ARCHIVE=$$(ls out/lldpa-*.tar.xz 2> /dev/null || true) \
 	    tools/gate/try-debian.sh --build trixie
 
-beside: check proofs wrong-bodies crates library live audit
+# `rt ci` runs the tests of lldp_tests. `also` can name a target that runs beside these.
+beside: check proofs $(also) wrong-bodies examples model instructions library live audit
 gate:                                             ## everything that a merge needs
 	+$(MAKE) -j$(N) -k beside
 	cmp $(program) out/ci/$(program)

@@ -1,7 +1,7 @@
 """Tests the memory of lldpa-live at its worst, in a control group with the limit of the unit: 64
 ports of 128 hostile neighbors that change all the time, a state, four clients that record, and 60
 others, 16 of which watch. Two of these read slowly, and all others read nothing.
-LLDPA_SECONDS=600 tests ten minutes; in the gate it is one."""
+LLDPA_SECONDS=600 tests ten minutes; in the gate it is half a minute."""
 
 import os
 import signal
@@ -16,7 +16,7 @@ from running_live import Live, OnLinks
 from served import frame, tlv
 
 PORTS, NEIGHBORS = 64, 128
-SECONDS = float(os.environ.get("LLDPA_SECONDS", "60"))
+SECONDS = float(os.environ.get("LLDPA_SECONDS", "30"))
 LIMIT = 256 << 20
 MOST = 200 * 10 ** 6
 READERS = 60

@@ -3,7 +3,6 @@
 import contextlib
 import re
 import subprocess
-import sys
 import time
 
 from asking import Client
@@ -11,7 +10,7 @@ from kept import State
 from patience import by_the_clock, eventually, mostly
 from running_live import Live, OnLinks
 from served import numbered
-from wires import flood, inside
+from wires import flood
 
 WITHOUT_END = 1_000_000_000
 QUESTIONS = 100
@@ -22,21 +21,6 @@ MOST_KIB = 8 * 1000
 A_SECOND, AT_ONCE = 64, 1024  # limits for frames that may change a port's table
 A_STOP = 150_000  # frames, more than a socket of 64 MB has room for
 
-# ten neighbors that change their LLDPDU with each frame, and together send 5,000 frames a second
-STRANGERS = """
-import socket, time
-sender = socket.socket(socket.AF_PACKET, socket.SOCK_RAW)
-sender.bind(("peer0", 0))
-head = bytes.fromhex("0180c200000e02000000000a88cc")
-began, count = time.monotonic(), 0
-while True:
-    while count < 5000 * (time.monotonic() - began):
-        name = b"%010d" % count
-        sender.send(head + bytes([2, 7, 4, 2, 0, 0, 0, 1, count % 10, 4, 2, 7, 65, 6, 2, 0, 120])
-                    + bytes([10, len(name)]) + name + bytes(2))
-        count += 1
-    time.sleep(0.002)
-"""
 FRAMES = [numbered(number) for number in range(200)]
 
 
@@ -109,31 +93,6 @@ class TestFlood(OnLinks):
         a_second = A_SECOND + live.neighbors()  # one more frame of each neighbor in the table
         most = AT_ONCE + a_second * (time.monotonic() - began + 1)
         self.assertLessEqual(numbers(live)["received"], most)
-
-    def test_a_real_neighbor_outlives_strangers_that_change_all_the_time(self) -> None:
-        live, peer = self.receiving()
-        held = numbered(99, 20)
-        self.becomes_neighbor(live, held, peer)
-        with inside(self.wires.there):
-            strangers = subprocess.Popen([sys.executable, "-c", STRANGERS])
-        self.addCleanup(strangers.wait)
-        self.addCleanup(strangers.kill)
-        self.assertTrue(eventually(lambda: live.neighbors() == 11))
-        began = time.monotonic()
-        for look in range(60):
-            if look % 5 == 0:
-                peer.send(held)
-            time.sleep(max(0, began + look + 1 - time.monotonic()))
-            self.assertIn("mac=02:00:00:00:00:63 ifname=p99", " ".join(live.ask("live")), look)
-        self.assertIsNone(strangers.poll())
-        self.assertGreater(numbers(live)["limit-drops"] + numbers(live)["kernel-drops"], 200_000)
-
-    @by_the_clock
-    def test_line_rate_costs_less_than_a_third_of_a_processor(self) -> None:
-        live, _ = self.flooded(FRAMES)
-        began, before = time.monotonic(), live.used()
-        time.sleep(10)
-        self.assertLess((live.used() - before) / (time.monotonic() - began), 1 / 3)
 
 
 class TestManyPorts(OnLinks):

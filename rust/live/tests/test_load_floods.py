@@ -1,5 +1,6 @@
-"""Tests floods: a neighbor that is held stays, and one that is new gets in."""
+"""Tests floods: a neighbor that is held stays, and one that is new gets in. LLDPA_LOOKS=60 tests a minute of each."""
 
+import os
 import re
 import subprocess
 import time
@@ -11,7 +12,7 @@ from running_live import Live, OnLinks
 from served import GROUP_ADDRESS, numbered, tlv
 from wires import Peer
 
-LOOKS = 60  # one a second
+LOOKS = int(os.environ.get("LLDPA_LOOKS", "30"))  # one a second
 BETWEEN = 5  # seconds between two frames of a held neighbor
 TTL = 20
 HELD, CHANGING, NEW = 90, 91, 100  # numbers of neighbors; NEW is the first of several
@@ -125,8 +126,8 @@ class Floods(OnLinks):
     @by_the_clock
     def test_with_links_that_go_and_forget(self) -> None:
         live = self.begun("--forget-on-down")
-        flapping = "for i in $(seq 60); do ip link set peer1 down; sleep 0.5; ip link set peer1 " \
-                   "up; sleep 0.5; done"
+        flapping = f"for i in $(seq {LOOKS}); do ip link set peer1 down; sleep 0.5; ip link set " \
+                   "peer1 up; sleep 0.5; done"
         other = subprocess.Popen(["ip", "netns", "exec", self.wires.there, "sh", "-c", flapping])
         self.addCleanup(other.wait)
         self.addCleanup(other.kill)
