@@ -2,9 +2,9 @@
 # Runs tests of rust/live/tests on a kernel of Debian in a virtual machine: it has bonds, teams, VLANs,
 # ipvlans and macvlans, any of which the kernel of this host may lack.
 #     tools/by-hand/try-kernel.sh [MODULE..]
-# Without modules these are the tests of addresses, short losses of a link, rights and groups. The
-# machine has the files of this host, and keeps its changes in memory. Needs root, lldpa-live
-# (tools/release/live.sh) and Debian's packages qemu-system-x86 and kmod. KERNEL names the folder into
+# Without modules these are the tests of addresses, short losses of a link, rights, groups, and of the
+# frame of a real lldpd. The machine has the files of this host, and keeps its changes in memory. Needs root,
+# lldpa-live (tools/release/live.sh) and Debian's packages qemu-system-x86 and kmod. KERNEL names the folder into
 # which linux-image-VERSION and busybox-static were unpacked; without it apt fetches them. ACCEL=kvm is
 # faster, where it works.
 # The last line is `N passed, M failed`. If something is missing, the status is 77.
@@ -21,7 +21,7 @@ for name in qemu-system-x86_64 depmod; do
     command -v "$name" > /dev/null || skip "$name: it is not installed"
 done
 [ $# -gt 0 ] || set -- test_addresses test_address_above test_short_losses test_rights \
-    test_unit_filter test_groups test_hanging_groups
+    test_unit_filter test_groups test_hanging_groups test_lldpd_table
 room=$(mktemp -d) || exit 2
 trap 'rm -rf "$room"' EXIT
 if [ -z "${KERNEL-}" ]; then
