@@ -9,6 +9,8 @@ import unittest
 from pathlib import Path
 
 from lldpa.agent.show import Counters
+from patience import eventually
+from running_live import OnLinks
 from served import LIVE_LINES, CTL, REPOSITORY, Served, ctl, frame, numbered, tlv
 from texts_shown import shown_text
 
@@ -20,6 +22,7 @@ NEWER = [b"live.version=1.0.0", *(b"live.eth0.%s=%d" % one for one in ((b"came",
 has_promtool = unittest.skipUnless(shutil.which("promtool"),
                                    "promtool: it is not installed")
 SAMPLE = re.compile(r'([a-z_]+)(?:\{((?:[a-z_]+="(?:[^"\\\n]|\\["\\n])*",?)+)\})? ([0-9]+)')
+A_MINUTE = 60.0
 LABEL = re.compile(r'([a-z_]+)="((?:[^"\\\n]|\\["\\n])*)"')
 Series = dict[tuple[str, tuple[tuple[str, str], ...]], int]
 
@@ -193,17 +196,66 @@ class Rules(unittest.TestCase):
 
     @has_promtool
     def test_the_metrics_fill_the_dashboard(self) -> None:
-        with Served() as served, tempfile.TemporaryDirectory() as folder:
+        with Served() as served:
             served.live_lines = [*LIVE_LINES, *NEWER]
             served.frame("eth0", numbered(1))
             samples = [line for line in ctl(served.path, "metrics").stdout.splitlines() if line[0] != "#"]
-            panels = json.loads(DASHBOARD.read_text())["panels"]
-            asked = [target["expr"] for panel in panels for target in panel["targets"]]
-            file = Path(folder, "test.json")
-            file.write_text(json.dumps({"rule_files": [str(RULES)], "evaluation_interval": "30s",
-                                        "tests": [fills(samples, asked)]}))
-            told = subprocess.run(["promtool", "test", "rules", file], check=False, capture_output=True, text=True)
+        panels = json.loads(DASHBOARD.read_text())["panels"]
+        told = ruled(fills(samples, [target["expr"] for panel in panels for target in panel["targets"]]))
         self.assertEqual(told.returncode, 0, told.stdout + told.stderr)
+
+
+class Swapped(OnLinks):
+    """web1 at eth0 and web2 at eth1 have cables to peer0 and peer1 of the switch leaf1."""
+
+    links = 2
+
+    def swap(self) -> None:
+        """Plugs the cable of each host where the other one was."""
+        for end in ("peer0", "peer1"):
+            self.wires.set_link(end, "down")
+        self.agents["web1"].comes_to("live.eth0.link=down")
+        self.agents["web2"].comes_to("live.eth1.link=down")
+        for old, new in (("peer0", "far"), ("peer1", "peer0"), ("far", "peer1")):
+            self.wires.set_link(old, "name", new)
+        for end in ("peer0", "peer1"):
+            self.wires.set_link(end, "up")
+
+    def heard(self) -> set[str]:
+        """Returns the series of neighbors that the metrics of all have."""
+        told = ((name, line.split("{", 1)) for name, live in self.agents.items()
+                for line in live.ctl("metrics").splitlines() if line.startswith("lldpa_neighbor_info{"))
+        return {f'{metric}{{instance="{name}",{rest.removesuffix(" 1")}' for name, (metric, rest) in told}
+
+    @has_promtool
+    def test_two_hosts_that_swap_their_cables_raise_an_alert(self) -> None:
+        self.agents = {name: self.live(*ports, "--forget-on-down", "--", "--hostname", name, side=side)
+                       for name, ports, side in (("web1", ["eth0"], "here"), ("web2", ["eth1"], "here"),
+                                                 ("leaf1", ["peer0", "peer1"], "there"))}
+        self.assertTrue(eventually(lambda: len(self.heard()) == 4), self.heard())
+        before = self.heard()
+        self.swap()
+        others = lambda: len(self.heard() - before) == 4 == len(self.heard())
+        self.assertTrue(eventually(others, A_MINUTE), self.heard())
+        self.assertIn('lldpa_changes_total{port="eth0",kind="came"} 2\n', self.agents["web1"].ctl("metrics"))
+        # the samples of ten minutes before, and of two minutes after
+        series = [{"series": one, "values": "1x20 stale"} for one in before]
+        series += [{"series": one, "values": "_x21 1x4"} for one in self.heard()]
+        ends = [("web1", "eth0"), ("web2", "eth1"), ("leaf1", "peer0"), ("leaf1", "peer1")]
+        moved = 'count by (instance, port) (ALERTS{alertname="LldpaNeighborMoved",alertstate="firing"})'
+        expected = [{"labels": f'{{instance="{name}",port="{port}"}}', "value": 1} for name, port in ends]
+        promtool = [{"expr": moved, "eval_time": "10m", "exp_samples": []},
+                    {"expr": moved, "eval_time": "10m30s", "exp_samples": expected}]
+        told = ruled({"interval": "30s", "input_series": series, "promql_expr_test": promtool})
+        self.assertEqual(told.returncode, 0, told.stdout + told.stderr)
+
+
+def ruled(test: dict[str, object]) -> subprocess.CompletedProcess[str]:
+    """Lets promtool run a test of the rules."""
+    with tempfile.TemporaryDirectory() as folder:
+        file = Path(folder, "test.json")
+        file.write_text(json.dumps({"rule_files": [str(RULES)], "evaluation_interval": "30s", "tests": [test]}))
+        return subprocess.run(["promtool", "test", "rules", file], check=False, capture_output=True, text=True)
 
 
 def fills(samples: list[str], asked: list[str]) -> dict[str, object]:
