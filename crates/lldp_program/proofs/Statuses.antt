@@ -14,7 +14,7 @@ use Rattle.lldp_program.specs.Trace.Lines.{lines_of, ended_lines}
 use Rattle.lldp_program.specs.Trace.Items.{Item, text_of_all, items_of_lines}
 use Rattle.lldp_program.specs.Trace.Runs.{Done, Failed, Ends, HasRun, StoppedAt}
 use Rattle.lldp_program.specs.Code.Output.{WrittenBy}
-use Rattle.lldp_program.specs.Faults.ProgramFault.{line_of, status_of, fault_of_run, ended_by}
+use Rattle.lldp_program.specs.Faults.ProgramFault.{line_of, ended_by}
 use Rattle.lldp_program.specs.Faults.Told.{IsTold, EndsBy, EndsWellOr, Stream, stream}
 use Rattle.lldp_program.specs.Devices.Counts.{failures_after}
 use Rattle.lldp_program.specs.declared.device.DeviceFault.{DeviceFault}
@@ -70,13 +70,11 @@ pub opened_ran : (options : Options) (to_come left old new : Option (List ℕ)) 
 opened_ran options to_come left old new told_before told_after before after status stands ran =
     record {
       result = ran.result;
-      ran = record {
-        input = ran.run.input;
-        consumed = ran.run.consumed;
-        read = ran.run.read;
-        agent = after;
-        ends = ran.run.ends (opened options) stands;
-      };
+      input = ran.run.input;
+      consumed = ran.run.consumed;
+      read = ran.run.read;
+      agent = after;
+      ends = ran.run.ends (opened options) stands;
       done = ran.done;
       flushed = ran.flushed;
       ended = ran.ended;
@@ -95,13 +93,13 @@ told_through P old taken left new none failed o z n h =
     (failed, subst (λ s. P (stream s 0) (stream new failed)) o (subst (λ k. P (stream taken k) (stream new failed)) z (subst (λ s. P (stream taken none) (stream s failed)) n h)))
 
 -- if the run failed and its fault was reported, the program ended with that fault
-pub failed_end : (r : Result (Unit {0}) RunFault) (fault : RunFault) (told : ProgramFault) (flushed : Result (Unit {0}) DeviceFault) (old new : Stream) (status : ℕ)
-    → r ≡ Err fault → told ≡ fault_of_run fault → status ≡ status_of told → IsTold told old new → EndsBy (ended_by r flushed) old new status
-failed_end r fault told flushed old new status e is answered t = rw e record { ends = answered ∙ ap status_of is; told = subst (λ f. IsTold f old new) is t }
+pub failed_end : (r : Result (Unit {0}) RunFault) (fault : RunFault) (flushed : Result (Unit {0}) DeviceFault) (old new : Stream) (status : ℕ)
+    → r ≡ Err fault → status ≡ 1 → IsTold (ending.Run fault) old new → EndsBy (ended_by r flushed) old new status
+failed_end r fault flushed old new status e answered told = rw e record { ends = answered; told = told }
 
 -- if the run had no fault, the flush decides how the program ended
 pub flushed_end : (r : Result (Unit {0}) RunFault) (flushed : Result (Unit {0}) DeviceFault) (passed : Bool) (old new : Stream) (status : ℕ)
-    → r ≡ Ok tt → passed ≡ is_ok flushed → (passed ≡ true → EndsBy (Ok tt) old new status) → (passed ≡ false → EndsBy (Err ending.Write) old new status) → EndsBy (ended_by r flushed) old new status
+    → r ≡ Ok tt → passed ≡ is_ok flushed → (passed ≡ true → EndsBy (Ok tt) old new status) → (passed ≡ false → EndsBy (Err (ending.Run Write)) old new status) → EndsBy (ended_by r flushed) old new status
 flushed_end r (Ok done) passed old new status e is well failed = rw e (well is)
 flushed_end r (Err fault) passed old new status e is well failed = rw e (failed is)
 
@@ -119,7 +117,7 @@ asks_for_help words kind (inr version) (inl memory) = let bad : DisplayVersion �
 asks_for_help words kind (inl help) (inr fails) = inl (subst (MayFail words) help fails)
 asks_for_help words kind (inr version) (inr fails) = inr (subst (MayFail words) version fails)
 
-pub ends_below_two : (old new : Stream) (status : ℕ) → EndsWellOr ending.Write old new status → status ≡ 2 → ⊥
+pub ends_below_two : (old new : Stream) (status : ℕ) → EndsWellOr (ending.Run Write) old new status → status ≡ 2 → ⊥
 ends_below_two old new status (inl well) two = omega (arith, well.ends, two)
 ends_below_two old new status (inr told) two = omega (arith, told.ends, two)
 

@@ -5,17 +5,18 @@ use Rattle.clap.specs.Walk.{Row, Text, one_of}
 use Rattle.clap.specs.declared.error.kind.ErrorKind.{ErrorKind}
 use Rattle.clap.specs.declared.error.kind.ErrorKind.TheVariants.{DisplayHelp, DisplayVersion}
 use Rattle.lldp_engine.specs.AgentState.{AgentState}
-use Rattle.lldp_engine.specs.declared.agent.open_fault.OpenFault.{OpenFault}
+use Rattle.lldp_engine.specs.declared.agent.open_fault.OpenFault.TheVariants.{Memory}
 use Rattle.lldp_engine.specs.Options.{IsRefusal, Options, fault_of}
 use Rattle.lldp_engine.specs.Past.{opened}
-use Rattle.lldp_program.specs.Faults.ProgramFault.{ended_by, fault_of_address, fault_of_opening}
+use Rattle.lldp_program.specs.Faults.ProgramFault.{ended_by}
 use Rattle.lldp_program.specs.Faults.Told.{EndsBy, EndsWellOr, IsTold, Stream}
 use Rattle.lldp_program.specs.Trace.Runs.{HasRun, HasRead, Ends}
 use Rattle.lldp_program.specs.CommandLine.Usage.{AskForHelp, Asks, HasBadAddress, IsParse, MayFail}
-use Rattle.lldp_program.specs.declared.arguments.AddressFault.{AddressFault}
 use Rattle.lldp_program.specs.declared.device.DeviceFault.{DeviceFault}
-use Rattle.lldp_program.specs.declared.fault.ProgramFault.TheVariants as program
+use Rattle.lldp_program.specs.declared.fault.ProgramFault.{ProgramFault}
+use Rattle.lldp_program.specs.declared.fault.ProgramFault.TheVariants.{Run, Socket, Opening, Address}
 use Rattle.lldp_program.specs.declared.trace.RunFault.{RunFault}
+use Rattle.lldp_program.specs.declared.trace.RunFault.TheVariants.{Write}
 
 -- The agent ran the trace that was read, and the output was flushed. With status 0 it ran the whole
 -- trace. Another status is that of the run's fault or, if the run had none, of the flush's fault.
@@ -32,20 +33,16 @@ pub record RanStreams (to_come left old new : Option (List ℕ)) (told_before to
 abbrev pub FailedBy : ℕ → ℕ → ℕ → Type 0
 FailedBy reads writes calls = 0 < reads ⊎ (0 < writes ⊎ 4294967295 ≤ calls)
 
--- An agent opened with these options ran the trace that was read, with this result.
-pub record Ran (options : Options) (to_come left old new : Option (List ℕ)) (result : Result (Unit {0}) RunFault) :
-    Type 0 where
+-- An agent opened with these options ran the trace that was read, and the output was flushed, as in
+-- `RanStreams`.
+pub record RanBy (options : Options) (to_come left old new : Option (List ℕ)) (told_before told_after : Stream)
+    (status : ℕ) : Type 0 where
+  pub result : Result (Unit {0}) RunFault
   pub input : List ℕ
   pub consumed : Consumes to_come left input
   pub read : HasRead left input result
   pub agent : AgentState
   pub ends : Ends (opened options) input left old new agent result
-
--- the run of `Ran`, with the status of the program and the fault that it reported, if any
-pub record RanBy (options : Options) (to_come left old new : Option (List ℕ)) (told_before told_after : Stream)
-    (status : ℕ) : Type 0 where
-  pub result : Result (Unit {0}) RunFault
-  pub ran : Ran options to_come left old new result
   pub done : status ≡ 0 → is_ok result ≡ true
   pub flushed : Result (Unit {0}) DeviceFault
   pub ended : EndsBy (ended_by result flushed) told_before told_after status
@@ -57,13 +54,7 @@ abbrev pub RanBut : Option Text → Options → Option (List ℕ) → Option (Li
 RanBut None options to_come left old new told_before told_after status =
     RanBy options to_come left old new told_before told_after status
 RanBut (Some port) options to_come left old new told_before told_after status =
-    Keeps to_come left × Keeps old new × EndsWellOr program.Socket told_before told_after status
-
--- `RanBut` for the text of `--listen` in these rows
-abbrev pub RanAs : List Row → Options → Option (List ℕ) → Option (List ℕ) → Option (List ℕ) → Option (List ℕ) →
-    Stream → Stream → ℕ → Type 0
-RanAs rows options to_come left old new told_before told_after status =
-    RanBut (one_of (codes "listen") rows) options to_come left old new told_before told_after status
+    Keeps to_come left × Keeps old new × EndsWellOr Socket told_before told_after status
 
 -- The arguments have no fault by `clap`'s own specification. The options, each with the value of
 -- its argument or its default, have no fault. The program did what the options ask for.
@@ -74,7 +65,7 @@ pub record HasRunWords (words : List Text) (to_come left old new : Option (List 
   pub options : Options
   pub asks : Asks rows options
   pub sound : fault_of options ≡ None
-  pub ran : RanAs rows options to_come left old new told_before told_after status
+  pub ran : RanBut (one_of (codes "listen") rows) options to_come left old new told_before told_after status
 
 -- A status other than 2: either the arguments ask for help or the version, nothing was read, and
 -- the status is 0 or that of a failed write, which was reported; or the arguments have no fault,
@@ -82,19 +73,15 @@ pub record HasRunWords (words : List Text) (to_come left old new : Option (List 
 abbrev pub HasAnswered : List Text → Option (List ℕ) → Option (List ℕ) → Option (List ℕ) → Option (List ℕ) →
     Stream → Stream → ℕ → Type 0
 HasAnswered words to_come left old new told_before told_after status =
-    (AskForHelp words × Keeps to_come left × EndsWellOr program.Write told_before told_after status)
+    (AskForHelp words × Keeps to_come left × EndsWellOr (Run Write) told_before told_after status)
     ⊎ HasRunWords words to_come left old new told_before told_after status
 
--- An address among the arguments cannot be read, and this fault was reported.
-abbrev pub RefusesAddress : List Row → Stream → Stream → Type 0
-RefusesAddress rows told_before told_after =
-    (fault : AddressFault) × HasBadAddress rows fault × IsTold (fault_of_address fault) told_before told_after
-
--- Opening refused the options (first failed check, or lack of memory), and this was reported.
-abbrev pub RefusesOpening : List Row → Stream → Stream → Type 0
-RefusesOpening rows told_before told_after =
-    (options : Options) × (fault : OpenFault) × Asks rows options × IsRefusal options fault
-    × IsTold (fault_of_opening fault) told_before told_after
+-- The arguments have this fault: an address among them cannot be read, or opening refuses their
+-- options (first failed check, or lack of memory).
+abbrev pub AreRefused : List Row → ProgramFault → Type 0
+AreRefused rows (Address fault) = HasBadAddress rows fault
+AreRefused rows (Opening fault) = (options : Options) × Asks rows options × IsRefusal options fault
+AreRefused rows fault = ⊥
 
 -- `clap` rejects the arguments with an error that is not a request for help or the version.
 abbrev pub AreWrong : List Text → Type 0
@@ -104,9 +91,9 @@ AreWrong words = (kind : ErrorKind) × MayFail words kind × (kind ≢ DisplayHe
 -- was refused. That fault was reported.
 abbrev pub TellsRefusal : List Text → Stream → Stream → Type 0
 TellsRefusal words told_before told_after =
-    IsTold program.Memory told_before told_after
-    ⊎ ((rows : List Row) × IsParse words rows
-    × (RefusesAddress rows told_before told_after ⊎ RefusesOpening rows told_before told_after))
+    IsTold (Opening Memory) told_before told_after
+    ⊎ ((rows : List Row) × (fault : ProgramFault) × IsParse words rows × AreRefused rows fault
+    × IsTold fault told_before told_after)
 
 -- Status 2: the arguments are wrong, or another refusal was reported.
 abbrev pub HasRefused : List Text → Stream → Stream → Type 0

@@ -1,10 +1,11 @@
 //! The program's arguments, and what they ask for.
 ghost use Rattle.std.specs.Prelude.{◌≡◌, ◌≤◌, ◌⊎◌, ℕ, List, IfOk, IfErr, Some, None, false, codes, map, option_map};
 ghost use Rattle.std.specs.Borrow.{Bor};
+ghost use Rattle.std.specs.Net.Grammar.{IsDotted};
 ghost use Rattle.clap.specs.Words.{app_of, first_value, found_of, kind_of, one_text, rows_of, rule_of};
 ghost use Rattle.clap.specs.Walk.{byte_or_zero};
 ghost use Rattle.clap.specs.declared.error.kind.ErrorKind.TheVariants as ErrorKind;
-ghost use Rattle.lldp_program.specs.CommandLine.Usage.{AreRoles, Asks, AsksListening, AsksManagement, HasBadAddress, IsParse, WritesNoIpv4, WritesNumber, MayFail, listen_rule, management_rule, number_rule, ports_rule, program, receive_only_rule, role_named, role_rule, text_rule, valued_rule};
+ghost use Rattle.lldp_program.specs.CommandLine.Usage.{AreRoles, Asks, AsksListening, AsksManagement, HasBadAddress, IsBad, IsParse, WritesNumber, MayFail, listen_rule, number_rule, ports_rule, program, receive_only_rule, role_named, role_rule, text_rule, valued_rule};
 ghost use Rattle.lldp_engine.specs.Options.{InRange, options_of};
 ghost use Rattle.lldp_program.specs.CommandLine.Arguments.{GivesNumber, GivesText, IsProgramParse};
 
@@ -44,6 +45,10 @@ const MAX_NEIGHBORS_HELP: &str = "Neighbors kept per port, 1 to 128";
 const MAC_HELP: &str = "Source MAC, chassis ID";
 
 const HOSTNAME_HELP: &str = "System name, up to 255 octets";
+
+const MANAGEMENT_HELP: &str = "Management address to announce";
+
+const ROLE_HELP: &str = "station, bridge or router";
 
 const TX_CREDIT_MAX_HELP: &str = "Frames a port may send at once, 1 to 10";
 
@@ -94,36 +99,26 @@ fn text<'a>(
 ) -> Arg<'a>
     ensures { rule_of result ≡ text_rule name.entry.now default.entry.now }
 {
-    valued(alloc, name, default).value_name(value).help(help)
-}
-
-/// Declares an option with a value, which is `default` if the arguments do not set the option.
-fn valued<'a>(alloc: Global, name: &'a str, default: &'a str) -> Arg<'a>
-    ensures { rule_of result ≡ valued_rule name.entry.now default.entry.now }
-{
-    Arg::new(alloc, name)
-        .long(name)
+    valued(alloc, name, value, help)
         .action(ArgAction::Set)
         .default_value(default)
 }
 
-fn management<'a>(alloc: Global) -> Arg<'a>
-    ensures { rule_of result ≡ management_rule }
+/// Declares an option that has a value.
+fn valued<'a>(alloc: Global, name: &'a str, value: &'a str, help: &'a str) -> Arg<'a>
+    ensures { rule_of result ≡ valued_rule name.entry.now }
 {
-    Arg::new(alloc, MANAGEMENT)
-        .long(MANAGEMENT)
-        .value_name("IPV4")
-        .help("Management address to announce")
+    Arg::new(alloc, name)
+        .long(name)
+        .value_name(value)
+        .help(help)
 }
 
 fn role<'a>(alloc: Global) -> Arg<'a>
     ensures { (roles : Bor (List (Bor (List ℕ)))) × AreRoles roles
         × (rule_of result ≡ role_rule roles) }
 {
-    valued(alloc, ROLE, "station")
-        .value_name("ROLE")
-        .value_parser(ROLES)
-        .help("station, bridge or router")
+    text(alloc, ROLE, "ROLE", "station", ROLE_HELP).value_parser(ROLES)
 }
 
 fn receive_only<'a>(alloc: Global) -> Arg<'a>
@@ -183,7 +178,7 @@ fn command<'a>(alloc: Global) -> Result<Command<'a>, AllocError>
         ))?
         .arg(text(alloc, MAC, "MAC", "02:00:00:00:00:01", MAC_HELP))?
         .arg(text(alloc, HOSTNAME, "TEXT", "localhost", HOSTNAME_HELP))?
-        .arg(management(alloc))?
+        .arg(valued(alloc, MANAGEMENT, "IPV4", MANAGEMENT_HELP))?
         .arg(role(alloc))?
         .arg(number(
             alloc,
@@ -294,7 +289,7 @@ fn management_of(matches: &ArgMatches<'_>) -> Result<Option<[u8; 4]>, AddressFau
     ensures asked { IfOk result (AsksManagement
         (first_value (found_of matches.now) (codes "management"))) }
     ensures refused { IfErr result (λ fault. (fault ≡ AddressFault.Management)
-        × WritesNoIpv4 (first_value (found_of matches.now) (codes "management"))) }
+        × IsBad IsDotted (first_value (found_of matches.now) (codes "management"))) }
 {
     match matches.get_str(MANAGEMENT) {
         None => Ok(None),

@@ -1,13 +1,14 @@
 //! Runs the program with arguments and streams that its caller passes.
-ghost use Rattle.std.specs.Prelude.{◌≡◌, ◌≢◌, ◌≤◌, ◌⊎◌, ℕ, true, false, None, Ok, Err, map, if◌then◌else◌};
+ghost use Rattle.std.specs.Prelude.{◌≡◌, ◌≢◌, ◌≤◌, ◌⊎◌, ℕ, true, false, None, Ok, Err, codes, map, if◌then◌else◌};
 ghost use Rattle.std.specs.Io.KnownBytes.{Keeps};
 ghost use Rattle.clap.specs.Values.{kind_of};
 ghost use Rattle.clap.specs.Words.{found_of, rows_of};
+ghost use Rattle.clap.specs.Walk.{one_of};
 ghost use Rattle.lldp_engine.specs.Options.{Options, fault_of};
 ghost use Rattle.lldp_program.specs.CommandLine.Arguments.{IsProgramParse};
 ghost use Rattle.lldp_program.specs.Faults.ProgramFault.{status_of};
 ghost use Rattle.lldp_program.specs.Faults.Told.{EndsBy, EndsWellOr, IsTold, stream};
-ghost use Rattle.lldp_program.specs.Program.{AreWrong, FailedBy, HasAnswered, HasRefused, RanAs, RanStreams, RefusesAddress, RefusesOpening, TellsRefusal};
+ghost use Rattle.lldp_program.specs.Program.{AreWrong, FailedBy, HasAnswered, HasRefused, AreRefused, RanBut, RanStreams, TellsRefusal};
 ghost use Rattle.lldp_program.specs.CommandLine.Usage.{Asks};
 
 use crate::acceptor::AtPort;
@@ -16,10 +17,10 @@ use crate::device::{Flush, FromReader, Sink, Source, ToWriter};
 use crate::fault::ProgramFault;
 use crate::output::{SinkText, send};
 use crate::serve::listen;
-use crate::trace::run_trace;
+use crate::trace::{RunFault, run_trace};
 use clap::error::ErrorKind;
 use clap::{ArgMatches, Error};
-use lldp_engine::Agent;
+use lldp_engine::{Agent, OpenFault};
 use std::alloc::Global;
 use std::convert::AsStr;
 use std::fmt::Write as _;
@@ -132,16 +133,14 @@ fn run_matches<R: Read, W: Write, E: Sink>(
     ensures ran { result ≢ 2 →
         (options : Options) × Asks (rows_of (found_of matches.now)) options
         × (fault_of options ≡ None)
-        × RanAs (rows_of (found_of matches.now)) options
+        × RanBut (one_of (codes "listen") (rows_of (found_of matches.now))) options
         (R.remaining reader.old) (R.remaining reader.new)
         (W.contents writer.old) (W.contents writer.new)
         (stream (E.taken faults.old) (E.failures faults.old))
         (stream (E.taken faults.new) (E.failures faults.new)) result }
-    ensures refused { result ≡ 2 →
-        RefusesAddress (rows_of (found_of matches.now))
-        (stream (E.taken faults.old) (E.failures faults.old))
-        (stream (E.taken faults.new) (E.failures faults.new))
-        ⊎ RefusesOpening (rows_of (found_of matches.now))
+    ensures refused { result ≡ 2 → (fault : ProgramFault)
+        × AreRefused (rows_of (found_of matches.now)) fault
+        × IsTold fault
         (stream (E.taken faults.old) (E.failures faults.old))
         (stream (E.taken faults.new) (E.failures faults.new)) }
     ensures silent { result ≡ 2 →
@@ -151,14 +150,14 @@ fn run_matches<R: Read, W: Write, E: Sink>(
 {
     let options = match read_options(matches) {
         Ok(options) => options,
-        Err(fault) => return tell(ProgramFault::of_address(fault), faults),
+        Err(fault) => return tell(ProgramFault::Address(fault), faults),
     };
     match Agent::open(alloc, &options) {
         Ok(mut agent) => match listening_of(matches) {
             None => run_streams(&mut agent, reader, writer, faults),
             Some(listening) => run_sockets(rt, &mut agent, listening, faults),
         },
-        Err(fault) => tell(ProgramFault::of_opening(fault), faults),
+        Err(fault) => tell(ProgramFault::Opening(fault), faults),
     }
 }
 
@@ -168,12 +167,12 @@ fn answer_words<W: Write, E: Sink>(error: &Error, writer: &mut W, faults: &mut E
         (kind_of error.now ≢ ErrorKind.DisplayVersion) →
         (result ≡ 2) × Keeps (W.contents writer.old) (W.contents writer.new) }
     ensures memory { (kind_of error.now ≡ ErrorKind.OutOfMemory) →
-        (E.place faults.new ≡ E.place faults.old) × IsTold ProgramFault.Memory
+        (E.place faults.new ≡ E.place faults.old) × IsTold (ProgramFault.Opening OpenFault.Memory)
         (stream (E.taken faults.old) (E.failures faults.old))
         (stream (E.taken faults.new) (E.failures faults.new)) }
     ensures answered { ((kind_of error.now ≡ ErrorKind.DisplayHelp)
         ⊎ (kind_of error.now ≡ ErrorKind.DisplayVersion)) →
-        (E.place faults.new ≡ E.place faults.old) × EndsWellOr ProgramFault.Write
+        (E.place faults.new ≡ E.place faults.old) × EndsWellOr (ProgramFault.Run RunFault.Write)
         (stream (E.taken faults.old) (E.failures faults.old))
         (stream (E.taken faults.new) (E.failures faults.new)) result }
     ensures status { result ≤ 2 }
@@ -192,13 +191,13 @@ fn answer_words<W: Write, E: Sink>(error: &Error, writer: &mut W, faults: &mut E
 /// Writes and flushes the help or version that was asked for.
 fn write_help<W: Write, E: Sink>(error: &Error, writer: &mut W, faults: &mut E) -> u8
     ensures status { result ≤ 1 }
-    ensures ended { EndsWellOr ProgramFault.Write
+    ensures ended { EndsWellOr (ProgramFault.Run RunFault.Write)
         (stream (E.taken faults.old) (E.failures faults.old))
         (stream (E.taken faults.new) (E.failures faults.new)) result }
     ensures place { E.place faults.new ≡ E.place faults.old }
 {
     if write!(writer, "{error}").is_err() {
-        return tell(ProgramFault::Write, faults);
+        return tell(ProgramFault::Run(RunFault::Write), faults);
     }
     finish(writer.flush().is_ok(), faults)
 }
@@ -253,7 +252,7 @@ fn run_devices<S: Source, W: Flush, E: Sink>(
     let flushed = sink.flush();
     match ran {
         Ok(()) => finish(flushed.is_ok(), faults),
-        Err(fault) => tell(ProgramFault::of_run(fault), faults),
+        Err(fault) => tell(ProgramFault::Run(fault), faults),
     }
 }
 
@@ -286,7 +285,7 @@ fn finish<E: Sink>(flushed: bool, faults: &mut E) -> u8
     ensures well { flushed ≡ true → EndsBy (Ok tt)
         (stream (E.taken faults.old) (E.failures faults.old))
         (stream (E.taken faults.new) (E.failures faults.new)) result }
-    ensures failed { flushed ≡ false → EndsBy (Err ProgramFault.Write)
+    ensures failed { flushed ≡ false → EndsBy (Err (ProgramFault.Run RunFault.Write))
         (stream (E.taken faults.old) (E.failures faults.old))
         (stream (E.taken faults.new) (E.failures faults.new)) result }
     ensures place { E.place faults.new ≡ E.place faults.old }
@@ -294,18 +293,18 @@ fn finish<E: Sink>(flushed: bool, faults: &mut E) -> u8
     if flushed {
         return DONE;
     }
-    tell(ProgramFault::Write, faults)
+    tell(ProgramFault::Run(RunFault::Write), faults)
 }
 
 /// Reports that there was no memory, and returns the status 2.
 pub fn no_memory<E: Sink>(faults: &mut E) -> u8
     ensures status { result ≡ 2 }
-    ensures told { IsTold ProgramFault.Memory
+    ensures told { IsTold (ProgramFault.Opening OpenFault.Memory)
         (stream (E.taken faults.old) (E.failures faults.old))
         (stream (E.taken faults.new) (E.failures faults.new)) }
     ensures place { E.place faults.new ≡ E.place faults.old }
 {
-    tell(ProgramFault::Memory, faults)
+    tell(ProgramFault::Opening(OpenFault::Memory), faults)
 }
 
 /// Writes the line of a fault, or a part of it if a write fails. Returns the status of the fault,

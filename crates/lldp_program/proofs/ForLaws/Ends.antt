@@ -4,18 +4,20 @@ use Rattle.std.specs.Prelude.{is_ok, codes}
 use Rattle.std.proofs.lemmas.Grind.{common_steps}
 use Rattle.std.proofs.lemmas.List.{length-append}
 use Rattle.clap.specs.Walk.{Text, one_of}
+use Rattle.lldp_engine.specs.declared.agent.open_fault.OpenFault.TheVariants.{Memory}
 use Rattle.lldp_engine.specs.Options.{Options}
 use Rattle.lldp_engine.specs.Past.{opened}
 use Rattle.lldp_program.specs.Trace.Items.{text}
+use Rattle.lldp_program.specs.Trace.Runs.{Ends, HasRead}
 use Rattle.lldp_program.specs.declared.device.DeviceFault.{DeviceFault}
 use Rattle.lldp_program.specs.declared.fault.ProgramFault.{ProgramFault}
 use Rattle.lldp_program.specs.declared.fault.ProgramFault.TheVariants as program
 use Rattle.lldp_program.specs.declared.trace.RunFault.{RunFault}
-use Rattle.lldp_program.specs.declared.trace.RunFault.TheVariants.{Read, Write, InputTooLong}
+use Rattle.lldp_program.specs.declared.trace.RunFault.TheVariants.{Write}
 use Rattle.lldp_program.specs.Devices.Counts.{one_more}
 use Rattle.lldp_program.specs.Faults.ProgramFault.{line_of, ended_by}
 use Rattle.lldp_program.specs.Faults.Told.{EndsBy, EndsWellOr, IsTold, Stream, stream}
-use Rattle.lldp_program.specs.Program.{HasAnswered, Ran, RanBut, RanBy}
+use Rattle.lldp_program.specs.Program.{HasAnswered, RanBut, RanBy}
 use Rattle.lldp_program.specs.Laws.Counted.{CountsCalls}
 use Rattle.lldp_program.specs.Laws.Ends.{AnswersByStatus, EndsTelling, RefusesAloud, RunsItsInput, TellsFault}
 
@@ -84,30 +86,27 @@ ends_telling fault old new n m status =
 
 pub refuses_aloud : (words : List Text) (old : List ℕ) (n : ℕ) → RefusesAloud words old n
 refuses_aloud words old n h (inl wrong) = wrong
-refuses_aloud words old n h (inr (inl memory)) = absurd (untold program.Memory old n h memory)
-refuses_aloud words old n h (inr (inr (rows, parse, inl (fault, bad, told)))) = absurd (untold _ old n h told)
-refuses_aloud words old n h (inr (inr (rows, parse, inr (options, fault, asks, refusal, told)))) = absurd (untold _ old n h told)
+refuses_aloud words old n h (inr (inl memory)) = absurd (untold (program.Opening Memory) old n h memory)
+refuses_aloud words old n h (inr (inr (rows, fault, parse, refused, told))) = absurd (untold fault old n h told)
 
 -- ---- statuses
 
 by_run : (result : Result (Unit {0}) RunFault) (flushed : Result (Unit {0}) DeviceFault) (before after : Stream) (status : ℕ) → EndsBy (ended_by result flushed) before after status → status ≤ 1
 by_run (Ok done) (Ok flushed) before after status e = omega (arith, e.ends)
 by_run (Ok done) (Err fault) before after status e = omega (arith, e.ends)
-by_run (Err Read) flushed before after status e = omega (arith, e.ends)
-by_run (Err Write) flushed before after status e = omega (arith, e.ends)
-by_run (Err InputTooLong) flushed before after status e = omega (arith, e.ends)
+by_run (Err fault) flushed before after status e = omega (arith, e.ends)
 
 quiet_run : (result : Result (Unit {0}) RunFault) (flushed : Result (Unit {0}) DeviceFault) (old : List ℕ) (n status : ℕ) → n < most
     → EndsBy (ended_by result flushed) (stream (Some old) n) (stream (Some old) n) status → status ≡ 0
 quiet_run (Ok done) (Ok flushed) old n status h e = e.ends
-quiet_run (Ok done) (Err fault) old n status h e = absurd (untold program.Write old n h e.told)
-quiet_run (Err fault) flushed old n status h e = absurd (untold _ old n h e.told)
+quiet_run (Ok done) (Err fault) old n status h e = absurd (untold (program.Run Write) old n h e.told)
+quiet_run (Err fault) flushed old n status h e = absurd (untold (program.Run fault) old n h e.told)
 
 by_socket : (before after : Stream) (status : ℕ) → EndsWellOr program.Socket before after status → status ≤ 1
 by_socket before after status (inl e) = omega (arith, e.ends)
 by_socket before after status (inr e) = omega (arith, e.ends)
 
-by_write : (before after : Stream) (status : ℕ) → EndsWellOr program.Write before after status → status ≤ 1
+by_write : (before after : Stream) (status : ℕ) → EndsWellOr (program.Run Write) before after status → status ≤ 1
 by_write before after status (inl e) = omega (arith, e.ends)
 by_write before after status (inr e) = omega (arith, e.ends)
 
@@ -129,7 +128,7 @@ at_most words to_come left old new before after status (inr ran) =
 
 quietly : (words : List Text) (to_come left old new : Option (List ℕ)) (faults : List ℕ) (n status : ℕ) → n < most
     → HasAnswered words to_come left old new (stream (Some faults) n) (stream (Some faults) n) status → status ≡ 0
-quietly words to_come left old new faults n status h (inl (asked, kept, ended)) = quiet program.Write faults n status h ended
+quietly words to_come left old new faults n status h (inl (asked, kept, ended)) = quiet (program.Run Write) faults n status h ended
 quietly words to_come left old new faults n status h (inr ran) =
     quiet_ran (one_of (codes "listen") ran.rows) ran.options to_come left old new faults n status h ran.ran
 
@@ -145,14 +144,14 @@ answers_by_status words to_come left old new faults told n status =
 
 ran_all : (o : Options) (input left old new : List ℕ) (before after : Stream) → RanBy o (Some input) (Some left) (Some old) (Some new) before after 0
     → (left ≡ []) × (new ≡ old ++ text (opened o) input)
-ran_all o input left old new before after ran = done ran.result ran.ran (ran.done refl)
+ran_all o input left old new before after ran = done ran.result (ran.done refl) ran.read ran.ends
   where
-    done : (r : Result (Unit {0}) RunFault) → Ran o (Some input) (Some left) (Some old) (Some new) r → is_ok r ≡ true
+    done : (r : Result (Unit {0}) RunFault) → is_ok r ≡ true → HasRead (Some left) ran.input r → Ends (opened o) ran.input (Some left) (Some old) (Some new) ran.agent r
         → (left ≡ []) × (new ≡ old ++ text (opened o) input)
-    done (Ok t) x e =
-        let all : x.input ≡ input = sym (x.consumed ∙ ap (λ l. x.input ++ l) x.read ∙ append-nil x.input) in
-        (x.read, subst (λ i. new ≡ old ++ text (opened o) i) all x.ends.written)
-    done (Err fault) x e = cc
+    done (Ok t) e read ends =
+        let all : ran.input ≡ input = sym (ran.consumed ∙ ap (λ l. ran.input ++ l) read ∙ append-nil ran.input) in
+        (read, subst (λ i. new ≡ old ++ text (opened o) i) all ends.written)
+    done (Err fault) e read ends = cc
 
 by_port : (port : Option Text) (o : Options) (input left old new : List ℕ) (before after : Stream)
     → RanBut port o (Some input) (Some left) (Some old) (Some new) before after 0

@@ -1,6 +1,6 @@
 -- Bad addresses, and pasts that go on.
 use Rattle.std.proofs.Common.{◌≡◌, ◌⊎◌, ℕ, List, [], ◌∷◌, ◌++◌, Option, Some, None, refl, sym, ap, ◌∙◌, append_assoc, Bor, inl, inr, arith}
-use Rattle.std.specs.Prelude.{codes}
+use Rattle.std.specs.Prelude.{codes, IsSomeAnd}
 use Rattle.std.specs.Net.Grammar.{IsDotted}
 use Rattle.clap.specs.Walk.{Row, Text, first_of}
 use Rattle.lldp_engine.specs.AgentState.{AgentState}
@@ -10,7 +10,8 @@ use Rattle.lldp_engine.specs.Past.{Past, with_event}
 use Rattle.lldp_engine.proofs.Headline.{have_sent_exactly}
 use Rattle.lldp_program.specs.declared.arguments.AddressFault.{AddressFault}
 use Rattle.lldp_program.specs.declared.arguments.AddressFault.TheVariants.{Mac, Management}
-use Rattle.lldp_program.specs.CommandLine.Usage.{Asks, AsksMac, AsksManagement, HasBadAddress, WritesNoIpv4, WritesNoMac}
+use Rattle.lldp_program.specs.CommandLine.Addresses.{IsMac}
+use Rattle.lldp_program.specs.CommandLine.Usage.{Asks, AsksManagement, HasBadAddress, IsBad}
 use Rattle.clap.proofs.OnLiterals.{clap_on_literals}
 use Rattle.clap.specs.Kinds.{IsAmong}
 use Rattle.clap.specs.declared.error.kind.ErrorKind.{ErrorKind}
@@ -19,11 +20,11 @@ use Rattle.std.proofs.lemmas.Grind.{common_steps}
 use Rattle.lldp_program.specs.Trace.Runs.{KeepsOn, followed}
 use Rattle.lldp_program.specs.Laws.Refused.{GoesOn, IsNotDotted, RefusesBadAddresses, SortsWords}
 
-no_mac : (text : Option Text) (mac : List ℕ) → WritesNoMac text → AsksMac text mac → ⊥
+no_mac : (text : Option Text) (mac : List ℕ) → IsBad IsMac text → IsSomeAnd text (λ t. IsMac t mac) → ⊥
 no_mac None mac bad asks = absurd bad
 no_mac (Some text) mac bad asks = bad mac asks
 
-no_address : (text : Option Text) (given : Option (List ℕ)) → WritesNoIpv4 text → AsksManagement text given → ⊥
+no_address : (text : Option Text) (given : Option (List ℕ)) → IsBad IsDotted text → AsksManagement text given → ⊥
 no_address None given bad asks = absurd bad
 no_address (Some text) given bad (octets, is, dotted) = bad octets dotted
 

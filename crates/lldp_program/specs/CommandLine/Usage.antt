@@ -1,5 +1,5 @@
 -- The program's command line as `clap` reads it, and what its arguments ask for.
-use Rattle.std.specs.Prelude.{◌≡◌, ◌⊎◌, ℕ, true, false, if◌then◌else◌, List, [], ◌∷◌, Option, Some, None, Ok, map, option_map, unwrap_or, codes, pos}
+use Rattle.std.specs.Prelude.{◌≡◌, ◌⊎◌, ℕ, true, false, if◌then◌else◌, List, [], ◌∷◌, Option, Some, None, IsSomeAnd, Ok, map, option_map, unwrap_or, codes, pos}
 use Rattle.std.specs.Str.{bytes_eq}
 use Rattle.std.specs.Borrow.{Bor}
 use Rattle.std.specs.Net.Grammar.{IsDotted}
@@ -21,21 +21,17 @@ use Rattle.lldp_program.specs.declared.arguments.Listening.{Listening}
 use Rattle.lldp_program.specs.declared.arguments.AddressFault.{AddressFault}
 use Rattle.lldp_program.specs.declared.arguments.AddressFault.TheVariants.{Mac, Management}
 
--- an option that has a value, with this default
-abbrev pub valued_rule : Text → Text → Rule
-valued_rule name default = record (new_rule name) { long = Some name; action = Some Set; defaults = default ∷ [] }
+-- an option that has a value; the help has a name for it
+abbrev pub valued_rule : Text → Rule
+valued_rule name = record (new_rule name) { long = Some name; value_names = 1 }
 
--- an option with this default; the help has a name for its value
+-- an option that has a value, with this default
 abbrev pub text_rule : Text → Text → Rule
-text_rule name default = record (valued_rule name default) { value_names = 1 }
+text_rule name default = record (valued_rule name) { action = Some Set; defaults = default ∷ [] }
 
 -- an option for a whole number from 1 to `greatest`, with this default
 abbrev pub number_rule : Text → ℕ → Text → Rule
 number_rule name greatest default = record (text_rule name default) { parser = Some (Signed (pos 1) (pos greatest)) }
-
--- the option for the management address, which has no default
-abbrev pub management_rule : Rule
-management_rule = record (new_rule (codes "management")) { long = Some (codes "management"); value_names = 1 }
 
 -- the names of the roles are these three, in this order
 abbrev pub AreRoles : Bor (List (Bor Text)) → Type 0
@@ -52,32 +48,23 @@ receive_only_rule = record
 
 -- the option `--listen`, whose value is a TCP port from 1 to 65535
 abbrev pub listen_rule : Rule
-listen_rule =
-    record (new_rule (codes "listen")) {
-      long = Some (codes "listen");
-      value_names = 1;
-      parser = Some (Signed (pos 1) (pos 65535));
-    }
+listen_rule = record (valued_rule (codes "listen")) { parser = Some (Signed (pos 1) (pos 65535)) }
 
 -- the arguments that are not options: the names of any number of ports
 abbrev pub ports_rule : Rule
 ports_rule =
     record (new_rule (codes "PORT")) { range = Some (record { start_inclusive = 0; end_inclusive = usize_max }) }
 
--- the command line with the option `--version` added
-abbrev pub versioned : App → App
-versioned = on_top (λ s. record s { has_version = true })
-
--- the command line: the options in the order of the help, and the ports
+-- the command line: `--version`, the options in the order of the help, and the ports
 abbrev pub program : Bor (List (Bor Text)) → App
 program roles =
     with_rule (with_rule (with_rule (with_rule (with_rule (with_rule
     (with_rule (with_rule (with_rule (with_rule (with_rule (with_rule
-    (versioned (new_app (codes "lldpa")))
+    (on_top (λ s. record s { has_version = true }) (new_app (codes "lldpa")))
     (number_rule (codes "max-neighbors") 128 (codes "32")))
     (text_rule (codes "mac") (codes "02:00:00:00:00:01")))
     (text_rule (codes "hostname") (codes "localhost")))
-    management_rule)
+    (valued_rule (codes "management")))
     (role_rule roles))
     (number_rule (codes "tx-credit-max") 10 (codes "5")))
     (number_rule (codes "tx-fast-init") 8 (codes "4")))
@@ -97,31 +84,21 @@ abbrev pub AsksManagement : Option Text → Option (List ℕ) → Type 0
 AsksManagement None given = given ≡ None
 AsksManagement (Some text) given = (octets : List ℕ) × (given ≡ Some octets) × IsDotted text octets
 
--- there is a text, and it spells this MAC
-abbrev pub AsksMac : Option Text → List ℕ → Type 0
-AsksMac None mac = ⊥
-AsksMac (Some text) mac = IsMac text mac
-
--- there is a text, and it does not spell a MAC
-abbrev pub WritesNoMac : Option Text → Type 0
-WritesNoMac None = ⊥
-WritesNoMac (Some text) = (mac : List ℕ) → ¬ IsMac text mac
-
--- there is a text, and it does not spell an IPv4 address
-abbrev pub WritesNoIpv4 : Option Text → Type 0
-WritesNoIpv4 None = ⊥
-WritesNoIpv4 (Some text) = (octets : List ℕ) → ¬ IsDotted text octets
+-- the option has a text, and it spells no address of this kind
+abbrev pub IsBad : (Text → List ℕ → Type 0) → Option Text → Type 0
+IsBad IsAddress given = IsSomeAnd given (λ text. (address : List ℕ) → ¬ IsAddress text address)
 
 -- Mac: the value of `--mac` cannot be read. Management: only that of `--management` cannot.
 abbrev pub HasBadAddress : List Row → AddressFault → Type 0
-HasBadAddress rows Mac = WritesNoMac (first_of (codes "mac") rows)
+HasBadAddress rows Mac = IsBad IsMac (first_of (codes "mac") rows)
 HasBadAddress rows Management =
-    ((mac : List ℕ) × AsksMac (first_of (codes "mac") rows) mac) × WritesNoIpv4 (first_of (codes "management") rows)
+    ((mac : List ℕ) × IsSomeAnd (first_of (codes "mac") rows) (λ text. IsMac text mac))
+    × IsBad IsDotted (first_of (codes "management") rows)
 
 -- Each option has the value of its argument, or its default.
 pub record Asks (rows : List Row) (o : Options) : Type 0 where
   pub names : o.names ≡ unwrap_or (all_of (codes "PORT") rows) []
-  pub mac : AsksMac (first_of (codes "mac") rows) o.mac
+  pub mac : IsSomeAnd (first_of (codes "mac") rows) (λ text. IsMac text o.mac)
   pub hostname : first_of (codes "hostname") rows ≡ Some o.hostname
   pub management : AsksManagement (first_of (codes "management") rows) o.management
   pub role : option_map role_named (first_of (codes "role") rows) ≡ Some o.role

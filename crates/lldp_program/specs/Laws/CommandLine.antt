@@ -1,5 +1,6 @@
 -- Exactly which options the command line accepts, and what each option asks for.
 use Rattle.std.specs.Prelude.{codes, ◌≡◌, ◌<◌, ◌≤◌, ◌↔◌, ℕ, ◌+◌, ◌*◌, true, false, List, [], ◌∷◌, length, slice_index, Option, Some, None, map, option_and_then, pos, find}
+use Rattle.std.specs.Net.Grammar.{IsDotted}
 use Rattle.std.specs.Net.Text.{dotted_text}
 use Rattle.std.specs.Str.{bytes_eq}
 use Rattle.std.specs.List.{AllByRecursion}
@@ -15,7 +16,7 @@ use Rattle.lldp_engine.specs.declared.agent.options.Role.{Role}
 use Rattle.lldp_engine.specs.declared.agent.options.Role.TheVariants.{Station, Bridge, Router}
 use Rattle.lldp_engine.specs.Options.{Options, InRange}
 use Rattle.lldp_program.specs.CommandLine.Addresses.{IsMac}
-use Rattle.lldp_program.specs.CommandLine.Usage.{AreRoles, AsksManagement, WritesNoIpv4, program, role_named}
+use Rattle.lldp_program.specs.CommandLine.Usage.{AreRoles, AsksManagement, IsBad, program, role_named}
 use Rattle.lldp_program.specs.Laws.Listening.{IsNumberIn}
 
 -- the rules of the program's command line, in the order of the help
@@ -120,7 +121,7 @@ pub record SeparateByColons (text mac : List ℕ) : Type 0 where
 abbrev pub SpellAddresses : Type 0
 SpellAddresses =
     (a b c d : ℕ) → a < 256 → b < 256 → c < 256 → d < 256 →
-    AsksManagement (Some (dotted_text a b c d)) (Some (a ∷ b ∷ c ∷ d ∷ [])) × (WritesNoIpv4 (Some (dotted_text a b c d)) → ⊥)
+    AsksManagement (Some (dotted_text a b c d)) (Some (a ∷ b ∷ c ∷ d ∷ [])) × (IsBad IsDotted (Some (dotted_text a b c d)) → ⊥)
 
 -- if the text of this option spells a number below 256, n is that number
 abbrev pub SaysNumber : Text → List Row → ℕ → Type 0

@@ -12,7 +12,7 @@ use Rattle.lldp_program.specs.declared.trace.RunFault.{RunFault}
 use Rattle.lldp_program.specs.declared.trace.RunFault.TheVariants.{Read, Write, InputTooLong}
 use Rattle.lldp_program.specs.declared.trace.TheConstants.{MOST_READS}
 use Rattle.lldp_program.specs.declared.fault.ProgramFault.TheVariants as program
-use Rattle.lldp_program.specs.Faults.ProgramFault.{ended_by, fault_of_address, fault_of_opening, fault_of_run, line_of, status_of}
+use Rattle.lldp_program.specs.Faults.ProgramFault.{ended_by, line_of, status_of}
 use Rattle.lldp_program.specs.Serving.{this_host}
 use Rattle.lldp_program.specs.Faults.FaultNumber.{number_of_run_fault, number_of_serve_fault, number_of_line_fault}
 
@@ -26,29 +26,26 @@ pub record AreNumbers : Type 0 where
   pub serving : map number_of_serve_fault (Accept ∷ []) ≡ 1 ∷ []
   pub lines : (fault : CommandFault) → map number_of_line_fault (TooLong ∷ Hex ∷ Command fault ∷ []) ≡ 1 ∷ 2 ∷ 3 ∷ []
   pub ends : map status_of
-      (program.Read ∷ program.Write ∷ program.InputTooLong ∷ program.Socket
-      ∷ program.Memory ∷ program.NoPorts ∷ program.TooManyPorts ∷ program.PortName ∷ program.SamePort ∷ program.Text
-      ∷ program.Mac ∷ program.Management ∷ [])
+      (program.Run Read ∷ program.Run Write ∷ program.Run InputTooLong ∷ program.Socket
+      ∷ program.Opening opening.Memory ∷ program.Opening opening.NoPorts ∷ program.Opening opening.TooManyPorts
+      ∷ program.Opening opening.PortName ∷ program.Opening opening.SamePort ∷ program.Opening opening.Text
+      ∷ program.Address address.Mac ∷ program.Address address.Management ∷ [])
       ≡ 1 ∷ 1 ∷ 1 ∷ 1 ∷ 2 ∷ 2 ∷ 2 ∷ 2 ∷ 2 ∷ 2 ∷ 2 ∷ 2 ∷ []
   pub host : this_host ≡ 127 ∷ 0 ∷ 0 ∷ 1 ∷ []
 
--- How the program ends: the line of each fault, and the program's fault for each fault of a run, an
--- opening or an address. If both the run and the flush fail, the run's fault counts.
+-- How the program ends: the line of each fault of a run, a socket, an opening or an address. If both
+-- the run and the flush fail, the run's fault counts.
 pub record AreEnds : Type 0 where
   pub lines : map line_of
-      (program.Read ∷ program.Write ∷ program.InputTooLong ∷ program.Socket
-      ∷ program.Memory ∷ program.NoPorts ∷ program.TooManyPorts ∷ program.PortName ∷ program.SamePort ∷ program.Text
-      ∷ program.Mac ∷ program.Management ∷ [])
+      (program.Run Read ∷ program.Run Write ∷ program.Run InputTooLong ∷ program.Socket
+      ∷ program.Opening opening.Memory ∷ program.Opening opening.NoPorts ∷ program.Opening opening.TooManyPorts
+      ∷ program.Opening opening.PortName ∷ program.Opening opening.SamePort ∷ program.Opening opening.Text
+      ∷ program.Address address.Mac ∷ program.Address address.Management ∷ [])
       ≡ codes "lldpa: read failed\n" ∷ codes "lldpa: write failed\n" ∷ codes "lldpa: input too long\n"
       ∷ codes "lldpa: socket failed\n" ∷ codes "lldpa: no memory\n" ∷ codes "lldpa: no ports\n"
       ∷ codes "lldpa: too many ports\n" ∷ codes "lldpa: bad port name\n" ∷ codes "lldpa: same port twice\n"
       ∷ codes "lldpa: bad text\n" ∷ codes "lldpa: bad --mac\n" ∷ codes "lldpa: bad --management\n" ∷ []
-  pub runs : map fault_of_run (Read ∷ Write ∷ InputTooLong ∷ []) ≡ program.Read ∷ program.Write ∷ program.InputTooLong ∷ []
-  pub openings : map fault_of_opening
-      (opening.Memory ∷ opening.NoPorts ∷ opening.TooManyPorts ∷ opening.PortName ∷ opening.SamePort ∷ opening.Text ∷ [])
-      ≡ program.Memory ∷ program.NoPorts ∷ program.TooManyPorts ∷ program.PortName ∷ program.SamePort ∷ program.Text ∷ []
-  pub addresses : map fault_of_address (address.Mac ∷ address.Management ∷ []) ≡ program.Mac ∷ program.Management ∷ []
   pub done : ended_by (Ok tt) (Ok tt) ≡ Ok tt
-  pub flush : (fault : DeviceFault) → ended_by (Ok tt) (Err fault) ≡ Err program.Write
+  pub flush : (fault : DeviceFault) → ended_by (Ok tt) (Err fault) ≡ Err (program.Run Write)
   pub run : (fault : RunFault) (flushed : Result (Unit {0}) DeviceFault) →
-      ended_by (Err fault) flushed ≡ Err (fault_of_run fault)
+      ended_by (Err fault) flushed ≡ Err (program.Run fault)

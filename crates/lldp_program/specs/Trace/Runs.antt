@@ -51,17 +51,14 @@ StoppedAt past input left old new agent =
 abbrev pub Ends : {T : Type 0} → Past → List ℕ → Option (List ℕ) → Option (List ℕ) → Option (List ℕ) → AgentState →
     Result T RunFault → Type 0
 Ends past input left old new agent (Ok done) = Done past (items_of_lines past (lines_of input)) old new agent
-Ends past input left old new agent (Err Read) = Done past (items_of_lines past (ended_lines input)) old new agent
 Ends past input left old new agent (Err Write) = StoppedAt past input left old new agent
-Ends past input left old new agent (Err InputTooLong) =
-    Done past (items_of_lines past (ended_lines input)) old new agent
+Ends past input left old new agent (Err fault) = Done past (items_of_lines past (ended_lines input)) old new agent
 
 -- Ok: all of the input was read. InputTooLong: at least 4,294,967,295 octets were read.
 abbrev pub HasRead : {T : Type 0} → Option (List ℕ) → List ℕ → Result T RunFault → Type 0
 HasRead left input (Ok done) = IsAtEnd left
-HasRead left input (Err Read) = Unit {0}
-HasRead left input (Err Write) = Unit {0}
 HasRead left input (Err InputTooLong) = 4294967295 ≤ length input
+HasRead left input (Err fault) = Unit {0}
 
 -- A run: the octets that it read, what its answer says about them, and what it did for every past
 -- that led to the agent's state. The source had `to_come` before the run and has `left` after it;

@@ -1,9 +1,12 @@
-use Rattle.std.proofs.Common.{◌≡◌, ◌∙◌, ap, codes, refl}
+use Rattle.std.proofs.Common.{◌≡◌, ◌∙◌, ap, codes, refl, true}
 use Rattle.std.proofs.lemmas.Result.{IfOk-weaker}
-use Rattle.clap.specs.Simple.{app_of, app_of_fields, new_app}
-use Rattle.lldp_program.specs.CommandLine.Usage.{versioned}
+use Rattle.clap.specs.Simple.{App, app_of, app_of_fields, new_app, on_top}
 use Rattle.lldp_program.proofs.Words.Parsed.{one_more}
 use Rattle.lldp_program.proofs.arguments.command.Goals as goal
+
+-- `clap` adds the option `--version`
+abbrev versioned : App → App
+versioned = on_top (λ s. record s { has_version = true })
 
 -- each call of `arg` adds the rule of its argument to the command line
 pub returns : goal.returns
@@ -14,7 +17,7 @@ returns c =
     let s1 = one_more c.in_ok-arg.ensures s0 c.number.ensures refl in
     let s2 = one_more c.in_ok-arg-2.ensures s1 c.text.ensures refl in
     let s3 = one_more c.in_ok-arg-3.ensures s2 c.text-2.ensures refl in
-    let s4 = one_more c.in_ok-arg-4.ensures s3 c.management.ensures refl in
+    let s4 = one_more c.in_ok-arg-4.ensures s3 c.valued.ensures refl in
     let s5 = one_more c.in_ok-arg-5.ensures s4 c.role.ensures.2 refl in
     let s6 = one_more c.in_ok-arg-6.ensures s5 c.number-2.ensures refl in
     let s7 = one_more c.in_ok-arg-7.ensures s6 c.number-3.ensures refl in

@@ -1,10 +1,12 @@
 use Rattle.std.proofs.Common.{◌∙◌, ap, sym, subst, arith, refl, codes, Some}
-use Rattle.std.specs.Prelude.{option_map}
+use Rattle.std.specs.Prelude.{option_map, IsSomeAnd}
+use Rattle.std.specs.Net.Grammar.{IsDotted}
 use Rattle.std.proofs.lemmas.Result.{err_from_is_err_and}
 use Rattle.clap.specs.Walk.{byte_or_zero, rows_of}
 use Rattle.clap.specs.Matches.{found_of}
 use Rattle.clap.proofs.WalkLemmas.{first_value-rows, one_text-rows, raw_values-rows}
-use Rattle.lldp_program.specs.CommandLine.Usage.{role_named, AsksMac, AsksManagement, HasBadAddress, WritesNoIpv4, WritesNoMac}
+use Rattle.lldp_program.specs.CommandLine.Usage.{role_named, AsksManagement, HasBadAddress, IsBad}
+use Rattle.lldp_program.specs.CommandLine.Addresses.{IsMac}
 use Rattle.lldp_program.specs.declared.arguments.AddressFault.TheVariants.{Management}
 use Rattle.lldp_program.proofs.Words.Parsed.{gives_number, gives_text}
 use Rattle.lldp_program.proofs.Words.Usage.{ports_named}
@@ -44,7 +46,7 @@ pub returns-clause-asks : goal.returns-clause-asks
 returns-clause-asks c =
     let found = found_of c.args.matches.now in
     record {
-      mac = subst (λ x. AsksMac x c.in-Some.mac) (sym c.given.ensures.value ∙ first_value-rows found (codes "mac")) c.in-Some.ensures;
+      mac = subst (λ x. IsSomeAnd x (λ text. IsMac text c.in-Some.mac)) (sym c.given.ensures.value ∙ first_value-rows found (codes "mac")) c.in-Some.ensures;
       names = ports_named c.get_strs.result _ _ _ _ refl c.unwrap_or.ensures c.get_strs.ensures (raw_values-rows found (codes "PORT"));
       hostname = sym (first_value-rows found (codes "hostname")) ∙ c.given-2.ensures.value;
       management = subst (λ x. AsksManagement x c.in_ok-management_of.field-0) (first_value-rows found (codes "management")) c.in_ok-management_of.ensures.asked;
@@ -59,13 +61,13 @@ returns-clause-asks c =
 
 pub returns-in_default-clause-refused : goal.returns-in_default-clause-refused
 returns-in_default-clause-refused c =
-    subst WritesNoMac (sym c.given.ensures.value ∙ first_value-rows (found_of c.args.matches.now) (codes "mac")) c.in_default.ensures
+    subst (IsBad IsMac) (sym c.given.ensures.value ∙ first_value-rows (found_of c.args.matches.now) (codes "mac")) c.in_default.ensures
 
 pub returns-in_err-management_of-clause-refused : goal.returns-in_err-management_of-clause-refused
 returns-in_err-management_of-clause-refused c =
     let found = found_of c.args.matches.now in
     let p = err_from_is_err_and c.from_residual.result c.from_residual.ensures.1 in
     let refused = c.in_err-management_of.ensures.refused in
-    let mac = subst (λ x. AsksMac x c.in-Some.mac) (sym c.given.ensures.value ∙ first_value-rows found (codes "mac")) c.in-Some.ensures in
-    let bad : HasBadAddress (rows_of found) Management = ((c.in-Some.mac, mac), subst WritesNoIpv4 (first_value-rows found (codes "management")) refused.1) in
+    let mac = subst (λ x. IsSomeAnd x (λ text. IsMac text c.in-Some.mac)) (sym c.given.ensures.value ∙ first_value-rows found (codes "mac")) c.in-Some.ensures in
+    let bad : HasBadAddress (rows_of found) Management = ((c.in-Some.mac, mac), subst (IsBad IsDotted) (first_value-rows found (codes "management")) refused.1) in
     rw p.1 (subst (HasBadAddress (rows_of found)) (sym (p.2 ∙ refused.0)) bad)

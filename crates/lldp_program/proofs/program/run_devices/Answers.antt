@@ -7,9 +7,9 @@ returns-in-Err-clause-ran g c =
     record {
       result = c.run_trace-ran.result;
       run = run_kept _ _ _ _ _ _ _ _ c.run_trace-ran.ensures.run c.flush-flushed.ensures.octets;
-      done = λ e. absurd (omega (arith, c.tell.ensures.status, c.of_run.ensures.status));
+      done = λ e. absurd (omega (arith, c.tell.ensures.status));
       flushed = c.flush-flushed.result;
-      ended = failed_end _ _ _ _ _ _ _ c.in-Err.is c.of_run.ensures.fault c.tell.ensures.status c.tell.ensures.told;
+      ended = failed_end _ _ _ _ _ _ c.in-Err.is c.tell.ensures.status c.tell.ensures.told;
     }
 
 pub returns-in-Ok-clause-ran : goal.returns-in-Ok-clause-ran

@@ -1,7 +1,8 @@
-use Rattle.std.proofs.Common.{◌∙◌, sym, codes, inl, inr, rules}
+use Rattle.std.proofs.Common.{◌∙◌, sym, codes, rules}
 use Rattle.clap.specs.Matches.{found_of}
 use Rattle.clap.proofs.WalkLemmas.{one_text-rows}
 use Rattle.lldp_engine.specs.Options.{options_of}
+use Rattle.lldp_program.specs.declared.fault.ProgramFault.TheVariants.{Opening, Address}
 use Rattle.lldp_program.proofs.Statuses.{opened_ran}
 use Rattle.lldp_program.proofs.Words.Usage.{not_asked, was_asked}
 use Rattle.lldp_program.proofs.program.run_matches.Goals as goal
@@ -21,8 +22,8 @@ returns-in-None-clause-ran g c some =
     (options_of c.in-Ok.options, c.in-Ok.ensures.asks, checked, rw port (opened_ran (options_of c.in-Ok.options) _ _ _ _ _ _ _ _ _ (search rules) c.run_streams.ensures.ran))
 
 pub returns-in-Err-clause-refused : goal.returns-in-Err-clause-refused
-returns-in-Err-clause-refused g c two = inl (c.in-Err.fault, c.in-Err.ensures.refused, rw (← c.of_address.ensures.fault) c.tell.ensures.told)
+returns-in-Err-clause-refused g c two = (Address c.in-Err.fault, c.in-Err.ensures.refused, c.tell.ensures.told)
 
 pub returns-clause-refused : goal.returns-clause-refused
 returns-clause-refused g c two =
-    inr (options_of c.in-Ok.options, c.in-Err-open.fault, c.in-Ok.ensures.asks, c.in-Err-open.ensures.refused, rw (← c.of_opening.ensures.fault) c.tell-in-Err-open.ensures.told)
+    (Opening c.in-Err-open.fault, (options_of c.in-Ok.options, c.in-Ok.ensures.asks, c.in-Err-open.ensures.refused), c.tell-in-Err-open.ensures.told)

@@ -9,7 +9,7 @@ returns-in-Ok-clause-answered g c some =
     inr (record { rows = _; parse = c.in-Ok.ensures.words; options = ran.0; asks = ran.1; sound = ran.2; ran = ran.3 })
 
 pub returns-in-Ok-clause-refused : goal.returns-in-Ok-clause-refused
-returns-in-Ok-clause-refused g c two = inr (c.run_matches.ensures.place, inr (_, c.in-Ok.ensures.words, c.run_matches.ensures.refused two))
+returns-in-Ok-clause-refused g c two = let refused = c.run_matches.ensures.refused two in inr (c.run_matches.ensures.place, inr (_, refused.0, c.in-Ok.ensures.words, refused.1, refused.2))
 
 pub returns-in-Err-clause-answered : goal.returns-in-Err-clause-answered
 returns-in-Err-clause-answered g c some = elim (asked_for (kind_of c.in-Err.error)) [
