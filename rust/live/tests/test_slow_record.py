@@ -135,6 +135,7 @@ class Slow(OnLinks):
                     moments = Moments(live)
                     moments.take()
                     self.assertLess(moments.slowest, LATE)
+                    self.assertTrue(eventually(lambda: self.has_recorded(moments), 60))  # an end waits for no disk
                     for peer in self.peers:
                         silence(peer, 0)  # makes room for the shutdown frames
                     began = time.time()
@@ -160,6 +161,10 @@ class Slow(OnLinks):
         moments.take()
         self.assertEqual(live.ended(), 0)
         self.assertEqual(differing(self.log, moments), [])
+
+    def has_recorded(self, moments: Moments) -> bool:
+        logs = [log.read_text() for log in self.log.iterdir()]
+        return all(any(f"\n{line}\n" in log for log in logs) for line in moments.answers)
 
     def slow_disk(self, live: Live, seconds: float) -> "contextlib.AbstractContextManager[None]":
         assert live.recorder is not None
