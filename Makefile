@@ -98,12 +98,12 @@ rust-people:
 	    cp out/target/release/examples/people out/people'
 completions: $(program) $(served)
 	$(PYTEST) -n $(N) tools/gate/test_help.py tools/gate/test_help_of_scripts.py
-services: $(served) rust-people
+services: $(program) $(served) rust-people
 	$(PYTEST) -n $$(($(N) * 6)) --dist loadfile -m "not alone" rust python tools/release audit/tests/test_asking.py \
 	    audit/tests/test_audit_command.py
 audit:                                            ## after a change of audit or python/lldpa: needs Python alone
 	$(with) $(PYTESTS) -- $(MAKE) -C audit house N=$$(($(N) * 2))
-alone: $(served)                                  ## what needs the machine for itself
+alone: $(program) $(served)                       ## what needs the machine for itself
 	$(PYTEST) -m alone rust
 
 # The proofs, from nothing, of what is committed
@@ -115,7 +115,7 @@ proofs:
 wrong-bodies: $(program) $(library)               ## the prover refuses each wrong body
 	nice -n 10 $(PYTEST) -n 2 --dist loadgroup tools/gate/test_wrong_bodies.py tools/gate/test_axioms.py
 
-package: $(served)
+package: $(program) $(served)
 	$(with) cargo binutils dpkg-dev debhelper dh-python lintian pkgconf unshare python3-pytest -- tools/gate/check-package.sh $(program)
 release-check: package arm64                      ## before a release, and after a change of what it is made of
 	$(PYTEST) -k packages tools/library/test_arm64.py
