@@ -1,11 +1,13 @@
 //! Asks an agent, through the exported functions, for what it holds.
-ghost use Rattle.std.specs.Prelude.{◌≡◌, ◌≤◌, ◌<◌, true, false, Some, None, slice_get, length, take, drop, map, if◌then◌else◌};
+ghost use Rattle.std.specs.Prelude.{◌≡◌, ◌≤◌, ◌<◌, true, false, Some, None, slice_get, length, take, drop, map, replicate, ◌+◌, ℕ, List, if◌then◌else◌};
 ghost use Rattle.std.specs.Option.{option_map};
 ghost use Rattle.lldp_engine.specs.AgentState.{IsPort, PortState, name_of};
 ghost use Rattle.lldp_engine.specs.Configuration.{sent_ttl};
-ghost use Rattle.lldp_engine.specs.Frames.{frame_of};
+ghost use Rattle.lldp_engine.specs.Frames.{SaysBack, draft_of, frame_of};
+ghost use Rattle.lldp_engine.specs.Past.{Past, configuration_after};
+ghost use Rattle.lldp_engine.specs.Standing.{Stands};
 ghost use Rattle.lldp_pdu.specs.Kept.{kept_of, discarded_of, count_unrecognized};
-ghost use Rattle.lldp_pdu.specs.Lldpdu.{ttl_of, msap_of};
+ghost use Rattle.lldp_pdu.specs.Lldpdu.{extent, ttl_of, msap_of};
 ghost use Rattle.lldp_table.specs.Events.{Neighbor};
 ghost use Rattle.lldp_transmit.specs.declared.event.Mark.TheVariants.{Ordinary, Shutdown};
 ghost use Rattle.lldpa_c.specs.Chassis.{role_number};
@@ -73,7 +75,15 @@ fn neighbor(
         × (drop told.new.pdu.extent room.new ≡ drop told.new.pdu.extent room.old) }
     ensures life { agent.old.is_open ≡ true → (p : PortState) → slice_get agent.old.held.agent.ports port ≡ Some p →
         (n : Neighbor) → slice_get p.table.neighbors index ≡ Some n → result ≡ 0 → 0 < ttl_of n.octets →
-        (told.new.pdu.discarded ≡ discarded_of n.octets) × (told.new.pdu.unrecognized ≡ count_unrecognized (kept_of n.octets)) }
+        (told.new.pdu.extent ≤ length n.octets) × (take told.new.pdu.extent n.octets ≡ extent n.octets)
+        × (told.new.pdu.discarded ≡ discarded_of n.octets) × (told.new.pdu.unrecognized ≡ count_unrecognized (kept_of n.octets)) }
+    ensures shutdown { agent.old.is_open ≡ true → (p : PortState) → slice_get agent.old.held.agent.ports port ≡ Some p →
+        (n : Neighbor) → slice_get p.table.neighbors index ≡ Some n → result ≡ 0 → ttl_of n.octets ≡ 0 →
+        (told.new.pdu.extent ≡ 0) × (told.new.pdu.discarded ≡ 0) × (told.new.pdu.unrecognized ≡ 0) }
+    ensures within { agent.old.is_open ≡ true → (p : PortState) → slice_get agent.old.held.agent.ports port ≡ Some p →
+        (n : Neighbor) → slice_get p.table.neighbors index ≡ Some n → result ≡ 0 →
+        (told.new.pdu.chassis.start + told.new.pdu.chassis.length ≤ length n.octets)
+        × (told.new.pdu.port.start + told.new.pdu.port.length ≤ length n.octets) }
     ensures over { agent.old.is_open ≡ true → (p : PortState) → slice_get agent.old.held.agent.ports port ≡ Some p →
         (n : Neighbor) → slice_get p.table.neighbors index ≡ Some n → length room.old < length n.octets →
         (result ≡ 101) × (room.new ≡ room.old) × (told.new ≡ told.old) }
@@ -104,7 +114,15 @@ fn gone(
         × (drop told.new.pdu.extent room.new ≡ drop told.new.pdu.extent room.old) }
     ensures life { agent.old.is_open ≡ true → (p : PortState) → slice_get agent.old.held.agent.ports port ≡ Some p →
         (n : Neighbor) → slice_get p.table.gone index ≡ Some n → result ≡ 0 → 0 < ttl_of n.octets →
-        (told.new.pdu.discarded ≡ discarded_of n.octets) × (told.new.pdu.unrecognized ≡ count_unrecognized (kept_of n.octets)) }
+        (told.new.pdu.extent ≤ length n.octets) × (take told.new.pdu.extent n.octets ≡ extent n.octets)
+        × (told.new.pdu.discarded ≡ discarded_of n.octets) × (told.new.pdu.unrecognized ≡ count_unrecognized (kept_of n.octets)) }
+    ensures shutdown { agent.old.is_open ≡ true → (p : PortState) → slice_get agent.old.held.agent.ports port ≡ Some p →
+        (n : Neighbor) → slice_get p.table.gone index ≡ Some n → result ≡ 0 → ttl_of n.octets ≡ 0 →
+        (told.new.pdu.extent ≡ 0) × (told.new.pdu.discarded ≡ 0) × (told.new.pdu.unrecognized ≡ 0) }
+    ensures within { agent.old.is_open ≡ true → (p : PortState) → slice_get agent.old.held.agent.ports port ≡ Some p →
+        (n : Neighbor) → slice_get p.table.gone index ≡ Some n → result ≡ 0 →
+        (told.new.pdu.chassis.start + told.new.pdu.chassis.length ≤ length n.octets)
+        × (told.new.pdu.port.start + told.new.pdu.port.length ≤ length n.octets) }
     ensures over { agent.old.is_open ≡ true → (p : PortState) → slice_get agent.old.held.agent.ports port ≡ Some p →
         (n : Neighbor) → slice_get p.table.gone index ≡ Some n → length room.old < length n.octets →
         (result ≡ 101) × (room.new ≡ room.old) × (told.new ≡ told.old) }
@@ -125,6 +143,9 @@ fn chassis(alloc: Global, agent: &mut LldpaAgent, told: &mut LldpaChassis) -> u8
         × ((if told.new.managed then Some told.new.management else None) ≡ agent.old.held.agent.configuration.management)
         × (take told.new.hostname_length told.new.hostname ≡ agent.old.held.agent.configuration.hostname)
         × (take told.new.description_length told.new.description ≡ agent.old.held.agent.configuration.description) }
+    ensures zeros { agent.old.is_open ≡ true → (agent.old.held.agent.configuration.management ≡ None → told.new.management ≡ replicate 4 0)
+        × (drop told.new.hostname_length told.new.hostname ≡ drop told.new.hostname_length (replicate 255 0))
+        × (drop told.new.description_length told.new.description ≡ drop told.new.description_length (replicate 255 0)) }
     ensures kept { agent.old.is_open ≡ true → (agent.new.is_open ≡ true) × (agent.new.held.agent ≡ agent.old.held.agent) }
     ensures closed { agent.old.is_open ≡ false → (result ≡ 102) × (agent.new.is_open ≡ false) × (told.new ≡ told.old) }
 {
@@ -139,7 +160,8 @@ fn configuration(alloc: Global, agent: &mut LldpaAgent, told: &mut LldpaConfigur
         × (told.new.credit_max ≡ agent.old.held.agent.configuration.credit_max)
         × (told.new.max_neighbors ≡ agent.old.held.agent.configuration.limit)
         × (told.new.ports ≡ length agent.old.held.agent.ports)
-        × (take told.new.ports told.new.status ≡ map (λ port. status_number port.status) agent.old.held.agent.ports) }
+        × (take told.new.ports told.new.status ≡ map (λ port. status_number port.status) agent.old.held.agent.ports)
+        × (drop told.new.ports told.new.status ≡ drop told.new.ports (replicate 64 0)) }
     ensures kept { agent.old.is_open ≡ true → (agent.new.is_open ≡ true) × (agent.new.held.agent ≡ agent.old.held.agent) }
     ensures closed { agent.old.is_open ≡ false → (result ≡ 102) × (agent.new.is_open ≡ false) × (told.new ≡ told.old) }
 {
@@ -191,9 +213,19 @@ fn frame(
     ensures within { result ≡ 0 → (written.new ≤ length room.new) × (drop written.new room.new ≡ drop written.new room.old) }
     ensures range { ¬ (mark ≡ 1) → ¬ (mark ≡ 2) → (result ≡ 100) × (room.new ≡ room.old) × (written.new ≡ written.old) }
     ensures closed { mark ≡ 1 → agent.old.is_open ≡ false → (result ≡ 102) × (agent.new.is_open ≡ false) × (room.new ≡ room.old) × (written.new ≡ written.old) }
+    ensures closed_too { mark ≡ 2 → agent.old.is_open ≡ false → (result ≡ 102) × (room.new ≡ room.old) × (written.new ≡ written.old) }
     ensures no_port { mark ≡ 1 → agent.old.is_open ≡ true → ¬ (IsPort agent.old.held.agent port) →
         (result ≡ 103) × (room.new ≡ room.old) × (written.new ≡ written.old) }
+    ensures no_port_too { mark ≡ 2 → agent.old.is_open ≡ true → ¬ (IsPort agent.old.held.agent port) →
+        (result ≡ 103) × (room.new ≡ room.old) × (written.new ≡ written.old) }
+    ensures says { result ≡ 0 → mark ≡ 1 → SaysBack (draft_of agent.old.held.agent.configuration (name_of agent.old.held.agent port) Ordinary)
+        (take written.new room.new) }
+    ensures says_too { result ≡ 0 → mark ≡ 2 → SaysBack (draft_of agent.old.held.agent.configuration (name_of agent.old.held.agent port) Shutdown)
+        (take written.new room.new) }
+    ensures past { result ≡ 0 → mark ≡ 1 → (past : Past) → Stands past agent.old.held.agent → (name : List ℕ) →
+        slice_get past.options.names port ≡ Some name → take written.new room.new ≡ frame_of (configuration_after past.options past.events) name Ordinary }
     ensures kept { agent.old.is_open ≡ true → (agent.new.is_open ≡ true) × (agent.new.held.agent ≡ agent.old.held.agent) }
+    ensures shut { agent.old.is_open ≡ false → agent.new.is_open ≡ false }
 {
     lldpa_frame_of(alloc, agent, port, mark, room, written)
 }

@@ -1,5 +1,5 @@
 //! Passes events and commands to an agent through the exported functions.
-ghost use Rattle.std.specs.Prelude.{◌≡◌, ◌+◌, true, false, length, take, map, Ok, Err};
+ghost use Rattle.std.specs.Prelude.{◌≡◌, ◌+◌, ◌≤◌, ◌<◌, ℕ, suc, [], true, false, length, take, map, Ok, Err};
 ghost use Rattle.std.specs.List.{AllByRecursion};
 ghost use Rattle.lldp_engine.specs.AgentState.{IsPort};
 ghost use Rattle.lldp_engine.specs.Code.Step.{agent_after, agent_marks};
@@ -7,9 +7,12 @@ ghost use Rattle.lldp_engine.specs.Code.Telling.{agent_told};
 ghost use Rattle.lldp_engine.specs.Command.{show, set};
 ghost use Rattle.lldp_engine.specs.Event.{frame as frame_event, link as link_event, Setting, set as set_event, tick};
 ghost use Rattle.lldp_engine.specs.Given.{command_given};
-ghost use Rattle.lldp_engine.specs.Past.{Past, with_event};
+ghost use Rattle.lldp_engine.specs.Frames.{IsSent};
+ghost use Rattle.lldp_engine.specs.Headline.{PromisedStep};
+ghost use Rattle.lldp_engine.specs.Past.{Past, with_event, marks_of};
+ghost use Rattle.lldp_engine.specs.Sending.{HaveSentExactly};
 ghost use Rattle.lldp_engine.specs.Standing.{Stands};
-ghost use Rattle.lldp_engine.specs.Told.{deaf, not_lldp, refused, stored, left};
+ghost use Rattle.lldp_engine.specs.Told.{Tells, deaf, not_lldp, refused, stored, left as goodbye};
 ghost use Rattle.lldp_engine.specs.declared.command.Show.TheVariants.{Neighbors, Statistics, Chassis, Configuration};
 ghost use Rattle.lldp_engine.specs.declared.port.status.Status.TheVariants.{Disabled};
 ghost use Rattle.lldp_pdu.specs.FaultNumber.{pdu_fault_number};
@@ -18,11 +21,11 @@ ghost use Rattle.lldp_pdu.specs.declared.fault.PduFault.{PduFault};
 ghost use Rattle.lldp_table.specs.declared.learned.Outcome.{Outcome};
 ghost use Rattle.lldp_text.specs.declared.fault.CommandFault.{CommandFault};
 ghost use Rattle.lldpa_c.specs.Faults.{command_fault_number};
-ghost use Rattle.lldpa_c.specs.Leaving.{shutdowns, with_leaving};
+ghost use Rattle.lldpa_c.specs.Leaving.{left, sent_leaving, shutdowns, with_leaving};
 ghost use Rattle.lldpa_c.specs.Marks.{numbered};
 ghost use Rattle.lldpa_c.specs.News.{outcome_number};
 ghost use Rattle.lldpa_c.specs.Place.{octets_at};
-ghost use Rattle.lldpa_c.specs.Ticks.{neighbors_held};
+ghost use Rattle.lldpa_c.specs.Ticks.{neighbors_held, ticked, with_ticks};
 
 use crate::agent::{lldpa_frame, lldpa_frame_news, lldpa_link};
 use crate::command::lldpa_command;
@@ -47,6 +50,11 @@ fn hear(
         × (take marks.new.count marks.new.items ≡ map numbered (agent_marks (frame_event port octets.now) agent.old.held.agent)) }
     ensures stands { result ≡ 0 → (past : Past) → Stands past agent.old.held.agent →
         Stands (with_event past (frame_event port octets.now)) agent.new.held.agent }
+    ensures sends { result ≡ 0 → AllByRecursion (λ mark. IsPort agent.new.held.agent mark.0 × IsSent mark.1) (agent_marks (frame_event port octets.now) agent.old.held.agent) }
+    ensures promised { result ≡ 0 → (past : Past) → Stands past agent.old.held.agent →
+        (agent_marks (frame_event port octets.now) agent.old.held.agent ≡ marks_of (with_event past (frame_event port octets.now)))
+        × PromisedStep past (frame_event port octets.now) (agent_marks (frame_event port octets.now) agent.old.held.agent) agent.new.held.agent
+        × HaveSentExactly (with_event past (frame_event port octets.now)) }
     ensures closed { agent.old.is_open ≡ false → (result ≡ 102) × (agent.new.is_open ≡ false) × (marks.new ≡ marks.old) }
     ensures no_port { agent.old.is_open ≡ true → ¬ (IsPort agent.old.held.agent port) → (result ≡ 103) × (agent.new.is_open ≡ true)
         × (agent.new.held.agent ≡ agent.old.held.agent) × (marks.new ≡ marks.old) }
@@ -69,21 +77,32 @@ fn news(
         × (take marks.new.count marks.new.items ≡ map numbered (agent_marks (frame_event port octets.now) agent.old.held.agent)) }
     ensures stands { result ≡ 0 → (past : Past) → Stands past agent.old.held.agent →
         Stands (with_event past (frame_event port octets.now)) agent.new.held.agent }
+    ensures sends { result ≡ 0 → AllByRecursion (λ mark. IsPort agent.new.held.agent mark.0 × IsSent mark.1) (agent_marks (frame_event port octets.now) agent.old.held.agent) }
+    ensures promised { result ≡ 0 → (past : Past) → Stands past agent.old.held.agent →
+        (agent_marks (frame_event port octets.now) agent.old.held.agent ≡ marks_of (with_event past (frame_event port octets.now)))
+        × PromisedStep past (frame_event port octets.now) (agent_marks (frame_event port octets.now) agent.old.held.agent) agent.new.held.agent
+        × HaveSentExactly (with_event past (frame_event port octets.now)) }
+    ensures step { result ≡ 0 → Tells (frame_event port octets.now) agent.old.held.agent agent.new.held.agent
+        (agent_told (frame_event port octets.now) agent.old.held.agent) }
     ensures not_lldp { result ≡ 0 → agent_told (frame_event port octets.now) agent.old.held.agent ≡ not_lldp → (told.new.what ≡ 1) × (told.new.fault ≡ 0)
-        × (told.new.chassis.length ≡ 0) × (told.new.port.length ≡ 0) }
+        × (told.new.chassis.start ≡ 0) × (told.new.chassis.length ≡ 0) × (told.new.port.start ≡ 0) × (told.new.port.length ≡ 0) }
     ensures deaf { result ≡ 0 → agent_told (frame_event port octets.now) agent.old.held.agent ≡ deaf → (told.new.what ≡ 2) × (told.new.fault ≡ 0)
-        × (told.new.chassis.length ≡ 0) × (told.new.port.length ≡ 0) }
+        × (told.new.chassis.start ≡ 0) × (told.new.chassis.length ≡ 0) × (told.new.port.start ≡ 0) × (told.new.port.length ≡ 0) }
     ensures fault { result ≡ 0 → (fault : PduFault) → agent_told (frame_event port octets.now) agent.old.held.agent ≡ refused fault →
-        (told.new.what ≡ 3) × (told.new.fault ≡ pdu_fault_number fault) × (told.new.chassis.length ≡ 0) × (told.new.port.length ≡ 0) }
+        (told.new.what ≡ 3) × (told.new.fault ≡ pdu_fault_number fault)
+        × (told.new.chassis.start ≡ 0) × (told.new.chassis.length ≡ 0) × (told.new.port.start ≡ 0) × (told.new.port.length ≡ 0) }
     ensures stored { result ≡ 0 → (name : MsapId) (outcome : Outcome) → agent_told (frame_event port octets.now) agent.old.held.agent ≡ stored name outcome →
         (told.new.what ≡ outcome_number outcome) × (told.new.fault ≡ 0)
-        × (octets_at octets.now told.new.chassis ≡ name.chassis) × (octets_at octets.now told.new.port ≡ name.port) }
-    ensures gone { result ≡ 0 → (name : MsapId) → agent_told (frame_event port octets.now) agent.old.held.agent ≡ left name true →
+        × (octets_at octets.now told.new.chassis ≡ name.chassis) × (octets_at octets.now told.new.port ≡ name.port)
+        × (told.new.chassis.start + told.new.chassis.length ≤ length octets.now) × (told.new.port.start + told.new.port.length ≤ length octets.now) }
+    ensures gone { result ≡ 0 → (name : MsapId) → agent_told (frame_event port octets.now) agent.old.held.agent ≡ goodbye name true →
         (told.new.what ≡ 8) × (told.new.fault ≡ 0)
-        × (octets_at octets.now told.new.chassis ≡ name.chassis) × (octets_at octets.now told.new.port ≡ name.port) }
-    ensures unknown { result ≡ 0 → (name : MsapId) → agent_told (frame_event port octets.now) agent.old.held.agent ≡ left name false →
+        × (octets_at octets.now told.new.chassis ≡ name.chassis) × (octets_at octets.now told.new.port ≡ name.port)
+        × (told.new.chassis.start + told.new.chassis.length ≤ length octets.now) × (told.new.port.start + told.new.port.length ≤ length octets.now) }
+    ensures unknown { result ≡ 0 → (name : MsapId) → agent_told (frame_event port octets.now) agent.old.held.agent ≡ goodbye name false →
         (told.new.what ≡ 9) × (told.new.fault ≡ 0)
-        × (octets_at octets.now told.new.chassis ≡ name.chassis) × (octets_at octets.now told.new.port ≡ name.port) }
+        × (octets_at octets.now told.new.chassis ≡ name.chassis) × (octets_at octets.now told.new.port ≡ name.port)
+        × (told.new.chassis.start + told.new.chassis.length ≤ length octets.now) × (told.new.port.start + told.new.port.length ≤ length octets.now) }
     ensures closed { agent.old.is_open ≡ false → (result ≡ 102) × (agent.new.is_open ≡ false) × (marks.new ≡ marks.old) × (told.new ≡ told.old) }
     ensures no_port { agent.old.is_open ≡ true → ¬ (IsPort agent.old.held.agent port) → (result ≡ 103) × (agent.new.is_open ≡ true)
         × (agent.new.held.agent ≡ agent.old.held.agent) × (marks.new ≡ marks.old) × (told.new ≡ told.old) }
@@ -99,6 +118,11 @@ fn plug(alloc: Global, agent: &mut LldpaAgent, port: u32, up: bool, marks: &mut 
         × (take marks.new.count marks.new.items ≡ map numbered (agent_marks (link_event port up) agent.old.held.agent)) }
     ensures stands { result ≡ 0 → (past : Past) → Stands past agent.old.held.agent →
         Stands (with_event past (link_event port up)) agent.new.held.agent }
+    ensures sends { result ≡ 0 → AllByRecursion (λ mark. IsPort agent.new.held.agent mark.0 × IsSent mark.1) (agent_marks (link_event port up) agent.old.held.agent) }
+    ensures promised { result ≡ 0 → (past : Past) → Stands past agent.old.held.agent →
+        (agent_marks (link_event port up) agent.old.held.agent ≡ marks_of (with_event past (link_event port up)))
+        × PromisedStep past (link_event port up) (agent_marks (link_event port up) agent.old.held.agent) agent.new.held.agent
+        × HaveSentExactly (with_event past (link_event port up)) }
     ensures closed { agent.old.is_open ≡ false → (result ≡ 102) × (agent.new.is_open ≡ false) × (marks.new ≡ marks.old) }
     ensures no_port { agent.old.is_open ≡ true → ¬ (IsPort agent.old.held.agent port) → (result ≡ 103) × (agent.new.is_open ≡ true)
         × (agent.new.held.agent ≡ agent.old.held.agent) × (marks.new ≡ marks.old) }
@@ -122,6 +146,35 @@ fn second(
     ensures closed { agent.old.is_open ≡ false → (result ≡ 102) × (agent.new.is_open ≡ false) × (marks.new ≡ marks.old) × (told.new ≡ told.old) }
 {
     lldpa_ticks(alloc, agent, 1, marks, told)
+}
+
+/// Passes as many seconds as go by until a port sends or a neighbor ages out, and at most `count`.
+fn seconds(
+    alloc: Global,
+    agent: &mut LldpaAgent,
+    count: u32,
+    marks: &mut LldpaMarks,
+    told: &mut LldpaTicks,
+) -> u8
+    ensures taken { agent.old.is_open ≡ true → (result ≡ 0) × (agent.new.is_open ≡ true) × (told.new.taken ≤ count)
+        × (agent.new.held.agent ≡ ticked told.new.taken agent.old.held.agent) }
+    ensures none { agent.old.is_open ≡ true → told.new.taken ≡ 0 → (marks.new.count ≡ 0) × (told.new.aged_out ≡ 0) }
+    ensures last { agent.old.is_open ≡ true → (n : ℕ) → told.new.taken ≡ suc n →
+        (marks.new.count ≡ length (agent_marks tick (ticked n agent.old.held.agent)))
+        × (take marks.new.count marks.new.items ≡ map numbered (agent_marks tick (ticked n agent.old.held.agent)))
+        × (told.new.aged_out + neighbors_held agent.new.held.agent ≡ neighbors_held (ticked n agent.old.held.agent)) }
+    ensures quiet { agent.old.is_open ≡ true → (k : ℕ) → k + 1 < told.new.taken →
+        (agent_marks tick (ticked k agent.old.held.agent) ≡ [])
+        × (neighbors_held (ticked (suc k) agent.old.held.agent) ≡ neighbors_held (ticked k agent.old.held.agent)) }
+    ensures why { agent.old.is_open ≡ true → told.new.taken < count → ¬ ((marks.new.count ≡ 0) × (told.new.aged_out ≡ 0)) }
+    ensures stands { agent.old.is_open ≡ true → (past : Past) → Stands past agent.old.held.agent →
+        Stands (with_ticks told.new.taken past) agent.new.held.agent }
+    ensures promised { agent.old.is_open ≡ true → (n : ℕ) → told.new.taken ≡ suc n → (past : Past) → Stands past agent.old.held.agent →
+        (take marks.new.count marks.new.items ≡ map numbered (marks_of (with_ticks (suc n) past)))
+        × PromisedStep (with_ticks n past) tick (agent_marks tick (ticked n agent.old.held.agent)) agent.new.held.agent
+        × HaveSentExactly (with_ticks (suc n) past) }
+{
+    lldpa_ticks(alloc, agent, count, marks, told)
 }
 
 /// Runs a command.
@@ -149,6 +202,13 @@ fn commands(
         × (take marks.new.count marks.new.items ≡ map numbered (agent_marks (set_event setting) agent.old.held.agent)) }
     ensures stands { agent.old.is_open ≡ true → (setting : Setting) → command_given agent.old.held.agent line.now ≡ Ok (set setting) →
         (past : Past) → Stands past agent.old.held.agent → Stands (with_event past (set_event setting)) agent.new.held.agent }
+    ensures sends { agent.old.is_open ≡ true → (setting : Setting) → command_given agent.old.held.agent line.now ≡ Ok (set setting) →
+        AllByRecursion (λ mark. IsPort agent.new.held.agent mark.0 × IsSent mark.1) (agent_marks (set_event setting) agent.old.held.agent) }
+    ensures promised { agent.old.is_open ≡ true → (setting : Setting) → command_given agent.old.held.agent line.now ≡ Ok (set setting) →
+        (past : Past) → Stands past agent.old.held.agent →
+        (agent_marks (set_event setting) agent.old.held.agent ≡ marks_of (with_event past (set_event setting)))
+        × PromisedStep past (set_event setting) (agent_marks (set_event setting) agent.old.held.agent) agent.new.held.agent
+        × HaveSentExactly (with_event past (set_event setting)) }
     ensures open { agent.old.is_open ≡ true → agent.new.is_open ≡ true }
     ensures closed { agent.old.is_open ≡ false → (result ≡ 102) × (agent.new.is_open ≡ false) × (asks.new ≡ asks.old) × (marks.new ≡ marks.old) }
 {
@@ -161,6 +221,9 @@ fn leaves(alloc: Global, agent: &mut LldpaAgent, marks: &mut LldpaMarks) -> u8
         × AllByRecursion (λ port. port.status ≡ Disabled) agent.new.held.agent.ports
         × (marks.new.count ≡ length (shutdowns 0 agent.old.held.agent.ports))
         × (take marks.new.count marks.new.items ≡ map numbered (shutdowns 0 agent.old.held.agent.ports)) }
+    ensures after { agent.old.is_open ≡ true → agent.new.held.agent ≡ left (length agent.old.held.agent.ports) agent.old.held.agent }
+    ensures sent { agent.old.is_open ≡ true → take marks.new.count marks.new.items
+        ≡ map numbered (sent_leaving (length agent.old.held.agent.ports) agent.old.held.agent) }
     ensures stands { agent.old.is_open ≡ true → (past : Past) → Stands past agent.old.held.agent →
         Stands (with_leaving (length agent.old.held.agent.ports) past) agent.new.held.agent }
     ensures closed { agent.old.is_open ≡ false → (result ≡ 102) × (agent.new.is_open ≡ false) × (marks.new ≡ marks.old) }

@@ -30,7 +30,8 @@ fn pdu_of(frame: &[u8]) -> Option<&[u8]>
         length: 9,
     };
     if lldpa_frame_pdu(frame, &mut place) {
-        Some(&frame[place.start..place.start + place.length])
+        prove!(place.start + place.length == frame.len());
+        Some(&frame[place.start..])
     } else {
         prove!(place.start == 7 && place.length == 9);
         None
@@ -42,6 +43,8 @@ fn examined(pdu: &[u8], told: &mut LldpaExamined) -> u8
     ensures fault { (fault : PduFault) → fault_of pdu.now ≡ Some fault → (result ≡ pdu_fault_number fault) × (told.new ≡ told.old) }
     ensures value { fault_of pdu.now ≡ None → (result ≡ 0) × (told.new.ttl ≡ ttl_of pdu.now)
         × (octets_at pdu.now told.new.chassis ≡ (msap_of pdu.now).chassis) × (octets_at pdu.now told.new.port ≡ (msap_of pdu.now).port) }
+    ensures within { fault_of pdu.now ≡ None → (told.new.chassis.start + told.new.chassis.length ≤ length pdu.now)
+        × (told.new.port.start + told.new.port.length ≤ length pdu.now) }
     ensures life { fault_of pdu.now ≡ None → 0 < ttl_of pdu.now → (take told.new.extent pdu.now ≡ extent pdu.now)
         × (told.new.extent ≤ length pdu.now)
         × (told.new.discarded ≡ discarded_of pdu.now) × (told.new.unrecognized ≡ count_unrecognized (kept_of pdu.now)) }

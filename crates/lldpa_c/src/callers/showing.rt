@@ -2,35 +2,43 @@
 ghost use Rattle.std.specs.Prelude.{◌≡◌, ◌≤◌, ◌<◌, true, false, Some, None, IfOk, slice_get, length, take, drop, ◌+◌, ◌-◌, ◌⊎◌, ℕ, max, List};
 ghost use Rattle.std.specs.List.{flat_map};
 ghost use Rattle.lldp_engine.specs.Lines.{lines_of};
-ghost use Rattle.lldp_engine.specs.declared.command.Show.TheVariants.{Neighbors, Statistics};
+ghost use Rattle.lldp_engine.specs.declared.command.Show.TheVariants.{Neighbors};
 ghost use Rattle.lldp_text.specs.Text.{ended};
 
 use crate::holder::LldpaAgent;
 use crate::lines::{LldpaLines, lldpa_show_lines};
+use lldp_engine::Show;
 use std::alloc::Global;
 
-/// Reads lines of the statistics.
+/// Reads lines of a show.
 fn lines(
     alloc: Global,
     agent: &mut LldpaAgent,
+    show: Show,
     from: u32,
     room: &mut [u8],
     told: &mut LldpaLines,
 ) -> u8
-    ensures all { result ≡ 0 → told.new.done ≡ true → told.new.next ≡ max from (length (lines_of Statistics agent.old.held.agent)) }
+    ensures all { result ≡ 0 → told.new.done ≡ true → told.new.next ≡ max from (length (lines_of show agent.old.held.agent)) }
     ensures octets { result ≡ 0 → (from ≤ told.new.next) × (take told.new.length room.new
-        ≡ flat_map ended (take (told.new.next - from) (drop from (lines_of Statistics agent.old.held.agent)))) }
+        ≡ flat_map ended (take (told.new.next - from) (drop from (lines_of show agent.old.held.agent)))) }
     ensures within { result ≡ 0 → told.new.length ≤ length room.new }
     ensures some { result ≡ 0 → told.new.done ≡ false → from < told.new.next }
-    ensures over { result ≡ 0 → told.new.done ≡ false → (line : List ℕ) → slice_get (lines_of Statistics agent.old.held.agent) told.new.next ≡ Some line →
+    ensures over { result ≡ 0 → told.new.done ≡ false → (line : List ℕ) → slice_get (lines_of show agent.old.held.agent) told.new.next ≡ Some line →
         length room.new < told.new.length + length line + 1 }
     ensures rest { result ≡ 0 → drop told.new.length room.new ≡ drop told.new.length room.old }
-    ensures fits { agent.old.is_open ≡ true → slice_get (lines_of Statistics agent.old.held.agent) from ≡ None → result ≡ 0 }
+    ensures fits { agent.old.is_open ≡ true → slice_get (lines_of show agent.old.held.agent) from ≡ None → result ≡ 0 }
     ensures closed { agent.old.is_open ≡ false → (result ≡ 102) × (agent.new.is_open ≡ false) × (room.new ≡ room.old) × (told.new ≡ told.old) }
     ensures kept { agent.old.is_open ≡ true → (agent.new.is_open ≡ true) × (agent.new.held.agent ≡ agent.old.held.agent) }
     ensures refused { ¬ (result ≡ 0) → (room.new ≡ room.old) × (told.new ≡ told.old) }
 {
-    lldpa_show_lines(alloc, agent, 2, from, room, told)
+    let number = match show {
+        Show::Neighbors => 1,
+        Show::Statistics => 2,
+        Show::Chassis => 3,
+        Show::Configuration => 4,
+    };
+    lldpa_show_lines(alloc, agent, number, from, room, told)
 }
 
 /// Asks for lines of the neighbors.

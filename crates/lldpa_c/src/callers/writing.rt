@@ -83,7 +83,7 @@ fn tlv(kind: u32, body: &[u8], room: &mut [u8], written: &mut usize) -> u8
     ensures over { (text : List ℕ) → tlv_value kind body.now ≡ Some text → length room.old < length text →
         (result ≡ 101) × (room.new ≡ room.old) × (written.new ≡ written.old) }
     ensures none { tlv_value kind body.now ≡ None → (result ≡ 100) × (room.new ≡ room.old) × (written.new ≡ written.old) }
-    ensures rest { result ≡ 0 → (written.new ≤ length room.new) × (drop written.new room.new ≡ drop written.new room.old) }
+    ensures rest { result ≡ 0 → (written.new ≤ length room.new) × (written.new ≤ 1058) × (drop written.new room.new ≡ drop written.new room.old) }
 {
     lldpa_tlv_text(kind, body, room, written)
 }
