@@ -1,5 +1,5 @@
 -- A flush after a run, a run of a newly opened agent, and how the program ends.
-use Rattle.std.proofs.Common.{◌≡◌, ◌∙◌, ap, subst, Bool, true, false, refl, sym, arith, Some, None, ◌⊎◌, ℕ, List, ◌++◌, Option, Result, Ok, Err, inl, inr}
+use Rattle.std.proofs.Common.{◌≡◌, ◌∙◌, subst, Bool, true, false, refl, sym, arith, Some, None, ◌⊎◌, ℕ, List, ◌++◌, Option, Result, Ok, Err, inl, inr}
 use Rattle.std.specs.Prelude.{◌≢◌, is_ok}
 use Rattle.clap.specs.Walk.{Text}
 use Rattle.clap.specs.declared.error.kind.ErrorKind.{ErrorKind}
